@@ -1,0 +1,13 @@
+//! The two small containers that the other crates put into their plain data: [`List`], over a
+//! `Vec`, and [`Text`], over a `String`.
+//!
+//! A contract sees a `List` as the list of its items and a `Text` as the list of its bytes, so
+//! two values with the same contents are equal, whatever their capacities are. Both are made
+//! from the container that they hold and give it back, and no call takes memory.
+#![tactic(auto)]
+
+mod list;
+mod text;
+
+pub use list::List;
+pub use text::Text;
