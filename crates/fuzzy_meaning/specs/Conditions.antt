@@ -1,5 +1,5 @@
 -- Conditions as trees.
-use Rattle.std.specs.Prelude.{ℕ, ◌+◌, max, List, [], ◌∷◌, box_value}
+use Rattle.std.specs.Prelude.{ℕ, ◌+◌, ◌-◌, min, max, List, [], ◌∷◌, box_value}
 use Rattle.fuzzy_meaning.specs.declared.block.Cond.{Cond, fold-Cond}
 use Rattle.fuzzy_meaning.specs.declared.block.Cond.TheOpen.{Cond-F}
 
@@ -52,3 +52,19 @@ abbrev mutual
   pub total_nodes : Conditions → ℕ
   total_nodes end = 0
   total_nodes (also c cs) = nodes c + total_nodes cs
+
+-- the truth where each literal has a whole number from 0 to n
+abbrev mutual
+  pub level : ℕ → (ℕ → ℕ → ℕ) → Condition → ℕ
+  level n v (is i t) = v i t
+  level n v (negation c) = n - level n v c
+  level n v (all cs) = least_level n v cs
+  level n v (any cs) = greatest_level n v cs
+
+  pub least_level : ℕ → (ℕ → ℕ → ℕ) → Conditions → ℕ
+  least_level n v end = n
+  least_level n v (also c cs) = min (level n v c) (least_level n v cs)
+
+  pub greatest_level : ℕ → (ℕ → ℕ → ℕ) → Conditions → ℕ
+  greatest_level n v end = 0
+  greatest_level n v (also c cs) = max (level n v c) (greatest_level n v cs)
