@@ -1,0 +1,13 @@
+use Rattle.std.proofs.Common.{◌≡◌, length}
+use Rattle.fz_shelf.proofs.Taking.{Putting}
+use Rattle.fz_shelf.proofs.whole.put_all.Given as goal
+
+abbrev pub invariant-loop-rest : goal.invariant-loop-rest
+invariant-loop-rest g l = record {
+  putting : Putting (g.S.Sink.told l.initial.sink) (g.S.Sink.told l.sink) l.bytes l.rest;
+  faults : g.S.Sink.faults l.sink ≡ g.S.Sink.faults l.initial.sink;
+  sound : g.S.Sink.sound l.initial.sink → g.S.Sink.sound l.sink;
+}
+
+abbrev pub decreases-loop-rest : goal.decreases-loop-rest
+decreases-loop-rest g l = length l.rest

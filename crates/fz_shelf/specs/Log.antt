@@ -1,0 +1,21 @@
+-- The list of reads, each with the kind of its answer.
+use Rattle.std.specs.Prelude.{ℕ, List, [], ◌∷◌, ◌++◌, map, Result, Ok, Err}
+use Rattle.std.specs.String.{string_bytes}
+use Rattle.fz_shelf.specs.declared.log.Answer.{Answer}
+use Rattle.fz_shelf.specs.declared.log.Answer.TheVariants.{Whole, Missed, Long}
+use Rattle.fz_shelf.specs.declared.log.Asked.{Asked}
+use Rattle.fz_shelf.specs.declared.errors.ReadError.{ReadError}
+use Rattle.fz_shelf.specs.declared.errors.ReadError.TheVariants as error
+
+abbrev pub Log : Type 0
+Log = List (List ℕ × Answer)
+
+abbrev pub asked_of : List Asked → Log
+asked_of = map (λ a. (string_bytes a.name, a.answer))
+
+-- the list after a read: its entry comes last, and want of memory leaves none
+abbrev pub asked_after : Log → List ℕ → Result Unit ReadError → Log
+asked_after asked name (Ok u) = asked ++ (name, Whole) ∷ []
+asked_after asked name (Err error.Failed) = asked ++ (name, Missed) ∷ []
+asked_after asked name (Err error.TooLong) = asked ++ (name, Long) ∷ []
+asked_after asked name (Err error.Memory) = asked

@@ -1,0 +1,32 @@
+-- What a read and a write do to a shelf's bytes and counts.
+use Rattle.std.specs.Prelude.{◌≡◌, ◌≤◌, ℕ, List, length, Result, Ok, Err}
+use Rattle.fz_shelf.specs.Faults.{Rose}
+use Rattle.fz_shelf.specs.Files.{File, Holds, IsLong}
+use Rattle.fz_shelf.specs.declared.errors.ReadError.{ReadError}
+use Rattle.fz_shelf.specs.declared.errors.ReadError.TheVariants as error
+
+-- how many reads failed, how many files were too long, how many writes failed
+pub record Counts : Type 0 where
+  pub reads : ℕ
+  pub longs : ℕ
+  pub writes : ℕ
+
+-- what an answer to a read says of the file: a whole one is the file, and within the limit; too
+-- long comes only for a file above it
+abbrev pub ReadTells : File → Result Unit ReadError → List ℕ → Type 0
+ReadTells file (Ok u) bytes = Holds file bytes × (length bytes ≤ 1048576)
+ReadTells file (Err error.Failed) bytes = Unit {0}
+ReadTells file (Err error.TooLong) bytes = IsLong file
+ReadTells file (Err error.Memory) bytes = Unit {0}
+
+-- the counts after a read: each fault raises its own
+abbrev pub ReadCounts : Counts → Counts → Result Unit ReadError → Type 0
+ReadCounts old new (Ok u) = new ≡ old
+ReadCounts old new (Err error.Failed) = (new ≡ record old { reads = new.reads }) × (old.reads ≤ new.reads) × Rose old.reads new.reads
+ReadCounts old new (Err error.TooLong) = (new ≡ record old { longs = new.longs }) × (old.longs ≤ new.longs) × Rose old.longs new.longs
+ReadCounts old new (Err error.Memory) = new ≡ old
+
+-- the counts after a write
+abbrev pub WriteCounts : {E : Type 0} → Counts → Counts → Result Unit E → Type 0
+WriteCounts old new (Ok u) = new ≡ old
+WriteCounts old new (Err e) = (new ≡ record old { writes = new.writes }) × (old.writes ≤ new.writes) × Rose old.writes new.writes

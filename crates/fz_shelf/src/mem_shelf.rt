@@ -1,0 +1,173 @@
+//! A shelf in memory.
+ghost use Rattle.std.specs.Prelude.{◌≡◌, ◌≤◌, ◌<◌, [], length, IfOk, MatchOption, false, position};
+ghost use Rattle.std.specs.List.{All};
+ghost use Rattle.fz_shelf.specs.Files.{absent};
+ghost use Rattle.fz_shelf.specs.Log.{asked_of};
+ghost use Rattle.fz_shelf.specs.MemFiles.{file_in, is_named, IsPlace};
+
+use crate::log::{entry_for, record};
+use crate::stored::Stored;
+use crate::{Answer, Asked, Failed, MOST_BYTES, Memory, ReadError, Shelf};
+use fz_list::{List, Text};
+use std::alloc::Global;
+
+/// One file of a shelf in memory.
+#[derive(Drop)]
+pub struct MemFile {
+    pub name: Text,
+    pub bytes: List<u8>,
+    /// The greatest number of bytes that a write may put there. The bytes that the file begins
+    /// with may be more.
+    pub room: u64,
+}
+
+/// A shelf in memory. The first file of a name is the one that counts. Reads and writes are
+/// numbered from 1, each kind by itself, and those whose number is listed fail.
+#[derive(Drop)]
+pub struct MemShelf {
+    alloc: Global,
+    files: Vec<Stored>,
+    asked: Vec<Asked>,
+    reads: u32,
+    writes: u32,
+    failing_reads: List<u32>,
+    failing_writes: List<u32>,
+    failed_reads: u64,
+    too_long: u64,
+    failed_writes: u64,
+}
+
+/// Whether the call after so many is to fail.
+pub(crate) fn is_listed(failing: &[u32], made: u32) -> bool
+    ensures { All (λ n. n ≤ made) failing.now → result ≡ false }
+{
+    made < u32::MAX && failing.contains(&(made + 1))
+}
+
+fn first_named(files: &[Stored], name: &str) -> Option<usize>
+    ensures { result ≡ position (is_named name.now) files.now }
+{
+    files.iter().position(|file| file.name() == name)
+}
+
+fn place_of(files: &[Stored], name: &str) -> Option<usize>
+    ensures { MatchOption result (file_in files.now name.now ≡ absent) (IsPlace files.now name.now) }
+{
+    first_named(files, name)
+}
+
+/// Reserves the room of each file.
+fn store(alloc: Global, files: List<MemFile>) -> Result<Vec<Stored>, Memory>
+    ensures { IfOk result (λ stored. stored.items ≡ files) }
+{
+    let mut all = Vec::new(alloc);
+    for file in files.into_vec() {
+        let stored = match Stored::new(file) {
+            Ok(stored) => stored,
+            Err(_) => return Err(Memory),
+        };
+        match all.push(stored) {
+            Ok(()) => {}
+            Err(_) => return Err(Memory),
+        }
+    }
+    Ok(all)
+}
+
+impl MemShelf {
+    /// A shelf with these files, whose reads and writes with these numbers fail.
+    pub fn new(
+        alloc: Global,
+        files: List<MemFile>,
+        failing_reads: List<u32>,
+        failing_writes: List<u32>,
+    ) -> Result<MemShelf, Memory>
+        ensures files { IfOk result (λ s. ⟦<MemShelf as Shelf>⟧.files s ≡ file_in files) }
+        ensures asked { IfOk result (λ s. ⟦<MemShelf as Shelf>⟧.asked s ≡ []) }
+        ensures counts { IfOk result (λ s. ⟦<MemShelf as Shelf>⟧.counts s ≡ record { reads = 0; longs = 0; writes = 0 }) }
+        ensures sound { All (λ n. n ≤ 0) failing_reads → All (λ n. n ≤ 0) failing_writes → IfOk result (λ s. ⟦<MemShelf as Shelf>⟧.sound s) }
+    {
+        let files = match store(alloc, files) {
+            Ok(files) => files,
+            Err(Memory) => return Err(Memory),
+        };
+        Ok(MemShelf {
+            alloc,
+            files,
+            asked: Vec::new(alloc),
+            reads: 0,
+            writes: 0,
+            failing_reads,
+            failing_writes,
+            failed_reads: 0,
+            too_long: 0,
+            failed_writes: 0,
+        })
+    }
+
+    /// The reads so far, in order.
+    pub fn asked(&self) -> &[Asked]
+        ensures { asked_of result.now ≡ ⟦<MemShelf as Shelf>⟧.asked self.now }
+    {
+        &self.asked
+    }
+}
+
+impl Shelf for MemShelf {
+    ghost files = { λ s. file_in s.files.items };
+
+    ghost counts = { λ s. record { reads = s.failed_reads; longs = s.too_long; writes = s.failed_writes } };
+
+    ghost asked = { λ s. asked_of s.asked.items };
+
+    ghost sound = { λ s. All (λ n. n ≤ s.reads) s.failing_reads × All (λ n. n ≤ s.writes) s.failing_writes };
+
+    fn read(&mut self, name: &str, into: &mut Vec<u8>) -> Result<(), ReadError> {
+        let entry = match entry_for(self.alloc, &mut self.asked, name) {
+            Ok(entry) => entry,
+            Err(_) => return Err(ReadError::Memory),
+        };
+        let is_listed = is_listed(self.failing_reads.as_slice(), self.reads);
+        let place = place_of(&self.files, name);
+        match place {
+            Some(i) if !is_listed => {
+                let file = &self.files[i];
+                if file.bytes().len() > MOST_BYTES {
+                    self.reads = self.reads.saturating_add(1);
+                    self.too_long = self.too_long.saturating_add(1);
+                    record(&mut self.asked, entry, Answer::Long);
+                    return Err(ReadError::TooLong);
+                }
+                if into.extend_from_slice(file.bytes()).is_err() {
+                    return Err(ReadError::Memory);
+                }
+                self.reads = self.reads.saturating_add(1);
+                record(&mut self.asked, entry, Answer::Whole);
+                Ok(())
+            }
+            _ => {
+                self.reads = self.reads.saturating_add(1);
+                self.failed_reads = self.failed_reads.saturating_add(1);
+                record(&mut self.asked, entry, Answer::Missed);
+                Err(ReadError::Failed)
+            }
+        }
+    }
+
+    fn write(&mut self, name: &str, bytes: &[u8]) -> Result<(), Failed> {
+        let is_listed = is_listed(self.failing_writes.as_slice(), self.writes);
+        self.writes = self.writes.saturating_add(1);
+        let place = place_of(&self.files, name);
+        match place {
+            Some(i) if !is_listed && bytes.len() as u64 <= self.files[i].room() => {
+                let file = &mut self.files[i];
+                file.replace(bytes);
+                Ok(())
+            }
+            _ => {
+                self.failed_writes = self.failed_writes.saturating_add(1);
+                Err(Failed)
+            }
+        }
+    }
+}

@@ -1,0 +1,78 @@
+//! A sink in memory.
+ghost use Rattle.std.specs.Prelude.{◌≡◌, ◌≤◌, ◌+◌, [], Some, IfOk, option_map, vec_len, vec_capacity};
+ghost use Rattle.std.specs.List.{All};
+
+use crate::mem_shelf::is_listed;
+use crate::{Failed, Memory, Sink};
+use fz_list::List;
+use std::alloc::Global;
+
+/// A sink in memory with so much room. Puts are numbered from 1, and those whose number is
+/// listed fail, as does a put of a piece that is longer than the room left. A put takes at most
+/// so many bytes of its piece.
+#[derive(Drop)]
+pub struct MemSink {
+    bytes: Vec<u8>,
+    room: u64,
+    most: u64,
+    puts: u32,
+    failing: List<u32>,
+    faults: u64,
+    ghost reserved: { vec_len bytes + room ≤ vec_capacity bytes },
+}
+
+impl MemSink {
+    /// A sink that has taken nothing. One put takes at most `most` bytes, and 1 where `most`
+    /// is 0.
+    pub fn new(
+        alloc: Global,
+        room: u64,
+        failing_puts: List<u32>,
+        most: u64,
+    ) -> Result<MemSink, Memory>
+        ensures told { IfOk result (λ s. ⟦<MemSink as Sink>⟧.told s ≡ Some (record { bytes = []; room = room })) }
+        ensures faults { IfOk result (λ s. ⟦<MemSink as Sink>⟧.faults s ≡ 0) }
+        ensures sound { All (λ n. n ≤ 0) failing_puts → IfOk result (λ s. ⟦<MemSink as Sink>⟧.sound s) }
+    {
+        let bytes = match Vec::with_capacity(alloc, room as usize) {
+            Ok(bytes) => bytes,
+            Err(_) => return Err(Memory),
+        };
+        Ok(MemSink {
+            bytes,
+            room,
+            most,
+            puts: 0,
+            failing: failing_puts,
+            faults: 0,
+        })
+    }
+
+    /// The bytes taken so far.
+    pub fn bytes(&self) -> &[u8]
+        ensures { Some result.now ≡ option_map (λ t. t.bytes) (⟦<MemSink as Sink>⟧.told self.now) }
+    {
+        &self.bytes
+    }
+}
+
+impl Sink for MemSink {
+    ghost told = { λ s. Some (record { bytes = s.bytes.items; room = s.room }) };
+
+    ghost faults = { λ s. s.faults };
+
+    ghost sound = { λ s. All (λ n. n ≤ s.puts) s.failing };
+
+    fn put(&mut self, bytes: &[u8]) -> Result<usize, Failed> {
+        let is_listed = is_listed(self.failing.as_slice(), self.puts);
+        self.puts = self.puts.saturating_add(1);
+        if is_listed || bytes.len() as u64 > self.room {
+            self.faults = self.faults.saturating_add(1);
+            return Err(Failed);
+        }
+        let count = bytes.len().min(self.most.max(1) as usize);
+        self.bytes.extend_from_slice(&bytes[..count]).unwrap();
+        self.room -= count as u64;
+        Ok(count)
+    }
+}

@@ -1,0 +1,27 @@
+//! Sinks that take bytes.
+ghost use Rattle.std.specs.Prelude.{◌≡◌, ℕ, Option, length, IfOk, IsOk};
+ghost use Rattle.fz_shelf.specs.Faults.{HasCause};
+ghost use Rattle.fz_shelf.specs.Told.{Taken, after_put, HasRoom, IsPart};
+
+use crate::Failed;
+
+/// A place that takes bytes, one piece after the other.
+pub trait Sink {
+    /// The bytes taken so far and the room left, where the sink tells them.
+    ghost told: { Self → Option Taken };
+
+    /// How many puts failed. It never falls, and a put raises it only where it fails.
+    ghost faults: { Self → ℕ };
+
+    /// While it holds, a put within the room left does not fail. Every call keeps it.
+    ghost sound: { Self → Type 0 };
+
+    /// Takes a nonempty prefix of a piece that is not empty, and answers its length. A put of an
+    /// empty piece that is `Ok` answers 0. Takes no memory.
+    fn put(&mut self, bytes: &[u8]) -> Result<usize, Failed>
+        ensures part { IfOk result (λ n. IsPart n (length bytes.now)) }
+        ensures told { told self.new ≡ after_put (told self.old) bytes.now result }
+        ensures cause { HasCause (faults self.old) (faults self.new) result }
+        ensures sound { sound self.old → sound self.new }
+        ensures steady { sound self.old → HasRoom (told self.old) (length bytes.now) → IsOk result };
+}
