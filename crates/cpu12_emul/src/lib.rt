@@ -9,5 +9,7 @@
 
 pub mod ends;
 pub mod interrupt;
+pub mod laws;
+pub mod load;
 pub mod machine;
 pub mod run;
