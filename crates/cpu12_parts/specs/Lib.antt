@@ -2,3 +2,6 @@ pub mod State
 pub mod Parts
 pub mod Sums
 pub mod Cuts
+pub mod Rules
+pub mod Averages
+pub mod Laws
