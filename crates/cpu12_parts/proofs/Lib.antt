@@ -1,2 +1,4 @@
 pub mod Cutting
 pub mod WavParts
+pub mod RuleParts
+pub mod RevWalks

@@ -65,3 +65,13 @@ pub fn revw_cuts()
     revw_keeps_nothing();
     revw_steady();
 }
+
+/// REV's parts make the whole instruction, and touch only what it does.
+pub fn rev_is_whole()
+    ensures { RevIsWhole }
+{}
+
+/// REVW's parts make the whole instruction, and touch only what it does.
+pub fn revw_is_whole()
+    ensures { RevwIsWhole }
+{}
