@@ -1,5 +1,5 @@
 -- Parts cut at any boundaries come to the same end.
-use Rattle.std.proofs.Common.{◌≡◌, ℕ, zero, suc, ◌+◌, ◌^◌, ◌<◌, Bool, true, false, List, [], ◌∷◌, length, refl, ap, sym, ◌∙◌, subst, arith, inl}
+use Rattle.std.proofs.Common.{◌≡◌, ℕ, zero, suc, ◌^◌, ◌<◌, Bool, true, false, List, [], ◌∷◌, length, refl, ap, sym, ◌∙◌, subst, arith, inl}
 use Rattle.cpu12_isa.specs.declared.instr.Regs.{Regs}
 use Rattle.cpu12_isa.specs.Act.{outcome, read_by, write_all}
 use Rattle.cpu12_isa.specs.Agreement.{Agree, AllShown}
@@ -47,9 +47,10 @@ like_cut k kept goes true s t z f h l = like_with (resumed k (suspended k s)) s 
 cuts : (k : Kind) (kept : Temps → Type 0) → GoesOn k kept → IsSteady k kept → (flags : ℕ) (unwritten : ℕ → Bool) (sp d : ℕ) (w s t : State) → length s.mem ≡ 65536 → sp < 2 ^ 16 → s.regs.sp ≡ sp
     → IsLike w s → PartsTo k flags (below 6 sp) unwritten d s t → (cs : List Bool) → length cs ≡ d → EndsWith k flags cs w × IsLike (cut_run k flags cs w) t
 cuts k kept goes steady flags g sp zero w s t z f e l p [] len =
-    let shown = subst (λ (n : ℕ). AllShown (below 6 n) (read_by (k.act flags s.regs s.temps) s.mem)) (sym e) p.0.0 in
-    (ap (λ (o : Outcome). o.end) (same_part k flags w s l shown) ∙ p.1,
-    subst (λ (u : State). IsLike (after_part k flags w) u) (sym p.2) (like_part k kept steady flags w s l shown))
+    let shown = subst (λ (n : ℕ). AllShown (below 6 n) (read_by (k.act flags s.regs s.temps) s.mem)) (sym e) p.0.0 in (
+      ap (λ (o : Outcome). o.end) (same_part k flags w s l shown) ∙ p.1,
+      subst (λ (u : State). IsLike (after_part k flags w) u) (sym p.2) (like_part k kept steady flags w s l shown),
+    )
 cuts k kept goes steady flags g sp zero w s t z f e l p (c ∷ cs) len = absurd (omega arith)
 cuts k kept goes steady flags g sp (suc d) w s t z f e l p [] len = absurd (omega arith)
 cuts k kept goes steady flags g sp (suc d) w s t z f e l p (c ∷ cs) len =

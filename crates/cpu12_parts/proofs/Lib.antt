@@ -2,3 +2,4 @@ pub mod Cutting
 pub mod WavParts
 pub mod RuleParts
 pub mod RevWalks
+pub mod OverCuts

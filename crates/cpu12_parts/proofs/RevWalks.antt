@@ -1,20 +1,19 @@
 -- What one part of REV and one of REVW do.
-use Rattle.std.proofs.Common.{◌≡◌, ◌≢◌, ℕ, ◌+◌, ◌-◌, ◌*◌, ◌/◌, ◌%◌, ◌^◌, ◌<◌, min, max, Bool, true, false, List, [], ◌∷◌, ◌++◌, get_or, refl, ap, ap₂, sym, ◌∙◌, subst, arith, get_or-set_other}
+use Rattle.std.proofs.Common.{◌≡◌, ℕ, ◌^◌, ◌<◌, min, max, Bool, true, false, List, [], ◌∷◌, get_or, refl, ap, ap₂, ◌∙◌, subst, arith, get_or-set_other}
 use Rattle.std.proofs.lemmas.Bool.{ne_eqb, false≢true}
-use Rattle.std.proofs.Math.ListN.{set}
 use Rattle.cpu12_isa.specs.declared.instr.Regs.{Regs}
 use Rattle.cpu12_isa.specs.declared.instr.Ccr.{Ccr}
 use Rattle.cpu12_isa.specs.Act.{outcome, read_by}
-use Rattle.cpu12_isa.specs.Memory.{plus, from, word_of}
+use Rattle.cpu12_isa.specs.Memory.{plus, word_of}
 use Rattle.cpu12_isa.specs.Flags.{has, put, opened, carry, overflow, hnzc, hnz}
 use Rattle.cpu12_isa.proofs.Bits.{bit, bit_or_is, bit_and_is, same_ccr, fits_put, fits_opened}
 use Rattle.cpu12_parts.specs.declared.temps.Temps.{Temps}
-use Rattle.cpu12_parts.specs.State.{State, Outcome}
-use Rattle.cpu12_parts.specs.Parts.{rev_element, revw_element, rev_act, revw_act, weighted}
-use Rattle.cpu12_parts.specs.Cuts.{rev, revw, part_of}
-use Rattle.cpu12_parts.specs.Rules.{Form, rev_form, revw_form, NotIn}
-use Rattle.cpu12_parts.specs.Laws.{state_of, RevIsWhole, RevwIsWhole}
-use Rattle.cpu12_parts.proofs.RuleParts.{at_rules, gives, last_gives, Does, Walks, last_flags, rules_are_whole}
+use Rattle.cpu12_parts.specs.State.{Outcome}
+use Rattle.cpu12_parts.specs.Parts.{rev_element, revw_element, weighted}
+use Rattle.cpu12_parts.specs.Cuts.{rev, revw}
+use Rattle.cpu12_parts.specs.Rules.{rev_form, revw_form}
+use Rattle.cpu12_parts.specs.Laws.{RevIsWhole, RevwIsWhole}
+use Rattle.cpu12_parts.proofs.RuleParts.{at_rules, gives, last_gives, Does, Walks, rules_are_whole}
 
 abbrev regs_at : Regs → ℕ → ℕ → ℕ → Ccr → Regs
 regs_at r a x y c = record r { a = a; x = x; y = y; ccr = c }

@@ -1,10 +1,10 @@
 -- The parts of REV and of REVW make the whole instruction: one proof for both, over what one part does.
-use Rattle.std.proofs.Common.{◌≡◌, ◌≢◌, ℕ, zero, suc, ◌+◌, ◌-◌, ◌*◌, ◌/◌, ◌%◌, ◌^◌, ◌<◌, ◌≤◌, min, max, Bool, true, false, List, [], ◌∷◌, ◌++◌, length, get_or, refl, ap, ap₂, sym, ◌∙◌, subst, arith, inl, inr, ◌⊎◌, get_or-set_other}
+use Rattle.std.proofs.Common.{◌≡◌, ℕ, suc, ◌^◌, ◌<◌, min, max, Bool, true, false, List, [], ◌∷◌, ◌++◌, length, get_or, refl, ap, sym, ◌∙◌, subst, arith, get_or-set_other}
 use Rattle.std.proofs.lemmas.Bool.{false≢true}
 use Rattle.std.proofs.Math.ListN.{set}
 use Rattle.cpu12_isa.specs.declared.instr.Regs.{Regs}
 use Rattle.cpu12_isa.specs.declared.instr.Ccr.{Ccr}
-use Rattle.cpu12_isa.specs.Act.{outcome, read_by}
+use Rattle.cpu12_isa.specs.Act.{read_by}
 use Rattle.cpu12_isa.specs.Memory.{plus, from}
 use Rattle.cpu12_isa.specs.Flags.{has, put, opened, overflow}
 use Rattle.cpu12_isa.specs.Agreement.{AllShown}
@@ -14,8 +14,8 @@ use Rattle.cpu12_parts.specs.declared.temps.Temps.{Temps}
 use Rattle.cpu12_parts.specs.declared.temps.PartEnd.TheVariants.{More, Done}
 use Rattle.cpu12_parts.specs.State.{State, Outcome, state_after}
 use Rattle.cpu12_parts.specs.Parts.{weighted}
-use Rattle.cpu12_parts.specs.Cuts.{Kind, part_of, after_part}
-use Rattle.cpu12_parts.specs.Rules.{Rule, Form, further_elements, elements_of, Listed, behind, AreNames, AreRules, AreWeights, behind_weights, least, strength, raised, concluded, all_concluded, last_strength, element_bytes, weight_bytes, named, rules_named, rules_target, rules_read, rules_written, NotIn, AreApart, AreReady, rules_whole}
+use Rattle.cpu12_parts.specs.Cuts.{Kind, part_of}
+use Rattle.cpu12_parts.specs.Rules.{Rule, Form, elements_of, Listed, behind, AreNames, AreRules, AreWeights, behind_weights, least, strength, raised, concluded, all_concluded, last_strength, element_bytes, weight_bytes, named, rules_named, rules_target, rules_read, rules_written, NotIn, AreApart, AreReady, rules_whole}
 use Rattle.cpu12_parts.specs.Laws.{PartsTo, addresses, state_of}
 
 -- a state within the instruction
@@ -329,9 +329,9 @@ rules_parts k flags f r t w ff h g on c0 o [] p x y c mem at_y rs l ws v m al aw
       (subst (λ (xs : List ℕ). AllShown h xs) (sym does.reads) sx, subst (λ (q : Outcome). AllShown g (addresses q.writes)) (sym does.is) tt),
       ap (λ (q : Outcome). q.end) does.is,
       ap (λ (X : ℕ). there X (behind_weights on y (p ∷ [])) (last_flags f flags c0)) (behind_rule f x p (f.stop ∷ []))
-      ∙ ap (λ (Y : ℕ). there (plus (end_of f x p) f.size) Y (last_flags f flags c0)) (sym (weight_behind on y p []) ∙ behind_nothing on (next_weight on y))
-      ∙ ap (there (plus (end_of f x p) f.size) (next_weight on y)) (sym (w.ends_set c2 m2.fits ff v2 ∙ m2.ends))
-      ∙ sym (ap (λ (q : Outcome). state_after q (concluded f mem p)) does.is),
+          ∙ ap (λ (Y : ℕ). there (plus (end_of f x p) f.size) Y (last_flags f flags c0)) (sym (weight_behind on y p []) ∙ behind_nothing on (next_weight on y))
+          ∙ ap (there (plus (end_of f x p) f.size) (next_weight on y)) (sym (w.ends_set c2 m2.fits ff v2 ∙ m2.ends))
+          ∙ sym (ap (λ (q : Outcome). state_after q (concluded f mem p)) does.is),
     )))
   where
     behind_nothing : (b : Bool) (n : ℕ) → behind_weights b n [] ≡ n

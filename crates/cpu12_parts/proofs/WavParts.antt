@@ -1,22 +1,22 @@
 -- WAV's parts make the whole instruction.
-use Rattle.std.proofs.Common.{◌≡◌, ℕ, zero, suc, ◌+◌, ◌-◌, ◌*◌, ◌/◌, ◌%◌, ◌^◌, ◌<◌, ◌≤◌, Bool, true, false, List, [], ◌∷◌, ◌++◌, length, get_or, refl, ap, ap₂, sym, ◌∙◌, subst, arith, inl, inr, ◌⊎◌, add-zero, zero-add, bit_and, bit_or}
+use Rattle.std.proofs.Common.{◌≡◌, ℕ, zero, suc, ◌+◌, ◌-◌, ◌*◌, ◌/◌, ◌%◌, ◌^◌, ◌<◌, Bool, true, List, [], ◌∷◌, get_or, refl, ap, sym, ◌∙◌, subst, arith, inl, inr, add-zero, zero-add}
 use Rattle.std.proofs.lemmas.Bool.{cases_eq, ne_eqb}
 use Rattle.cpu12_isa.specs.declared.instr.Regs.{Regs}
 use Rattle.cpu12_isa.specs.declared.instr.Ccr.{Ccr}
-use Rattle.cpu12_isa.specs.Act.{outcome, read_by}
+use Rattle.cpu12_isa.specs.Act.{read_by}
 use Rattle.cpu12_isa.specs.Memory.{plus, from, bytes_at}
 use Rattle.cpu12_isa.specs.Flags.{put, opened, zero_result, hnvc, hnzvc}
 use Rattle.cpu12_isa.specs.Agreement.{AllShown}
 use Rattle.cpu12_isa.proofs.Agreements.{shown_left, shown_right}
 use Rattle.cpu12_isa.proofs.Bits.{bit_or_is, bit_and_is, same_ccr, fits_put, fits_opened}
 use Rattle.cpu12_parts.specs.declared.temps.Temps.{Temps}
-use Rattle.cpu12_parts.specs.declared.temps.Temps.TheVariants.{Free, Running, OnStack}
+use Rattle.cpu12_parts.specs.declared.temps.Temps.TheVariants.{Free, Running}
 use Rattle.cpu12_parts.specs.declared.temps.PartEnd.TheVariants.{More, Done}
 use Rattle.cpu12_parts.specs.State.{State, Outcome, state_after}
 use Rattle.cpu12_parts.specs.Parts.{wav_act, wav_end}
 use Rattle.cpu12_parts.specs.Cuts.{wav, part_of, after_part}
-use Rattle.cpu12_parts.specs.Averages.{dot, total, wav_read, wav_whole}
-use Rattle.cpu12_parts.specs.Laws.{PartsTo, Touches, addresses, state_of, IsOff, WavIsWhole}
+use Rattle.cpu12_parts.specs.Averages.{dot, total, wav_whole}
+use Rattle.cpu12_parts.specs.Laws.{PartsTo, addresses, state_of, IsOff, WavIsWhole}
 
 abbrev pub at_sums : Regs → ℕ → ℕ → List ℕ → State
 at_sums r p w mem = state_of r (Running p w) mem
@@ -107,8 +107,7 @@ sums_parts : (flags : ℕ) (h g : ℕ → Bool) (d : ℕ) (r : Regs) (p w : ℕ)
     → AllShown h (from r.x (suc d)) → AllShown h (from r.y (suc d)) → PartsTo wav flags h g d (at_sums r p w mem) (end_state flags r p w mem)
 sums_parts flags h g zero r p w mem pf wf c f e xs ys =
     let one : r.b ≡ 1 = omega arith in
-    let part = last_part flags r p w mem one in
-    (
+    let part = last_part flags r p w mem one in (
       (subst (λ (ats : List ℕ). AllShown h ats) (sym (last_reads flags r p w mem one)) (xs.0, (ys.0, tt)), subst (λ (o : Outcome). AllShown g (addresses o.writes)) (sym part) tt),
       ap (λ (o : Outcome). o.end) part,
       one_left flags r p w mem one ∙ sym (ap (λ (o : Outcome). state_after o mem) part),
@@ -120,19 +119,17 @@ sums_parts flags h g (suc d) r p w mem pf wf c f e xs ys =
     let P : ℕ = (p + get_or mem r.x 0 * get_or mem r.y 0) % 2 ^ 32 in
     let W : ℕ = (w + get_or mem r.y 0) % 2 ^ 16 in
     let next : after_part wav flags (at_sums r p w mem) ≡ at_sums (next_regs flags r) ((p + get_or mem r.x 0 * get_or mem r.y 0) % 2 ^ 32) ((w + get_or mem r.y 0) % 2 ^ 16) mem = ap (λ (o : Outcome). state_after o mem) part in
-    let rest = sums_parts flags h g d (next_regs flags r) P W mem (omega arith) (omega arith) (fits_opened r.ccr hnzvc flags c f) f (omega arith) xs.1 ys.1 in
-    (
+    let rest = sums_parts flags h g d (next_regs flags r) P W mem (omega arith) (omega arith) (fits_opened r.ccr hnzvc flags c f) f (omega arith) xs.1 ys.1 in (
       (subst (λ (ats : List ℕ). AllShown h ats) (sym (inner_reads flags r p w mem h0 h1)) (xs.0, (ys.0, tt)), subst (λ (o : Outcome). AllShown g (addresses o.writes)) (sym part) tt),
       ap (λ (o : Outcome). o.end) part,
       subst (λ (s : State). PartsTo wav flags h g d s (end_state flags r p w mem)) (sym next)
-      (subst (λ (t : State). PartsTo wav flags h g d (at_sums (next_regs flags r) ((p + get_or mem r.x 0 * get_or mem r.y 0) % 2 ^ 32) ((w + get_or mem r.y 0) % 2 ^ 16) mem) t) (one_more flags r p w mem h0 c f) rest),
+          (subst (λ (t : State). PartsTo wav flags h g d (at_sums (next_regs flags r) ((p + get_or mem r.x 0 * get_or mem r.y 0) % 2 ^ 32) ((w + get_or mem r.y 0) % 2 ^ 16) mem) t) (one_more flags r p w mem h0 c f) rest),
     )
 
 -- no pair
 no_parts : (flags : ℕ) (h g : ℕ → Bool) (r : Regs) (p w : ℕ) (mem : List ℕ) → p < 2 ^ 32 → w < 2 ^ 16 → r.b ≡ 0 → PartsTo wav flags h g 0 (at_sums r p w mem) (end_state flags r p w mem)
 no_parts flags h g r p w mem pf wf e =
-    let part = empty_part flags r p w mem e in
-    (
+    let part = empty_part flags r p w mem e in (
       (subst (λ (ats : List ℕ). AllShown h ats) (sym (empty_reads flags r p w mem e)) tt, subst (λ (o : Outcome). AllShown g (addresses o.writes)) (sym part) tt),
       ap (λ (o : Outcome). o.end) part,
       nothing_left flags r p w mem pf wf e ∙ sym (ap (λ (o : Outcome). state_after o mem) part),

@@ -1,16 +1,14 @@
 -- The laws of instructions in parts.
-use Rattle.std.specs.Prelude.{◌≡◌, ℕ, zero, suc, ◌+◌, ◌-◌, ◌%◌, ◌^◌, ◌<◌, ◌⊎◌, Bool, true, false, nat_lt, List, [], ◌∷◌, length}
+use Rattle.std.specs.Prelude.{◌≡◌, ℕ, zero, suc, ◌+◌, ◌-◌, ◌%◌, ◌^◌, ◌<◌, ◌⊎◌, Bool, true, nat_lt, List, [], ◌∷◌, length}
 use Rattle.cpu12_isa.specs.declared.instr.Regs.{Regs}
-use Rattle.cpu12_isa.specs.Act.{outcome, read_by, write_all}
-use Rattle.cpu12_isa.specs.Memory.{plus}
-use Rattle.cpu12_isa.specs.Flags.{has, interrupts_masked}
+use Rattle.cpu12_isa.specs.Act.{outcome, read_by}
 use Rattle.cpu12_isa.specs.Agreement.{Agree, AllShown, IsWritten}
 use Rattle.cpu12_parts.specs.declared.temps.Temps.{Temps}
 use Rattle.cpu12_parts.specs.declared.temps.Temps.TheVariants.{Free, Running, OnStack}
 use Rattle.cpu12_parts.specs.declared.temps.PartEnd.TheVariants.{More, Done}
-use Rattle.cpu12_parts.specs.State.{State, Outcome}
+use Rattle.cpu12_parts.specs.State.{State}
 use Rattle.cpu12_parts.specs.Cuts.{Kind, rev, revw, wav, part_of, after_part, suspended, resumed, cut_run, EndsWith}
-use Rattle.cpu12_parts.specs.Rules.{Form, Rule, rev_form, revw_form, elements_of, rules_read, rules_written, AreReady, rules_whole}
+use Rattle.cpu12_parts.specs.Rules.{Rule, rev_form, revw_form, elements_of, rules_read, rules_written, AreReady, rules_whole}
 use Rattle.cpu12_parts.specs.Averages.{wav_read, wav_whole}
 
 -- the addresses of writes
@@ -95,3 +93,21 @@ IsOff t = (t ≡ Free) ⊎ (t ≡ OnStack)
 abbrev pub WavIsWhole : Type 0
 WavIsWhole = (flags : ℕ) (r : Regs) (t : Temps) (mem : List ℕ) (unread unwritten : ℕ → Bool) → flags < 2 ^ 8 → r.ccr.0 < 2 ^ 8 → IsOff t
     → AllShown unread (wav_read r) → PartsTo wav flags unread unwritten (r.b - 1) (state_of r t mem) (wav_whole flags r mem)
+
+-- Over all cuts: from where the whole instruction is defined, and no byte that it reads is one of the six below SP, the
+-- parts end after as many as there are elements, wherever they are cut, and in the whole instruction's state but for
+-- those six bytes.
+abbrev pub RevOverCuts : Type 0
+RevOverCuts = (flags : ℕ) (r : Regs) (t : Temps) (mem : List ℕ) (p : Rule) (ps : List Rule) (cs : List Bool) → flags < 2 ^ 8 → r.ccr.0 < 2 ^ 8 → length mem ≡ 65536 → r.sp < 2 ^ 16
+    → AreReady (rev_form r.y) r mem p ps → AllShown (below 6 r.sp) (rules_read (rev_form r.y) r p ps) → length (elements_of (rev_form r.y) p ps) ≡ suc (length cs)
+    → EndsWith rev flags cs (state_of r t mem) × IsLike (cut_run rev flags cs (state_of r t mem)) (rules_whole (rev_form r.y) flags r t mem p ps)
+
+abbrev pub RevwOverCuts : Type 0
+RevwOverCuts = (flags : ℕ) (r : Regs) (t : Temps) (mem : List ℕ) (p : Rule) (ps : List Rule) (cs : List Bool) → flags < 2 ^ 8 → r.ccr.0 < 2 ^ 8 → length mem ≡ 65536 → r.sp < 2 ^ 16
+    → AreReady revw_form r mem p ps → AllShown (below 6 r.sp) (rules_read revw_form r p ps) → length (elements_of revw_form p ps) ≡ suc (length cs)
+    → EndsWith revw flags cs (state_of r t mem) × IsLike (cut_run revw flags cs (state_of r t mem)) (rules_whole revw_form flags r t mem p ps)
+
+abbrev pub WavOverCuts : Type 0
+WavOverCuts = (flags : ℕ) (r : Regs) (t : Temps) (mem : List ℕ) (cs : List Bool) → flags < 2 ^ 8 → r.ccr.0 < 2 ^ 8 → length mem ≡ 65536 → r.sp < 2 ^ 16 → IsOff t
+    → AllShown (below 6 r.sp) (wav_read r) → length cs ≡ r.b - 1
+    → EndsWith wav flags cs (state_of r t mem) × IsLike (cut_run wav flags cs (state_of r t mem)) (wav_whole flags r mem)

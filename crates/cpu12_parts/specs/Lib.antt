@@ -5,3 +5,4 @@ pub mod Cuts
 pub mod Rules
 pub mod Averages
 pub mod Laws
+pub mod Whole

@@ -1,6 +1,6 @@
 // Laws of the parts.
 ghost use Rattle.cpu12_parts.specs.Cuts.{rev, revw, wav};
-ghost use Rattle.cpu12_parts.specs.Laws.{AreKept, Any, GoesOn, WritesBelow, KeepsNothing, IsSteady, CutsChangeNothing, RevIsWhole, RevwIsWhole, WavIsWhole};
+ghost use Rattle.cpu12_parts.specs.Laws.{AreKept, Any, GoesOn, WritesBelow, KeepsNothing, IsSteady, CutsChangeNothing, RevIsWhole, RevwIsWhole, WavIsWhole, RevOverCuts, RevwOverCuts, WavOverCuts};
 
 /// What WAV's `suspend` put away, its `resume` gets back.
 pub fn wav_goes_on()
@@ -75,3 +75,30 @@ pub fn rev_is_whole()
 pub fn revw_is_whole()
     ensures { RevwIsWhole }
 {}
+
+/// REV's parts, cut at any boundaries by `suspend` and then `resume`, end in the whole instruction's state
+/// but for the six bytes below SP.
+pub fn rev_over_cuts()
+    ensures { RevOverCuts }
+{
+    rev_cuts();
+    rev_is_whole();
+}
+
+/// REVW's parts, cut at any boundaries by `suspend` and then `resume`, end in the whole instruction's state
+/// but for the six bytes below SP.
+pub fn revw_over_cuts()
+    ensures { RevwOverCuts }
+{
+    revw_cuts();
+    revw_is_whole();
+}
+
+/// WAV's parts, cut at any boundaries by `suspend` and then `resume`, end in the whole instruction's state
+/// but for the six bytes below SP.
+pub fn wav_over_cuts()
+    ensures { WavOverCuts }
+{
+    wav_cuts();
+    wav_is_whole();
+}
