@@ -1,10 +1,10 @@
 -- Flags by their bits: with numerals for a mask and a bit, the bits of a byte compute.
-use Rattle.std.proofs.Common.{◌≡◌, ℕ, zero, suc, ◌+◌, ◌-◌, ◌*◌, ◌/◌, ◌%◌, ◌^◌, ◌<◌, ◌≤◌, Bool, true, false, ◌&&◌, ◌||◌, refl, ap, sym, ◌∙◌, arith, inl, inr, ◌⊎◌, bit_and, bit_or, min, max, nat_eq, List, [], ◌∷◌}
+use Rattle.std.proofs.Common.{◌≡◌, ℕ, zero, suc, ◌-◌, ◌/◌, ◌%◌, ◌^◌, ◌<◌, ◌≤◌, Bool, true, false, ◌&&◌, ◌||◌, refl, ap, sym, ◌∙◌, arith, inl, inr, ◌⊎◌, bit_and, bit_or, min, max, nat_eq, List, [], ◌∷◌}
 use Rattle.std.specs.Int.{bit_at}
 use Rattle.std.proofs.lemmas.Nat.Bits.{bit_at_and, bit_at_or, bit_at-lt, same_from_bits_below}
-use Rattle.std.proofs.lemmas.Nat.{and_le_l, and_le_r, or_lt}
+use Rattle.std.proofs.lemmas.Nat.{and_le_l, or_lt}
 use Rattle.cpu12_isa.specs.declared.instr.Ccr.{Ccr}
-use Rattle.cpu12_isa.specs.Flags.{has, put, opened, pulled_flags, interrupts_masked}
+use Rattle.cpu12_isa.specs.Flags.{put, opened, pulled_flags, interrupts_masked}
 
 -- whether the bit k is set
 abbrev pub bit : ℕ → ℕ → Bool

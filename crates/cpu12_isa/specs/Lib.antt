@@ -5,3 +5,4 @@ pub mod Registers
 pub mod Meaning
 pub mod Code
 pub mod Agreement
+pub mod Fits

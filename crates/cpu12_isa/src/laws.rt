@@ -1,5 +1,6 @@
 // Laws of instructions and memories.
 ghost use Rattle.cpu12_isa.specs.Meaning.{Effect};
+ghost use Rattle.cpu12_isa.specs.Fits.{StaysFit};
 ghost use Rattle.cpu12_isa.specs.Agreement.{ReadsAlone, WritesAgree, WritesStay};
 
 /// What an instruction does depends on the bytes that it reads alone.
@@ -15,4 +16,9 @@ pub fn writes_agree()
 /// Writes change no other byte.
 pub fn writes_stay()
     ensures { WritesStay }
+{}
+
+/// Registers and writes keep the sizes that they have.
+pub fn stays_fit()
+    ensures { StaysFit }
 {}
