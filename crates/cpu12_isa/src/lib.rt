@@ -14,6 +14,7 @@ pub mod decode;
 pub mod encode;
 pub mod exec;
 pub mod instr;
+pub mod laws;
 pub mod mem;
 pub mod regs;
 pub mod stack;
