@@ -1,0 +1,127 @@
+//! Images of memory.
+ghost use Rattle.std.specs.Prelude.{◌≡◌, ◌↔◌, ◌<◌, ◌≤◌, ◌+◌, ◌^◌, ℕ, List, [], ◌++◌, length, Some, None, Ok, Err, IsTrue, IsSome, OnOk, OnErr, IfOk, if◌then◌else◌};
+ghost use Rattle.std.specs.BTreeMap.{is_at};
+ghost use Rattle.std.specs.Ordering.{nat_cmp};
+ghost use Rattle.cpu12_asm.specs.Bytes.{byte_at, start_of, placed, Holds, IsAscending};
+
+use std::alloc::{AllocError, Global};
+use std::collections::BTreeMap;
+use std::marker::Model;
+
+/// Bytes by their addresses. A contract sees the list of the addresses with their bytes.
+#[derive(Drop)]
+pub struct ByteMap {
+    bytes: BTreeMap<u16, u8>,
+}
+
+impl Model for ByteMap {
+    ghost use Rattle.std.specs.Prelude.{ℕ, List};
+    ghost use Rattle.std.specs.BTreeMap.{IsOrdered};
+    ghost use Rattle.std.specs.Ordering.{nat_cmp};
+
+    ghost Value = { List (ℕ × ℕ) };
+
+    ghost view = { λ m. m.bytes.entries };
+
+    ghost invariant = { λ m. IsOrdered nat_cmp m.bytes };
+}
+
+impl ByteMap {
+    /// No bytes.
+    pub fn new(alloc: Global) -> ByteMap
+        ensures { result ≡ [] }
+    {
+        ByteMap {
+            bytes: BTreeMap::new(alloc),
+        }
+    }
+
+    /// How many bytes there are.
+    pub fn len(&self) -> usize
+        ensures { result ≡ length self.now }
+    {
+        self.bytes.len()
+    }
+
+    pub fn is_empty(&self) -> bool
+        ensures { IsTrue result ↔ (self.now ≡ []) }
+    {
+        self.bytes.is_empty()
+    }
+
+    /// The byte at an address.
+    pub fn get(&self, at: u16) -> Option<u8>
+        ensures { result ≡ byte_at self.now at }
+    {
+        self.bytes.get(&at).copied()
+    }
+
+    /// Puts a byte to an address, in the place of one that is there.
+    pub fn insert(&mut self, at: u16, byte: u8) -> Result<(), AllocError>
+        ensures put { OnOk result ((q : ℕ) → byte_at self.new q ≡ (if is_at (nat_cmp at) q then Some byte else byte_at self.old q)) }
+        ensures err { OnErr result (self.new ≡ self.old) }
+    {
+        match self.bytes.insert(at, byte) {
+            Ok(_) => Ok(()),
+            Err(_) => Err(AllocError),
+        }
+    }
+
+    /// The word at the reset vector, or 0 where one of its bytes is missing.
+    pub fn start(&self) -> u16
+        ensures value { result ≡ start_of self.now }
+        ensures ascending { IsAscending self.now }
+    {
+        let _ = &self.bytes;
+        match (self.get(0xFFFE), self.get(0xFFFF)) {
+            (Some(high), Some(low)) => u16::from(high) * 256 + u16::from(low),
+            _ => 0,
+        }
+    }
+
+    /// Puts bytes one after another from a place, where no byte may be yet, and answers the place
+    /// behind them.
+    pub(crate) fn put_all(&mut self, place: u32, bytes: &[u8]) -> Result<u32, Refusal>
+        requires place { place ≤ 2 ^ 16 }
+        requires few { length bytes.now ≤ 6 }
+        ensures behind { IfOk result (λ after. (after ≡ place + length bytes.now) × (after ≤ 2 ^ 16)) }
+        ensures held { (given : List (ℕ × ℕ)) → Holds self.old given → OnOk result (Holds self.new (given ++ placed place bytes.now)) }
+        ensures past { result ≡ Err Refusal.PastEnd → 2 ^ 16 < place + length bytes.now }
+        ensures taken { result ≡ Err Refusal.Taken → (place + length bytes.now ≤ 2 ^ 16)
+            × ((given : List (ℕ × ℕ)) → Holds self.old given → (k : ℕ) × (k < length bytes.now) × IsSome (byte_at given (place + k))) }
+    {
+        let end = place + bytes.len() as u32;
+        if end > 0x1_0000 {
+            return Err(Refusal::PastEnd);
+        }
+        let mut at = place;
+        for byte in bytes {
+            let address = at as u16;
+            if self.get(address).is_some() {
+                return Err(Refusal::Taken);
+            }
+            match self.insert(address, *byte) {
+                Ok(()) => {}
+                Err(_) => return Err(Refusal::Memory),
+            }
+            at += 1;
+        }
+        Ok(end)
+    }
+}
+
+/// Why bytes can't be put into an image.
+#[derive(Clone, Copy)]
+pub(crate) enum Refusal {
+    PastEnd,
+    Taken,
+    Memory,
+}
+
+/// Some bytes of memory, and the address where the processor starts: the word at `$FFFE`, the reset
+/// vector (CPU12 Reference Manual, section 7), where the image has both its bytes, else 0.
+#[derive(Drop)]
+pub struct Image {
+    pub bytes: ByteMap,
+    pub start: u16,
+}

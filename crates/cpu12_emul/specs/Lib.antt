@@ -1,0 +1,4 @@
+pub mod Image
+pub mod Step
+pub mod Take
+pub mod Run

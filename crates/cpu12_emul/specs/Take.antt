@@ -1,0 +1,81 @@
+-- An interrupt that is taken.
+use Rattle.std.specs.Prelude.{ℕ, Bool, true, not, List, [], ◌∷◌, ◌++◌, slice_index}
+use Rattle.cpu12_isa.specs.declared.instr.Write.{Write}
+use Rattle.cpu12_isa.specs.Act.{write_all}
+use Rattle.cpu12_isa.specs.Memory.{plus, from, placed, bytes_at, word_of}
+use Rattle.cpu12_isa.specs.Flags.{interrupts_masked, has, put}
+use Rattle.cpu12_isa.specs.Registers.{frame_bytes, pulled}
+use Rattle.cpu12_parts.specs.declared.temps.Temps.{Temps}
+use Rattle.cpu12_parts.specs.declared.temps.Temps.TheVariants.{Free, Running, OnStack}
+use Rattle.cpu12_parts.specs.State.{State}
+use Rattle.cpu12_parts.specs.Sums.{sum_bytes}
+use Rattle.cpu12_parts.specs.Cuts.{suspended, wav}
+use Rattle.cpu12_emul.specs.declared.ends.Frame.{Frame}
+
+-- I is 0
+abbrev pub may_interrupt : State → Bool
+may_interrupt s = not (has s.regs.ccr interrupts_masked)
+
+-- writes as pairs of an address and a byte
+abbrev pub pairs_of : List Write → List (ℕ × ℕ)
+pairs_of [] = []
+pairs_of (w ∷ ws) = (w.at, w.value) ∷ pairs_of ws
+
+-- the nine bytes are pushed, and I is set
+abbrev pub pushed : State → State
+pushed s = record {
+  regs = record (s.regs) { sp = plus s.regs.sp 65527; ccr = put s.regs.ccr interrupts_masked true };
+  temps = s.temps;
+  mem = write_all (placed (plus s.regs.sp 65527) (frame_bytes s.regs)) s.mem;
+}
+
+-- the handler's writes
+abbrev pub written : List Write → State → State
+written ws s = record s { mem = write_all (pairs_of ws) s.mem }
+
+-- the nine bytes are pulled
+abbrev pub returned : State → State
+returned s = record s { regs = pulled s.regs (bytes_at s.mem (from s.regs.sp 9)) }
+
+-- the nine bytes, the writes, and back
+abbrev pub framed : List Write → State → State
+framed ws s = returned (written ws (pushed s))
+
+-- an interrupt whose handler does these writes: sums that run go on the stack first
+abbrev pub taken : List Write → State → State
+taken ws s = framed ws (suspended wav s)
+
+-- PC from the interrupt's vector
+abbrev pub vectored : State → State
+vectored s = record s { regs = record (s.regs) { pc = word_of (slice_index s.mem 65522) (slice_index s.mem 65523) } }
+
+-- an interrupt up to its handler's first instruction
+abbrev pub entered : List Write → State → State
+entered ws s = vectored (written ws (pushed (suspended wav s)))
+
+-- what an interrupt leaves on the stack: PC, SP after the push, and the bytes from there
+pub record FrameSeen : Type 0 where
+  pub pc : ℕ
+  pub sp : ℕ
+  pub bytes : List ℕ
+
+-- a frame of the code as it is seen
+abbrev pub frame_seen : Frame → FrameSeen
+frame_seen f = record { pc = f.pc; sp = f.sp; bytes = f.bytes.items }
+
+abbrev pub frame_size : Temps → ℕ
+frame_size Free = 9
+frame_size OnStack = 9
+frame_size (Running p w) = 15
+
+-- the frame of an interrupt, as it stands in memory after the push
+abbrev pub frame_of : State → FrameSeen
+frame_of s =
+    let v = pushed (suspended wav s) in
+    record { pc = v.regs.pc; sp = v.regs.sp; bytes = bytes_at v.mem (from v.regs.sp (frame_size s.temps)) }
+
+-- the same without a look at the stack
+abbrev pub frame_in : State → Temps → FrameSeen
+frame_in s Free = record { pc = s.regs.pc; sp = plus s.regs.sp 65527; bytes = frame_bytes s.regs }
+frame_in s OnStack = record { pc = s.regs.pc; sp = plus s.regs.sp 65527; bytes = frame_bytes s.regs }
+frame_in s (Running p w) = record { pc = s.regs.pc; sp = plus s.regs.sp 65521; bytes = frame_bytes s.regs ++ sum_bytes p w }

@@ -1,0 +1,29 @@
+// What calls of the machine answer.
+use arrayvec::ArrayVec;
+
+/// What a step was: a plain instruction, a part of REV, REVW or WAV after which there is more, or a
+/// last part.
+#[derive(Clone, Copy, Debug, PartialEq, Eq, Drop)]
+pub enum Stepped {
+    Plain,
+    Part,
+    LastPart,
+}
+
+/// How a run ended: PC at a branch to itself after so many steps; a trap with the place and the byte
+/// that is in no table; or the budget spent, with its number of steps.
+#[derive(Clone, Copy, Debug, PartialEq, Eq, Drop)]
+pub enum RunEnd {
+    Arrived(u32),
+    Trap(u16, u8),
+    Budget(u32),
+}
+
+/// What an interrupt pushed: PC, SP after the push, and the bytes from there upwards, 9 of them, or 15
+/// where WAV's sums ran.
+#[derive(Drop)]
+pub struct Frame {
+    pub pc: u16,
+    pub sp: u16,
+    pub bytes: ArrayVec<u8, 15>,
+}

@@ -1,0 +1,15 @@
+//! The emulator of the CPU12: [`machine::Machine`] over any [`cpu12_isa::mem::Mem`], its steps, runs and
+//! interrupts, and what these answer ([`ends::Stepped`], [`ends::RunEnd`], [`ends::Frame`]).
+//!
+//! A step is one plain instruction or one part of REV, REVW or WAV, and does exactly what its
+//! definition says, a trap leaving the machine as it was. An interrupt pushes its frame, with WAV's sums
+//! below it where they run, does the handler's writes and pulls the frame; no step and no interrupt
+//! takes memory.
+#![tactic(auto)]
+
+pub mod ends;
+pub mod interrupt;
+pub mod laws;
+pub mod load;
+pub mod machine;
+pub mod run;

@@ -1,0 +1,156 @@
+// The machine.
+ghost use Rattle.std.specs.Prelude.{ℕ, ◌≡◌, MatchResult, Ok, Err, slice_index, slice_set};
+ghost use Rattle.cpu12_isa.specs.Act.{outcome, write_all};
+ghost use Rattle.cpu12_emul.specs.Step.{Whole, kind_of, instruction_act, next_of, applied, reset_with};
+
+use crate::ends::Stepped;
+use cpu12_isa::decode::decode;
+use cpu12_isa::exec::exec;
+use cpu12_isa::instr::{Ccr, Instr, Regs, Trap};
+use cpu12_isa::mem::{Mem, word_of};
+use cpu12_parts::rules::{Rev, Revw};
+use cpu12_parts::temps::{PartEnd, Resumable, Temps};
+use cpu12_parts::wav::Wav;
+use std::marker::Model;
+
+/// The address of the reset vector.
+const RESET_VECTOR: u16 = 0xFFFE;
+
+/// Registers, memory, WAV's sums, and the byte FLAGS that gives the flags that the manual leaves open.
+#[derive(Drop)]
+pub struct Machine<M: Mem> {
+    pub(crate) regs: Regs,
+    pub(crate) temps: Temps,
+    pub(crate) mem: M,
+    pub(crate) flags: u8,
+}
+
+impl<M: Mem> Model for Machine<M> {
+    ghost use Rattle.cpu12_emul.specs.Step.{Whole};
+
+    ghost Value = { Whole };
+
+    ghost view = { λ a. record { state = record { regs = a.regs; temps = a.temps; mem = M.bytes a.mem }; flags = a.flags } };
+}
+
+/// The kind of a step by a part.
+fn kind_of(end: PartEnd) -> Stepped
+    ensures { result ≡ kind_of end }
+{
+    match end {
+        PartEnd::More => Stepped::Part,
+        PartEnd::Done => Stepped::LastPart,
+    }
+}
+
+impl<M: Mem> Machine<M> {
+    /// A machine that comes from reset with this memory: registers 0, CCR `$D0`, PC from `$FFFE`.
+    pub fn reset(mem: M, flags: u8) -> Machine<M>
+        ensures { result ≡ record { state = reset_with (M.bytes mem); flags = flags } }
+    {
+        let pc = word_of(mem.read(RESET_VECTOR), mem.read(RESET_VECTOR + 1));
+        let regs = Regs {
+            a: 0,
+            b: 0,
+            x: 0,
+            y: 0,
+            sp: 0,
+            pc,
+            ccr: Ccr(0xD0),
+        };
+        Machine {
+            regs,
+            temps: Temps::Free,
+            mem,
+            flags,
+        }
+    }
+
+    /// The registers.
+    pub fn regs(&self) -> Regs
+        ensures { result ≡ self.now.state.regs }
+    {
+        self.regs
+    }
+
+    /// The byte at an address.
+    pub fn peek(&self, at: u16) -> u8
+        ensures { result ≡ slice_index self.now.state.mem at }
+    {
+        self.mem.read(at)
+    }
+
+    /// Sets the byte at an address.
+    pub fn poke(&mut self, at: u16, value: u8)
+        ensures state { self.new.state ≡ record (self.old.state) { mem = slice_set self.old.state.mem at value } }
+        ensures flags { self.new.flags ≡ self.old.flags }
+    {
+        self.mem.write(at, value);
+    }
+
+    /// The memory alone.
+    pub fn into_mem(self) -> M
+        ensures { M.bytes result ≡ self.state.mem }
+    {
+        let Machine {
+            regs: _,
+            temps: _,
+            mem,
+            flags: _,
+        } = self;
+        mem
+    }
+
+    /// One part of an instruction in parts.
+    fn part<R: Resumable>(&mut self, k: &R) -> Stepped
+        ensures regs { self.new.state.regs ≡ (outcome (R.act k.now self.old.flags self.old.state.regs self.old.state.temps) self.old.state.mem).regs }
+        ensures temps { self.new.state.temps ≡ (outcome (R.act k.now self.old.flags self.old.state.regs self.old.state.temps) self.old.state.mem).temps }
+        ensures mem { self.new.state.mem ≡ write_all (outcome (R.act k.now self.old.flags self.old.state.regs self.old.state.temps) self.old.state.mem).writes self.old.state.mem }
+        ensures kind { result ≡ kind_of (outcome (R.act k.now self.old.flags self.old.state.regs self.old.state.temps) self.old.state.mem).end }
+        ensures flags { self.new.flags ≡ self.old.flags }
+    {
+        let end = k.part(&mut self.regs, &mut self.mem, &mut self.temps, self.flags);
+        kind_of(end)
+    }
+
+    /// The step of an instruction that stands at PC, where no sums run.
+    #[tactic(auto, using(cpu12_isa::proofs::Acts::outcome_bind))]
+    fn instruction(&mut self, i: &Instr) -> Stepped
+        ensures next { applied (outcome (instruction_act self.old.flags self.old.state.regs self.old.state.temps (Ok i.now)) self.old.state.mem) self.old.state.mem
+            ≡ Ok (record { state = self.new.state; kind = result }) }
+        ensures flags { self.new.flags ≡ self.old.flags }
+    {
+        match *i {
+            Instr::Rev => self.part(&Rev),
+            Instr::Revw => self.part(&Revw),
+            Instr::Wav => self.part(&Wav),
+            Instr::Wavr => {
+                Wav.resume(&mut self.regs, &mut self.mem, &mut self.temps);
+                self.part(&Wav)
+            }
+            _ => {
+                exec(i, &mut self.regs, &mut self.mem, self.flags);
+                Stepped::Plain
+            }
+        }
+    }
+
+    /// One step: where WAV's sums run its next part, else a plain instruction or one part by the bytes
+    /// at PC. A `Trap` comes exactly where `decode` answers it; it leaves the machine as it was, and
+    /// never comes while sums run.
+    #[tactic(auto, using(cpu12_isa::proofs::Acts::outcome_bind))]
+    pub fn step(&mut self) -> Result<Stepped, Trap>
+        ensures next { MatchResult result
+            (λ kind. next_of self.old.flags self.old.state ≡ Ok (record { state = self.new.state; kind = kind }))
+            (λ t. (next_of self.old.flags self.old.state ≡ Err t.byte) × (t.pc ≡ self.old.state.regs.pc) × (self.new ≡ self.old)) }
+        ensures flags { self.new.flags ≡ self.old.flags }
+    {
+        match self.temps {
+            Temps::Running(_, _) => Ok(self.part(&Wav)),
+            _ => match decode(&self.mem, self.regs.pc) {
+                Ok((i, _)) => Ok(self.instruction(&i)),
+                Err(trap) => Err(trap),
+            },
+        }
+    }
+}

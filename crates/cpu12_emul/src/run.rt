@@ -1,0 +1,44 @@
+// Runs to a branch to itself.
+ghost use Rattle.std.specs.Prelude.{ℕ, ◌≡◌};
+ghost use Rattle.cpu12_emul.specs.Run.{run_of, is_at_rest};
+
+use crate::ends::RunEnd;
+use crate::machine::Machine;
+use cpu12_isa::mem::Mem;
+
+impl<M: Mem> Machine<M> {
+    /// Whether PC is at `20 FE`, a branch to itself.
+    fn is_at_rest(&self) -> bool
+        ensures { result ≡ is_at_rest self.now.state }
+    {
+        self.peek(self.regs.pc) == 0x20 && self.peek(self.regs.pc.wrapping_add(1)) == 0xFE
+    }
+
+    /// Does steps until PC is at a branch to itself: `Arrived` with the least number of steps, at most
+    /// `budget`, after which it is; else `Trap` where a step has no value, or `Budget` where `budget`
+    /// steps were done without arriving. The machine is then as those steps left it.
+    #[tactic(auto, using(crate::proofs::Runs::runs))]
+    pub fn run(&mut self, budget: u32) -> RunEnd
+        ensures run { record { end = result; state = self.new.state } ≡ run_of self.old.flags budget 0 self.old.state }
+        ensures flags { self.new.flags ≡ self.old.flags }
+    {
+        let mut left = budget;
+        let mut steps = 0;
+        while left > 0 {
+            if self.is_at_rest() {
+                return RunEnd::Arrived(steps);
+            }
+            match self.step() {
+                Ok(_) => {}
+                Err(trap) => return RunEnd::Trap(trap.pc, trap.byte),
+            }
+            left -= 1;
+            steps += 1;
+        }
+        if self.is_at_rest() {
+            RunEnd::Arrived(steps)
+        } else {
+            RunEnd::Budget(steps)
+        }
+    }
+}

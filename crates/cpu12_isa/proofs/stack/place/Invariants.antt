@@ -1,0 +1,8 @@
+use Rattle.std.proofs.Common.{◌≡◌, drop}
+use Rattle.cpu12_isa.specs.Act.{write_all}
+use Rattle.cpu12_isa.specs.Memory.{placed}
+use Rattle.cpu12_isa.proofs.stack.place.Given as goal
+
+-- the bytes that are left lead to the same memory as all
+abbrev pub invariant-loop-v : goal.invariant-loop-v
+invariant-loop-v g l = write_all (placed l.to (drop l.v-index l.bytes)) (g.M.Mem.bytes l.m) ≡ write_all (placed l.at l.bytes) (g.M.Mem.bytes l.fn.m)

@@ -1,0 +1,6 @@
+pub mod Memory
+pub mod Act
+pub mod Flags
+pub mod Registers
+pub mod Meaning
+pub mod Code

@@ -1,0 +1,86 @@
+// Memory, and words in it.
+ghost use Rattle.std.specs.Prelude.{ℕ, ◌≡◌, List, length, slice_index, slice_set, IfOk};
+ghost use Rattle.cpu12_isa.specs.Memory.{zeros, word_of, high_of, low_of};
+
+use std::alloc::{AllocError, Global};
+
+/// No memory could be had.
+#[derive(Clone, Copy, Debug, PartialEq, Eq, Drop)]
+pub struct Memory;
+
+/// What an instruction reads and writes: 65536 bytes by their addresses.
+pub trait Mem: Sized {
+    /// The 65536 bytes.
+    ghost bytes: { Self → List ℕ };
+
+    /// A memory of zeros.
+    fn fresh(alloc: Global) -> Result<Self, Memory>
+        ensures { IfOk result (λ m. bytes m ≡ zeros 65536) };
+
+    /// The byte at an address.
+    fn read(&self, at: u16) -> u8
+        ensures { result ≡ slice_index (bytes self.now) at };
+
+    /// Sets the byte at an address.
+    fn write(&mut self, at: u16, value: u8)
+        ensures { bytes self.new ≡ slice_set (bytes self.old) at value };
+
+    ghost size: { (m : Self) → length (bytes m) ≡ 65536 };
+}
+
+/// A memory with all its bytes in one vector, for tests and small tools.
+#[derive(Drop)]
+pub struct FlatMem {
+    cells: Vec<u8>,
+    ghost full: { length cells.items ≡ 65536 },
+}
+
+#[tactic(auto, unfolding(crate::specs::Memory::zeros))]
+fn zeroed(alloc: Global, n: usize) -> Result<Vec<u8>, AllocError>
+    ensures { IfOk result (λ v. v.items ≡ zeros n) }
+{
+    vec![in alloc; 0u8; n]
+}
+
+impl Mem for FlatMem {
+    ghost bytes = { λ m. m.cells.items };
+
+    ghost size = { λ m. m.full };
+
+    #[tactic(auto, using(crate::proofs::Zeros::length_zeros))]
+    fn fresh(alloc: Global) -> Result<Self, Memory> {
+        match zeroed(alloc, 65536) {
+            Ok(cells) => Ok(FlatMem { cells }),
+            Err(_) => Err(Memory),
+        }
+    }
+
+    fn read(&self, at: u16) -> u8 {
+        self.cells[at as usize]
+    }
+
+    fn write(&mut self, at: u16, value: u8) {
+        self.cells[at as usize] = value;
+    }
+}
+
+/// A word from its high and its low byte.
+pub fn word_of(high: u8, low: u8) -> u16
+    ensures { result ≡ word_of high low }
+{
+    high as u16 * 256 + low as u16
+}
+
+/// The high byte of a word.
+pub fn high_of(word: u16) -> u8
+    ensures { result ≡ high_of word }
+{
+    (word / 256) as u8
+}
+
+/// The low byte of a word.
+pub fn low_of(word: u16) -> u8
+    ensures { result ≡ low_of word }
+{
+    (word % 256) as u8
+}

@@ -1,0 +1,4 @@
+pub mod State
+pub mod Parts
+pub mod Sums
+pub mod Cuts

@@ -1,0 +1,83 @@
+-- One part of REV, REVW and WAV: one element of its list (CPU12 Reference Manual, section 9).
+use Rattle.std.specs.Prelude.{ℕ, ◌+◌, ◌-◌, ◌*◌, ◌/◌, ◌%◌, ◌^◌, ◌==◌, min, max, true, false, if◌then◌else◌, [], ◌∷◌}
+use Rattle.cpu12_isa.specs.declared.instr.Regs.{Regs}
+use Rattle.cpu12_isa.specs.Act.{Act, Give, Get}
+use Rattle.cpu12_isa.specs.Memory.{plus, word_of}
+use Rattle.cpu12_isa.specs.Flags.{has, put, opened, carry, overflow, zero_result, hnzc, hnz, hnvc, hnzvc}
+use Rattle.cpu12_isa.specs.Registers.{passed}
+use Rattle.cpu12_parts.specs.declared.temps.Temps.{Temps}
+use Rattle.cpu12_parts.specs.declared.temps.Temps.TheVariants.{Free, Running, OnStack}
+use Rattle.cpu12_parts.specs.declared.temps.PartEnd.{PartEnd}
+use Rattle.cpu12_parts.specs.declared.temps.PartEnd.TheVariants.{More, Done}
+use Rattle.cpu12_parts.specs.State.{Outcome}
+
+-- a part that writes nothing
+abbrev pub leaving : Regs → Temps → PartEnd → Act Outcome
+leaving r t end = Give (record { regs = r; temps = t; writes = []; end = end })
+
+-- A truth that is cut by a weight byte w
+abbrev pub weighted : ℕ → ℕ → ℕ
+weighted a w = a * (w + 1) / 2 ^ 8
+
+-- An element that names a byte: with V 0 it is an antecedent and A becomes the lesser, with V 1 a conclusion, which
+-- becomes the greater. s has the registers before the part, r those after.
+abbrev pub met : Regs → Regs → Temps → ℕ → Act Outcome
+met s r t at = Get at (λ v.
+    if has s.ccr overflow then Give (record { regs = r; temps = t; writes = (at, max v s.a) ∷ []; end = More })
+    else leaving (record r { a = min s.a v }) t More)
+
+-- the element e of REV's list
+abbrev pub rev_element : ℕ → Regs → Temps → ℕ → Act Outcome
+rev_element flags s t e =
+    let r = record s { x = plus s.x 1; ccr = opened s.ccr hnzc flags } in
+    if e == 255 then leaving (passed r 2) t Done
+    else (if e == 254 then (
+    if has s.ccr overflow then leaving (record r { a = 255; ccr = put r.ccr overflow false }) t More
+    else leaving (record r { ccr = put r.ccr overflow true }) t More)
+    else met s r t (plus s.y e))
+
+-- one part of REV: the byte at X
+abbrev pub rev_act : ℕ → Regs → Temps → Act Outcome
+rev_act flags s t = Get s.x (rev_element flags s t)
+
+-- the element e of REVW's list
+abbrev pub revw_element : ℕ → Regs → Temps → ℕ → Act Outcome
+revw_element flags s t e =
+    let r = record s { x = plus s.x 2; ccr = opened s.ccr hnz flags } in
+    if e == 65535 then leaving (passed r 2) t Done
+    else (if e == 65534 then (
+    if has s.ccr overflow then leaving (record r { a = 255; ccr = put r.ccr overflow false }) t More
+    else (if has s.ccr carry then Get s.y (λ w. leaving (record r { a = weighted s.a w; y = plus s.y 1; ccr = put r.ccr overflow true }) t More)
+    else leaving (record r { ccr = put r.ccr overflow true }) t More))
+    else met s r t e)
+
+-- one part of REVW: the word at X
+abbrev pub revw_act : ℕ → Regs → Temps → Act Outcome
+revw_act flags s t = Get s.x (λ high. Get (plus s.x 1) (λ low. revw_element flags s t (word_of high low)))
+
+-- the registers at WAV's end with these sums, where its last byte stands at pc
+abbrev pub wav_end : ℕ → Regs → ℕ → ℕ → ℕ → Regs
+wav_end flags r product weight pc = record r {
+  y = product / 2 ^ 16;
+  a = product / 2 ^ 8 % 2 ^ 8;
+  b = product % 2 ^ 8;
+  x = weight;
+  pc = plus pc 1;
+  ccr = put (opened r.ccr hnvc flags) zero_result true;
+}
+
+-- one part of WAV with the sums before it, where its last byte stands at pc
+abbrev pub wav_from : ℕ → Regs → ℕ → ℕ → ℕ → Act Outcome
+wav_from flags r product weight pc =
+    if r.b == 0 then leaving (wav_end flags r product weight pc) Free Done
+    else Get r.x (λ u. Get r.y (λ v.
+    let p = (product + u * v) % 2 ^ 32 in
+    let w = (weight + v) % 2 ^ 16 in
+    if r.b == 1 then leaving (wav_end flags r p w pc) Free Done
+    else leaving (record r { x = plus r.x 1; y = plus r.y 1; b = r.b - 1; pc = pc; ccr = opened r.ccr hnzvc flags }) (Running p w) More))
+
+-- one part of WAV. Where no sums run it begins: the sums are 0, and PC goes to its second byte.
+abbrev pub wav_act : ℕ → Regs → Temps → Act Outcome
+wav_act flags r Free = wav_from flags r 0 0 (plus r.pc 1)
+wav_act flags r OnStack = wav_from flags r 0 0 (plus r.pc 1)
+wav_act flags r (Running p w) = wav_from flags r p w r.pc
