@@ -1,7 +1,8 @@
 -- Bytes of a range, and their cells.
-use Rattle.std.specs.Prelude.{ℕ, ◌+◌, ◌*◌, ◌/◌, ◌<◌, ◌≤◌, min, Bool, IsTrue, ◌==◌}
+use Rattle.std.specs.Prelude.{ℕ, ◌+◌, ◌*◌, ◌/◌, ◌<◌, ◌≤◌, min, Bool, IsTrue, ◌==◌, pos, ◌+ℤ◌, ◌*ℤ◌}
 use Rattle.fz_num.specs.declared.dec.Dec.{Dec}
 use Rattle.fz_num.specs.Fractions.{Fraction, over, AtMost, IsBelow}
+use Rattle.fz_num.specs.Fracs.{Quotient}
 use Rattle.fz_num.specs.Decimals.{distance}
 use Rattle.fuzzy_meaning.specs.declared.block.Input.{Input}
 use Rattle.fuzzy_meaning.specs.declared.block.Output.{Output}
@@ -26,10 +27,18 @@ cell_end w b = over ((b + 1) * w) 256
 abbrev pub IsInCell : ℕ → ℕ → Fraction → Type 0
 IsInCell w b x = IsFromTo (cell_start w b) (cell_end w b) (b == 255) x
 
+-- the number x lies in the cell of byte b of an input's range
+abbrev pub LiesInCell : Input → ℕ → Dec → Type 0
+LiesInCell i b x = IsInCell (distance i.lo i.hi) b (over (distance i.lo x) 1)
+
 -- s/255 is the nearest such fraction to d/w, and of two the higher
 pub record IsNearest (w d s : ℕ) : Type 0 where
   pub above : (2 * s) * w ≤ 510 * d + w
   pub below : 510 * d < (2 * s + 1) * w
+
+-- the number that byte q stands for, in units of 1: q/255 of the range above its low end
+abbrev pub value_of : Output → ℕ → Quotient
+value_of o q = record { num = pos 255 *ℤ o.lo.0 +ℤ pos (q * distance o.lo o.hi); den = 2550000 }
 
 -- the byte nearest to x in an output's range, a tie going up
 abbrev pub nearest_byte : Output → Dec → ℕ

@@ -10,6 +10,6 @@ mod inputs;
 mod outputs;
 mod weights;
 
-pub use inputs::{OutOfRange, cell, to_byte};
+pub use inputs::{OutOfRange, byte_within, cell, to_byte};
 pub use outputs::{near, value};
 pub use weights::weight_byte;

@@ -1,8 +1,8 @@
 //! Bytes of an output's range.
-ghost use Rattle.std.specs.Prelude.{◌≡◌, ◌*◌, pos, ◌+ℤ◌, ◌*ℤ◌};
+ghost use Rattle.std.specs.Prelude.{◌≡◌, pos};
 ghost use Rattle.fz_num.specs.Decimals.{distance};
 ghost use Rattle.fuzzy_meaning.specs.Blocks.{IsValidOutput, IsWithin};
-ghost use Rattle.byte_scaling.specs.Cells.{nearest_byte, IsNearest};
+ghost use Rattle.byte_scaling.specs.Cells.{value_of, nearest_byte, IsNearest};
 
 use fuzzy_meaning::Output;
 use fz_num::{Dec, Frac};
@@ -10,8 +10,8 @@ use fz_num::{Dec, Frac};
 /// The number that an output byte stands for: q/255 of the range above its low end, in units of 1.
 pub fn value(output: &Output, q: u8) -> Frac
     requires { IsValidOutput output.now }
-    ensures num { result.num ≡ pos 255 *ℤ output.now.lo.0 +ℤ pos (q * distance output.now.lo output.now.hi) }
-    ensures den { result.den ≡ pos 2550000 }
+    ensures num { result.num ≡ (value_of output.now q).num }
+    ensures den { result.den ≡ pos (value_of output.now q).den }
 {
     let above = u64::from(q) * output.hi.above(output.lo);
     Frac {

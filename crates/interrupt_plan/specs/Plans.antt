@@ -1,0 +1,30 @@
+-- Good plans.
+use Rattle.std.specs.Prelude.{◌≡◌, ◌<◌, ◌≤◌, ◌⊎◌, ℕ, List, [], ◌∷◌, length, All}
+use Rattle.interrupt_plan.specs.declared.Request.{Request}
+
+-- an address from $1800 to $1FDF, which the firmware neither reads nor writes
+pub record IsFree (at : ℕ) : Type 0 where
+  pub from : 6144 ≤ at
+  pub to : at ≤ 8159
+
+-- a request writes at most eight bytes, each of them free
+pub record IsGoodRequest (r : Request) : Type 0 where
+  pub sample_from : 1 ≤ r.sample
+  pub sample_to : r.sample ≤ 999999999
+  pub moment_to : r.moment ≤ 999999999
+  pub few_writes : length r.writes ≤ 8
+  pub free : All (λ w. IsFree w.at) r.writes
+
+-- by sample and then by moment, a does not come after b
+abbrev pub NotAfter : Request → Request → Type 0
+NotAfter a b = (a.sample < b.sample) ⊎ ((a.sample ≡ b.sample) × (a.moment ≤ b.moment))
+
+abbrev pub Ascends : List Request → Type 0
+Ascends [] = Unit {0}
+Ascends (a ∷ []) = Unit {0}
+Ascends (a ∷ b ∷ rest) = NotAfter a b × Ascends (b ∷ rest)
+
+pub record IsGood (plan : List Request) : Type 0 where
+  pub few : length plan ≤ 10000
+  pub requests : All IsGoodRequest plan
+  pub ascends : Ascends plan

@@ -1,0 +1,27 @@
+//! Samples, and why a text has none.
+
+use arrayvec::ArrayVec;
+use fz_list::List;
+use fz_num::Dec;
+
+/// One value per input, and the byte of each in its input's range.
+#[derive(Drop)]
+pub struct Sample {
+    /// In the order of the inputs.
+    pub values: List<Dec>,
+    /// In the order of the inputs.
+    pub bytes: ArrayVec<u8, 8>,
+}
+
+/// Why a text is no trace. Rows count from 1, and so do inputs.
+#[derive(Clone, Copy, PartialEq, Eq, Debug)]
+pub enum TraceFault {
+    /// There is a row 10001.
+    TooMany,
+    /// That row has not one decimal per input.
+    BadRow(u32),
+    /// In that row, the value of that input is the first that is outside its range.
+    OutOfRange(u32, u8),
+    /// Memory was wanted and not found.
+    Memory,
+}
