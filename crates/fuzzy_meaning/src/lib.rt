@@ -7,5 +7,9 @@
 #![tactic(auto)]
 
 mod block;
+mod degrees;
+mod truths;
 
 pub use block::{Block, Cond, Input, Output, Rule, Trapezoid};
+pub use degrees::degree;
+pub use truths::truth;
