@@ -8,8 +8,10 @@
 
 mod block;
 mod degrees;
+mod masses;
 mod truths;
 
 pub use block::{Block, Cond, Input, Output, Rule, Trapezoid};
 pub use degrees::degree;
+pub use masses::{mass, strength};
 pub use truths::truth;
