@@ -6,8 +6,9 @@ use Rattle.std.proofs.lemmas.Option.{slice_get_within, get_or_from_slice_get, sl
 use Rattle.fz_num.specs.declared.dec.Dec.{Dec}
 use Rattle.fuzzy_meaning.specs.declared.block.Block.{Block}
 use Rattle.fuzzy_meaning.specs.declared.block.Input.{Input}
+use Rattle.fuzzy_meaning.specs.declared.block.Output.{Output}
 use Rattle.fuzzy_meaning.specs.declared.block.Trapezoid.{Trapezoid}
-use Rattle.fuzzy_meaning.specs.Blocks.{IsValid, IsValidInput, IsValidTerm, IsTrapezoid, IsInScale, IsWithin, HasTerm, AreInputs}
+use Rattle.fuzzy_meaning.specs.Blocks.{IsValid, IsValidInput, IsValidOutput, IsValidTerm, IsTrapezoid, IsInScale, IsWithin, HasTerm, AreInputs, output_at}
 use Rattle.fuzzy_meaning.specs.Degrees.{degree}
 use Rattle.fuzzy_meaning.specs.Meaning.{literal_degree}
 
@@ -83,3 +84,7 @@ IsLiteral-read b xs i t input e y has are is =
     let count = are.count in
     let in_xs : i - 1 < length xs = omega arith in
     record { input_is = input_is; term_is = slice_get-get_or input.terms (t - 1) e in_terms; x_is = slice_get-get_or xs (i - 1) y in_xs }
+
+-- an output that a number names is valid
+pub IsValidOutput-at : (b : Block) (o : ℕ) (x : Output) → IsValid b → output_at b o ≡ Some x → IsValidOutput x
+IsValidOutput-at b o x v e = All-slice_get IsValidOutput b.outputs (o - 1) x v.outputs e
