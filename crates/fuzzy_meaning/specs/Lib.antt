@@ -3,3 +3,4 @@ pub mod Blocks
 pub mod Rules
 pub mod Degrees
 pub mod Meaning
+pub mod Holding
