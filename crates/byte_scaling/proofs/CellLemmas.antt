@@ -1,0 +1,55 @@
+-- Places in their cells.
+use Rattle.std.proofs.Common.{◌≡◌, ℕ, ◌+◌, ◌*◌, ◌/◌, ◌<◌, ◌≤◌, min, ⊎_elim, refl, subst, arith, mul-le-mul_right}
+use Rattle.std.proofs.lemmas.Bool.{cases_lt}
+use Rattle.fz_num.specs.Fractions.{over}
+use Rattle.std.proofs.lemmas.Nat.{le-div}
+use Rattle.std.proofs.lemmas.Int.{ints}
+use Rattle.std.specs.Prelude.{◌≤ℤ◌, ◌<ℤ◌}
+use Rattle.fz_num.specs.declared.dec.Dec.{Dec}
+use Rattle.fz_num.specs.Decimals.{distance}
+use Rattle.fuzzy_meaning.specs.declared.block.Input.{Input}
+use Rattle.fuzzy_meaning.specs.declared.block.Output.{Output}
+use Rattle.fuzzy_meaning.specs.Blocks.{IsWithin}
+use Rattle.byte_scaling.specs.Cells.{inside, at_end, byte_of, nearest_byte, IsInCell, IsNearest}
+
+-- a place of the range lies in the cell of its part, the high end in the last
+pub IsInCell-part : (w d : ℕ) → 0 < w → d ≤ w → IsInCell w (min 255 (d * 256 / w)) (over d 1)
+IsInCell-part w d h le = ⊎_elim
+    (λ (l : d * 256 / w < 256).
+    let e : d * 256 / w ≡ min 255 (d * 256 / w) = omega arith in
+    let from : d * 256 / w * w * 1 ≤ d * 256 = omega arith in
+    let to : d * 256 < (d * 256 / w + 1) * w * 1 = omega arith in
+    subst (λ b. IsInCell w b (over d 1)) e (inside (record { cross = from }) (record { cross = to })))
+    (λ (l : 256 ≤ d * 256 / w).
+    let e : 255 ≡ min 255 (d * 256 / w) = omega arith in
+    let many : 256 * w ≤ d * 256 / w * w = mul-le-mul_right w l in
+    let from : 255 * w * 1 ≤ d * 256 = omega arith in
+    let to : d * 256 ≤ (255 + 1) * w * 1 = omega arith in
+    subst (λ b. IsInCell w b (over d 1)) e (at_end (record { cross = from }) (record { cross = to }) refl))
+    (cases_lt (d * 256 / w) 256)
+
+-- the quotient rounded to the nearest, a tie going up
+pub IsNearest-quotient : (w d : ℕ) → 0 < w → IsNearest w d ((510 * d + w) / (2 * w))
+IsNearest-quotient w d h = record { above = omega arith; below = omega arith }
+
+part-mono : (w d e : ℕ) → 0 < w → d ≤ e → min 255 (d * 256 / w) ≤ min 255 (e * 256 / w)
+part-mono w d e h le =
+    let below : d * 256 / w * w ≤ e * 256 = omega arith in
+    let q : d * 256 / w ≤ e * 256 / w = le-div (d * 256 / w) (e * 256) w h below in
+    omega arith
+
+-- a greater number has no lower byte
+pub byte_of-mono : (i : Input) (x y : Dec) → i.lo.0 <ℤ i.hi.0 → i.lo.0 ≤ℤ x.0 → x.0 ≤ℤ y.0 → byte_of i x ≤ byte_of i y
+byte_of-mono i x y range from le = part-mono (distance i.lo i.hi) (distance i.lo x) (distance i.lo y) (omega (arith, ints)) (omega (arith, ints))
+
+nearest-small : (w d : ℕ) → 0 < w → d ≤ w → (510 * d + w) / (2 * w) ≤ 255
+nearest-small w d h le = ⊎_elim
+    (λ (l : (510 * d + w) / (2 * w) < 256). omega arith)
+    (λ (l : 256 ≤ (510 * d + w) / (2 * w)).
+    let many : 256 * (2 * w) ≤ (510 * d + w) / (2 * w) * (2 * w) = mul-le-mul_right (2 * w) l in
+    absurd (omega arith))
+    (cases_lt ((510 * d + w) / (2 * w)) 256)
+
+-- the byte nearest to a number of the range is a byte
+pub nearest_byte-le : (o : Output) (x : Dec) → o.lo.0 <ℤ o.hi.0 → IsWithin o.lo o.hi x → nearest_byte o x ≤ 255
+nearest_byte-le o x range within = nearest-small (distance o.lo o.hi) (distance o.lo x) (omega (arith, ints)) (omega (arith, ints))

@@ -1,0 +1,45 @@
+-- Bytes of a range, and their cells.
+use Rattle.std.specs.Prelude.{ℕ, ◌+◌, ◌*◌, ◌/◌, ◌<◌, ◌≤◌, min, Bool, IsTrue, ◌==◌, pos, ◌+ℤ◌, ◌*ℤ◌}
+use Rattle.fz_num.specs.declared.dec.Dec.{Dec}
+use Rattle.fz_num.specs.Fractions.{Fraction, over, AtMost, IsBelow}
+use Rattle.fz_num.specs.Fracs.{Quotient}
+use Rattle.fz_num.specs.Decimals.{distance}
+use Rattle.fuzzy_meaning.specs.declared.block.Input.{Input}
+use Rattle.fuzzy_meaning.specs.declared.block.Output.{Output}
+
+-- of a range in 256 parts, the one that x lies in; the high end lies in the last
+abbrev pub byte_of : Input → Dec → ℕ
+byte_of i x = min 255 (distance i.lo x * 256 / distance i.lo i.hi)
+
+-- from s on and below e, or up to e where it is closed
+pub data IsFromTo (s e : Fraction) (closed : Bool) (x : Fraction) : Type 0 where
+  inside : AtMost s x → IsBelow x e → IsFromTo s e closed x
+  at_end : AtMost s x → AtMost x e → IsTrue closed → IsFromTo s e closed x
+
+-- the ends of byte b's cell, measured from the low end of a range of width w
+abbrev pub cell_start : ℕ → ℕ → Fraction
+cell_start w b = over (b * w) 256
+
+abbrev pub cell_end : ℕ → ℕ → Fraction
+cell_end w b = over ((b + 1) * w) 256
+
+-- x, measured from the low end, lies in the half-open cell of byte b; the last cell has its high end
+abbrev pub IsInCell : ℕ → ℕ → Fraction → Type 0
+IsInCell w b x = IsFromTo (cell_start w b) (cell_end w b) (b == 255) x
+
+-- the number x lies in the cell of byte b of an input's range
+abbrev pub LiesInCell : Input → ℕ → Dec → Type 0
+LiesInCell i b x = IsInCell (distance i.lo i.hi) b (over (distance i.lo x) 1)
+
+-- s/255 is the nearest such fraction to d/w, and of two the higher
+pub record IsNearest (w d s : ℕ) : Type 0 where
+  pub above : (2 * s) * w ≤ 510 * d + w
+  pub below : 510 * d < (2 * s + 1) * w
+
+-- the number that byte q stands for, in units of 1: q/255 of the range above its low end
+abbrev pub value_of : Output → ℕ → Quotient
+value_of o q = record { num = pos 255 *ℤ o.lo.0 +ℤ pos (q * distance o.lo o.hi); den = 2550000 }
+
+-- the byte nearest to x in an output's range, a tie going up
+abbrev pub nearest_byte : Output → Dec → ℕ
+nearest_byte o x = (510 * distance o.lo x + distance o.lo o.hi) / (2 * distance o.lo o.hi)

@@ -1,0 +1,15 @@
+//! Numbers as bytes and back: the byte of a number in an input's range and that byte's cell, the
+//! number that an output byte stands for, the byte nearest to a number, and a weight's byte.
+//!
+//! A range is cut into 256 half-open cells of one width, the last with its high end: a number lies
+//! in the cell of its byte. Each call gives exactly the value of its definition, and none takes
+//! memory.
+#![tactic(auto)]
+
+mod inputs;
+mod outputs;
+mod weights;
+
+pub use inputs::{OutOfRange, byte_within, cell, to_byte};
+pub use outputs::{near, value};
+pub use weights::weight_byte;

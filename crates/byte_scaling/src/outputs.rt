@@ -1,0 +1,33 @@
+//! Bytes of an output's range.
+ghost use Rattle.std.specs.Prelude.{◌≡◌, pos};
+ghost use Rattle.fz_num.specs.Decimals.{distance};
+ghost use Rattle.fuzzy_meaning.specs.Blocks.{IsValidOutput, IsWithin};
+ghost use Rattle.byte_scaling.specs.Cells.{value_of, nearest_byte, IsNearest};
+
+use fuzzy_meaning::Output;
+use fz_num::{Dec, Frac};
+
+/// The number that an output byte stands for: q/255 of the range above its low end, in units of 1.
+pub fn value(output: &Output, q: u8) -> Frac
+    requires { IsValidOutput output.now }
+    ensures num { result.num ≡ (value_of output.now q).num }
+    ensures den { result.den ≡ pos (value_of output.now q).den }
+{
+    let above = u64::from(q) * output.hi.above(output.lo);
+    Frac {
+        num: 255 * i128::from(output.lo.0) + i128::from(above),
+        den: 2_550_000,
+    }
+}
+
+/// The byte whose value is nearest to a number of the range; a tie goes up.
+pub fn near(output: &Output, x: Dec) -> u8
+    requires output { IsValidOutput output.now }
+    requires x { IsWithin output.now.lo output.now.hi x }
+    ensures byte { result ≡ nearest_byte output.now x }
+    ensures nearest { IsNearest (distance output.now.lo output.now.hi) (distance output.now.lo x) result }
+{
+    let width = output.hi.above(output.lo);
+    let above = x.above(output.lo);
+    ((510 * above + width) / (2 * width)) as u8
+}

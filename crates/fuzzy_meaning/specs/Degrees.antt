@@ -1,0 +1,21 @@
+-- The degree of a term (IEC 61131-7:2000, linear terms).
+use Rattle.std.specs.Prelude.{if◌then◌else◌, Option, Some, None}
+use Rattle.std.specs.Int.Signed.{le_z}
+use Rattle.fz_num.specs.declared.dec.Dec.{Dec}
+use Rattle.fz_num.specs.Fractions.{Fraction, over, lesser, one, none}
+use Rattle.fz_num.specs.Decimals.{distance}
+use Rattle.fuzzy_meaning.specs.declared.block.Trapezoid.{Trapezoid}
+
+-- the rising side at x: 1 from b on, 0 up to a, and a straight course between them
+abbrev pub rise : Option Dec → Dec → Dec → Fraction
+rise None b x = one
+rise (Some a) b x = if le_z b.0 x.0 then one else (if le_z x.0 a.0 then none else over (distance a x) (distance a b))
+
+-- the falling side: 1 up to c, 0 from d on
+abbrev pub fall : Dec → Option Dec → Dec → Fraction
+fall c None x = one
+fall c (Some d) x = if le_z x.0 c.0 then one else (if le_z d.0 x.0 then none else over (distance x d) (distance c d))
+
+-- the lesser of the two sides
+abbrev pub degree : Trapezoid → Dec → Fraction
+degree t x = lesser (rise t.a t.b x) (fall t.c t.d x)

@@ -1,0 +1,5 @@
+pub mod Conditions
+pub mod Blocks
+pub mod Rules
+pub mod Degrees
+pub mod Meaning

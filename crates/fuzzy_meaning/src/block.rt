@@ -1,0 +1,57 @@
+//! Function blocks as plain data.
+use fz_list::List;
+use fz_num::Dec;
+
+/// A function block. Inputs, outputs and rules count from 1, in the text's order.
+#[derive(Drop)]
+pub struct Block {
+    pub inputs: List<Input>,
+    pub outputs: List<Output>,
+    pub rules: List<Rule>,
+}
+
+/// An input: its range and its terms, which count from 1.
+#[derive(Drop)]
+pub struct Input {
+    pub lo: Dec,
+    pub hi: Dec,
+    pub terms: List<Trapezoid>,
+}
+
+/// A term of an input. `b` is the first point of degree 1 and `c` the last; `a` is the last zero
+/// point before `b` and `d` the first after `c`, where there is one.
+#[derive(Clone, Copy, Debug)]
+pub struct Trapezoid {
+    pub a: Option<Dec>,
+    pub b: Dec,
+    pub c: Dec,
+    pub d: Option<Dec>,
+}
+
+/// An output: its range, the singletons of its terms, which count from 1, and its DEFAULT, where
+/// that is a number. With `DEFAULT := NC` it keeps the last answer.
+#[derive(Drop)]
+pub struct Output {
+    pub lo: Dec,
+    pub hi: Dec,
+    pub singletons: List<Dec>,
+    pub default: Option<Dec>,
+}
+
+/// A rule: its condition, its weight where it has a WITH, and its conclusions, each an output and
+/// a term of it.
+#[derive(Drop)]
+pub struct Rule {
+    pub cond: Cond,
+    pub weight: Option<Dec>,
+    pub concl: List<(u8, u8)>,
+}
+
+/// A condition. `Is` names an input and a term of it.
+#[derive(Drop)]
+pub enum Cond {
+    Is(u8, u8),
+    Not(Box<Cond>),
+    And(Vec<Cond>),
+    Or(Vec<Cond>),
+}

@@ -1,0 +1,17 @@
+//! A function block and what it means: its inputs, outputs and rules as plain data, the degree of
+//! a term, the truth of a condition, the strength of a rule, the mass of an output's term, and the
+//! exact answer (IEC 61131-7:2000: linear terms, MIN, MAX, NOT, WITH, COGS).
+//!
+//! Each call on a block asks for a valid one and gives the value of its definition, which knows
+//! nothing of bytes, tables or machines. No call takes memory.
+#![tactic(auto)]
+
+mod block;
+mod degrees;
+mod masses;
+mod truths;
+
+pub use block::{Block, Cond, Input, Output, Rule, Trapezoid};
+pub use degrees::degree;
+pub use masses::{mass, strength};
+pub use truths::truth;

@@ -1,0 +1,18 @@
+use Rattle.std.proofs.Common.{◌≡◌, ℕ, ◌≤◌, cond, ltb, Some, None, length, ap, ◌∙◌, rules, tests, arith}
+use Rattle.std.specs.Prelude.{unwrap_or, not}
+use Rattle.std.specs.List.{position_or_len}
+use Rattle.std.proofs.lemmas.Bool.Decides.{nat_tests}
+use Rattle.std.proofs.lemmas.List.Sums.{prefix_len-le-length}
+use Rattle.std.proofs.lemmas.Iterator.{YieldsList-from_slice}
+use Rattle.std.proofs.lemmas.Iterator.Search.{position_from_yields_List}
+use Rattle.fz_num.specs.Decimals.{is_point}
+use Rattle.fz_num.proofs.dec.point_of.Goals as goal
+
+place : (k n : ℕ) → k ≤ n → unwrap_or (cond (ltb k n) (Some k) None) n ≡ k
+place k n h = grind (arith, nat_tests)
+
+pub returns : goal.returns
+returns c =
+    let xs = c.args.numeral.now in
+    let found = position_from_yields_List is_point _ _ c.position.result c.position.ensures.ran (YieldsList-from_slice xs cc) (λ x b q k. search (rules, tests)) in
+    c.unwrap_or.ensures ∙ ap (λ o. unwrap_or o (length xs)) found ∙ place (position_or_len is_point xs) (length xs) (prefix_len-le-length (λ x. not (is_point x)) xs)

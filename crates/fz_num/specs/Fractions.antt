@@ -1,0 +1,57 @@
+-- Fractions: a natural over a positive natural, compared by cross products.
+use Rattle.std.specs.Prelude.{ℕ, ◌+◌, ◌-◌, ◌*◌, ◌/◌, ◌<◌, ◌≤◌, if◌then◌else◌, nat_le}
+use Rattle.std.specs.Ordering.{nat_cmp}
+use Rattle.std.specs.declared.cmp.Ordering.{Ordering}
+
+pub record Fraction : Type 0 where
+  pub num : ℕ
+  pub den : ℕ
+
+abbrev pub over : ℕ → ℕ → Fraction
+over n d = record { num = n; den = d }
+
+abbrev pub one : Fraction
+one = over 1 1
+
+abbrev pub none : Fraction
+none = over 0 1
+
+-- f is at most g
+pub record AtMost (f g : Fraction) : Type 0 where
+  pub cross : f.num * g.den ≤ g.num * f.den
+
+-- f is below g
+pub record IsBelow (f g : Fraction) : Type 0 where
+  pub cross : f.num * g.den < g.num * f.den
+
+-- less, equal or greater
+abbrev pub order : Fraction → Fraction → Ordering
+order f g = nat_cmp (f.num * g.den) (g.num * f.den)
+
+-- where they are equal, the first
+abbrev pub lesser : Fraction → Fraction → Fraction
+lesser f g = if nat_le (f.num * g.den) (g.num * f.den) then f else g
+
+-- where they are equal, the second
+abbrev pub greater : Fraction → Fraction → Fraction
+greater f g = if nat_le (f.num * g.den) (g.num * f.den) then g else f
+
+abbrev pub one_minus : Fraction → Fraction
+one_minus f = over (f.den - f.num) f.den
+
+-- times a weight in 1/10000
+abbrev pub times : Fraction → ℕ → Fraction
+times f w = over (f.num * w) (f.den * 10000)
+
+-- the quotient rounded up
+abbrev pub up_div : ℕ → ℕ → ℕ
+up_div a b = (a + (b - 1)) / b
+
+-- |g/255 - f| is at most e parts of t
+pub record IsNear (t g : ℕ) (f : Fraction) (e : ℕ) : Type 0 where
+  pub up : f.num * 255 * t ≤ g * f.den * t + e * 255 * f.den
+  pub down : g * f.den * t ≤ f.num * 255 * t + e * 255 * f.den
+
+-- |g/255 - f| in parts of t, rounded up
+abbrev pub gap : ℕ → ℕ → Fraction → ℕ
+gap t g f = up_div ((f.num * 255 - g * f.den + (g * f.den - f.num * 255)) * t) (255 * f.den)

@@ -1,0 +1,3 @@
+pub mod Fractions
+pub mod Fracs
+pub mod Decimals

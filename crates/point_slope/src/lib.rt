@@ -1,0 +1,14 @@
+//! The tables of the input terms, from which the machine takes grades, and what a block answers
+//! over bytes.
+//!
+//! A term's table is four bytes: the first and the last byte of its support, and the slopes of its
+//! two sides. Each call gives exactly the value of its definition; `table` alone takes memory.
+#![tactic(auto)]
+
+mod answers;
+mod grades;
+mod rows;
+
+pub use answers::byte_answer_is_byte;
+pub use grades::grade;
+pub use rows::{Memory, row, slope, table};
