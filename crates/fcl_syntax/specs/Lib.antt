@@ -1,0 +1,6 @@
+pub mod Marks
+pub mod Form
+pub mod First
+pub mod Grammar
+pub mod View
+pub mod Reading
