@@ -17,3 +17,4 @@ pub mod ConditionForms
 pub mod RuleForms
 pub mod Rooms
 pub mod Theorem
+pub mod Cutting

@@ -3,8 +3,6 @@ use Rattle.std.specs.Prelude.{◌≡◌, List, [], ◌∷◌, ◌++◌, length, 
 use Rattle.fcl_syntax.specs.declared.fault.Fault.{Fault}
 use Rattle.fcl_syntax.specs.declared.fault.Kind.{Kind}
 use Rattle.fcl_syntax.specs.declared.fault.Kind.TheVariants.{Expected, Deep, Unsupported}
-use Rattle.fcl_syntax.specs.declared.fault.ParseError.{ParseError}
-use Rattle.fcl_syntax.specs.declared.fault.ParseError.TheVariants as errors
 use Rattle.fcl_syntax.specs.declared.token.Token.{Token}
 use Rattle.fcl_syntax.specs.Marks.{Sym, tokens_of, IsClean}
 use Rattle.fcl_syntax.specs.Form.{Shown}
@@ -60,8 +58,3 @@ pub record FirstFault {T : Type 0} (text : T → List Sym) (ts : List Token) (e 
   pub viable : Begins text front
   pub here : Here text e.kind front bad
   pub before : (f b : List Token) (y : Token) (g : List Token) → front ≡ f ++ y ∷ g → b ≡ y ∷ (g ++ bad) → NoMark text f b
-
--- what an error says: the first fault, or that memory ran out
-abbrev pub IsFaultOf : {T : Type 0} → (T → List Sym) → List Token → ParseError → Type 0
-IsFaultOf text ts errors.Memory = Unit {0}
-IsFaultOf text ts (errors.Fault e) = FirstFault text ts e

@@ -4,3 +4,5 @@ pub mod First
 pub mod Grammar
 pub mod View
 pub mod Reading
+pub mod Lexing
+pub mod Text

@@ -1,11 +1,7 @@
 //! Tokens to the tree of a function block, or the first fault.
 
-ghost use Rattle.std.specs.Prelude.{◌≡◌, IfOk, IfErr, Ok, Err};
 ghost use Rattle.std.proofs.Common.{inr};
-ghost use Rattle.fcl_syntax.specs.declared.fault.Fault.{Fault};
-ghost use Rattle.fcl_syntax.specs.First.{Spells, IsFaultOf, FirstFault};
 ghost use Rattle.fcl_syntax.specs.Form.{Gives};
-ghost use Rattle.fcl_syntax.specs.Grammar.{TBlock, block_text};
 ghost use Rattle.fcl_syntax.specs.Reading.{end_at, block_at, all_of};
 ghost use Rattle.fcl_syntax.specs.View.{view};
 
@@ -55,8 +51,9 @@ fn block(alloc: Global, tokens: &[Token]) -> Result<(FunctionBlock, &[Token]), P
     ))
 }
 
+/// The tree that the tokens spell, or their first fault.
 #[tactic(auto, unfolding(crate::specs::Reading::all_of))]
-fn all(alloc: Global, tokens: &[Token]) -> Result<FunctionBlock, ParseError>
+pub fn function_block(alloc: Global, tokens: &[Token]) -> Result<FunctionBlock, ParseError>
     ensures { Gives view result (all_of tokens.now) }
 {
     let (block, rest) = block(alloc, tokens)?;
@@ -64,18 +61,4 @@ fn all(alloc: Global, tokens: &[Token]) -> Result<FunctionBlock, ParseError>
         return Err(fault(Kind::Expected, rest));
     }
     Ok(block)
-}
-
-/// The tree that the tokens spell, or their first fault.
-pub fn function_block(alloc: Global, tokens: &[Token]) -> Result<FunctionBlock, ParseError>
-    // The tokens are the text of the tree, and nothing in it is refused.
-    ensures found { IfOk result (λ b. Spells block_text tokens.now (view b)) }
-    // Where they are the text of a tree, and nothing in it is refused, that tree is found.
-    ensures only { (t : TBlock) → Spells block_text tokens.now t → Gives view result (Ok t) }
-    // Otherwise it is the first fault.
-    ensures fault { IfErr result (λ e. IsFaultOf block_text tokens.now e) }
-    // What is the first fault is answered.
-    ensures only_fault { (e : Fault) → FirstFault block_text tokens.now e → Gives view result (Err e) }
-{
-    all(alloc, tokens)
 }

@@ -3,7 +3,30 @@
 //! A keyword, a name, a number and an opening parenthesis have their offset in the text, a keyword
 //! mostly as the `at` of the node that it begins.
 
+ghost use Rattle.std.specs.Prelude.{◌≡◌, drop};
+ghost use Rattle.std.specs.List.{take_while};
+ghost use Rattle.fcl_syntax.specs.Lexing.{is_name_byte};
+
+use crate::lexer::name_len;
 use crate::token::{Amount, Word};
+
+/// The tree of a text, with a copy of the text in small letters.
+#[derive(Drop)]
+pub struct Tree {
+    pub text: Vec<u8>,
+    pub block: FunctionBlock,
+}
+
+impl Tree {
+    /// A name in small letters, so that names that differ only in case are equal.
+    pub fn letters(&self, name: Name) -> &[u8]
+        ensures { result.now ≡ take_while is_name_byte (drop name.at self.now.text.items) }
+    {
+        let text = self.text.as_slice();
+        let rest = text.split_at((name.at as usize).min(text.len())).1;
+        rest.split_at(name_len(rest)).0
+    }
+}
 
 /// A name. Its letters stand in the text at its offset.
 #[derive(Clone, Copy)]
