@@ -1,0 +1,59 @@
+-- Lines that are written number by number.
+use Rattle.std.proofs.Common.{◌≡◌, ◌<◌, ◌≤◌, ◌+◌, ℕ, List, [], ◌∷◌, ◌++◌, length, take, get_or, refl, sym, ◌∙◌, ap, arith, append_assoc, add-one}
+use Rattle.std.specs.Prelude.{codes, decimal, map, String, string_bytes}
+use Rattle.std.specs.declared.alloc.Global.{Global}
+use Rattle.std.proofs.Math.Seq.{take-suc}
+use Rattle.std.proofs.lemmas.List.{append-nil, length-map, length-take-le, map-append}
+use Rattle.fz_shelf.specs.Lines.{text_of}
+use Rattle.fz_top.specs.Lines.{Answered, answered, newline, numbers, sample_line, sample_lines}
+use Rattle.fz_top.specs.declared.stand_in.Row.{Row}
+
+pub numbers-snoc : (ns : List ℕ) (n : ℕ) → numbers (ns ++ n ∷ []) ≡ numbers ns ++ (codes " " ++ decimal n)
+numbers-snoc [] n = ap (λ (l : List ℕ). codes " " ++ l) (append-nil (decimal n))
+numbers-snoc (m ∷ ns) n = ap (λ (l : List ℕ). codes " " ++ (decimal m ++ l)) (numbers-snoc ns n) ∙ ap (λ (l : List ℕ). codes " " ++ l) (sym (append_assoc (decimal m) (numbers ns) (codes " " ++ decimal n)))
+
+-- the text so far with one number more
+pub number_more : (before now next : List ℕ) (ns : List ℕ) (i d : ℕ) → i < length ns → now ≡ before ++ numbers (take i ns) → next ≡ now ++ (codes " " ++ decimal (get_or ns i d))
+    → next ≡ before ++ numbers (take (i + 1) ns)
+number_more before now next ns i d lt so_far step =
+    let more : take (i + 1) ns ≡ take i ns ++ get_or ns i d ∷ [] = rw add-one (take-suc ns i d lt) in
+    step ∙ ap (λ (l : List ℕ). l ++ (codes " " ++ decimal (get_or ns i d))) so_far
+    ∙ append_assoc before (numbers (take i ns)) (codes " " ++ decimal (get_or ns i d))
+    ∙ ap (λ (l : List ℕ). before ++ l) (sym (numbers-snoc (take i ns) (get_or ns i d)) ∙ ap numbers (sym more))
+
+module _ (k n : ℕ) (bs qs : List ℕ) where
+  pub sample_text : (t0 t1 t2 t3 t4 t5 : List ℕ) → t0 ≡ codes "sample " → t1 ≡ t0 ++ (decimal k ++ codes " bytes") → t2 ≡ t1 ++ numbers bs → t3 ≡ t2 ++ codes " answers" → t4 ≡ t3 ++ numbers qs
+      → t5 ≡ t4 ++ (codes " instructions " ++ (decimal n ++ newline)) → t5 ≡ sample_line k (record { bytes = bs; answers = qs; instructions = n })
+  sample_text t0 t1 t2 t3 t4 t5 e0 e1 e2 e3 e4 e5 =
+      let x1 = decimal k ++ codes " bytes" in
+      let x5 = codes " instructions " ++ (decimal n ++ newline) in
+      let d1 : t1 ≡ codes "sample " ++ x1 = e1 ∙ ap (λ (l : List ℕ). l ++ x1) e0 in
+      let d2 : t2 ≡ (codes "sample " ++ x1) ++ numbers bs = e2 ∙ ap (λ (l : List ℕ). l ++ numbers bs) d1 in
+      let d3 : t3 ≡ ((codes "sample " ++ x1) ++ numbers bs) ++ codes " answers" = e3 ∙ ap (λ (l : List ℕ). l ++ codes " answers") d2 in
+      let d4 : t4 ≡ (((codes "sample " ++ x1) ++ numbers bs) ++ codes " answers") ++ numbers qs = e4 ∙ ap (λ (l : List ℕ). l ++ numbers qs) d3 in
+      e5 ∙ ap (λ (l : List ℕ). l ++ x5) d4 ∙ simp append_assoc
+
+pub text_of-snoc : (lines : List (String Global)) (l : String Global) → text_of (lines ++ l ∷ []) ≡ text_of lines ++ string_bytes l
+text_of-snoc [] l = append-nil (string_bytes l)
+text_of-snoc (x ∷ lines) l = ap (λ (t : List ℕ). string_bytes x ++ t) (text_of-snoc lines l) ∙ sym (append_assoc (string_bytes x) (text_of lines) (string_bytes l))
+
+sample_lines-snoc : (k : ℕ) (rs : List Answered) (r : Answered) → sample_lines k (rs ++ r ∷ []) ≡ sample_lines k rs ++ sample_line (k + length rs) r
+sample_lines-snoc k [] r = append-nil (sample_line k r) ∙ ap (λ (n : ℕ). sample_line n r) (omega arith)
+sample_lines-snoc k (x ∷ rs) r =
+    let at : k + 1 + length rs ≡ k + length (x ∷ rs) = omega arith in
+    ap (λ (t : List ℕ). sample_line k x ++ t) (sample_lines-snoc (k + 1) rs r ∙ ap (λ (n : ℕ). sample_lines (k + 1) rs ++ sample_line n r) at)
+    ∙ sym (append_assoc (sample_line k x) (sample_lines (k + 1) rs) (sample_line (k + length (x ∷ rs)) r))
+
+-- the lines so far with one sample more
+pub sample_more : (head : List ℕ) (items next : List (String Global)) (line : String Global) (rows : List Row) (i : ℕ) (d : Row) → i < length rows
+    → text_of items ≡ head ++ sample_lines 1 (map answered (take i rows)) → next ≡ items ++ line ∷ [] → string_bytes line ≡ sample_line (i + 1) (answered (get_or rows i d))
+    → text_of next ≡ head ++ sample_lines 1 (map answered (take (i + 1) rows))
+sample_more head items next line rows i d lt so_far added is =
+    let r = answered (get_or rows i d) in
+    let more : take (i + 1) rows ≡ take i rows ++ get_or rows i d ∷ [] = rw add-one (take-suc rows i d lt) in
+    let all : map answered (take (i + 1) rows) ≡ map answered (take i rows) ++ r ∷ [] = ap (map answered) more ∙ map-append answered (take i rows) (get_or rows i d ∷ []) in
+    let size : 1 + length (map answered (take i rows)) ≡ i + 1 = rw length-map (omega (arith, length-take-le i rows (omega arith))) in
+    ap text_of added ∙ text_of-snoc items line ∙ ap (λ (t : List ℕ). t ++ string_bytes line) so_far
+    ∙ append_assoc head (sample_lines 1 (map answered (take i rows))) (string_bytes line)
+    ∙ ap (λ (t : List ℕ). head ++ t) (ap (λ (t : List ℕ). sample_lines 1 (map answered (take i rows)) ++ t) (is ∙ ap (λ (n : ℕ). sample_line n r) (sym size))
+    ∙ sym (sample_lines-snoc 1 (map answered (take i rows)) r) ∙ ap (sample_lines 1) (sym all))

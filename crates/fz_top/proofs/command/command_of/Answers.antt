@@ -1,0 +1,6 @@
+use Rattle.fz_top.specs.Texts.{texts_of}
+use Rattle.fz_top.proofs.UsageLemmas.{usage_law}
+use Rattle.fz_top.proofs.command.command_of.Goals as goal
+
+pub returns-in-Err-Memory-clause-law : goal.returns-in-Err-Memory-clause-law
+returns-in-Err-Memory-clause-law c = usage_law (texts_of c.args.words.now) c.name_of.ensures.clap

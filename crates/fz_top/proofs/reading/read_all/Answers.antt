@@ -1,0 +1,27 @@
+use Rattle.std.proofs.Common.{◌≡◌, ◌++◌, ◌∷◌, [], refl, ◌∙◌, sym, subst, rules, map, length}
+use Rattle.fz_shelf.specs.Files.{IsThere, Names}
+use Rattle.fz_top.specs.Texts.{texts_of, word_at, bytes_of}
+use Rattle.fz_top.proofs.ReadLemmas.{read_more, stops_later, there_later, held_many, held_small}
+use Rattle.fz_top.proofs.reading.read_all.Goals as goal
+
+pub returns-in-Err-clause-stops : goal.returns-in-Err-clause-stops
+returns-in-Err-clause-stops g c =
+    stops_later _ _ _ _ _ _ _ _ _ c.loop-place.place-index _ c.loop-place-test.true _ _ _ c.loop-place.invariant.whole c.loop-place.invariant.files c.in-Err.ensures.stops
+
+pub returns-in-Err-clause-steady : goal.returns-in-Err-clause-steady
+returns-in-Err-clause-steady g c = λ sound there.
+    c.in-Err.ensures.steady (c.loop-place.invariant.sound sound) (there_later _ _ _ _ c.loop-place.place-index _ c.loop-place-test.true c.loop-place.invariant.files there)
+
+pub loop-place-preserved : goal.loop-place-preserved
+loop-place-preserved g c =
+    record {
+      files = c.in-Ok.ensures.files ∙ c.loop-place.invariant.files;
+      whole = read_more _ _ _ _ _ _ _ _ _ c.loop-place.place-index _ c.loop-place-test.true _ _ _ _ c.loop-place.invariant.whole c.loop-place.invariant.files c.in-Ok.ensures.whole c.in-Ok-push.ensures.items;
+      sound = λ s. c.in-Ok.ensures.sound (c.loop-place.invariant.sound s);
+    }
+
+pub returns-clause-many : goal.returns-clause-many
+returns-clause-many g c = held_many _ _ _ c.loop-place.place-index _ c.loop-place-test.false c.loop-place.invariant.whole.held
+
+pub returns-clause-small : goal.returns-clause-small
+returns-clause-small g c = held_small _ _ _ c.loop-place.invariant.whole.held

@@ -1,0 +1,14 @@
+-- The numbers that the program ends with.
+use Rattle.std.specs.Prelude.{ℕ}
+use Rattle.fz_top.specs.declared.status.Status.{Status}
+use Rattle.fz_top.specs.declared.status.Status.TheVariants as status
+
+abbrev pub code_of : Status → ℕ
+code_of status.Ok = 0
+code_of status.Usage = 1
+code_of (status.ReadFault p) = 2
+code_of status.WriteFault = 3
+code_of (status.Fcl f) = 4
+code_of (status.Trace f) = 7
+code_of status.Memory = 9
+code_of (status.TooLong p) = 10

@@ -1,0 +1,156 @@
+-- What a run leaves, status by status.
+use Rattle.std.specs.Prelude.{◌≡◌, ◌≢◌, ◌⊎◌, ◌<◌, ◌≤◌, ℕ, List, [], ◌∷◌, ◌++◌, length, Option, Some, None, is_some, true, Result, Ok, Err}
+use Rattle.fz_shelf.specs.Faults.{Rose}
+use Rattle.fz_shelf.specs.Told.{Taken, gained, GainedPart, HasRoom}
+use Rattle.fz_shelf.specs.Files.{File, Names, Written, Fits, known}
+use Rattle.fz_shelf.specs.Log.{Log}
+use Rattle.fz_shelf.specs.Reading.{Counts}
+use Rattle.fz_top.specs.Texts.{Text, word_at}
+use Rattle.fz_top.specs.Commands.{command_in, inputs_of}
+use Rattle.fz_top.specs.Reads.{AreHeld, names_at, whole_entries, StopsBy}
+use Rattle.fz_top.specs.Works.{Deed, Makes}
+use Rattle.fz_top.specs.declared.command.Command.{Command}
+use Rattle.fz_top.specs.declared.reading.Stop.{Stop}
+use Rattle.fz_top.specs.declared.reading.Stop.TheVariants as stop
+use Rattle.fz_top.specs.declared.status.Status.{Status}
+use Rattle.fz_top.specs.declared.status.Status.TheVariants as status
+
+-- what the shelf and out tell
+pub record World : Type 0 where
+  pub files : Names
+  pub counts : Counts
+  pub asked : Log
+  pub told : Option Taken
+  pub faults : ℕ
+
+abbrev pub world : Names → Counts → Log → Option Taken → ℕ → World
+world files counts asked told faults = record { files = files; counts = counts; asked = asked; told = told; faults = faults }
+
+-- the file of OUT alone may have changed
+abbrev pub ChangesOnly : List Text → Option (ℕ × List ℕ) → Names → Names → Type 0
+ChangesOnly words None old new = new ≡ old
+ChangesOnly words (Some p) old new = (other : Text) → other ≢ word_at words p.0 → new other ≡ old other
+
+abbrev pub IsWritten : List Text → Option (ℕ × List ℕ) → Names → Names → Type 0
+IsWritten words None old new = new ≡ old
+IsWritten words (Some p) old new = Written (old (word_at words p.0)) p.1 (new (word_at words p.0))
+
+abbrev pub FileFits : List Text → Option (ℕ × List ℕ) → Names → Type 0
+FileFits words None files = Unit {0}
+FileFits words (Some p) files = Fits (files (word_at words p.0)) (length p.1)
+
+-- all is written and put
+pub record Delivered (words : List Text) (deed : Deed) (old new : World) : Type 0 where
+  pub others : ChangesOnly words deed.file old.files new.files
+  pub written : IsWritten words deed.file old.files new.files
+  pub told : new.told ≡ gained old.told deed.text
+  pub counts : new.counts ≡ old.counts
+  pub faults : new.faults ≡ old.faults
+
+-- the write failed, and nothing was put
+pub record WriteFailed (deed : Deed) (old new : World) : Type 0 where
+  pub has_file : is_some deed.file ≡ true
+  pub counts : new.counts ≡ record old.counts { writes = new.counts.writes }
+  pub rose : Rose old.counts.writes new.counts.writes
+  pub told : new.told ≡ old.told
+  pub faults : new.faults ≡ old.faults
+
+-- a put failed, and OUT is whole
+pub record PutFailed (words : List Text) (deed : Deed) (old new : World) : Type 0 where
+  pub written : IsWritten words deed.file old.files new.files
+  pub counts : new.counts ≡ old.counts
+  pub rose : Rose old.faults new.faults
+  pub part : GainedPart old.told new.told deed.text
+
+-- the command of the words, the contents that its files have where the shelf tells them, and what it makes of them
+pub record Worked (words : List Text) (old new : World) (r : Result Deed Status) : Type 0 where
+  pub command : Command
+  pub is : command_in words ≡ Some command
+  pub contents : List (List ℕ)
+  pub held : AreHeld old.files (names_at words (inputs_of command)) contents
+  pub asked : new.asked ≡ old.asked ++ whole_entries words (inputs_of command)
+  pub outcome : Makes command contents r
+
+-- nothing was written or put
+pub record Untouched (old new : World) : Type 0 where
+  pub files : new.files ≡ old.files
+  pub writes : new.counts.writes ≡ old.counts.writes
+  pub told : new.told ≡ old.told
+  pub faults : new.faults ≡ old.faults
+
+-- a read refused
+pub record Refused (words : List Text) (old new : World) (s : Stop) : Type 0 where
+  pub command : Command
+  pub is : command_in words ≡ Some command
+  pub stops : StopsBy words (inputs_of command) old.files old.counts new.counts old.asked new.asked s
+  pub untouched : Untouched old new
+
+-- the contents are refused
+pub record Faulted (words : List Text) (old new : World) (s : Status) : Type 0 where
+  pub worked : Worked words old new (Err s)
+  pub counts : new.counts ≡ old.counts
+  pub untouched : Untouched old new
+
+-- the table of statuses
+abbrev pub Runs : List Text → World → World → Status → Type 0
+Runs words old new status.Ok = (deed : Deed) × Worked words old new (Ok deed) × Delivered words deed old new
+Runs words old new status.Usage = (command_in words ≡ None) × (new ≡ old)
+Runs words old new (status.ReadFault p) = Refused words old new (stop.Failed p)
+Runs words old new status.WriteFault = (deed : Deed) × Worked words old new (Ok deed)
+    × ChangesOnly words deed.file old.files new.files × (WriteFailed deed old new ⊎ PutFailed words deed old new)
+Runs words old new (status.Fcl f) = Faulted words old new (status.Fcl f)
+Runs words old new (status.Trace f) = Faulted words old new (status.Trace f)
+Runs words old new status.Memory = (new.counts ≡ old.counts) × Untouched old new
+Runs words old new (status.TooLong p) = Refused words old new (stop.TooLong p)
+
+-- the shelf tells these contents, and none is too long
+abbrev pub AreKnown : Names → List Text → List (List ℕ) → Type 0
+AreKnown files [] [] = Unit {0}
+AreKnown files [] (c ∷ cs) = ⊥
+AreKnown files (n ∷ ns) [] = ⊥
+AreKnown files (n ∷ ns) (c ∷ cs) = ((room : ℕ) × (files n ≡ known c room)) × (length c ≤ 1048576) × AreKnown files ns cs
+
+-- there is room for what the command writes and puts, whatever that is
+abbrev pub RoomFor : List Text → Names → Option Taken → (Result Deed Status → Type 0) → Type 0
+RoomFor words files told makes = (deed : Deed) → makes (Ok deed) → FileFits words deed.file files × HasRoom told (length deed.text)
+
+-- the words are of a command whose files are told, and there is room
+pub record IsReady (words : List Text) (old : World) (command : Command) (contents : List (List ℕ)) : Type 0 where
+  pub is : command_in words ≡ Some command
+  pub known : AreKnown old.files (names_at words (inputs_of command)) contents
+  pub room : RoomFor words old.files old.told (Makes command contents)
+
+-- the words are of a command; the shelf tells the files before this word, none too long, and
+-- tells this one as too long
+pub record IsTooLong (words : List Text) (files : Names) (place : ℕ) : Type 0 where
+  pub command : Command
+  pub is : command_in words ≡ Some command
+  pub before : List ℕ
+  pub after : List ℕ
+  pub split : before ++ place ∷ after ≡ inputs_of command
+  pub contents : List (List ℕ)
+  pub known_before : AreKnown files (names_at words before) contents
+  pub bytes : List ℕ
+  pub room : ℕ
+  pub told : files (word_at words place) ≡ known bytes room
+  pub long : 1048576 < length bytes
+
+abbrev pub status_of : Result Deed Status → Status
+status_of (Ok deed) = status.Ok
+status_of (Err s) = s
+
+abbrev pub IsReadFault : Status → Type 0
+IsReadFault (status.ReadFault p) = Unit {0}
+IsReadFault _ = ⊥
+
+abbrev pub IsWriteFault : Status → Type 0
+IsWriteFault status.WriteFault = Unit {0}
+IsWriteFault _ = ⊥
+
+-- the status is one that the contents make
+abbrev pub IsMade : (Result Deed Status → Type 0) → Status → Type 0
+IsMade makes s = (r : Result Deed Status) × makes r × (s ≡ status_of r)
+
+-- the same, but for want of memory and faults of the shelf and out
+abbrev pub Settles : (Result Deed Status → Type 0) → Status → Type 0
+Settles makes s = IsMade makes s ⊎ ((s ≡ status.Memory) ⊎ (IsReadFault s ⊎ IsWriteFault s))

@@ -1,0 +1,43 @@
+//! Writing the file and putting the lines: the one place where anything leaves the program.
+ghost use Rattle.std.specs.Prelude.{◌≡◌, ◌<◌, ◌⊎◌, length, OnOk, OnErr, IsOk};
+ghost use Rattle.std.specs.Option.{ForSome};
+ghost use Rattle.fz_shelf.specs.Told.{HasRoom};
+ghost use Rattle.fz_top.specs.Texts.{texts_of};
+ghost use Rattle.fz_top.specs.Works.{deed_of};
+ghost use Rattle.fz_top.specs.Runs.{world, ChangesOnly, FileFits, Delivered, WriteFailed, PutFailed};
+
+use crate::work::Work;
+use fz_shelf::{Failed, Shelf, Sink, put_lines};
+
+/// Writes the file, if there is one, and then puts the lines.
+pub(crate) fn deliver<S: Shelf, O: Sink>(
+    words: &[String],
+    work: &Work,
+    shelf: &mut S,
+    out: &mut O,
+) -> Result<(), Failed>
+    requires { ForSome work.now.file (λ f. f.0 < length words.now) }
+    ensures others { ChangesOnly (texts_of words.now) (deed_of work.now).file (S.files shelf.old) (S.files shelf.new) }
+    ensures asked { S.asked shelf.new ≡ S.asked shelf.old }
+    ensures done { OnOk result (Delivered (texts_of words.now) (deed_of work.now)
+        (world (S.files shelf.old) (S.counts shelf.old) (S.asked shelf.old) (O.told out.old) (O.faults out.old))
+        (world (S.files shelf.new) (S.counts shelf.new) (S.asked shelf.new) (O.told out.new) (O.faults out.new))) }
+    ensures failed { OnErr result (WriteFailed (deed_of work.now)
+        (world (S.files shelf.old) (S.counts shelf.old) (S.asked shelf.old) (O.told out.old) (O.faults out.old))
+        (world (S.files shelf.new) (S.counts shelf.new) (S.asked shelf.new) (O.told out.new) (O.faults out.new))
+        ⊎ PutFailed (texts_of words.now) (deed_of work.now)
+        (world (S.files shelf.old) (S.counts shelf.old) (S.asked shelf.old) (O.told out.old) (O.faults out.old))
+        (world (S.files shelf.new) (S.counts shelf.new) (S.asked shelf.new) (O.told out.new) (O.faults out.new))) }
+    ensures shelf_sound { S.sound shelf.old → S.sound shelf.new }
+    ensures out_sound { O.sound out.old → O.sound out.new }
+    ensures steady { S.sound shelf.old → O.sound out.old → FileFits (texts_of words.now) (deed_of work.now).file (S.files shelf.old)
+        → HasRoom (O.told out.old) (length (deed_of work.now).text) → IsOk result }
+{
+    match &work.file {
+        Some((place, bytes)) => match shelf.write(words[*place as usize].as_str(), bytes) {
+            Ok(()) => put_lines(out, &work.lines),
+            Err(failed) => Err(failed),
+        },
+        None => put_lines(out, &work.lines),
+    }
+}

@@ -1,0 +1,101 @@
+//! The program's call.
+ghost use Rattle.std.specs.Prelude.{◌≡◌, ◌⊎◌, ◌↔◌, length, None, Some, List, ℕ};
+ghost use Rattle.fz_shelf.specs.Told.{gained, HasRoom};
+ghost use Rattle.fz_top.specs.Texts.{texts_of};
+ghost use Rattle.fz_top.specs.Commands.{command_in, inputs_of, IsUsage};
+ghost use Rattle.fz_top.specs.Reads.{names_at, AreThere};
+ghost use Rattle.fz_top.specs.Works.{Makes};
+ghost use Rattle.fz_top.specs.Runs.{world, Runs, IsReady, IsReadFault, IsWriteFault, IsTooLong, AreKnown, IsMade, Settles};
+ghost use Rattle.fz_top.specs.Errors.{error_line_of, Complains};
+ghost use Rattle.fz_top.specs.declared.command.Command.{Command};
+
+use crate::command::command_of;
+use crate::delivery::deliver;
+use crate::errors::report;
+use crate::reading::{Stop, read_all};
+use crate::status::Status;
+use crate::work::do_work;
+use fz_shelf::{Shelf, Sink};
+use fz_words::Refusal;
+use std::alloc::Global;
+
+/// Does what the words ask for.
+fn run<S: Shelf, O: Sink>(alloc: Global, words: &[String], shelf: &mut S, out: &mut O) -> Status
+    ensures runs { Runs (texts_of words.now)
+        (world (S.files shelf.old) (S.counts shelf.old) (S.asked shelf.old) (O.told out.old) (O.faults out.old))
+        (world (S.files shelf.new) (S.counts shelf.new) (S.asked shelf.new) (O.told out.new) (O.faults out.new)) result }
+    ensures law { (command_in (texts_of words.now) ≡ None) ↔ IsUsage (texts_of words.now) }
+    ensures reads_steady { S.sound shelf.old → (command : Command) → command_in (texts_of words.now) ≡ Some command
+        → AreThere (S.files shelf.old) (names_at (texts_of words.now) (inputs_of command)) → IsReadFault result → ⊥ }
+    ensures writes_steady { S.sound shelf.old → O.sound out.old → (command : Command) (contents : List (List ℕ))
+        → IsReady (texts_of words.now) (world (S.files shelf.old) (S.counts shelf.old) (S.asked shelf.old) (O.told out.old) (O.faults out.old)) command contents
+        → IsWriteFault result → ⊥ }
+    ensures shelf_sound { S.sound shelf.old → S.sound shelf.new }
+    ensures out_sound { O.sound out.old → O.sound out.new }
+{
+    let command = match command_of(alloc, words) {
+        Ok(command) => command,
+        Err(Refusal::Usage) => return Status::Usage,
+        Err(Refusal::Memory) => return Status::Memory,
+    };
+    let contents = match read_all(alloc, shelf, words, command.inputs()) {
+        Ok(contents) => contents,
+        Err(Stop::Failed(place)) => return Status::ReadFault(place),
+        Err(Stop::TooLong(place)) => return Status::TooLong(place),
+        Err(Stop::Memory) => return Status::Memory,
+    };
+    let work = match do_work(alloc, command, &contents) {
+        Ok(work) => work,
+        Err(status) => return status,
+    };
+    match deliver(words, &work, shelf, out) {
+        Ok(()) => Status::Ok,
+        Err(_) => Status::WriteFault,
+    }
+}
+
+/// Does what the words ask for, the program's own name being the first of them: reads the files
+/// that they name, in order, puts the lines to out, and says on err what went wrong. Want of
+/// memory is told as `Memory`, and never after the first write or put.
+pub fn fuzz12<S: Shelf, O: Sink, F: Sink>(
+    alloc: Global,
+    words: &[String],
+    shelf: &mut S,
+    out: &mut O,
+    err: &mut F,
+) -> Status
+    // each status with its cause, and what was read, written and put
+    ensures runs { Runs (texts_of words.now)
+        (world (S.files shelf.old) (S.counts shelf.old) (S.asked shelf.old) (O.told out.old) (O.faults out.old))
+        (world (S.files shelf.new) (S.counts shelf.new) (S.asked shelf.new) (O.told out.new) (O.faults out.new)) result }
+
+    // Usage exactly where the words are of no command
+    ensures usage_only { result ≡ Status.Usage → IsUsage (texts_of words.now) }
+    ensures usage_always { IsUsage (texts_of words.now) → (result ≡ Status.Usage) ⊎ (result ≡ Status.Memory) }
+
+    // a file that the shelf tells as too long, those before it being read
+    ensures too_long { (place : ℕ) → IsTooLong (texts_of words.now) (S.files shelf.old) place
+        → (result ≡ Status.TooLong place) ⊎ (IsReadFault result ⊎ (result ≡ Status.Memory)) }
+
+    // contents that the shelf tells settle the status
+    ensures settled { (command : Command) (contents : List (List ℕ)) → command_in (texts_of words.now) ≡ Some command
+        → AreKnown (S.files shelf.old) (names_at (texts_of words.now) (inputs_of command)) contents
+        → Settles (Makes command contents) result }
+    ensures complete { S.sound shelf.old → O.sound out.old → (command : Command) (contents : List (List ℕ))
+        → IsReady (texts_of words.now) (world (S.files shelf.old) (S.counts shelf.old) (S.asked shelf.old) (O.told out.old) (O.faults out.old)) command contents
+        → IsMade (Makes command contents) result ⊎ (result ≡ Status.Memory) }
+
+    // err
+    ensures quiet { result ≡ Status.Ok → (F.told err.new ≡ F.told err.old) × (F.faults err.new ≡ F.faults err.old) }
+    ensures line { (result ≡ Status.Ok → ⊥) → Complains (error_line_of (texts_of words.now) result) (F.told err.old) (F.told err.new) (F.faults err.old) (F.faults err.new) }
+    ensures err_steady { F.sound err.old → HasRoom (F.told err.old) (length (error_line_of (texts_of words.now) result))
+        → F.told err.new ≡ gained (F.told err.old) (error_line_of (texts_of words.now) result) }
+
+    ensures shelf_sound { S.sound shelf.old → S.sound shelf.new }
+    ensures out_sound { O.sound out.old → O.sound out.new }
+    ensures err_sound { F.sound err.old → F.sound err.new }
+{
+    let status = run(alloc, words, shelf, out);
+    report(err, words, &status);
+    status
+}

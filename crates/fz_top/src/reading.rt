@@ -1,0 +1,76 @@
+//! Reading the files that the words name.
+ghost use Rattle.std.specs.Prelude.{◌≡◌, ◌<◌, ◌≤◌, length, IfOk, IfErr};
+ghost use Rattle.std.specs.List.{All};
+ghost use Rattle.fz_shelf.specs.Files.{IsThere};
+ghost use Rattle.fz_top.specs.Texts.{texts_of, bytes_of, word_at};
+ghost use Rattle.fz_top.specs.Reads.{ReadsWhole, StopsBy, AreThere, IsFailedRead, names_at, ReadsOne, StopsAt};
+
+use fz_shelf::{ReadError, Shelf};
+use std::alloc::Global;
+
+/// Why reading stopped, with the word of the file.
+#[derive(Clone, Copy)]
+pub(crate) enum Stop {
+    Failed(u32),
+    TooLong(u32),
+    Memory,
+}
+
+/// Reads the file of the word at this place.
+fn read_one<S: Shelf>(
+    alloc: Global,
+    shelf: &mut S,
+    words: &[String],
+    place: u32,
+) -> Result<Vec<u8>, Stop>
+    requires { place < length words.now }
+    ensures files { S.files shelf.new ≡ S.files shelf.old }
+    ensures whole { IfOk result (λ bytes. ReadsOne (texts_of words.now) place (S.files shelf.old)
+        (S.counts shelf.old) (S.counts shelf.new) (S.asked shelf.old) (S.asked shelf.new) bytes.items) }
+    ensures stops { IfErr result (StopsAt (texts_of words.now) place (S.files shelf.old)
+        (S.counts shelf.old) (S.counts shelf.new) (S.asked shelf.old) (S.asked shelf.new)) }
+    ensures sound { S.sound shelf.old → S.sound shelf.new }
+    ensures steady { S.sound shelf.old → IsThere (S.files shelf.old (word_at (texts_of words.now) place))
+        → IfErr result (λ s. IsFailedRead s → ⊥) }
+{
+    let mut bytes = Vec::new(alloc);
+    match shelf.read(words[place as usize].as_str(), &mut bytes) {
+        Ok(()) => Ok(bytes),
+        Err(ReadError::Failed) => Err(Stop::Failed(place)),
+        Err(ReadError::TooLong) => Err(Stop::TooLong(place)),
+        Err(ReadError::Memory) => Err(Stop::Memory),
+    }
+}
+
+/// Reads the files of the words at these places, in order, up to the first that refuses.
+pub(crate) fn read_all<S: Shelf>(
+    alloc: Global,
+    shelf: &mut S,
+    words: &[String],
+    places: &[u32],
+) -> Result<Vec<Vec<u8>>, Stop>
+    requires { All (λ p. p < length words.now) places.now }
+    ensures files { S.files shelf.new ≡ S.files shelf.old }
+    ensures whole { IfOk result (λ contents. ReadsWhole (texts_of words.now) places.now (S.files shelf.old)
+        (S.counts shelf.old) (S.counts shelf.new) (S.asked shelf.old) (S.asked shelf.new) (bytes_of contents.items)) }
+    ensures many { IfOk result (λ contents. length contents.items ≡ length places.now) }
+    ensures small { IfOk result (λ contents. All (λ c. length c.items ≤ 1048576) contents.items) }
+    ensures stops { IfErr result (StopsBy (texts_of words.now) places.now (S.files shelf.old)
+        (S.counts shelf.old) (S.counts shelf.new) (S.asked shelf.old) (S.asked shelf.new)) }
+    ensures sound { S.sound shelf.old → S.sound shelf.new }
+    ensures steady { S.sound shelf.old → AreThere (S.files shelf.old) (names_at (texts_of words.now) places.now)
+        → IfErr result (λ s. IsFailedRead s → ⊥) }
+{
+    let mut contents = Vec::new(alloc);
+    for place in places {
+        let bytes = match read_one(alloc, shelf, words, *place) {
+            Ok(bytes) => bytes,
+            Err(stop) => return Err(stop),
+        };
+        match contents.push(bytes) {
+            Ok(()) => {}
+            Err(_) => return Err(Stop::Memory),
+        }
+    }
+    Ok(contents)
+}
