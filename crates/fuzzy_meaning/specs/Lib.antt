@@ -4,3 +4,4 @@ pub mod Rules
 pub mod Degrees
 pub mod Meaning
 pub mod Holding
+pub mod Examples
