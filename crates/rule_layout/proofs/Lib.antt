@@ -10,3 +10,4 @@ pub mod ListLemmas
 pub mod RuleLemmas
 pub mod MemberLemmas
 pub mod LayoutLemmas
+pub mod TruthLemmas

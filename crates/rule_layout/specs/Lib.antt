@@ -5,3 +5,4 @@ pub mod Layouts
 pub mod Grid
 pub mod Sizes
 pub mod Tables
+pub mod Truths

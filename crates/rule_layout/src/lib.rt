@@ -10,6 +10,7 @@
 #![tactic(auto)]
 
 mod flat;
+mod laws;
 mod layout;
 mod lists;
 mod sizes;
@@ -17,4 +18,5 @@ mod slots;
 mod spreading;
 
 pub use flat::{Conjunction, Flat, Form, LayoutFault, Slot};
+pub use laws::spreading_law;
 pub use layout::spread;
