@@ -18,3 +18,5 @@ pub mod laws;
 pub mod mem;
 pub mod regs;
 pub mod stack;
+#[cfg(test)]
+mod vectors;
