@@ -1,0 +1,17 @@
+//! The program `fuzz12`: real files, standard output and standard error for
+//! [`fuzz12`](fz_top::fuzz12), and its status as the exit code.
+#![tactic(auto)]
+
+use fz_shelf::{FileShelf, StdSink};
+use fz_top::fuzz12;
+use std::process::ExitCode;
+
+fn main(rt: HostRuntime) -> anyhow::Result<ExitCode> {
+    let alloc = rt.alloc();
+    let words: Vec<String> = std::env::args(&rt)?.collect(alloc)?;
+    let mut shelf = FileShelf::new(alloc, rt.clone()?);
+    let mut out = StdSink::new(rt.stdout());
+    let mut err = StdSink::new(rt.stderr());
+    let status = fuzz12(alloc, words.as_slice(), &mut shelf, &mut out, &mut err);
+    Ok(ExitCode::from(status.code()))
+}
