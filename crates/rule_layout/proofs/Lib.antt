@@ -11,3 +11,4 @@ pub mod RuleLemmas
 pub mod MemberLemmas
 pub mod LayoutLemmas
 pub mod TruthLemmas
+pub mod MassLemmas
