@@ -12,3 +12,4 @@ pub mod MemberLemmas
 pub mod LayoutLemmas
 pub mod TruthLemmas
 pub mod MassLemmas
+pub mod LaidOutLemmas

@@ -1,29 +1,28 @@
 -- The rule list computes the masses of the output terms.
-use Rattle.std.proofs.Common.{◌≡◌, ℕ, zero, suc, ◌+◌, ◌*◌, ◌/◌, ◌-◌, ◌<◌, ◌≤◌, ◌||◌, min, max, Bool, true, false, cond, List, [], ◌∷◌, ◌++◌, length, map, get_or, refl, sym, ap, ap₂, ◌∙◌, subst, arith, add-one, Option, Some, None}
+use Rattle.std.proofs.Common.{◌≡◌, ℕ, ◌+◌, ◌-◌, ◌<◌, ◌≤◌, ◌||◌, min, max, Bool, true, false, List, [], ◌∷◌, ◌++◌, length, map, get_or, refl, sym, ap, ap₂, ◌∙◌, arith, add-one, Option, Some, None}
 use Rattle.std.specs.Prelude.{◌==◌, ◌&&◌, All, flat_map, if◌then◌else◌, slice_get, slice_index, nat_le, nat_lt}
 use Rattle.std.specs.Option.{option_map_or}
 use Rattle.std.specs.List.{list_any}
 use Rattle.std.proofs.lemmas.List.{length-map, get_or-map}
 use Rattle.std.proofs.lemmas.List.Elements.{All-head, All-tail}
-use Rattle.std.proofs.lemmas.Bool.{false≢true}
 use Rattle.std.proofs.lemmas.Bool.Decides.{nat_tests}
 use Rattle.std.proofs.Math.Nat.{mul-le-mul_right}
 use Rattle.fuzzy_meaning.specs.declared.block.Block.{Block}
 use Rattle.fuzzy_meaning.specs.declared.block.Rule.{Rule}
 use Rattle.fuzzy_meaning.specs.Blocks.{IsValid, HasSingleton, input_at}
-use Rattle.fuzzy_meaning.specs.Conditions.{condition_of, level}
+use Rattle.fuzzy_meaning.specs.Conditions.{condition_of}
 use Rattle.fuzzy_meaning.specs.Rules.{concludes}
 use Rattle.byte_scaling.specs.Weights.{weight_byte_of}
 use Rattle.point_slope.specs.Tables.{row_of, grade_of, grade_under, side}
-use Rattle.point_slope.specs.Bytes.{literal_grade, byte_truth, byte_strength, byte_mass_among, byte_mass}
+use Rattle.point_slope.specs.Bytes.{literal_grade, byte_strength, byte_mass_among}
 use Rattle.rule_layout.specs.declared.flat.Slot.{Slot}
-use Rattle.rule_layout.specs.declared.flat.Slot.TheVariants.{Term, Complement, Out}
+use Rattle.rule_layout.specs.declared.flat.Slot.TheVariants.{Term, Out}
 use Rattle.rule_layout.specs.declared.flat.Conjunction.{Conjunction}
-use Rattle.rule_layout.specs.Spreading.{Literal, spread_of}
+use Rattle.rule_layout.specs.Spreading.{Literal}
 use Rattle.rule_layout.specs.Truths.{literal_value, least_literal, greatest_conjunction}
 use Rattle.rule_layout.specs.Slots.{slots_of, is_same_slot, number_in, literal_slot, literal_number, conclusion_number, out_slot}
 use Rattle.rule_layout.specs.Layouts.{rule_spread, conjunction_of, rule_conjunctions, rule_weights, conjunctions_of, weights_of, flat_of}
-use Rattle.rule_layout.specs.Masses.{slot_byte, slot_bytes, least_byte, scaled, raises, left_in, MassLaw}
+use Rattle.rule_layout.specs.Masses.{slot_byte, slot_bytes, least_byte, scaled, left_in, MassLaw}
 use Rattle.rule_layout.proofs.NumberLemmas.{slot_from_same}
 use Rattle.rule_layout.proofs.MemberLemmas.{HasSlot, LiteralHasSlot, RuleHasSlots, rules_have_slots, number_in-lt, out_in_slots}
 use Rattle.rule_layout.proofs.TruthLemmas.{spreading_law_lem}

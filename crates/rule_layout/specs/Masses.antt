@@ -7,7 +7,6 @@ use Rattle.point_slope.specs.Bytes.{literal_grade, byte_mass}
 use Rattle.rule_layout.specs.declared.flat.Slot.{Slot}
 use Rattle.rule_layout.specs.declared.flat.Slot.TheVariants.{Term, Complement, Out}
 use Rattle.rule_layout.specs.declared.flat.Conjunction.{Conjunction}
-use Rattle.rule_layout.specs.declared.flat.Flat.{Flat}
 use Rattle.rule_layout.specs.Slots.{slots_of, conclusion_number}
 use Rattle.rule_layout.specs.Layouts.{flat_of}
 
