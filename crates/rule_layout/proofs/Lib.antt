@@ -11,3 +11,5 @@ pub mod RuleLemmas
 pub mod MemberLemmas
 pub mod LayoutLemmas
 pub mod TruthLemmas
+pub mod MassLemmas
+pub mod LaidOutLemmas

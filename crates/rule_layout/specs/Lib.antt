@@ -6,3 +6,4 @@ pub mod Grid
 pub mod Sizes
 pub mod Tables
 pub mod Truths
+pub mod Masses
