@@ -13,3 +13,6 @@ mod weights;
 pub use inputs::{OutOfRange, byte_within, cell, to_byte};
 pub use outputs::{near, value};
 pub use weights::weight_byte;
+
+#[cfg(test)]
+mod tests;
