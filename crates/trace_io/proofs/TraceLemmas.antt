@@ -1,5 +1,6 @@
 -- Rows and samples, one by one.
-use Rattle.std.proofs.Common.{◌≡◌, ◌<◌, ◌+◌, ℕ, zero, suc, List, [], ◌∷◌, ◌++◌, length, take, drop, get_or, refl, sym, ◌∙◌, ap, subst, arith, add-one, drop-cons, take-append-drop}
+use Rattle.std.proofs.Common.{◌≤◌, ◌≡◌, ◌<◌, ◌+◌, ℕ, zero, suc, List, [], ◌∷◌, ◌++◌, length, take, drop, get_or, refl, sym, ◌∙◌, ap, subst, arith, add-one, drop-cons, take-append-drop}
+use Rattle.std.specs.List.{All}
 use Rattle.std.specs.Prelude.{map, Option, Some, None, option_map, Result, Ok, Err}
 use Rattle.std.proofs.Math.Seq.{take-suc}
 use Rattle.std.proofs.lemmas.List.{length-map, length-take-le, map-append}
@@ -145,3 +146,34 @@ module _ (inputs : List Input) (rows : List Row) (i : ℕ) (row : Row) (lt : i <
 
   pub too_many : i ≡ 10000 → FirstFault inputs (map fields_of rows) TooMany
   too_many many = more (map fields_of (take i rows)) (fields_of row) (map fields_of (drop (suc i) rows)) ss fields_split (size ∙ many) so_far
+
+-- ---- what the layers above use of samples
+
+spelled-length : (inputs : List Input) (rs : List Fields) (ss : List Sample) → SpellSamples inputs rs ss → length ss ≡ length rs
+spelled-length inputs [] [] spelled = refl
+spelled-length inputs [] (s ∷ ss) spelled = absurd spelled
+spelled-length inputs (r ∷ rs) [] spelled = absurd spelled
+spelled-length inputs (r ∷ rs) (s ∷ ss) spelled = omega (arith, spelled-length inputs rs ss spelled.1)
+
+bytes_of-length : (is : List Input) (ds : List Dec) → AreWithin is ds → length (bytes_of is ds) ≡ length is
+bytes_of-length [] ds within = refl
+bytes_of-length (i ∷ is) [] within = absurd within
+bytes_of-length (i ∷ is) (d ∷ ds) within = omega (arith, bytes_of-length is ds within.1)
+
+bytes_each : (inputs : List Input) (rs : List Fields) (ss : List Sample) → SpellSamples inputs rs ss → (k : ℕ) (d : Sample) → k < length ss → length (get_or ss k d).bytes.items ≡ length inputs
+bytes_each inputs [] [] spelled k d lt = absurd (omega arith)
+bytes_each inputs [] (s ∷ ss) spelled k d lt = absurd spelled
+bytes_each inputs (r ∷ rs) [] spelled k d lt = absurd spelled
+bytes_each inputs (r ∷ rs) (s ∷ ss) spelled zero d lt = ap length spelled.0.bytes ∙ bytes_of-length inputs s.values spelled.0.within
+bytes_each inputs (r ∷ rs) (s ∷ ss) spelled (suc k) d lt = bytes_each inputs rs ss spelled.1 k d (omega arith)
+
+take-short : {X : Type 0} (i : ℕ) (xs : List X) → length (take i xs) ≤ i
+take-short zero xs = omega arith
+take-short (suc i) [] = omega arith
+take-short (suc i) (x ∷ xs) = omega (arith, take-short i xs)
+
+pub spelled_few : (inputs : List Input) (rows : List Row) (i : ℕ) (ss : List Sample) → SpellSamples inputs (map fields_of (take i rows)) ss → i ≤ 10000 → length ss ≤ 10000
+spelled_few inputs rows i ss spelled few = let e = spelled-length inputs (map fields_of (take i rows)) ss spelled in omega (arith, (simp length-map at e), take-short i rows, few)
+
+pub spelled_bytes : (inputs : List Input) (rows : List Fields) (ss : List Sample) → SpellSamples inputs rows ss → All (λ (s : Sample). length s.bytes.items ≡ length inputs) ss
+spelled_bytes inputs rows ss spelled = λ k d lt. bytes_each inputs rows ss spelled k d lt

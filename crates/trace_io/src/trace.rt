@@ -93,7 +93,9 @@ fn samples_in(
     requires valid { All IsValidInput inputs.now }
     requires few { length inputs.now ≤ 8 }
     ensures samples { IfOk result (λ v. SpellSamples inputs.now (map fields_of rows.now) v.items) }
-    ensures few { IfOk result (λ v. length rows.now < 10001) }
+    ensures rows_few { IfOk result (λ v. length rows.now < 10001) }
+    ensures few { IfOk result (λ v. length v.items ≤ 10000) }
+    ensures bytes { IfOk result (λ v. All (λ s. length s.bytes.items ≡ length inputs.now) v.items) }
     ensures fault { IfErr result (λ f. f ≢ TraceFault.Memory → FirstFault inputs.now (map fields_of rows.now) f) }
 {
     let mut samples = Vec::new(alloc);
@@ -120,6 +122,8 @@ pub fn read_trace(alloc: Global, text: &[u8], block: &Block) -> Result<Vec<Sampl
     requires small { length text.now ≤ 1048576 }
     requires valid { IsValid block.now }
     ensures samples { IfOk result (λ v. Spells block.now.inputs text.now v.items) }
+    ensures few { IfOk result (λ v. length v.items ≤ 10000) }
+    ensures bytes { IfOk result (λ v. All (λ s. length s.bytes.items ≡ length block.now.inputs) v.items) }
     ensures fault { IfErr result (λ f. f ≢ TraceFault.Memory → HasFault block.now.inputs text.now f) }
 {
     let rows = match first_rows(alloc, text) {

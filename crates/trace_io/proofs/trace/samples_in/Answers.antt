@@ -1,5 +1,5 @@
 use Rattle.std.proofs.Common.{◌+◌, arith, refl}
-use Rattle.trace_io.proofs.TraceLemmas.{fault_at, samples_more, too_many}
+use Rattle.trace_io.proofs.TraceLemmas.{fault_at, samples_more, spelled_bytes, spelled_few, too_many}
 use Rattle.trace_io.proofs.trace.samples_in.Goals as goal
 
 pub returns-then-at-eq-MOST_SAMPLES-clause-fault :
@@ -15,3 +15,9 @@ loop-at-preserved c = record {
   few = omega arith;
   spelled = samples_more c.args.inputs.now c.args.rows.now c.loop-at.at c.index-rows-at.result c.loop-at-test.true c.index-rows-at.is _ c.loop-at.invariant.spelled c.in-Ok.sample _ c.in-Ok.ensures.sample c.in-Ok-push.ensures.items;
 }
+
+pub returns-clause-few : goal.returns-clause-few
+returns-clause-few c = spelled_few c.args.inputs.now c.args.rows.now c.loop-at.at _ c.loop-at.invariant.spelled c.loop-at.invariant.few
+
+pub returns-clause-bytes : goal.returns-clause-bytes
+returns-clause-bytes c = spelled_bytes c.args.inputs.now _ _ c.loop-at.invariant.spelled
