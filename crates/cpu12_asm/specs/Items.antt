@@ -59,3 +59,13 @@ pub record FailsFirst (Fails : List Item → Item → Type 0) (items : List Item
   pub number : n ≡ length before + 1
   pub placed_before : CanBePlaced before
   pub fails : Fails before item
+
+-- items that never go back to a lower place, of which the first stands at a place, and that end within the memory
+abbrev pub IsRisingFrom : ℕ → List Item → Type 0
+IsRisingFrom at [] = at ≤ 2 ^ 16
+IsRisingFrom at (Place to ∷ items) = (at ≤ to) × IsRisingFrom to items
+IsRisingFrom at (Byte byte ∷ items) = IsRisingFrom (at + 1) items
+IsRisingFrom at (Op instruction ∷ items) = IsRisingFrom (at + length (encode_of instruction)) items
+
+abbrev pub IsRising : List Item → Type 0
+IsRising items = IsRisingFrom 0 items

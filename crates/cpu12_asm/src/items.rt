@@ -1,7 +1,7 @@
 //! Items, and their assembling.
-ghost use Rattle.std.specs.Prelude.{◌≡◌, ◌<◌, ◌≤◌, ◌+◌, ◌^◌, ℕ, List, ◌++◌, length, IfOk, OnOk, IsSome, Ok, Err};
+ghost use Rattle.std.specs.Prelude.{◌≡◌, ◌<◌, ◌≤◌, ◌+◌, ◌^◌, ℕ, List, ◌++◌, length, IfOk, IfErr, OnOk, IsSome, Ok, Err};
 ghost use Rattle.cpu12_asm.specs.Bytes.{byte_at, start_of, placed, Holds, IsAscending};
-ghost use Rattle.cpu12_asm.specs.Items.{given_by, item_bytes, place_after, CanBePlaced, FailsFirst, PassesEnd, WritesOver};
+ghost use Rattle.cpu12_asm.specs.Items.{given_by, item_bytes, place_after, CanBePlaced, FailsFirst, IsRising, PassesEnd, WritesOver};
 
 use crate::image::{ByteMap, Image, Refusal};
 use cpu12_isa::encode::encode;
@@ -43,6 +43,8 @@ pub fn assemble_items(alloc: Global, items: &[Item]) -> Result<Image, AsmFault>
     ensures start { IfOk result (λ image. image.start ≡ start_of image.bytes) }
     ensures range { (n : ℕ) → result ≡ Err (AsmFault.Range n) → FailsFirst PassesEnd items.now n }
     ensures overlap { (n : ℕ) → result ≡ Err (AsmFault.Overlap n) → FailsFirst WritesOver items.now n }
+    // Items that never go back can be placed.
+    ensures rising { IsRising items.now → IfErr result (λ fault. fault ≡ AsmFault.Memory) }
 {
     let mut bytes = ByteMap::new(alloc);
     let mut place: u32 = 0;

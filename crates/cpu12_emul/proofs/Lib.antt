@@ -1,3 +1,5 @@
 pub mod Runs
 pub mod Images
+pub mod Stepping
+pub mod Taking
 mod Bytes

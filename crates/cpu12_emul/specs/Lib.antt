@@ -2,3 +2,4 @@ pub mod Image
 pub mod Step
 pub mod Take
 pub mod Run
+pub mod Undisturbed

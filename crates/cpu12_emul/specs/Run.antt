@@ -1,5 +1,5 @@
 -- Steps until PC is at a branch to itself.
-use Rattle.std.specs.Prelude.{ℕ, zero, suc, ◌+◌, ◌==◌, ◌&&◌, Bool, if◌then◌else◌, Result, Ok, Err, slice_index}
+use Rattle.std.specs.Prelude.{◌≡◌, ℕ, zero, suc, ◌+◌, ◌<◌, ◌≤◌, ◌==◌, ◌&&◌, Bool, true, false, if◌then◌else◌, Result, Ok, Err, slice_index}
 use Rattle.cpu12_isa.specs.Memory.{plus}
 use Rattle.cpu12_parts.specs.State.{State}
 use Rattle.cpu12_emul.specs.declared.ends.RunEnd.{RunEnd}
@@ -25,3 +25,18 @@ run_of flags zero steps s = if is_at_rest s then record { end = Arrived steps; s
 run_of flags (suc n) steps s =
     if is_at_rest s then record { end = Arrived steps; state = s }
     else then_run steps s (run_of flags n (steps + 1)) (next_of flags s)
+
+-- k steps lead from s to t, and none of the states before t is at rest
+abbrev pub StepsTo : ℕ → ℕ → State → State → Type 0
+StepsTo flags zero s t = s ≡ t
+StepsTo flags (suc k) s t = (is_at_rest s ≡ false) × ((next : Next) × ((next_of flags s ≡ Ok next) × StepsTo flags k next.state t))
+
+-- A run of at most n steps from s ends like this in t: t is the first state at rest, after so many steps; or it is not
+-- at rest and after n steps; or it is not at rest, after fewer, and has no step.
+abbrev pub EndsRun : ℕ → ℕ → State → RunEnd → State → Type 0
+EndsRun flags n s (Arrived k) t = (k ≤ n) × StepsTo flags k s t × (is_at_rest t ≡ true)
+EndsRun flags n s (Budget k) t = (k ≡ n) × StepsTo flags k s t × (is_at_rest t ≡ false)
+EndsRun flags n s (Trap pc byte) t = (k : ℕ) × ((k < n) × StepsTo flags k s t × (is_at_rest t ≡ false) × (t.regs.pc ≡ pc) × (next_of flags t ≡ Err byte))
+
+abbrev pub RunEnds : Type 0
+RunEnds = (flags n : ℕ) (s : State) → EndsRun flags n s (run_of flags n 0 s).end (run_of flags n 0 s).state

@@ -1,7 +1,71 @@
 // Laws of the machine.
+ghost use Rattle.cpu12_isa.specs.declared.instr.Instr.TheVariants.{Rev, Revw, Wav};
+ghost use Rattle.cpu12_parts.specs.Cuts.{rev, revw, wav};
 ghost use Rattle.cpu12_emul.specs.Image.{HoldsImage};
+ghost use Rattle.cpu12_emul.specs.Run.{RunEnds};
+ghost use Rattle.cpu12_emul.specs.Undisturbed.{StepAgrees, WavrGoesOn, StepKeeps, TakesQuietly, TakeKeeps, FrameIsOnStack, PlainIsStep, PartIsStep, SumsAreStep};
 
 /// A memory made from an image holds just its bytes.
 pub fn holds_image()
     ensures { HoldsImage }
+{}
+
+/// A run ends at the first state at a branch to itself, at a trap before it, or with its budget.
+pub fn run_ends()
+    ensures { RunEnds }
+{}
+
+/// A plain instruction is one step.
+pub fn plain_is_step()
+    ensures { PlainIsStep }
+{}
+
+/// A part of REV is one step.
+pub fn rev_is_step()
+    ensures { PartIsStep Rev rev }
+{}
+
+/// A part of REVW is one step.
+pub fn revw_is_step()
+    ensures { PartIsStep Revw revw }
+{}
+
+/// The first part of WAV is one step.
+pub fn wav_is_step()
+    ensures { PartIsStep Wav wav }
+{}
+
+/// A part of WAV while its sums run is one step.
+pub fn sums_are_step()
+    ensures { SumsAreStep }
+{}
+
+/// Two states that agree outside hidden bytes step alike, where what is read is shown.
+pub fn step_agrees()
+    ensures { StepAgrees }
+{}
+
+/// A step with WAV's sums on the stack is that with the sums running.
+pub fn wavr_goes_on()
+    ensures { WavrGoesOn }
+{}
+
+/// A step keeps a state undisturbed.
+pub fn step_keeps()
+    ensures { StepKeeps }
+{}
+
+/// An interrupt that writes open bytes changes nothing but these and bytes below SP.
+pub fn takes_quietly()
+    ensures { TakesQuietly }
+{}
+
+/// An interrupt that writes open bytes keeps a state undisturbed.
+pub fn take_keeps()
+    ensures { TakeKeeps }
+{}
+
+/// A frame is the registers' nine bytes, and the sums' six where they run.
+pub fn frame_is_on_stack()
+    ensures { FrameIsOnStack }
 {}

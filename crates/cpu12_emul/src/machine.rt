@@ -1,6 +1,8 @@
 // The machine.
-ghost use Rattle.std.specs.Prelude.{ℕ, ◌≡◌, MatchResult, Ok, Err, slice_index, slice_set};
+ghost use Rattle.std.specs.Prelude.{ℕ, ◌≡◌, ◌⊎◌, MatchResult, IfErr, Ok, Err, slice_index, slice_set};
 ghost use Rattle.cpu12_isa.specs.Act.{outcome, write_all};
+ghost use Rattle.cpu12_isa.specs.Code.{decode_at};
+ghost use Rattle.cpu12_parts.specs.Laws.{IsOff};
 ghost use Rattle.cpu12_emul.specs.Step.{Whole, kind_of, instruction_act, next_of, applied, reset_with};
 
 use crate::ends::Stepped;
@@ -143,6 +145,8 @@ impl<M: Mem> Machine<M> {
         ensures next { MatchResult result
             (λ kind. next_of self.old.flags self.old.state ≡ Ok (record { state = self.new.state; kind = kind }))
             (λ t. (next_of self.old.flags self.old.state ≡ Err t.byte) × (t.pc ≡ self.old.state.regs.pc) × (self.new ≡ self.old)) }
+        ensures trap { IfErr result (λ t. decode_at self.old.state.mem self.old.state.regs.pc ≡ Err t.byte) }
+        ensures running { IfErr result (λ _. IsOff self.old.state.temps) }
         ensures flags { self.new.flags ≡ self.old.flags }
     {
         match self.temps {

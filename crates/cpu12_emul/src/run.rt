@@ -1,8 +1,9 @@
 // Runs to a branch to itself.
 ghost use Rattle.std.specs.Prelude.{ℕ, ◌≡◌};
-ghost use Rattle.cpu12_emul.specs.Run.{run_of, is_at_rest};
+ghost use Rattle.cpu12_emul.specs.Run.{run_of, is_at_rest, EndsRun};
 
 use crate::ends::RunEnd;
+use crate::laws::run_ends;
 use crate::machine::Machine;
 use cpu12_isa::mem::Mem;
 
@@ -17,8 +18,18 @@ impl<M: Mem> Machine<M> {
     /// Does steps until PC is at a branch to itself: `Arrived` with the least number of steps, at most
     /// `budget`, after which it is; else `Trap` where a step has no value, or `Budget` where `budget`
     /// steps were done without arriving. The machine is then as those steps left it.
-    #[tactic(auto, using(crate::proofs::Runs::runs))]
     pub fn run(&mut self, budget: u32) -> RunEnd
+        ensures ends { EndsRun self.old.flags budget self.old.state result self.new.state }
+        ensures run { record { end = result; state = self.new.state } ≡ run_of self.old.flags budget 0 self.old.state }
+        ensures flags { self.new.flags ≡ self.old.flags }
+    {
+        run_ends();
+        self.run_steps(budget)
+    }
+
+    /// The steps of a run.
+    #[tactic(auto, using(crate::proofs::Runs::runs))]
+    fn run_steps(&mut self, budget: u32) -> RunEnd
         ensures run { record { end = result; state = self.new.state } ≡ run_of self.old.flags budget 0 self.old.state }
         ensures flags { self.new.flags ≡ self.old.flags }
     {

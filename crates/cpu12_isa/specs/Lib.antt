@@ -4,3 +4,5 @@ pub mod Flags
 pub mod Registers
 pub mod Meaning
 pub mod Code
+pub mod Agreement
+pub mod Fits

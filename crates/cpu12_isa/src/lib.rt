@@ -14,6 +14,9 @@ pub mod decode;
 pub mod encode;
 pub mod exec;
 pub mod instr;
+pub mod laws;
 pub mod mem;
 pub mod regs;
 pub mod stack;
+#[cfg(test)]
+mod vectors;

@@ -1,5 +1,5 @@
 -- Valid blocks.
-use Rattle.std.specs.Prelude.{ℕ, ◌+◌, ◌-◌, ◌≤◌, length, All, sum_by, slice_get, Option, IfSome, IsSomeAnd, option_and_then, ℤ, pos, neg_ℤ, ◌≤ℤ◌, ◌<ℤ◌}
+use Rattle.std.specs.Prelude.{◌≡◌, ℕ, ◌+◌, ◌-◌, ◌≤◌, List, length, All, sum_by, slice_get, Option, Some, IfSome, IsSomeAnd, option_and_then, ℤ, pos, neg_ℤ, ◌≤ℤ◌, ◌<ℤ◌}
 use Rattle.fz_num.specs.declared.dec.Dec.{Dec}
 use Rattle.fuzzy_meaning.specs.declared.block.Block.{Block}
 use Rattle.fuzzy_meaning.specs.declared.block.Input.{Input}
@@ -39,6 +39,15 @@ pub record IsWithin (lo hi x : Dec) : Type 0 where
   pub low : lo.0 ≤ℤ x.0
   pub high : x.0 ≤ℤ hi.0
 
+-- a <= b <= c <= d
+pub record IsTrapezoid (t : Trapezoid) : Type 0 where
+  pub a_in : IfSome t.a (λ a. IsInScale a.0 × (a.0 ≤ℤ t.b.0))
+  pub b_in : IsInScale t.b.0
+  pub peak : t.b.0 ≤ℤ t.c.0
+  pub c_in : IsInScale t.c.0
+  pub d_in : IfSome t.d (λ d. IsInScale d.0 × (t.c.0 ≤ℤ d.0))
+
+-- within a range
 pub record IsValidTerm (lo hi : Dec) (t : Trapezoid) : Type 0 where
   pub a_in : IfSome t.a (λ a. (lo.0 ≤ℤ a.0) × (a.0 ≤ℤ t.b.0))
   pub b_in : lo.0 ≤ℤ t.b.0
@@ -108,3 +117,8 @@ pub record IsValid (b : Block) : Type 0 where
   pub outputs : All IsValidOutput b.outputs
   pub rules : All (IsValidRule b) b.rules
   pub size : sum_by rule_size b.rules ≤ 1048576
+
+-- one number for each input, within its range
+pub record AreInputs (b : Block) (xs : List Dec) : Type 0 where
+  pub count : length xs ≡ length b.inputs
+  pub within : (k : ℕ) (i : Input) (x : Dec) → slice_get b.inputs k ≡ Some i → slice_get xs k ≡ Some x → IsWithin i.lo i.hi x

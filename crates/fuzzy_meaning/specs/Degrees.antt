@@ -1,5 +1,5 @@
 -- The degree of a term (IEC 61131-7:2000, linear terms).
-use Rattle.std.specs.Prelude.{◌*◌, if◌then◌else◌, Option, Some, None}
+use Rattle.std.specs.Prelude.{if◌then◌else◌, Option, Some, None}
 use Rattle.std.specs.Int.Signed.{le_z}
 use Rattle.fz_num.specs.declared.dec.Dec.{Dec}
 use Rattle.fz_num.specs.Fractions.{Fraction, over, lesser, one, none}

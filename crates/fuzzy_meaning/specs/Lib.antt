@@ -3,3 +3,5 @@ pub mod Blocks
 pub mod Rules
 pub mod Degrees
 pub mod Meaning
+pub mod Holding
+pub mod Examples

@@ -1,5 +1,5 @@
 -- What a block answers (IEC 61131-7:2000: AND is MIN, OR is MAX, NOT is 1 minus, WITH is a product, COGS).
-use Rattle.std.specs.Prelude.{◌≡◌, ℕ, ◌+◌, ◌-◌, ◌*◌, ◌<◌, if◌then◌else◌, ◌==◌, nat_lt, List, [], ◌∷◌, fold, count_by, slice_get, Option, Some, None, ℤ, pos, ◌+ℤ◌, ◌*ℤ◌, unsigned_abs}
+use Rattle.std.specs.Prelude.{ℕ, ◌+◌, ◌-◌, ◌*◌, if◌then◌else◌, ◌==◌, nat_lt, List, [], ◌∷◌, fold, filter, length, slice_get, Bool, Option, Some, None, ℤ, pos, ◌+ℤ◌, ◌*ℤ◌, unsigned_abs}
 use Rattle.std.specs.Option.{option_map_or}
 use Rattle.fz_num.specs.declared.dec.Dec.{Dec}
 use Rattle.fz_num.specs.Fractions.{Fraction, lesser, greater, one_minus, times, one, none}
@@ -100,6 +100,13 @@ first_answer b o = option_map_or (λ x. quotient_of x.lo) (output_at b o) (recor
 abbrev pub exact_answer : Block → ℕ → List (List Dec) → Quotient
 exact_answer b o samples = fold (answer_after b o) (first_answer b o) samples
 
+-- the shares that have a mass
+abbrev pub has_mass : Share → Bool
+has_mass s = nat_lt 0 s.mass.num
+
+abbrev pub heavy_shares : List Share → List Share
+heavy_shares ss = filter has_mass ss
+
 -- how many terms of output o have a mass
 abbrev pub heavy_terms : Block → ℕ → List Dec → ℕ
-heavy_terms b o xs = option_map_or (λ x. count_by (λ s. nat_lt 0 s.mass.num) (shares b xs o x)) (output_at b o) 0
+heavy_terms b o xs = option_map_or (λ x. length (heavy_shares (shares b xs o x))) (output_at b o) 0

@@ -6,6 +6,16 @@
 //! nothing of bytes, tables or machines. No call takes memory.
 #![tactic(auto)]
 
+mod answers;
 mod block;
+mod degrees;
+mod examples;
+mod masses;
+mod truths;
 
+pub use answers::exact;
 pub use block::{Block, Cond, Input, Output, Rule, Trapezoid};
+pub use degrees::degree;
+pub use examples::examples_are_valid;
+pub use masses::{mass, strength};
+pub use truths::truth;

@@ -63,10 +63,10 @@ impl Frac {
         ensures value { fraction_of result ≡ greater (fraction_of self) (fraction_of other) }
         ensures choice { (result ≡ self) ⊎ (result ≡ other) }
     {
-        if self.cross(other) <= other.cross(self) {
-            other
-        } else {
+        if self.cross(other) > other.cross(self) {
             self
+        } else {
+            other
         }
     }
 
@@ -129,3 +129,6 @@ impl Frac {
         self.num as u128 * other.den as u128
     }
 }
+
+#[cfg(test)]
+mod tests;

@@ -1,6 +1,7 @@
-use Rattle.std.proofs.Common.{◌≡◌, ◌+◌, take, get_or, ap, sym, ◌∙◌, arith}
+use Rattle.std.proofs.Common.{refl, ◌≡◌, ◌+◌, take, get_or, ap, sym, ◌∙◌, arith}
 use Rattle.cpu12_asm.specs.declared.items.Item.TheVariants.{Place}
 use Rattle.cpu12_asm.specs.Items.{place_after, given_by, PassesEnd, WritesOver}
+use Rattle.cpu12_asm.proofs.Rising.{no_end_passed, nothing_written_over}
 use Rattle.cpu12_asm.proofs.Sequences.{place_of-take, Holds-take, WritesOver-at, FailsFirst-at}
 use Rattle.cpu12_asm.proofs.items.assemble_items.Goals as goal
 
@@ -28,3 +29,9 @@ loop-item-preserved c =
       c.in-Ok.ensures.behind.1,
       Holds-take _ items i c.loop-item.place (Place 0) (omega arith) c.loop-item.invariant.1 (c.in-Ok.ensures.held (given_by (take i items)) c.loop-item.invariant.3),
     )
+
+pub returns-in-Err-PastEnd-clause-rising : goal.returns-in-Err-PastEnd-clause-rising
+returns-in-Err-PastEnd-clause-rising c = λ rising. absurd (no_end_passed _ _ rising (returns-in-Err-PastEnd-clause-range c _ refl))
+
+pub returns-in-Err-Taken-clause-rising : goal.returns-in-Err-Taken-clause-rising
+returns-in-Err-Taken-clause-rising c = λ rising. absurd (nothing_written_over _ _ rising (returns-in-Err-Taken-clause-overlap c _ refl))

@@ -1,6 +1,6 @@
 use Rattle.std.proofs.Common.{◌≡◌, ◌+◌}
 use Rattle.cpu12_emul.specs.Run.{run_of}
-use Rattle.cpu12_emul.proofs.machine.Machine.run.Given as goal
+use Rattle.cpu12_emul.proofs.machine.Machine.run_steps.Given as goal
 
 -- what is left of the run is the run
 abbrev pub invariant-loop-left : goal.invariant-loop-left

@@ -1,0 +1,4 @@
+pub mod Joins
+pub mod Lists
+pub mod Sizes
+pub mod Placement

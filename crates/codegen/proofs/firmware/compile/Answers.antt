@@ -1,0 +1,27 @@
+use Rattle.std.proofs.Common.{length, ap, ◌∙◌, arith}
+use Rattle.codegen.proofs.Joins.{slots-flat_of}
+use Rattle.codegen.proofs.Placement.{HasSizes, main_rises, length-main_items, element_count-le}
+use Rattle.codegen.proofs.firmware.compile.Goals as goal
+
+pub assemble_items-requires : goal.assemble_items-requires
+assemble_items-requires c =
+    let b = c.args.block.now in
+    let sizes : HasSizes b = record { few_slots = omega (arith, c.in-Ok.ensures.laid_out.few_slots, ap length (slots-flat_of c.in-Ok.flat b c.in-Ok.ensures.value)); few_conjunctions = c.in-Ok.ensures.limits.few_conjunctions; short_list = c.in-Ok.ensures.limits.short_list } in
+    length-main_items b _ c.requires sizes (c.as_slice.ensures.value ∙ c.in-Ok-firmware_items.ensures)
+
+pub unreachable-requires : goal.unreachable-requires
+unreachable-requires c =
+    let b = c.args.block.now in
+    let sizes : HasSizes b = record { few_slots = omega (arith, c.in-Ok.ensures.laid_out.few_slots, ap length (slots-flat_of c.in-Ok.flat b c.in-Ok.ensures.value)); few_conjunctions = c.in-Ok.ensures.limits.few_conjunctions; short_list = c.in-Ok.ensures.limits.short_list } in
+    let memory = c.in-Err-Range.ensures.rising (main_rises b _ c.requires sizes (c.as_slice.ensures.value ∙ c.in-Ok-firmware_items.ensures)) in
+    cc
+
+pub unreachable-requires-in-Err-Overlap : goal.unreachable-requires-in-Err-Overlap
+unreachable-requires-in-Err-Overlap c =
+    let b = c.args.block.now in
+    let sizes : HasSizes b = record { few_slots = omega (arith, c.in-Ok.ensures.laid_out.few_slots, ap length (slots-flat_of c.in-Ok.flat b c.in-Ok.ensures.value)); few_conjunctions = c.in-Ok.ensures.limits.few_conjunctions; short_list = c.in-Ok.ensures.limits.short_list } in
+    let memory = c.in-Err-Overlap.ensures.rising (main_rises b _ c.requires sizes (c.as_slice.ensures.value ∙ c.in-Ok-firmware_items.ensures)) in
+    cc
+
+pub step_bound-step_bound-requires-clause-short : goal.step_bound-step_bound-requires-clause-short
+step_bound-step_bound-requires-clause-short c = omega (arith, element_count-le c.args.block.now, c.in-Ok.ensures.limits.short_list)

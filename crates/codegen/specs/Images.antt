@@ -1,0 +1,37 @@
+-- The image of a block's firmware, item by item.
+use Rattle.std.specs.Prelude.{ℕ, ◌+◌, ◌^◌, ◌<◌, List, ◌∷◌, ◌++◌, map}
+use Rattle.fuzzy_meaning.specs.declared.block.Block.{Block}
+use Rattle.cpu12_isa.specs.declared.instr.Instr.{Instr}
+use Rattle.cpu12_asm.specs.declared.items.Item.{Item}
+use Rattle.cpu12_asm.specs.declared.items.Item.TheVariants.{Place, Byte, Op}
+use Rattle.codegen.specs.declared.layout.Layout.{Layout}
+use Rattle.codegen.specs.Code.{frame_code, eval_code}
+use Rattle.codegen.specs.Data.{table_bytes, singleton_bytes, weight_bytes, rule_bytes, bytes_of_word}
+
+-- instructions or bytes that stand at a place
+abbrev pub code_at : ℕ → List Instr → List Item
+code_at at code = Place at ∷ map Op code
+
+abbrev pub bytes_at : ℕ → List ℕ → List Item
+bytes_at at bytes = Place at ∷ map Byte bytes
+
+-- the interrupt's and the reset vector (CPU12 Reference Manual, section 7): the last instruction before EVAL, and the first one
+abbrev pub vector_items : Layout → List Item
+vector_items l = bytes_at 0xFFF2 (bytes_of_word l.interrupt) ++ bytes_at 0xFFFE (bytes_of_word l.code)
+
+-- code, tables, singletons, weights, rule list and vectors, and nothing else
+unfoldable pub firmware_items : Layout → Block → List Item
+firmware_items l b =
+    code_at l.code (frame_code l ++ eval_code l b)
+    ++ (bytes_at l.tables (table_bytes b)
+    ++ (bytes_at l.singletons (singleton_bytes b)
+    ++ (bytes_at l.weights (weight_bytes b)
+    ++ (bytes_at l.rules (rule_bytes l.slots b)
+    ++ vector_items l))))
+
+-- each address that the code needs stands in memory
+pub record HasRoom (l : Layout) : Type 0 where
+  pub inputs : l.inputs + 8 < 2 ^ 16
+  pub outputs : l.outputs + 4 < 2 ^ 16
+  pub slots : l.slots + 1024 < 2 ^ 16
+  pub singletons : l.singletons + 64 < 2 ^ 16

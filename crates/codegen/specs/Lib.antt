@@ -1,0 +1,5 @@
+pub mod Layouts
+pub mod Code
+pub mod Data
+pub mod Images
+pub mod Bounds

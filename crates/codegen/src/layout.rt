@@ -1,0 +1,48 @@
+//! Where a firmware stands in memory.
+
+/// The addresses of a firmware's parts.
+#[derive(Clone, Copy, Debug, PartialEq, Eq)]
+pub struct Layout {
+    /// The first instruction, which the reset vector holds.
+    pub code: u16,
+    /// Where the code waits for READY.
+    pub wait: u16,
+    /// The instruction that the interrupt vector holds.
+    pub interrupt: u16,
+    /// The code that answers a sample.
+    pub eval: u16,
+    /// The tables of the input terms, four bytes each.
+    pub tables: u16,
+    /// The singletons' bytes.
+    pub singletons: u16,
+    /// The weights of the conjunctions, for REVW alone.
+    pub weights: u16,
+    /// The rule list.
+    pub rules: u16,
+    /// READY, which is not 0 while a sample waits for its answer.
+    pub ready: u16,
+    /// The inputs' bytes.
+    pub inputs: u16,
+    /// The outputs' bytes.
+    pub outputs: u16,
+    /// The degrees of terms, complements and conclusions.
+    pub slots: u16,
+}
+
+impl Layout {
+    /// The layout of a firmware that stands alone.
+    pub const MAIN: Layout = Layout {
+        code: 0xC000,
+        wait: 0xC008,
+        interrupt: 0xC015,
+        eval: 0xC016,
+        tables: 0xD000,
+        singletons: 0xD200,
+        weights: 0xD300,
+        rules: 0xD800,
+        ready: 0x1000,
+        inputs: 0x1001,
+        outputs: 0x1010,
+        slots: 0x1100,
+    };
+}

@@ -1,0 +1,5 @@
+use Rattle.cpu12_emul.proofs.Taking.{frame_is_on_stack}
+use Rattle.cpu12_emul.proofs.laws.frame_is_on_stack.Goals as goal
+
+pub returns : goal.returns
+returns c = frame_is_on_stack

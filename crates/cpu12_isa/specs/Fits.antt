@@ -1,0 +1,34 @@
+-- Registers and writes of the sizes that they have.
+use Rattle.std.specs.Prelude.{ℕ, ◌^◌, ◌<◌, List, [], ◌∷◌, slice_index}
+use Rattle.cpu12_isa.specs.declared.instr.Regs.{Regs}
+use Rattle.cpu12_isa.specs.declared.instr.Instr.{Instr}
+use Rattle.cpu12_isa.specs.Act.{Act, Give, Get}
+use Rattle.cpu12_isa.specs.Code.{FitsOperands}
+use Rattle.cpu12_isa.specs.Meaning.{effect}
+
+pub record FitsRegs (r : Regs) : Type 0 where
+  pub a : r.a < 2 ^ 8
+  pub b : r.b < 2 ^ 8
+  pub x : r.x < 2 ^ 16
+  pub y : r.y < 2 ^ 16
+  pub sp : r.sp < 2 ^ 16
+  pub pc : r.pc < 2 ^ 16
+  pub ccr : r.ccr.0 < 2 ^ 8
+
+-- writes of bytes at addresses
+abbrev pub FitsWrites : List (ℕ × ℕ) → Type 0
+FitsWrites [] = Unit {0}
+FitsWrites (w ∷ ws) = (w.0 < 2 ^ 16) × (w.1 < 2 ^ 8) × FitsWrites ws
+
+-- a memory of bytes
+abbrev pub AreBytes : List ℕ → Type 0
+AreBytes mem = (at : ℕ) → slice_index mem at < 2 ^ 8
+
+-- whatever bytes are read, the value is of this kind
+abbrev pub Leaves : {A : Type 0} → (A → Type 0) → Act A → Type 0
+Leaves P (Give a) = P a
+Leaves P (Get at next) = (v : ℕ) → v < 2 ^ 8 → Leaves P (next v)
+
+-- What fits stays so: on a memory of bytes an instruction leaves registers that fit, and writes bytes.
+abbrev pub StaysFit : Type 0
+StaysFit = (flags : ℕ) (i : Instr) (r : Regs) (mem : List ℕ) → flags < 2 ^ 8 → FitsOperands i → FitsRegs r → AreBytes mem → FitsRegs (effect flags i r mem).regs × FitsWrites (effect flags i r mem).writes

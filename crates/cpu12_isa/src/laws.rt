@@ -1,0 +1,24 @@
+// Laws of instructions and memories.
+ghost use Rattle.cpu12_isa.specs.Meaning.{Effect};
+ghost use Rattle.cpu12_isa.specs.Fits.{StaysFit};
+ghost use Rattle.cpu12_isa.specs.Agreement.{ReadsAlone, WritesAgree, WritesStay};
+
+/// What an instruction does depends on the bytes that it reads alone.
+pub fn reads_alone()
+    ensures { ReadsAlone Effect }
+{}
+
+/// The same writes keep two memories agreed.
+pub fn writes_agree()
+    ensures { WritesAgree }
+{}
+
+/// Writes change no other byte.
+pub fn writes_stay()
+    ensures { WritesStay }
+{}
+
+/// Registers and writes keep the sizes that they have.
+pub fn stays_fit()
+    ensures { StaysFit }
+{}

@@ -1,0 +1,5 @@
+pub mod Cutting
+pub mod WavParts
+pub mod RuleParts
+pub mod RevWalks
+pub mod OverCuts

@@ -1,0 +1,7 @@
+use Rattle.cpu12_parts.specs.Cuts.{wav}
+use Rattle.cpu12_parts.specs.Laws.{AreKept}
+use Rattle.cpu12_parts.proofs.Cutting.{cuts_change_nothing}
+use Rattle.cpu12_parts.proofs.laws.wav_cuts.Goals as goal
+
+pub returns : goal.returns
+returns c = cuts_change_nothing wav AreKept c.wav_goes_on.ensures c.wav_steady.ensures

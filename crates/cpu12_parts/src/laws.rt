@@ -1,0 +1,104 @@
+// Laws of the parts.
+ghost use Rattle.cpu12_parts.specs.Cuts.{rev, revw, wav};
+ghost use Rattle.cpu12_parts.specs.Laws.{AreKept, Any, GoesOn, WritesBelow, KeepsNothing, IsSteady, CutsChangeNothing, RevIsWhole, RevwIsWhole, WavIsWhole, RevOverCuts, RevwOverCuts, WavOverCuts};
+
+/// What WAV's `suspend` put away, its `resume` gets back.
+pub fn wav_goes_on()
+    ensures { GoesOn wav AreKept }
+{}
+
+/// WAV's `suspend` writes below SP as it was, and its `resume` nothing.
+pub fn wav_writes_below()
+    ensures { WritesBelow wav }
+{}
+
+/// A part of WAV keeps SP, and leaves sums that fit.
+pub fn wav_steady()
+    ensures { IsSteady wav AreKept }
+{}
+
+/// REV keeps nothing between its parts.
+pub fn rev_keeps_nothing()
+    ensures { KeepsNothing rev }
+{}
+
+/// A part of REV keeps SP.
+pub fn rev_steady()
+    ensures { IsSteady rev Any }
+{}
+
+/// REVW keeps nothing between its parts.
+pub fn revw_keeps_nothing()
+    ensures { KeepsNothing revw }
+{}
+
+/// A part of REVW keeps SP.
+pub fn revw_steady()
+    ensures { IsSteady revw Any }
+{}
+
+/// WAV's parts make the whole instruction, and touch only what it does.
+pub fn wav_is_whole()
+    ensures { WavIsWhole }
+{}
+
+/// Cuts between WAV's parts change nothing but bytes below SP.
+pub fn wav_cuts()
+    ensures { CutsChangeNothing wav }
+{
+    wav_goes_on();
+    wav_steady();
+}
+
+/// Cuts between REV's parts change nothing.
+pub fn rev_cuts()
+    ensures { CutsChangeNothing rev }
+{
+    rev_keeps_nothing();
+    rev_steady();
+}
+
+/// Cuts between REVW's parts change nothing.
+pub fn revw_cuts()
+    ensures { CutsChangeNothing revw }
+{
+    revw_keeps_nothing();
+    revw_steady();
+}
+
+/// REV's parts make the whole instruction, and touch only what it does.
+pub fn rev_is_whole()
+    ensures { RevIsWhole }
+{}
+
+/// REVW's parts make the whole instruction, and touch only what it does.
+pub fn revw_is_whole()
+    ensures { RevwIsWhole }
+{}
+
+/// REV's parts, cut at any boundaries by `suspend` and then `resume`, end in the whole instruction's state
+/// but for the six bytes below SP.
+pub fn rev_over_cuts()
+    ensures { RevOverCuts }
+{
+    rev_cuts();
+    rev_is_whole();
+}
+
+/// REVW's parts, cut at any boundaries by `suspend` and then `resume`, end in the whole instruction's state
+/// but for the six bytes below SP.
+pub fn revw_over_cuts()
+    ensures { RevwOverCuts }
+{
+    revw_cuts();
+    revw_is_whole();
+}
+
+/// WAV's parts, cut at any boundaries by `suspend` and then `resume`, end in the whole instruction's state
+/// but for the six bytes below SP.
+pub fn wav_over_cuts()
+    ensures { WavOverCuts }
+{
+    wav_cuts();
+    wav_is_whole();
+}

@@ -1,0 +1,346 @@
+-- The forms of conditions, by how many more "(" and NOT may be open.
+use Rattle.std.proofs.Common.{◌≡◌, ℕ, zero, suc, true, false, List, [], ◌∷◌, ◌++◌, length, Option, Some, None, Result, Ok, refl, sym, ap, ◌∙◌, inl, inr, ◌⊎◌}
+use Rattle.fcl_syntax.specs.declared.fault.Kind.TheVariants.{Deep}
+use Rattle.fcl_syntax.specs.declared.token.Amount.TheVariants as amount
+use Rattle.fcl_syntax.specs.declared.token.Keyword.TheVariants as key
+use Rattle.fcl_syntax.specs.declared.token.Token.{Token}
+use Rattle.fcl_syntax.specs.declared.token.Token.TheVariants as tok
+use Rattle.fcl_syntax.specs.declared.token.Word.TheVariants as word
+use Rattle.fcl_syntax.specs.declared.tree.Name.{Name}
+use Rattle.fcl_syntax.specs.Marks.{sort, mem, follow_sorts, Among, Sym, plain, marked}
+use Rattle.fcl_syntax.specs.Form.{◌>>=◌, loop, disjoint, Form}
+use Rattle.fcl_syntax.specs.Grammar.{TNot, neg, group, is, lone, TNots, no_nots, more_nots, TAnd, and_of, TAnds, no_ands, more_ands, TOr, or_of, not_text, nots_text, and_text, ands_text, or_text}
+use Rattle.fcl_syntax.specs.Reading.{expect_at, key_at, open_at, name_at, not_word_at, operand_at, conjunct_in, and_in, alternative_in, or_in, neg_in, group_in, opened_in, not_at}
+use Rattle.fcl_syntax.specs.View.{nots_of, ands_of}
+use Rattle.fcl_syntax.proofs.Ahead.{Ahead, ahead}
+use Rattle.fcl_syntax.proofs.Chains.{bind_assoc, bind_cond, chain2}
+use Rattle.fcl_syntax.proofs.Classes.{name_class}
+use Rattle.fcl_syntax.proofs.Dead.{via, Dead, dead_or}
+use Rattle.fcl_syntax.proofs.Forms.{bare_form, key_form, open_form, name_form}
+use Rattle.fcl_syntax.proofs.Loop.{texts}
+use Rattle.fcl_syntax.proofs.Named.{named, either, in_left, in_right}
+use Rattle.fcl_syntax.proofs.Repeat.{then_rep}
+use Rattle.fcl_syntax.proofs.Seq.{seq}
+
+-- ---- name IS [NOT] name
+
+abbrev pub follow_ahead : Ahead (Among follow_sorts)
+follow_ahead = record { among = follow_sorts; token = λ f. f.token; sorts = λ f. f.is; cover = λ y h. (record { token = y; is = h }, refl) }
+
+abbrev pub TermRaw : Type 0
+TermRaw = (ℕ × Name) ⊎ Name
+
+abbrev pub term_form : Form TermRaw
+term_form = either (seq (key_form key.Not) name_form refl) name_form refl refl
+
+abbrev pub OperandRaw : Type 0
+OperandRaw = (Name × (ℕ × TermRaw)) ⊎ (Name × Among follow_sorts)
+
+abbrev pub operand_raw : Form OperandRaw
+operand_raw = ahead name_class follow_ahead (seq (key_form key.Is) term_form refl) refl
+
+abbrev pub to_is : Name → ℕ → TermRaw → TNot
+to_is v i (inl t) = is v i (Some t.0) t.1
+to_is v i (inr t) = is v i None t
+
+abbrev pub to_operand : OperandRaw → TNot
+to_operand (inl t) = to_is t.0 t.1.0 t.1.1
+to_operand (inr t) = lone t.0 t.1
+
+pub operand_is : (ts : List Token) → operand_at ts ≡ (operand_raw.read ts >>= λ a. Ok (to_operand a.0, a.1))
+unfolding operand_at name_at not_word_at
+operand_is ts = simp (bind_assoc, bind_cond)
+
+-- ---- what is inside
+
+-- the form of a condition's part where n more may be open
+pub record Part (n : ℕ) : Type 0 where
+  pub form : Form TNot
+  pub goes : form.goes ≡ []
+  pub text : (t : TNot) → form.text t ≡ not_text t n
+  pub read : form.read ≡ not_at n
+
+pub list_of_nots : TNots → List (ℕ × TNot)
+list_of_nots no_nots = []
+list_of_nots (more_nots at t ts) = (at, t) ∷ list_of_nots ts
+
+pub nots_round : (ts : TNots) → nots_of (list_of_nots ts) ≡ ts
+unfolding list_of_nots
+nots_round no_nots = refl
+nots_round (more_nots at t ts) = ap (λ (l : TNots). more_nots at t l) (nots_round ts)
+
+pub list_of_ands : TAnds → List (ℕ × TAnd)
+list_of_ands no_ands = []
+list_of_ands (more_ands at t ts) = (at, t) ∷ list_of_ands ts
+
+pub ands_round : (ts : TAnds) → ands_of (list_of_ands ts) ≡ ts
+unfolding list_of_ands
+ands_round no_ands = refl
+ands_round (more_ands at t ts) = ap (λ (l : TAnds). more_ands at t l) (ands_round ts)
+
+abbrev pub from_and : TAnd → TNot × List (ℕ × TNot)
+from_and (and_of t ts) = (t, list_of_nots ts)
+
+pub and_round : (a : TAnd) → and_of (from_and a).0 (nots_of (from_and a).1) ≡ a
+and_round (and_of t ts) = ap (λ (l : TNots). and_of t l) (nots_round ts)
+
+abbrev pub from_or : TOr → TAnd × List (ℕ × TAnd)
+from_or (or_of t ts) = (t, list_of_ands ts)
+
+pub or_round : (a : TOr) → or_of (from_or a).0 (ands_of (from_or a).1) ≡ a
+or_round (or_of t ts) = ap (λ (l : TAnds). or_of t l) (ands_round ts)
+
+module _ (n : ℕ) (p : Part n) where
+  pub apart_one : (x : ℕ) → disjoint p.form.goes (x ∷ []) ≡ true
+  apart_one x = rw p.goes refl
+
+  -- the part, read by the parser's own reader
+  pub inner_is : (ts : List Token) → not_at n ts ≡ p.form.read ts
+  inner_is ts = rw (← p.read) refl
+
+  abbrev pub inner : Form TNot
+  inner = named p.form (not_at n) inner_is
+
+  abbrev pub conjunct_text : ℕ × TNot → List Sym
+  conjunct_text t = plain (tok.Word t.0 key.And) ∷ not_text t.1 n
+
+  abbrev pub conjunct_raw : Form (ℕ × TNot)
+  conjunct_raw = via (seq (key_form key.And) inner refl) (λ t. t) (λ t. t) conjunct_text (λ t. refl) (λ t. ap (λ (l : List Sym). plain (tok.Word t.0 key.And) ∷ l) (sym (p.text t.1)))
+
+  pub conjunct_is : (ts : List Token) → conjunct_in (not_at n) ts ≡ conjunct_raw.read ts
+  unfolding conjunct_in
+  conjunct_is ts = chain2 (key_at key.And) (not_at n) (λ t. t) ts
+
+  abbrev pub conjunct_form : Form (ℕ × TNot)
+  conjunct_form = named conjunct_raw (conjunct_in (not_at n)) conjunct_is
+
+  pub nots_same : (ts : List (ℕ × TNot)) → nots_text (nots_of ts) n ≡ texts conjunct_form ts
+  nots_same [] = refl
+  nots_same (t ∷ ts) = ap (λ (l : List Sym). plain (tok.Word t.0 key.And) ∷ (not_text t.1 n ++ l)) (nots_same ts)
+
+  abbrev pub to_and : TNot × List (ℕ × TNot) → TAnd
+  to_and t = and_of t.0 (nots_of t.1)
+
+  abbrev pub and_seq : Form (TNot × List (ℕ × TNot))
+  and_seq = then_rep inner conjunct_form (apart_one 23) refl
+
+  pub and_same : (t : TNot × List (ℕ × TNot)) → and_text (to_and t) n ≡ and_seq.text t
+  and_same t = ap (λ (l : List Sym). l ++ nots_text (nots_of t.1) n) (sym (p.text t.0)) ∙ ap (λ (l : List Sym). p.form.text t.0 ++ l) (nots_same t.1)
+
+  abbrev pub and_raw : Form TAnd
+  and_raw = via and_seq to_and from_and (λ a. and_text a n) and_round and_same
+
+  pub and_is : (ts : List Token) → and_in (not_at n) ts ≡ and_raw.read ts
+  unfolding and_in
+  and_is ts = chain2 (not_at n) (λ l. loop (23 ∷ []) (conjunct_in (not_at n)) (length l) l) to_and ts
+
+  abbrev pub and_form : Form TAnd
+  and_form = named and_raw (and_in (not_at n)) and_is
+
+  abbrev pub alternative_text : ℕ × TAnd → List Sym
+  alternative_text t = plain (tok.Word t.0 key.Or) ∷ and_text t.1 n
+
+  abbrev pub alternative_raw : Form (ℕ × TAnd)
+  alternative_raw = via (seq (key_form key.Or) and_form refl) (λ t. t) (λ t. t) alternative_text (λ t. refl) (λ t. refl)
+
+  pub alternative_is : (ts : List Token) → alternative_in (not_at n) ts ≡ alternative_raw.read ts
+  unfolding alternative_in
+  alternative_is ts = chain2 (key_at key.Or) (and_in (not_at n)) (λ t. t) ts
+
+  abbrev pub alternative_form : Form (ℕ × TAnd)
+  alternative_form = named alternative_raw (alternative_in (not_at n)) alternative_is
+
+  pub ands_same : (ts : List (ℕ × TAnd)) → ands_text (ands_of ts) n ≡ texts alternative_form ts
+  ands_same [] = refl
+  ands_same (t ∷ ts) = ap (λ (l : List Sym). plain (tok.Word t.0 key.Or) ∷ (and_text t.1 n ++ l)) (ands_same ts)
+
+  abbrev pub to_or : TAnd × List (ℕ × TAnd) → TOr
+  to_or t = or_of t.0 (ands_of t.1)
+
+  abbrev pub or_seq : Form (TAnd × List (ℕ × TAnd))
+  or_seq = then_rep and_form alternative_form (rw p.goes refl) refl
+
+  pub or_same : (t : TAnd × List (ℕ × TAnd)) → or_text (to_or t) n ≡ or_seq.text t
+  or_same t = ap (λ (l : List Sym). and_text t.0 n ++ l) (ands_same t.1)
+
+  abbrev pub or_raw : Form TOr
+  or_raw = via or_seq to_or from_or (λ a. or_text a n) or_round or_same
+
+  pub or_is : (ts : List Token) → or_in (not_at n) ts ≡ or_raw.read ts
+  unfolding or_in
+  or_is ts = chain2 (and_in (not_at n)) (λ l. loop (24 ∷ []) (alternative_in (not_at n)) (length l) l) to_or ts
+
+  abbrev pub or_form : Form TOr
+  or_form = named or_raw (or_in (not_at n)) or_is
+
+  -- NOT not, and "(" or ")"
+  abbrev pub OpenedRaw : Type 0
+  OpenedRaw = (ℕ × TNot) ⊎ (ℕ × (TOr × Unit {0}))
+
+  abbrev pub opened_form : Form OpenedRaw
+  opened_form = either (seq (key_form key.Not) inner refl) (seq open_form (seq or_form (bare_form tok.Close refl) (rw p.goes refl)) refl) refl p.goes
+
+  abbrev pub part_raw : Form (OpenedRaw ⊎ OperandRaw)
+  part_raw = either opened_form operand_raw refl refl
+
+abbrev pub to_part : ((ℕ × TNot) ⊎ (ℕ × (TOr × Unit {0}))) ⊎ OperandRaw → TNot
+to_part (inl (inl t)) = neg t.0 t.1
+to_part (inl (inr t)) = group t.0 t.1.0
+to_part (inr t) = to_operand t
+
+abbrev pub from_is : Name → ℕ → Option ℕ → Name → OperandRaw
+from_is v i (Some n) t = inl (v, (i, inl (n, t)))
+from_is v i None t = inl (v, (i, inr t))
+
+abbrev pub from_part : TNot → ((ℕ × TNot) ⊎ (ℕ × (TOr × Unit {0}))) ⊎ OperandRaw
+from_part (neg at t) = inl (inl (at, t))
+from_part (group at o) = inl (inr (at, (o, tt)))
+from_part (is v i b t) = inr (from_is v i b t)
+from_part (lone v f) = inr (inr (v, f))
+
+pub part_round : (t : TNot) → to_part (from_part t) ≡ t
+part_round (neg at t) = refl
+part_round (group at o) = refl
+part_round (is v i (Some n) t) = refl
+part_round (is v i None t) = refl
+part_round (lone v f) = refl
+
+pub operand_same : (n : ℕ) (t : OperandRaw) → not_text (to_operand t) n ≡ operand_raw.text t
+operand_same n (inl (v, (i, inl t))) = refl
+operand_same n (inl (v, (i, inr t))) = refl
+operand_same n (inr t) = refl
+
+module _ (n : ℕ) (p : Part n) where
+  pub part_same : (t : ((ℕ × TNot) ⊎ (ℕ × (TOr × Unit {0}))) ⊎ OperandRaw) → not_text (to_part t) (suc n) ≡ (part_raw n p).text t
+  part_same (inl (inl t)) = ap (λ (l : List Sym). plain (tok.Word t.0 key.Not) ∷ l) (sym (p.text t.1))
+  part_same (inl (inr t)) = refl
+  part_same (inr t) = operand_same (suc n) t
+
+  abbrev pub part_form : Form TNot
+  part_form = via (part_raw n p) to_part from_part (λ t. not_text t (suc n)) part_round part_same
+
+  pub part_is : (ts : List Token) → part_form.read ts ≡ not_at (suc n) ts
+  unfolding not_at opened_in neg_in group_in
+  part_is ts = sym (rw operand_is (simp (bind_assoc, bind_cond)))
+
+  pub next_part : Part (suc n)
+  next_part = record { form = part_form; goes = refl; text = λ t. refl; read = λ i ts. part_is ts i }
+
+-- ---- no more may be open
+
+abbrev pub deep_text : (ℕ × TNot) ⊎ (ℕ × TOr) → List Sym
+deep_text (inl t) = not_text (neg t.0 t.1) 0
+deep_text (inr o) = not_text (group o.0 o.1) 0
+
+abbrev pub deep_head : (ℕ × TNot) ⊎ (ℕ × TOr) → Token
+deep_head (inl t) = tok.Word t.0 key.Not
+deep_head (inr o) = tok.Open o.0
+
+abbrev pub deep_tail : (ℕ × TNot) ⊎ (ℕ × TOr) → List Sym
+deep_tail (inl t) = not_text t.1 0
+deep_tail (inr o) = or_text o.1 0 ++ plain tok.Close ∷ []
+
+pub deep_split : (x : (ℕ × TNot) ⊎ (ℕ × TOr)) → deep_text x ≡ marked Deep (deep_head x) ∷ deep_tail x
+deep_split (inl t) = refl
+deep_split (inr o) = refl
+
+pub deep_sorts : (x : (ℕ × TNot) ⊎ (ℕ × TOr)) → mem (sort (deep_head x)) (22 ∷ 60 ∷ []) ≡ true
+deep_sorts (inl t) = refl
+deep_sorts (inr o) = refl
+
+abbrev pub some_name : Name
+some_name = record { at = 0; word = word.Other }
+
+abbrev pub some_not : TNot
+some_not = is some_name 0 None some_name
+
+pub deep_cover : (y : Token) → mem (sort y) (22 ∷ 60 ∷ []) ≡ true → (x : (ℕ × TNot) ⊎ (ℕ × TOr)) × (deep_head x ≡ y)
+deep_cover (tok.Open at) h = (inr (at, or_of (and_of some_not no_nots) no_ands), refl)
+deep_cover (tok.Word at key.FunctionBlock) h = absurd cc
+deep_cover (tok.Word at key.EndFunctionBlock) h = absurd cc
+deep_cover (tok.Word at key.VarInput) h = absurd cc
+deep_cover (tok.Word at key.VarOutput) h = absurd cc
+deep_cover (tok.Word at key.EndVar) h = absurd cc
+deep_cover (tok.Word at key.Var) h = absurd cc
+deep_cover (tok.Word at key.Fuzzify) h = absurd cc
+deep_cover (tok.Word at key.EndFuzzify) h = absurd cc
+deep_cover (tok.Word at key.Defuzzify) h = absurd cc
+deep_cover (tok.Word at key.EndDefuzzify) h = absurd cc
+deep_cover (tok.Word at key.Term) h = absurd cc
+deep_cover (tok.Word at key.Range) h = absurd cc
+deep_cover (tok.Word at key.Accu) h = absurd cc
+deep_cover (tok.Word at key.Method) h = absurd cc
+deep_cover (tok.Word at key.Default) h = absurd cc
+deep_cover (tok.Word at key.Ruleblock) h = absurd cc
+deep_cover (tok.Word at key.EndRuleblock) h = absurd cc
+deep_cover (tok.Word at key.Rule) h = absurd cc
+deep_cover (tok.Word at key.If) h = absurd cc
+deep_cover (tok.Word at key.Then) h = absurd cc
+deep_cover (tok.Word at key.With) h = absurd cc
+deep_cover (tok.Word at key.Is) h = absurd cc
+deep_cover (tok.Word at key.Not) h = (inl (at, some_not), refl)
+deep_cover (tok.Word at key.And) h = absurd cc
+deep_cover (tok.Word at key.Or) h = absurd cc
+deep_cover (tok.Word at key.Act) h = absurd cc
+deep_cover (tok.Word at key.Options) h = absurd cc
+deep_cover (tok.Word at key.EndOptions) h = absurd cc
+deep_cover (tok.Name at word.Real) h = absurd cc
+deep_cover (tok.Name at word.Min) h = absurd cc
+deep_cover (tok.Name at word.Max) h = absurd cc
+deep_cover (tok.Name at word.Prod) h = absurd cc
+deep_cover (tok.Name at word.Bdif) h = absurd cc
+deep_cover (tok.Name at word.Asum) h = absurd cc
+deep_cover (tok.Name at word.Bsum) h = absurd cc
+deep_cover (tok.Name at word.Nsum) h = absurd cc
+deep_cover (tok.Name at word.Cogs) h = absurd cc
+deep_cover (tok.Name at word.Centre) h = absurd cc
+deep_cover (tok.Name at word.Extreme) h = absurd cc
+deep_cover (tok.Name at word.Nc) h = absurd cc
+deep_cover (tok.Name at word.Other) h = absurd cc
+deep_cover (tok.Number at amount.Zero true) h = absurd cc
+deep_cover (tok.Number at amount.Zero false) h = absurd cc
+deep_cover (tok.Number at amount.One true) h = absurd cc
+deep_cover (tok.Number at amount.One false) h = absurd cc
+deep_cover (tok.Number at (amount.Other n) true) h = absurd cc
+deep_cover (tok.Number at (amount.Other n) false) h = absurd cc
+deep_cover _ h = absurd cc
+
+abbrev pub deep_dead : Dead ((ℕ × TNot) ⊎ (ℕ × TOr))
+deep_dead = record { text = deep_text; kind = Deep; among = 22 ∷ 60 ∷ []; head = deep_head; tail = deep_tail; is = deep_split; sorts = deep_sorts; cover = deep_cover; here = refl }
+
+abbrev pub last_raw : Form (((ℕ × TNot) ⊎ (ℕ × TOr)) ⊎ OperandRaw)
+last_raw = dead_or deep_dead operand_raw refl (22 ∷ 60 ∷ operand_raw.first) (in_left (22 ∷ 60 ∷ []) operand_raw.first) (in_right (22 ∷ 60 ∷ []) operand_raw.first)
+
+abbrev pub to_last : ((ℕ × TNot) ⊎ (ℕ × TOr)) ⊎ OperandRaw → TNot
+to_last (inl (inl t)) = neg t.0 t.1
+to_last (inl (inr o)) = group o.0 o.1
+to_last (inr t) = to_operand t
+
+abbrev pub from_last : TNot → ((ℕ × TNot) ⊎ (ℕ × TOr)) ⊎ OperandRaw
+from_last (neg at t) = inl (inl (at, t))
+from_last (group at o) = inl (inr (at, o))
+from_last (is v i b t) = inr (from_is v i b t)
+from_last (lone v f) = inr (inr (v, f))
+
+pub last_round : (t : TNot) → to_last (from_last t) ≡ t
+last_round (neg at t) = refl
+last_round (group at o) = refl
+last_round (is v i (Some n) t) = refl
+last_round (is v i None t) = refl
+last_round (lone v f) = refl
+
+pub last_same : (t : ((ℕ × TNot) ⊎ (ℕ × TOr)) ⊎ OperandRaw) → not_text (to_last t) 0 ≡ last_raw.text t
+last_same (inl (inl t)) = refl
+last_same (inl (inr o)) = refl
+last_same (inr t) = operand_same 0 t
+
+abbrev pub last_form : Form TNot
+last_form = via last_raw to_last from_last (λ t. not_text t 0) last_round last_same
+
+pub last_is : (ts : List Token) → last_form.read ts ≡ not_at 0 ts
+unfolding not_at
+last_is ts = sym (rw operand_is (simp (bind_assoc, bind_cond)))
+
+pub part : (n : ℕ) → Part n
+part zero = record { form = last_form; goes = refl; text = λ t. refl; read = λ i ts. last_is ts i }
+part (suc n) = next_part n (part n)

@@ -1,0 +1,206 @@
+-- Marked choices, and a form seen as another type.
+use Rattle.std.proofs.Common.{◌≡◌, ℕ, ◌+◌, Bool, true, false, List, [], ◌∷◌, ◌++◌, length, Option, Some, None, Result, Ok, Err, refl, sym, ap, subst, ◌∙◌, arith, inl, inr, ◌⊎◌}
+use Rattle.std.proofs.lemmas.List.{append-nil, length-append}
+use Rattle.fcl_syntax.specs.declared.fault.Fault.{Fault}
+use Rattle.fcl_syntax.specs.declared.fault.Kind.{Kind}
+use Rattle.fcl_syntax.specs.declared.fault.Kind.TheVariants.{Expected, Deep, Unsupported}
+use Rattle.fcl_syntax.specs.declared.token.Token.{Token}
+use Rattle.fcl_syntax.specs.Marks.{either_text, sort, Sym, tokens_of, IsClean, marked, mem}
+use Rattle.fcl_syntax.specs.Form.{cond_read, ◌>>=◌, disjoint, fault_at, Stops, Starts, starts, looks_on, SameNext, SameHead, first_mark, answer, Sound, Shown, Shows, Fails, Form}
+use Rattle.fcl_syntax.proofs.Laws.{bind_ok, bind_err, ok_is, length-tokens}
+use Rattle.fcl_syntax.proofs.Seq.{Shows-in, Viable-in}
+use Rattle.fcl_syntax.proofs.Small.{to_right, starts-not, starts-same, bool_cases}
+
+-- ---- a form seen as another type
+
+abbrev pub seen_as : {A B : Type 0} → (A → B) → Result (A × List Token) Fault → Result (B × List Token) Fault
+seen_as to r = r >>= λ a. Ok (to a.0, a.1)
+
+module _ {A B : Type 0} (p : Form A) (to : A → B) (from : B → A) (text : B → List Sym) (round : (b : B) → to (from b) ≡ b) (same_text : (a : A) → text (to a) ≡ p.text a) where
+  abbrev pub via_read : List Token → Result (B × List Token) Fault
+  via_read ts = seen_as to (p.read ts)
+
+  pub from_text : (b : B) → p.text (from b) ≡ text b
+  from_text b = sym (same_text (from b)) ∙ ap text (round b)
+
+  pub via_begins : (b : B) (rest : List Token) → Starts p.first (tokens_of (text b) ++ rest)
+  via_begins b rest = subst (λ (l : List Sym). Starts p.first (tokens_of l ++ rest)) (from_text b) (p.begins (from b) rest)
+
+  pub via_sound : (ts : List Token) (t : B) (rest : List Token) → via_read ts ≡ Ok (t, rest) → Sound text p.goes ts t rest
+  via_sound ts t rest e =
+      let x = bind_ok (p.read ts) (λ a. Ok (to a.0, a.1)) (t, rest) e in
+      let s = p.sound ts x.0.0 x.0.1 x.1 in
+      let made : B × List Token = (to x.0.0, x.0.1) in
+      let whole : Sound text p.goes ts made.0 made.1 = record { parts = s.parts ∙ ap (λ (l : List Sym). tokens_of l ++ x.0.1) (sym (same_text x.0.0)); clean = subst IsClean (sym (same_text x.0.0)) s.clean; stops = s.stops } in
+      subst (λ (z : B × List Token). Sound text p.goes ts z.0 z.1) (ok_is made (t, rest) x.2) whole
+
+  answer-seen : (m : Option Fault) (a : A) (rest : List Token) → seen_as to (answer m a rest) ≡ answer m (to a) rest
+  answer-seen None a rest = refl
+  answer-seen (Some e) a rest = refl
+
+  pub via_again : (b : B) (rest : List Token) → Stops p.goes rest → via_read (tokens_of (text b) ++ rest) ≡ answer (first_mark (text b) (length rest)) b rest
+  via_again b rest stops =
+      subst (λ (l : List Sym). via_read (tokens_of l ++ rest) ≡ answer (first_mark l (length rest)) b rest) (from_text b)
+      (ap (seen_as to) (p.again (from b) rest stops) ∙ answer-seen (first_mark (p.text (from b)) (length rest)) (from b) rest
+      ∙ ap (λ (y : B). answer (first_mark (p.text (from b)) (length rest)) y rest) (round b))
+
+  seen_err : (r : Result (A × List Token) Fault) (e : Fault) → seen_as to r ≡ Err e → r ≡ Err e
+  seen_err (Ok x) e h = absurd cc
+  seen_err (Err d) e h = cc
+
+  pub via_fails : (ts : List Token) (e : Fault) → via_read ts ≡ Err e → Fails text via_read ts e
+  via_fails ts e h =
+      let f = p.fails ts e (seen_err (p.read ts) e h) in
+      record {
+        front = f.front;
+        bad = f.bad;
+        parts = f.parts;
+        left = f.left;
+        viable = Viable-in p.text text f.front [] to (λ a. []) (λ a. same_text a ∙ sym (append-nil (p.text a))) tt (λ a. tt) f.viable;
+        shows = Shows-in p.text text e.kind f.front f.bad [] to (λ a. []) (λ a. same_text a ∙ sym (append-nil (p.text a))) f.shows;
+        local = λ b same. ap (seen_as to) (f.local b same);
+      }
+
+  abbrev pub via : Form B
+  via = record {
+    text = text;
+    read = via_read;
+    first = p.first;
+    goes = p.goes;
+    some = to p.some;
+    some_clean = subst IsClean (sym (same_text p.some)) p.some_clean;
+    begins = via_begins;
+    sound = via_sound;
+    again = via_again;
+    fails = via_fails;
+  }
+
+-- ---- a form, or what is refused at its first token
+
+pub record Dead (X : Type 0) : Type 0 where
+  pub text : X → List Sym
+  pub kind : Kind
+  pub among : List ℕ
+  pub head : X → Token
+  pub tail : X → List Sym
+  pub is : (x : X) → text x ≡ marked kind (head x) ∷ tail x
+  pub sorts : (x : X) → mem (sort (head x)) among ≡ true
+  pub cover : (y : Token) → mem (sort y) among ≡ true → (x : X) × (head x ≡ y)
+  pub here : looks_on kind ≡ false
+
+abbrev pub unless : {A : Type 0} → Bool → Fault → Result A Fault → Result A Fault
+unless b e r = cond_read b (Err e) r
+
+pub to_shows : {T : Type 0} (text : T → List Sym) (k : Kind) (front bad : List Token) → Shown text k front bad → Shows text k front bad
+to_shows text Expected front bad s = tt
+to_shows text Deep front bad s = s
+to_shows text (Unsupported n) front bad s = s
+
+next-same : (l : Bool) (a b : List Token) → l ≡ false → SameNext l a b
+next-same false a b e = tt
+next-same true a b e = absurd cc
+
+module _ {X A : Type 0} (d : Dead X) (p : Form A) where
+  abbrev pub dead_text : X ⊎ A → List Sym
+  dead_text = either_text d.text p.text
+
+  abbrev pub dead_read : List Token → Result ((X ⊎ A) × List Token) Fault
+  dead_read ts = unless (starts d.among ts) (fault_at d.kind (length ts)) (to_right (p.read ts))
+
+module _ {X A : Type 0} (d : Dead X) (p : Form A) (apart : disjoint d.among p.first ≡ true) (first : List ℕ)
+    (first_dead : (x : Token) → mem (sort x) d.among ≡ true → mem (sort x) first ≡ true) (first_right : (x : Token) → mem (sort x) p.first ≡ true → mem (sort x) first ≡ true) where
+  widen : (f : List ℕ) (ts : List Token) → ((x : Token) → mem (sort x) f ≡ true → mem (sort x) first ≡ true) → Starts f ts → Starts first ts
+  widen f [] w h = absurd h
+  widen f (x ∷ xs) w h = w x h
+
+  pub dead_begins : (t : X ⊎ A) (rest : List Token) → Starts first (tokens_of (dead_text d p t) ++ rest)
+  dead_begins (inl x) rest = subst (λ (l : List Sym). Starts first (tokens_of l ++ rest)) (sym (d.is x)) (first_dead (d.head x) (d.sorts x))
+  dead_begins (inr a) rest = widen p.first (tokens_of (p.text a) ++ rest) first_right (p.begins a rest)
+
+  right_sound : (ts : List Token) (t : X ⊎ A) (rest : List Token) → to_right {A = X} (p.read ts) ≡ Ok (t, rest) → Sound (dead_text d p) p.goes ts t rest
+  right_sound ts t rest e =
+      let x = bind_ok (p.read ts) (λ b. Ok (inr b.0, b.1)) (t, rest) e in
+      let s = p.sound ts x.0.0 x.0.1 x.1 in
+      let made : (X ⊎ A) × List Token = (inr x.0.0, x.0.1) in
+      let whole : Sound (dead_text d p) p.goes ts made.0 made.1 = record { parts = s.parts; clean = s.clean; stops = s.stops } in
+      subst (λ (z : (X ⊎ A) × List Token). Sound (dead_text d p) p.goes ts z.0 z.1) (ok_is made (t, rest) x.2) whole
+
+  unless_ok : (b : Bool) (e : Fault) (r : Result ((X ⊎ A) × List Token) Fault) (y : (X ⊎ A) × List Token) → unless b e r ≡ Ok y → r ≡ Ok y
+  unless_ok true e r y h = absurd cc
+  unless_ok false e r y h = h
+
+  pub dead_sound : (ts : List Token) (t : X ⊎ A) (rest : List Token) → dead_read d p ts ≡ Ok (t, rest) → Sound (dead_text d p) p.goes ts t rest
+  dead_sound ts t rest e = right_sound ts t rest (unless_ok (starts d.among ts) (fault_at d.kind (length ts)) (to_right (p.read ts)) (t, rest) e)
+
+  answer-right : (m : Option Fault) (b : A) (rest : List Token) → to_right {A = X} (answer m b rest) ≡ answer {T = X ⊎ A} m (inr b) rest
+  answer-right None b rest = refl
+  answer-right (Some e) b rest = refl
+
+  pub dead_again : (t : X ⊎ A) (rest : List Token) → Stops p.goes rest → dead_read d p (tokens_of (dead_text d p t) ++ rest) ≡ answer (first_mark (dead_text d p t) (length rest)) t rest
+  dead_again (inl x) rest stops =
+      subst (λ (l : List Sym). dead_read d p (tokens_of l ++ rest) ≡ answer (first_mark l (length rest)) (inl x) rest) (sym (d.is x))
+      (let len : length (tokens_of (d.tail x) ++ rest) ≡ length (d.tail x) + length rest = omega (arith, length-append (tokens_of (d.tail x)) rest, length-tokens (d.tail x)) in
+      rw (d.sorts x, len) refl)
+  dead_again (inr a) rest stops =
+      let ts : List Token = tokens_of (p.text a) ++ rest in
+      ap (λ (b : Bool). unless b (fault_at d.kind (length ts)) (to_right {A = X} (p.read ts))) (starts-not d.among p.first ts apart (p.begins a rest))
+      ∙ ap (λ (r : Result (A × List Token) Fault). to_right {A = X} r) (p.again a rest stops)
+      ∙ answer-right (first_mark (p.text a) (length rest)) a rest
+
+  dead_here : (ts : List Token) → starts d.among ts ≡ true → Fails (dead_text d p) (dead_read d p) ts (fault_at d.kind (length ts))
+  dead_here [] h = absurd cc
+  dead_here (y ∷ ts) h =
+      let c = d.cover y h in
+      record {
+        front = [];
+        bad = y ∷ ts;
+        parts = refl;
+        left = refl;
+        viable = record { tree = inr p.some; more = tokens_of (p.text p.some); clean = p.some_clean; parts = refl };
+        shows = to_shows (dead_text d p) d.kind [] (y ∷ ts) (record { tree = inl c.0; before = []; token = d.head c.0; after = d.tail c.0; split = d.is c.0; fronts = refl; same = (c.1, next-same (looks_on d.kind) (tokens_of (d.tail c.0)) ts d.here) });
+        local = at;
+      }
+    where
+      at : (b : List Token) → SameHead d.kind (y ∷ ts) b → dead_read d p b ≡ Err (fault_at d.kind (length b))
+      at [] s = absurd s
+      at (z ∷ b) s = rw (subst (λ (w : Token). mem (sort w) d.among ≡ true) s.0 h) refl
+
+  right_fails : (ts : List Token) (e : Fault) → starts d.among ts ≡ false → Fails p.text p.read ts e → Fails (dead_text d p) (dead_read d p) ts e
+  right_fails ts e not_so f = record {
+    front = f.front;
+    bad = f.bad;
+    parts = f.parts;
+    left = f.left;
+    viable = Viable-in p.text (dead_text d p) f.front [] (λ b. inr b) (λ b. []) (λ b. sym (append-nil (p.text b))) tt (λ b. tt) f.viable;
+    shows = Shows-in p.text (dead_text d p) e.kind f.front f.bad [] (λ b. inr b) (λ b. []) (λ b. sym (append-nil (p.text b))) f.shows;
+    local = λ b same.
+        ap (λ (c : Bool). unless c (fault_at d.kind (length (f.front ++ b))) (to_right {A = X} (p.read (f.front ++ b)))) (starts-same d.among e.kind f.front f.bad b same ∙ ap (starts d.among) (sym f.parts) ∙ not_so)
+        ∙ ap (λ (r : Result (A × List Token) Fault). to_right {A = X} r) (f.local b same);
+  }
+
+  right_err : (ts : List Token) (e : Fault) → to_right {A = X} (p.read ts) ≡ Err e → p.read ts ≡ Err e
+  right_err ts e h = elim (bind_err (p.read ts) (λ a. Ok (inr a.0, a.1)) e h) [ inl x ↦ x | inr y ↦ absurd (let never = y.2 in cc) ]
+
+  same_err : (c e : Fault) → unless true c (to_right {A = X} (p.read [])) ≡ Err e → c ≡ e
+  same_err c e h = cc
+
+  pub dead_fails : (ts : List Token) (e : Fault) → dead_read d p ts ≡ Err e → Fails (dead_text d p) (dead_read d p) ts e
+  dead_fails ts e h =
+      elim (bool_cases (starts d.among ts)) [
+        | inl is_so ↦ subst (Fails (dead_text d p) (dead_read d p) ts) (same_err (fault_at d.kind (length ts)) e (subst (λ (b : Bool). unless b (fault_at d.kind (length ts)) (to_right {A = X} (p.read ts)) ≡ Err e) is_so h)) (dead_here ts is_so)
+        | inr not_so ↦ right_fails ts e not_so (p.fails ts e (right_err ts e (subst (λ (b : Bool). unless b (fault_at d.kind (length ts)) (to_right {A = X} (p.read ts)) ≡ Err e) not_so h)))
+      ]
+
+  abbrev pub dead_or : Form (X ⊎ A)
+  dead_or = record {
+    text = dead_text d p;
+    read = dead_read d p;
+    first = first;
+    goes = p.goes;
+    some = inr p.some;
+    some_clean = p.some_clean;
+    begins = dead_begins;
+    sound = dead_sound;
+    again = dead_again;
+    fails = dead_fails;
+  }

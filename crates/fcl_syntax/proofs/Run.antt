@@ -1,0 +1,79 @@
+-- A loop of the parser, as far as it has come.
+use Rattle.std.proofs.Common.{◌≡◌, ℕ, zero, suc, ◌≤◌, ◌<◌, true, false, List, [], ◌∷◌, ◌++◌, length, Result, Ok, Err, refl, sym, ap, subst, ◌∙◌, append_assoc, arith}
+use Rattle.std.proofs.lemmas.List.{append-nil, length-append}
+use Rattle.fcl_syntax.specs.declared.fault.Fault.{Fault}
+use Rattle.fcl_syntax.specs.declared.fault.ParseError.{ParseError}
+use Rattle.fcl_syntax.specs.declared.fault.ParseError.TheVariants as errors
+use Rattle.fcl_syntax.specs.declared.token.Token.{Token}
+use Rattle.fcl_syntax.specs.Marks.{tokens_of}
+use Rattle.fcl_syntax.specs.Form.{◌>>=◌, starts, Starts, with_front, loop, Form, FailsAs}
+
+abbrev pub prefixed : {A : Type 0} → List A → Result (List A × List Token) Fault → Result (List A × List Token) Fault
+prefixed front r = r >>= λ x. Ok (front ++ x.0, x.1)
+
+pub record Going {A : Type 0} (first : List ℕ) (read : List Token → Result (A × List Token) Fault) (front : List A) (rest : List Token) (total : Result (List A × List Token) Fault) : Type 0 where
+  pub fuel : ℕ
+  pub enough : length rest ≤ fuel
+  pub so_far : prefixed front (loop first read fuel rest) ≡ total
+
+pub shrinks : {A : Type 0} (p : Form A) (ts : List Token) (a : A) (rest : List Token) → p.read ts ≡ Ok (a, rest) → length rest < length ts
+shrinks p ts a rest h =
+    let s = p.sound ts a rest h in
+    let b = p.begins a [] in
+    go (tokens_of (p.text a)) s.parts (subst (Starts p.first) (append-nil (tokens_of (p.text a))) b)
+  where
+    go : (l : List Token) → ts ≡ l ++ rest → Starts p.first l → length rest < length ts
+    go [] e s = absurd s
+    go (x ∷ l) e s = omega (arith, ap length e, length-append l rest)
+
+pub begun : {A : Type 0} (first : List ℕ) (read : List Token → Result (A × List Token) Fault) (ts : List Token) → Going first read [] ts (loop first read (length ts) ts)
+begun first read ts = record { fuel = length ts; enough = omega arith; so_far = go (loop first read (length ts) ts) }
+  where
+    go : {A : Type 0} (r : Result (List A × List Token) Fault) → prefixed [] r ≡ r
+    go (Ok x) = refl
+    go (Err e) = refl
+
+regroup : {A : Type 0} (front : List A) (a : A) (r : Result (List A × List Token) Fault) → prefixed front (with_front a r) ≡ prefixed (front ++ a ∷ []) r
+regroup front a (Ok x) = ap (λ (items : _). Ok (items, x.1)) (sym (append_assoc front (a ∷ []) x.0))
+regroup front a (Err f) = refl
+
+pub goes_on : {A : Type 0} (first : List ℕ) (read : List Token → Result (A × List Token) Fault) (front : List A) (ts : List Token) (a : A) (after : List Token) (total : Result (List A × List Token) Fault)
+    → starts first ts ≡ true → read ts ≡ Ok (a, after) → length after < length ts → Going first read front ts total → Going first read (front ++ a ∷ []) after total
+goes_on first read front ts a after total begins h shorter g = go g.fuel g.enough g.so_far
+  where
+    go : (n : ℕ) → length ts ≤ n → prefixed front (loop first read n ts) ≡ total → Going first read (front ++ a ∷ []) after total
+    go zero enough so_far = absurd (omega arith)
+    go (suc n) enough so_far =
+        let one : prefixed front (loop first read (suc n) ts) ≡ prefixed (front ++ a ∷ []) (loop first read n after) = rw (begins, h) (regroup front a (loop first read n after)) in
+        record { fuel = n; enough = omega arith; so_far = sym one ∙ so_far }
+
+pub fails_in : {A : Type 0} (first : List ℕ) (read : List Token → Result (A × List Token) Fault) (front : List A) (ts : List Token) (e : ParseError) (total : Result (List A × List Token) Fault)
+    → starts first ts ≡ true → FailsAs e (read ts) → Going first read front ts total → FailsAs e total
+fails_in first read front ts errors.Memory total begins h g = tt
+fails_in first read front ts (errors.Fault f) total begins h g = go g.fuel g.enough g.so_far
+  where
+    shorter : (ts : List Token) → length ts ≤ 0 → starts first ts ≡ true → ⊥
+    shorter [] len b = cc
+    shorter (x ∷ xs) len b = omega arith
+
+    go : (n : ℕ) → length ts ≤ n → prefixed front (loop first read n ts) ≡ total → total ≡ Err f
+    go zero enough so_far = absurd (shorter ts enough begins)
+    go (suc n) enough so_far =
+        let one : prefixed front (loop first read (suc n) ts) ≡ Err f = rw (begins, h) refl in
+        sym so_far ∙ one
+
+pub is_done : {A : Type 0} (first : List ℕ) (read : List Token → Result (A × List Token) Fault) (front : List A) (ts : List Token) (total : Result (List A × List Token) Fault)
+    → starts first ts ≡ false → Going first read front ts total → total ≡ Ok (front, ts)
+is_done first read front ts total ends g = go g.fuel g.so_far
+  where
+    done : prefixed front (Ok ([], ts)) ≡ Ok (front, ts)
+    done = ap (λ (items : _). Ok (items, ts)) (append-nil front)
+
+    go : (n : ℕ) → prefixed front (loop first read n ts) ≡ total → total ≡ Ok (front, ts)
+    go zero so_far = sym so_far ∙ done
+    go (suc n) so_far =
+        let one : prefixed front (loop first read (suc n) ts) ≡ Ok (front, ts) = rw ends done in
+        sym so_far ∙ one
+
+pub shorter_by : {A : Type 0} (p : Form A) (f : List Token → Result (A × List Token) Fault) → ((ts : List Token) → f ts ≡ p.read ts) → (ts : List Token) (a : A) (rest : List Token) → f ts ≡ Ok (a, rest) → length rest < length ts
+shorter_by p f same ts a rest h = shrinks p ts a rest (sym (same ts) ∙ h)

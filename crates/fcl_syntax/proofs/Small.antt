@@ -1,0 +1,236 @@
+-- One token, a choice, a marked choice, and a form seen as another type.
+use Rattle.std.proofs.Common.{◌≡◌, ℕ, Bool, true, false, List, [], ◌∷◌, ◌++◌, length, Option, Some, None, Result, Ok, Err, refl, sym, ap, subst, ◌∙◌, inl, inr, ◌⊎◌}
+use Rattle.std.proofs.lemmas.List.{append-nil}
+use Rattle.fcl_syntax.specs.declared.fault.Fault.{Fault}
+use Rattle.fcl_syntax.specs.declared.fault.Kind.{Kind}
+use Rattle.fcl_syntax.specs.declared.fault.Kind.TheVariants.{Expected}
+use Rattle.fcl_syntax.specs.declared.token.Token.{Token}
+use Rattle.fcl_syntax.specs.Marks.{either_text, sort, Sym, tokens_of, plain, mem}
+use Rattle.fcl_syntax.specs.Form.{cond_read, ◌>>=◌, disjoint, fault_at, Stops, Starts, starts, SameHead, first_mark, answer, found, one_at, Sound, Shows, Fails, Form}
+use Rattle.fcl_syntax.proofs.Laws.{bind_ok, bind_err, ok_is, disjoint-mem}
+use Rattle.fcl_syntax.proofs.Seq.{Shows-in, Viable-in}
+
+-- ---- one token of a class
+
+pub record Class (A : Type 0) : Type 0 where
+  pub want : Token → Option A
+  pub make : A → Token
+  pub among : List ℕ
+  pub example : A
+  pub back : (x : Token) (a : A) → want x ≡ Some a → make a ≡ x
+  pub forth : (a : A) → want (make a) ≡ Some a
+  pub sorts : (a : A) → mem (sort (make a)) among ≡ true
+
+module _ {A : Type 0} (c : Class A) where
+  abbrev pub one_text : A → List Sym
+  one_text a = plain (c.make a) ∷ []
+
+  pub one_sound : (ts : List Token) (a : A) (rest : List Token) → one_at c.want ts ≡ Ok (a, rest) → Sound (one_text) [] ts a rest
+  one_sound [] a rest e = absurd cc
+  one_sound (x ∷ xs) a rest e = from_found (c.want x) refl e
+    where
+      stopped : (l : List Token) → Stops [] l
+      stopped [] = tt
+      stopped (y ∷ l) = refl
+
+      from_found : (o : Option A) → c.want x ≡ o → found o (x ∷ xs) xs ≡ Ok (a, rest) → Sound one_text [] (x ∷ xs) a rest
+      from_found None w e = absurd cc
+      from_found (Some b) w e =
+          let same : b ≡ a = ap (λ (p : A × List Token). p.0) (ok_is (b, xs) (a, rest) e) in
+          let rests : xs ≡ rest = ap (λ (p : A × List Token). p.1) (ok_is (b, xs) (a, rest) e) in
+          let token : c.make a ≡ x = ap c.make (sym same) ∙ c.back x b w in
+          record { parts = rw (token, rests) refl; clean = (refl, tt); stops = stopped rest }
+
+  pub one_fails : (ts : List Token) (e : Fault) → one_at c.want ts ≡ Err e → Fails one_text (one_at c.want) ts e
+  one_fails [] e h = record {
+    front = [];
+    bad = [];
+    parts = refl;
+    left = ap (λ (r : Result (A × List Token) Fault). elim r as (λ _. ℕ) [ Ok x ↦ 0 | Err d ↦ d.left ]) (sym h);
+    viable = record { tree = c.example; more = c.make c.example ∷ []; clean = (refl, tt); parts = refl };
+    shows = subst (λ (d : Fault). Shows one_text d.kind [] []) (err_is h) tt;
+    local = λ b same. subst (λ (d : Fault). SameHead d.kind [] b → one_at c.want b ≡ Err (fault_at d.kind (length b))) (err_is h) (here b) same;
+  }
+    where
+      err_is : {d : Fault} → one_at c.want [] ≡ Err d → fault_at Expected 0 ≡ d
+      err_is h = cc
+
+      here : (b : List Token) → SameHead Expected [] b → one_at c.want b ≡ Err (fault_at Expected (length b))
+      here [] s = refl
+      here (y ∷ b) s = absurd s
+  one_fails (x ∷ xs) e h = from_found (c.want x) refl h
+    where
+      from_found : (o : Option A) → c.want x ≡ o → found o (x ∷ xs) xs ≡ Err e → Fails one_text (one_at c.want) (x ∷ xs) e
+      from_found (Some b) w h = absurd cc
+      from_found None w h =
+          let is : fault_at Expected (length (x ∷ xs)) ≡ e = cc in
+          subst (λ (d : Fault). Fails one_text (one_at c.want) (x ∷ xs) d) is (record {
+            front = [];
+            bad = x ∷ xs;
+            parts = refl;
+            left = refl;
+            viable = record { tree = c.example; more = c.make c.example ∷ []; clean = (refl, tt); parts = refl };
+            shows = tt;
+            local = here;
+          })
+        where
+          here : (b : List Token) → SameHead Expected (x ∷ xs) b → one_at c.want b ≡ Err (fault_at Expected (length b))
+          here [] s = absurd s
+          here (y ∷ b) s = rw (← s.0, w) refl
+
+  abbrev pub one : Form A
+  one = record {
+    text = one_text;
+    read = one_at c.want;
+    first = c.among;
+    goes = [];
+    some = c.example;
+    some_clean = (refl, tt);
+    begins = λ a rest. c.sorts a;
+    sound = one_sound;
+    again = λ a rest stops. rw (c.forth a) refl;
+    fails = one_fails;
+  }
+
+-- ---- a choice by the first token
+
+abbrev pub to_left : {A B : Type 0} → Result (A × List Token) Fault → Result ((A ⊎ B) × List Token) Fault
+to_left r = r >>= λ a. Ok (inl a.0, a.1)
+
+abbrev pub to_right : {A B : Type 0} → Result (B × List Token) Fault → Result ((A ⊎ B) × List Token) Fault
+to_right r = r >>= λ b. Ok (inr b.0, b.1)
+
+abbrev pub choose : {A B : Type 0} → Bool → Result (A × List Token) Fault → Result (B × List Token) Fault → Result ((A ⊎ B) × List Token) Fault
+choose b p q = cond_read b (to_left p) (to_right q)
+
+pub starts-is : (first : List ℕ) (ts : List Token) → Starts first ts → starts first ts ≡ true
+starts-is first [] h = absurd h
+starts-is first (x ∷ xs) h = h
+
+pub starts-not : (first other : List ℕ) (ts : List Token) → disjoint first other ≡ true → Starts other ts → starts first ts ≡ false
+starts-not first other [] d h = absurd h
+starts-not first other (x ∷ xs) d h = disjoint-mem first other (sort x) d h
+
+pub starts-same : (first : List ℕ) (k : Kind) (front bad b : List Token) → SameHead k bad b → starts first (front ++ b) ≡ starts first (front ++ bad)
+starts-same first k [] [] [] s = refl
+starts-same first k [] [] (y ∷ b) s = absurd s
+starts-same first k [] (x ∷ a) [] s = absurd s
+starts-same first k [] (x ∷ a) (y ∷ b) s = ap (λ (z : Token). mem (sort z) first) (sym s.0)
+starts-same first k (f ∷ front) bad b s = refl
+
+pub bool_cases : (b : Bool) → (b ≡ true) ⊎ (b ≡ false)
+bool_cases true = inl refl
+bool_cases false = inr refl
+
+module _ {A B : Type 0} (p : Form A) (q : Form B) where
+  abbrev pub alt_text : A ⊎ B → List Sym
+  alt_text = either_text p.text q.text
+
+  abbrev pub alt_read : List Token → Result ((A ⊎ B) × List Token) Fault
+  alt_read ts = choose (starts p.first ts) (p.read ts) (q.read ts)
+
+module _ {A B : Type 0} (p : Form A) (q : Form B) (apart : disjoint p.first q.first ≡ true) (same_goes : p.goes ≡ q.goes) (first : List ℕ)
+    (first_left : (x : Token) → mem (sort x) p.first ≡ true → mem (sort x) first ≡ true) (first_right : (x : Token) → mem (sort x) q.first ≡ true → mem (sort x) first ≡ true) where
+  widen : (f : List ℕ) (ts : List Token) → ((x : Token) → mem (sort x) f ≡ true → mem (sort x) first ≡ true) → Starts f ts → Starts first ts
+  widen f [] w h = absurd h
+  widen f (x ∷ xs) w h = w x h
+
+  pub alt_begins : (t : A ⊎ B) (rest : List Token) → Starts first (tokens_of (alt_text p q t) ++ rest)
+  alt_begins (inl a) rest = widen p.first (tokens_of (p.text a) ++ rest) first_left (p.begins a rest)
+  alt_begins (inr b) rest = widen q.first (tokens_of (q.text b) ++ rest) first_right (q.begins b rest)
+
+  left_sound : (ts : List Token) (t : A ⊎ B) (rest : List Token) → to_left {B = B} (p.read ts) ≡ Ok (t, rest) → Sound (alt_text p q) q.goes ts t rest
+  left_sound ts t rest e =
+      let x = bind_ok (p.read ts) (λ a. Ok (inl a.0, a.1)) (t, rest) e in
+      let s = p.sound ts x.0.0 x.0.1 x.1 in
+      let made : (A ⊎ B) × List Token = (inl x.0.0, x.0.1) in
+      let whole : Sound (alt_text p q) q.goes ts made.0 made.1 = record { parts = s.parts; clean = s.clean; stops = subst (λ (g : List ℕ). Stops g x.0.1) same_goes s.stops } in
+      subst (λ (z : (A ⊎ B) × List Token). Sound (alt_text p q) q.goes ts z.0 z.1) (ok_is made (t, rest) x.2) whole
+
+  right_sound : (ts : List Token) (t : A ⊎ B) (rest : List Token) → to_right {A = A} (q.read ts) ≡ Ok (t, rest) → Sound (alt_text p q) q.goes ts t rest
+  right_sound ts t rest e =
+      let x = bind_ok (q.read ts) (λ b. Ok (inr b.0, b.1)) (t, rest) e in
+      let s = q.sound ts x.0.0 x.0.1 x.1 in
+      let made : (A ⊎ B) × List Token = (inr x.0.0, x.0.1) in
+      let whole : Sound (alt_text p q) q.goes ts made.0 made.1 = record { parts = s.parts; clean = s.clean; stops = s.stops } in
+      subst (λ (z : (A ⊎ B) × List Token). Sound (alt_text p q) q.goes ts z.0 z.1) (ok_is made (t, rest) x.2) whole
+
+  pub alt_sound : (ts : List Token) (t : A ⊎ B) (rest : List Token) → alt_read p q ts ≡ Ok (t, rest) → Sound (alt_text p q) q.goes ts t rest
+  alt_sound ts t rest e =
+      elim (bool_cases (starts p.first ts)) [
+        | inl is_so ↦ left_sound ts t rest (subst (λ (b : Bool). choose b (p.read ts) (q.read ts) ≡ Ok (t, rest)) is_so e)
+        | inr not_so ↦ right_sound ts t rest (subst (λ (b : Bool). choose b (p.read ts) (q.read ts) ≡ Ok (t, rest)) not_so e)
+      ]
+
+  answer-left : (m : Option Fault) (a : A) (rest : List Token) → to_left {B = B} (answer m a rest) ≡ answer {T = A ⊎ B} m (inl a) rest
+  answer-left None a rest = refl
+  answer-left (Some e) a rest = refl
+
+  answer-right : (m : Option Fault) (b : B) (rest : List Token) → to_right {A = A} (answer m b rest) ≡ answer {T = A ⊎ B} m (inr b) rest
+  answer-right None b rest = refl
+  answer-right (Some e) b rest = refl
+
+  pub alt_again : (t : A ⊎ B) (rest : List Token) → Stops q.goes rest → alt_read p q (tokens_of (alt_text p q t) ++ rest) ≡ answer (first_mark (alt_text p q t) (length rest)) t rest
+  alt_again (inl a) rest stops =
+      let ts : List Token = tokens_of (p.text a) ++ rest in
+      ap (λ (b : Bool). choose b (p.read ts) (q.read ts)) (starts-is p.first ts (p.begins a rest))
+      ∙ ap (λ (r : Result (A × List Token) Fault). to_left {B = B} r) (p.again a rest (subst (λ (g : List ℕ). Stops g rest) (sym same_goes) stops))
+      ∙ answer-left (first_mark (p.text a) (length rest)) a rest
+  alt_again (inr b) rest stops =
+      let ts : List Token = tokens_of (q.text b) ++ rest in
+      ap (λ (b : Bool). choose b (p.read ts) (q.read ts)) (starts-not p.first q.first ts apart (q.begins b rest))
+      ∙ ap (λ (r : Result (B × List Token) Fault). to_right {A = A} r) (q.again b rest stops)
+      ∙ answer-right (first_mark (q.text b) (length rest)) b rest
+
+  left_fails : (ts : List Token) (e : Fault) → starts p.first ts ≡ true → Fails p.text p.read ts e → Fails (alt_text p q) (alt_read p q) ts e
+  left_fails ts e is_so f = record {
+    front = f.front;
+    bad = f.bad;
+    parts = f.parts;
+    left = f.left;
+    viable = Viable-in p.text (alt_text p q) f.front [] (λ a. inl a) (λ a. []) (λ a. sym (append-nil (p.text a))) tt (λ a. tt) f.viable;
+    shows = Shows-in p.text (alt_text p q) e.kind f.front f.bad [] (λ a. inl a) (λ a. []) (λ a. sym (append-nil (p.text a))) f.shows;
+    local = λ b same.
+        ap (λ (c : Bool). choose c (p.read (f.front ++ b)) (q.read (f.front ++ b))) (starts-same p.first e.kind f.front f.bad b same ∙ ap (starts p.first) (sym f.parts) ∙ is_so)
+        ∙ ap (λ (r : Result (A × List Token) Fault). to_left {B = B} r) (f.local b same);
+  }
+
+  right_fails : (ts : List Token) (e : Fault) → starts p.first ts ≡ false → Fails q.text q.read ts e → Fails (alt_text p q) (alt_read p q) ts e
+  right_fails ts e not_so f = record {
+    front = f.front;
+    bad = f.bad;
+    parts = f.parts;
+    left = f.left;
+    viable = Viable-in q.text (alt_text p q) f.front [] (λ b. inr b) (λ b. []) (λ b. sym (append-nil (q.text b))) tt (λ b. tt) f.viable;
+    shows = Shows-in q.text (alt_text p q) e.kind f.front f.bad [] (λ b. inr b) (λ b. []) (λ b. sym (append-nil (q.text b))) f.shows;
+    local = λ b same.
+        ap (λ (c : Bool). choose c (p.read (f.front ++ b)) (q.read (f.front ++ b))) (starts-same p.first e.kind f.front f.bad b same ∙ ap (starts p.first) (sym f.parts) ∙ not_so)
+        ∙ ap (λ (r : Result (B × List Token) Fault). to_right {A = A} r) (f.local b same);
+  }
+
+  left_err : (ts : List Token) (e : Fault) → to_left {B = B} (p.read ts) ≡ Err e → p.read ts ≡ Err e
+  left_err ts e h = elim (bind_err (p.read ts) (λ a. Ok (inl a.0, a.1)) e h) [ inl x ↦ x | inr y ↦ absurd (let never = y.2 in cc) ]
+
+  right_err : (ts : List Token) (e : Fault) → to_right {A = A} (q.read ts) ≡ Err e → q.read ts ≡ Err e
+  right_err ts e h = elim (bind_err (q.read ts) (λ b. Ok (inr b.0, b.1)) e h) [ inl x ↦ x | inr y ↦ absurd (let never = y.2 in cc) ]
+
+  pub alt_fails : (ts : List Token) (e : Fault) → alt_read p q ts ≡ Err e → Fails (alt_text p q) (alt_read p q) ts e
+  alt_fails ts e h =
+      elim (bool_cases (starts p.first ts)) [
+        | inl is_so ↦ left_fails ts e is_so (p.fails ts e (left_err ts e (subst (λ (b : Bool). choose b (p.read ts) (q.read ts) ≡ Err e) is_so h)))
+        | inr not_so ↦ right_fails ts e not_so (q.fails ts e (right_err ts e (subst (λ (b : Bool). choose b (p.read ts) (q.read ts) ≡ Err e) not_so h)))
+      ]
+
+  abbrev pub alt : Form (A ⊎ B)
+  alt = record {
+    text = alt_text p q;
+    read = alt_read p q;
+    first = first;
+    goes = q.goes;
+    some = inr q.some;
+    some_clean = q.some_clean;
+    begins = alt_begins;
+    sound = alt_sound;
+    again = alt_again;
+    fails = alt_fails;
+  }

@@ -1,0 +1,70 @@
+-- Comparing keywords, and words, is comparing their sorts.
+use Rattle.std.proofs.Common.{◌≡◌, ℕ, Bool, true, false, cond, eqb, List, [], ◌∷◌, refl, sym, ap, ◌∙◌, ◌+◌, arith}
+use denote.Enum.Bare.{sameb, tag_one}
+use denote.Enum.Declared.{tag_of}
+use Rattle.fcl_syntax.specs.contracts.token.Keyword.{the_type}
+use Rattle.fcl_syntax.specs.contracts.token.Word.{the_type as word_type}
+use Rattle.fcl_syntax.specs.declared.token.Keyword.{Keyword}
+use Rattle.fcl_syntax.specs.declared.token.Keyword.TheVariants as key
+use Rattle.fcl_syntax.specs.declared.token.Word.{Word}
+use Rattle.fcl_syntax.specs.declared.token.Word.TheVariants as word
+use Rattle.fcl_syntax.specs.Marks.{key_sort, word_sort, mem}
+
+pub tag-key : (k : Keyword) → tag_of the_type k ≡ key_sort k
+tag-key key.FunctionBlock = refl
+tag-key key.EndFunctionBlock = refl
+tag-key key.VarInput = refl
+tag-key key.VarOutput = refl
+tag-key key.EndVar = refl
+tag-key key.Var = refl
+tag-key key.Fuzzify = refl
+tag-key key.EndFuzzify = refl
+tag-key key.Defuzzify = refl
+tag-key key.EndDefuzzify = refl
+tag-key key.Term = refl
+tag-key key.Range = refl
+tag-key key.Accu = refl
+tag-key key.Method = refl
+tag-key key.Default = refl
+tag-key key.Ruleblock = refl
+tag-key key.EndRuleblock = refl
+tag-key key.Rule = refl
+tag-key key.If = refl
+tag-key key.Then = refl
+tag-key key.With = refl
+tag-key key.Is = refl
+tag-key key.Not = refl
+tag-key key.And = refl
+tag-key key.Or = refl
+tag-key key.Act = refl
+tag-key key.Options = refl
+tag-key key.EndOptions = refl
+
+if_itself : (b : Bool) → b ≡ cond b true false
+if_itself true = refl
+if_itself false = refl
+
+pub same_key : (r : Bool) (k j : Keyword) → r ≡ sameb the_type j k → r ≡ mem (key_sort j) (key_sort k ∷ [])
+same_key r k j e =
+    e ∙ ap (λ (n : ℕ). eqb n (tag_of the_type k)) (tag-key j) ∙ ap (λ (n : ℕ). eqb (key_sort j) n) (tag-key k) ∙ if_itself (eqb (key_sort j) (key_sort k))
+
+pub key_one : (j k : Keyword) → key_sort j ≡ key_sort k → j ≡ k
+key_one j k e = tag_one the_type tt j k (tag-key j ∙ e ∙ sym (tag-key k))
+
+pub tag-word : (w : Word) → tag_of word_type w + 30 ≡ word_sort w
+tag-word word.Real = refl
+tag-word word.Min = refl
+tag-word word.Max = refl
+tag-word word.Prod = refl
+tag-word word.Bdif = refl
+tag-word word.Asum = refl
+tag-word word.Bsum = refl
+tag-word word.Nsum = refl
+tag-word word.Cogs = refl
+tag-word word.Centre = refl
+tag-word word.Extreme = refl
+tag-word word.Nc = refl
+tag-word word.Other = refl
+
+pub word_one : (v w : Word) → word_sort v ≡ word_sort w → v ≡ w
+word_one v w e = tag_one word_type tt v w (omega (arith, tag-word v, tag-word w, e))

@@ -1,0 +1,175 @@
+-- The reader answers the tree that a text spells, or its first fault.
+use Rattle.std.proofs.Common.{◌≡◌, ℕ, zero, suc, ◌+◌, ◌-◌, List, [], ◌∷◌, ◌++◌, length, drop, Result, Ok, Err, refl, sym, ap, subst, ◌∙◌, arith}
+use Rattle.std.proofs.lemmas.List.{length-append}
+use Rattle.std.specs.Prelude.{IfOk, IfErr}
+use Rattle.fcl_syntax.specs.declared.fault.Fault.{Fault}
+use Rattle.fcl_syntax.specs.declared.fault.Kind.{Kind}
+use Rattle.fcl_syntax.specs.declared.fault.Kind.TheVariants.{Expected, Deep, Unsupported}
+use Rattle.fcl_syntax.specs.declared.lexer.LexFault.{LexFault}
+use Rattle.fcl_syntax.specs.declared.lexer.LexKind.{LexKind}
+use Rattle.fcl_syntax.specs.declared.lexer.LexKind.TheVariants as kinds
+use Rattle.fcl_syntax.specs.declared.lexer.Piece.{Piece}
+use Rattle.fcl_syntax.specs.declared.lexer.Piece.TheVariants as piece
+use Rattle.fcl_syntax.specs.declared.text.SyntaxFault.{SyntaxFault}
+use Rattle.fcl_syntax.specs.declared.text.SyntaxFault.TheVariants as faults
+use Rattle.fcl_syntax.specs.declared.token.Token.{Token}
+use Rattle.fcl_syntax.specs.declared.tree.Tree.{Tree}
+use Rattle.fcl_syntax.specs.First.{Spells, FirstFault}
+use Rattle.fcl_syntax.specs.Grammar.{TBlock, block_text}
+use Rattle.fcl_syntax.specs.Lexing.{piece_of, Placed, Lexed, lexed, in_front, next_piece, tokenization}
+use Rattle.fcl_syntax.specs.Reading.{all_of}
+use Rattle.fcl_syntax.specs.Text.{SpellsTree, head_or, HasFault, HasTokenFault, IsFirstFault, OrMemory, GivesTree, GivesFault, of_kind, token_fault, grammar_fault, place_of, located, read_lexed, read_text, Reads}
+use Rattle.fcl_syntax.specs.View.{view}
+use Rattle.fcl_syntax.proofs.Exact.{whole, whole_spells, spells_whole, whole_faults, faults_whole}
+use Rattle.fcl_syntax.proofs.RuleForms.{block_form}
+
+pub all_is : (ts : List Token) → all_of ts ≡ whole block_form ts
+unfolding all_of
+all_is ts = refl
+
+pub all_spells : (ts : List Token) (t : TBlock) → all_of ts ≡ Ok t → Spells block_text ts t
+all_spells ts t h = whole_spells block_form ts t (sym (all_is ts) ∙ h)
+
+pub spells_all : (ts : List Token) (t : TBlock) → Spells block_text ts t → all_of ts ≡ Ok t
+spells_all ts t s = all_is ts ∙ spells_whole block_form ts t s
+
+pub all_faults : (ts : List Token) (e : Fault) → all_of ts ≡ Err e → FirstFault block_text ts e
+all_faults ts e h = whole_faults block_form ts e (sym (all_is ts) ∙ h)
+
+pub faults_all : (ts : List Token) (e : Fault) → FirstFault block_text ts e → all_of ts ≡ Err e
+faults_all ts e f = all_is ts ∙ faults_whole block_form ts e f
+
+-- ---- texts
+
+same_ok : {A E : Type 0} (r : Result A E) (a b : A) → r ≡ Ok a → r ≡ Ok b → a ≡ b
+same_ok (Ok x) a b p q = cc
+same_ok (Err e) a b p q = absurd cc
+
+not_both : {A E : Type 0} (r : Result A E) (a : A) (e : E) → r ≡ Ok a → r ≡ Err e → ⊥
+not_both (Ok x) a e p q = cc
+not_both (Err c) a e p q = cc
+
+same_err : {A E : Type 0} (r : Result A E) (d e : E) → r ≡ Err d → r ≡ Err e → d ≡ e
+same_err (Ok x) d e p q = absurd cc
+same_err (Err c) d e p q = cc
+
+lexed_is : (k l : Placed) → (let r : Lexed = Ok k in r ≡ Ok l) → k ≡ l
+lexed_is k l h = cc
+
+-- each token has its place
+lens : (fuel at : ℕ) (bytes : List ℕ) (l : Placed) → lexed fuel at bytes ≡ Ok l → length l.1 ≡ length l.0
+unfolding lexed
+lens zero at bytes l h = let e : ([], []) ≡ l = lexed_is ([], []) l h in subst (λ (l : Placed). length l.1 ≡ length l.0) e refl
+lens (suc fuel) at [] l h = let e : ([], []) ≡ l = lexed_is ([], []) l h in subst (λ (l : Placed). length l.1 ≡ length l.0) e refl
+lens (suc fuel) at (b ∷ bytes) l h = go (piece_of at (b ∷ bytes)) l (λ n l. lens fuel (at + n) (drop n (b ∷ bytes)) l) h
+  where
+    front : (t : Token) (r : Lexed) (l : Placed) → ((k : Placed) → r ≡ Ok k → length k.1 ≡ length k.0) → in_front t at r ≡ Ok l → length l.1 ≡ length l.0
+    front t (Ok k) l again h =
+        let e : (t ∷ k.0, at ∷ k.1) ≡ l = lexed_is (t ∷ k.0, at ∷ k.1) l h in
+        subst (λ (l : Placed). length l.1 ≡ length l.0) e (ap suc (again k refl))
+    front t (Err e) l again h = absurd cc
+
+    go : (p : Piece) (l : Placed) → ((n : ℕ) (l : Placed) → lexed fuel (at + n) (drop n (b ∷ bytes)) ≡ Ok l → length l.1 ≡ length l.0) → next_piece at p (λ n. lexed fuel (at + n) (drop n (b ∷ bytes))) ≡ Ok l → length l.1 ≡ length l.0
+    go (piece.Skip n) l again h = again n l h
+    go (piece.Token t n) l again h = front t (lexed fuel (at + n) (drop n (b ∷ bytes))) l (again n) h
+    go (piece.Fault k) l again h = absurd cc
+
+-- the place where so many tokens are left is that behind those before it
+place_behind : (places : List ℕ) (tokens front bad : List Token) (left end : ℕ) → length places ≡ length tokens → tokens ≡ front ++ bad → left ≡ length bad → place_of places left end ≡ head_or (drop (length front) places) end
+place_behind places tokens front bad left end len parts is =
+    let n : length places - left ≡ length front = omega (arith, len, ap length parts, length-append front bad, is) in
+    ap (λ (k : ℕ). head_or (drop k places) end) n
+
+-- ---- what is read is right
+
+located_ok : (places : List ℕ) (end : ℕ) (r : Result TBlock Fault) (t : TBlock) → located places end r ≡ Ok t → r ≡ Ok t
+located_ok places end (Ok u) t h = cc
+located_ok places end (Err e) t h = absurd cc
+
+located_err : (places : List ℕ) (end : ℕ) (r : Result TBlock Fault) (e : SyntaxFault) → located places end r ≡ Err e → (f : Fault) × (r ≡ Err f) × (grammar_fault f.kind (place_of places f.left end) ≡ e)
+located_err places end (Ok u) e h = absurd cc
+located_err places end (Err f) e h = (f, refl, cc)
+
+pub read_spells : (text : List ℕ) (t : TBlock) → read_text text ≡ Ok t → SpellsTree text t
+read_spells text t h = go (tokenization text) refl h
+  where
+    go : (l : Lexed) → tokenization text ≡ l → read_lexed (length text) l ≡ Ok t → SpellsTree text t
+    go (Ok l) w h = record { tokens = l.0; places = l.1; cut = w; spells = all_spells l.0 t (located_ok l.1 (length text) (all_of l.0) t h) }
+    go (Err e) w h = absurd cc
+
+pub spells_read : (text : List ℕ) (t : TBlock) → SpellsTree text t → read_text text ≡ Ok t
+spells_read text t s =
+    ap (read_lexed (length text)) s.cut ∙ ap (located s.places (length text)) (spells_all s.tokens t s.spells)
+
+token_fault_is : (text : List ℕ) (k : LexKind) (at : ℕ) → HasTokenFault text k at → IsFirstFault text (of_kind k at)
+token_fault_is text kinds.BadByte at h = h
+token_fault_is text kinds.OpenComment at h = h
+token_fault_is text (kinds.Number e) at h = h
+
+grammar_fault_is : (text : List ℕ) (k : Kind) (at : ℕ) → HasFault text k at → IsFirstFault text (grammar_fault k at)
+grammar_fault_is text Expected at h = h
+grammar_fault_is text Deep at h = h
+grammar_fault_is text (Unsupported n) at h = h
+
+pub read_faults : (text : List ℕ) (e : SyntaxFault) → read_text text ≡ Err e → IsFirstFault text e
+read_faults text e h = go (tokenization text) refl h
+  where
+    go : (l : Lexed) → tokenization text ≡ l → read_lexed (length text) l ≡ Err e → IsFirstFault text e
+    go (Err d) w h = let is : token_fault d ≡ e = cc in subst (IsFirstFault text) is (token_fault_is text d.kind d.at w)
+    go (Ok l) w h =
+        let x = located_err l.1 (length text) (all_of l.0) e h in
+        let f = all_faults l.0 x.0 x.1 in
+        subst (IsFirstFault text) x.2 (grammar_fault_is text x.0.kind (place_of l.1 x.0.left (length text)) (record {
+          tokens = l.0;
+          places = l.1;
+          left = x.0.left;
+          cut = w;
+          fault = f;
+          place = place_behind l.1 l.0 f.front f.bad x.0.left (length text) (lens (length text) 0 text l w) f.parts f.left;
+        }))
+
+has_fault_read : (text : List ℕ) (k : Kind) (at : ℕ) → HasFault text k at → read_text text ≡ Err (grammar_fault k at)
+has_fault_read text k at h =
+    let f = h.fault in
+    let e : Fault = record { kind = k; left = h.left } in
+    ap (read_lexed (length text)) h.cut ∙ ap (located h.places (length text)) (faults_all h.tokens e f)
+    ∙ ap (λ (n : ℕ). Err (grammar_fault k n)) (place_behind h.places h.tokens f.front f.bad h.left (length text) (lens (length text) 0 text (h.tokens, h.places) h.cut) f.parts f.left ∙ sym h.place)
+
+token_fault_read : (text : List ℕ) (k : LexKind) (at : ℕ) → HasTokenFault text k at → read_text text ≡ Err (of_kind k at)
+token_fault_read text k at h = ap (read_lexed (length text)) h
+
+pub faults_read : (text : List ℕ) (e : SyntaxFault) → IsFirstFault text e → read_text text ≡ Err e
+faults_read text (faults.BadByte at) h = token_fault_read text kinds.BadByte at h
+faults_read text (faults.OpenComment at) h = token_fault_read text kinds.OpenComment at h
+faults_read text (faults.Number at e) h = token_fault_read text (kinds.Number e) at h
+faults_read text (faults.Expected at) h = has_fault_read text Expected at h
+faults_read text (faults.Unsupported at code) h = has_fault_read text (Unsupported code) at h
+faults_read text (faults.Deep at) h = has_fault_read text Deep at h
+faults_read text faults.Memory h = absurd h
+
+-- ---- the clauses of the public call
+
+or_memory : (P Q : SyntaxFault → Type 0) (e : SyntaxFault) → ((d : SyntaxFault) → P d → Q d) → OrMemory P e → OrMemory Q e
+or_memory P Q (faults.BadByte at) f h = f _ h
+or_memory P Q (faults.OpenComment at) f h = f _ h
+or_memory P Q (faults.Number at e) f h = f _ h
+or_memory P Q (faults.Expected at) f h = f _ h
+or_memory P Q (faults.Unsupported at code) f h = f _ h
+or_memory P Q (faults.Deep at) f h = f _ h
+or_memory P Q faults.Memory f h = tt
+
+pub found : (text : List ℕ) (r : Result Tree SyntaxFault) → Reads r (read_text text) → IfOk r (λ tree. SpellsTree text (view tree.block))
+found text (Ok tree) h = read_spells text (view tree.block) h
+found text (Err e) h = tt
+
+pub only : (text : List ℕ) (r : Result Tree SyntaxFault) → Reads r (read_text text) → (t : TBlock) → SpellsTree text t → GivesTree r t
+only text (Ok tree) h t s = same_ok (read_text text) (view tree.block) t h (spells_read text t s)
+only text (Err e) h t s = or_memory (λ e. read_text text ≡ Err e) (λ _. ⊥) e (λ d k. not_both (read_text text) t d (spells_read text t s) k) h
+
+pub fault : (text : List ℕ) (r : Result Tree SyntaxFault) → Reads r (read_text text) → IfErr r (OrMemory (IsFirstFault text))
+fault text (Ok tree) h = tt
+fault text (Err e) h = or_memory (λ e. read_text text ≡ Err e) (IsFirstFault text) e (read_faults text) h
+
+pub only_fault : (text : List ℕ) (r : Result Tree SyntaxFault) → Reads r (read_text text) → (e : SyntaxFault) → IsFirstFault text e → GivesFault r e
+only_fault text (Ok tree) h e f = not_both (read_text text) (view tree.block) e h (faults_read text e f)
+only_fault text (Err d) h e f = or_memory (λ d. read_text text ≡ Err d) (λ d. d ≡ e) d (λ c k. same_err (read_text text) c e k (faults_read text e f)) h

@@ -1,0 +1,15 @@
+use Rattle.std.proofs.Common.{◌≡◌, [], ◌∷◌, ◌++◌, map, refl, sym}
+use Rattle.std.proofs.lemmas.List.{map_push}
+use Rattle.fcl_syntax.specs.Reading.{section_at}
+use Rattle.fcl_syntax.specs.View.{view_section}
+use Rattle.fcl_syntax.proofs.Run.{goes_on, shorter_by}
+use Rattle.fcl_syntax.proofs.Forms.{section_form}
+use Rattle.fcl_syntax.proofs.variables.sections.Goals as goal
+
+pub each-smaller : goal.each-smaller
+each-smaller c = shorter_by section_form section_at (λ ts. refl) c.each.rest.now (view_section c.in_ok-next.next) c.in_ok-next.after.now c.in_ok-next.ensures
+
+pub each-preserved : goal.each-preserved
+each-preserved c =
+    let e : map view_section c.push.new.self.items ≡ map view_section c.each.more.items ++ view_section c.in_ok-next.next ∷ [] = rw c.in_ok-push.ensures.items (map_push _ c.each.more.items c.in_ok-next.next) in
+    rw e (goes_on (5 ∷ 2 ∷ 3 ∷ []) section_at (map view_section c.each.more.items) c.each.rest.now (view_section c.in_ok-next.next) c.in_ok-next.after.now _ (sym c.each-test.ensures) c.in_ok-next.ensures (shorter_by section_form section_at (λ ts. refl) c.each.rest.now (view_section c.in_ok-next.next) c.in_ok-next.after.now c.in_ok-next.ensures) c.each.invariant)

@@ -1,0 +1,8 @@
+pub mod Marks
+pub mod Form
+pub mod First
+pub mod Grammar
+pub mod View
+pub mod Reading
+pub mod Lexing
+pub mod Text

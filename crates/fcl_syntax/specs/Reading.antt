@@ -1,0 +1,539 @@
+-- Reading from left to right, one function for each function of the parser.
+use Rattle.std.specs.Prelude.{◌≡◌, ℕ, zero, suc, Bool, true, false, List, [], ◌∷◌, length, Option, Some, None, Result, Ok, Err, ◌==◌, if◌then◌else◌, ◌⊎◌}
+use Rattle.std.proofs.Common.{inl, inr}
+use Rattle.fcl_syntax.specs.declared.fault.Fault.{Fault}
+use Rattle.fcl_syntax.specs.declared.fault.Kind.TheVariants.{Expected, Deep, Unsupported}
+use Rattle.fcl_syntax.specs.declared.token.Amount.TheVariants as amount
+use Rattle.fcl_syntax.specs.declared.token.Keyword.{Keyword}
+use Rattle.fcl_syntax.specs.declared.token.Keyword.TheVariants as key
+use Rattle.fcl_syntax.specs.declared.token.Token.{Token}
+use Rattle.fcl_syntax.specs.declared.token.Token.TheVariants as tok
+use Rattle.fcl_syntax.specs.declared.token.Word.{Word}
+use Rattle.fcl_syntax.specs.declared.token.Word.TheVariants as word
+use Rattle.fcl_syntax.specs.declared.tree.Conclusion.{Conclusion}
+use Rattle.fcl_syntax.specs.declared.tree.Direction.{Direction}
+use Rattle.fcl_syntax.specs.declared.tree.Direction.TheVariants.{Input, Output}
+use Rattle.fcl_syntax.specs.declared.tree.Label.{Label}
+use Rattle.fcl_syntax.specs.declared.tree.Name.{Name}
+use Rattle.fcl_syntax.specs.declared.tree.Number.{Number}
+use Rattle.fcl_syntax.specs.declared.tree.UnitNumber.{UnitNumber}
+use Rattle.fcl_syntax.specs.declared.tree.ZeroNumber.{ZeroNumber}
+use Rattle.fcl_syntax.specs.Marks.{sort, key_sort, word_sort, name_sorts, other_type_sorts, number_sorts, signed_sorts, beyond_unit_sorts, beyond_zero_sorts, follow_sorts, Among}
+use Rattle.fcl_syntax.specs.Form.{◌>>=◌, Read, cond_read, fault_at, starts, one_at, loop, ended}
+use Rattle.fcl_syntax.specs.Grammar.{TSigned, plus, minus, bare, TNum, TType, TDecl, TVars, var_sorts, TSection, TCoordinate, TUnit, TZero, TPoint, TPoints, TTerm, TRange, TFuzzify, TSetting, accu_sorts, TAccu, method_sorts, TMethod, open_sorts, TSingleton, TFallback, TDefuzzyLine, TDefuzzify, option_sorts, TPart, TNot, neg, group, is, TAnd, and_of, TOr, or_of, TWeight, TRule, TRuleItem, and_sorts, or_sorts, TAct, TRuleLine, TRulebase, ruleblock_sorts, TEnd, TBlock}
+use Rattle.fcl_syntax.specs.View.{nots_of, ands_of}
+
+abbrev pub unit : Unit {0}
+unit = tt
+
+abbrev pub refuse_at : {A : Type 0} → ℕ → List Token → Read A
+refuse_at code ts = Err (fault_at (Unsupported code) (length ts))
+
+-- ---- single tokens
+
+abbrev pub some_unit : Bool → Option (Unit {0})
+some_unit true = Some tt
+some_unit false = None
+
+abbrev pub at_if : Bool → ℕ → Option ℕ
+at_if true at = Some at
+at_if false at = None
+
+-- the token of a sort, where its sort is all that it says
+abbrev pub bare_of : ℕ → Option Token
+bare_of n =
+    if n == 61 then Some tok.Close else
+    if n == 62 then Some tok.Assign else
+    if n == 63 then Some tok.To else
+    if n == 64 then Some tok.Colon else
+    if n == 65 then Some tok.Semicolon else
+    if n == 66 then Some tok.Comma else
+    if n == 67 then Some tok.Plus else
+    if n == 68 then Some tok.Minus else None
+
+-- a token that says nothing beside its sort
+abbrev pub IsBare : Token → Type 0
+IsBare x = bare_of (sort x) ≡ Some x
+
+abbrev pub bare_want : Token → Token → Option (Unit {0})
+bare_want x y = some_unit (sort y == sort x)
+
+unfoldable pub expect_at : Token → List Token → Read (Unit {0})
+expect_at x ts = one_at (bare_want x) ts
+
+abbrev pub key_want : Keyword → Token → Option ℕ
+key_want k (tok.Word at j) = at_if (key_sort j == key_sort k) at
+key_want k _ = None
+
+unfoldable pub key_at : Keyword → List Token → Read ℕ
+key_at k ts = one_at (key_want k) ts
+
+abbrev pub word_want : Word → Token → Option ℕ
+word_want w (tok.Name at v) = at_if (word_sort v == word_sort w) at
+word_want w _ = None
+
+unfoldable pub word_at : Word → List Token → Read ℕ
+word_at w ts = one_at (word_want w) ts
+
+abbrev pub open_want : Token → Option ℕ
+open_want (tok.Open at) = Some at
+open_want _ = None
+
+unfoldable pub open_at : List Token → Read ℕ
+open_at ts = one_at open_want ts
+
+abbrev pub name_want : Token → Option Name
+name_want (tok.Name at w) = Some (record { at = at; word = w })
+name_want _ = None
+
+unfoldable pub name_at : List Token → Read Name
+name_at ts = one_at name_want ts
+
+abbrev pub number_want : Token → Option Number
+number_want (tok.Number at n w) = Some (record { at = at; amount = n; whole = w })
+number_want _ = None
+
+unfoldable pub number_at : List Token → Read Number
+number_at ts = one_at number_want ts
+
+abbrev pub unit_want : Token → Option UnitNumber
+unit_want (tok.Number at amount.Zero w) = Some (record { at = at; is_one = false; whole = w })
+unit_want (tok.Number at amount.One w) = Some (record { at = at; is_one = true; whole = w })
+unit_want _ = None
+
+unfoldable pub unit_number_at : List Token → Read UnitNumber
+unit_number_at ts = one_at unit_want ts
+
+abbrev pub zero_want : Token → Option ZeroNumber
+zero_want (tok.Number at amount.Zero w) = Some (record { at = at; whole = w })
+zero_want _ = None
+
+unfoldable pub zero_number_at : List Token → Read ZeroNumber
+zero_number_at ts = one_at zero_want ts
+
+abbrev pub label_want : Token → Option Label
+label_want (tok.Number at n true) = Some (record { at = at; amount = n })
+label_want _ = None
+
+unfoldable pub label_at : List Token → Read Label
+label_at ts = one_at label_want ts
+
+abbrev pub direction_want : Token → Option (ℕ × Direction)
+direction_want (tok.Word at key.VarInput) = Some (at, Input)
+direction_want (tok.Word at key.VarOutput) = Some (at, Output)
+direction_want _ = None
+
+unfoldable pub direction_at : List Token → Read (ℕ × Direction)
+direction_at ts = one_at direction_want ts
+
+-- ---- numbers
+
+unfoldable pub signed_at : {A B : Type 0} → (List Token → Read A) → (List Token → Read B) → List Token → Read (TSigned A B)
+signed_at f g ts = cond_read (starts (67 ∷ []) ts) (do
+  x ← expect_at tok.Plus ts
+  n ← f x.1
+  Ok (plus n.0, n.1)) (cond_read (starts (68 ∷ []) ts) (do
+  x ← expect_at tok.Minus ts
+  n ← g x.1
+  Ok (minus n.0, n.1)) (do
+  n ← f ts
+  Ok (bare n.0, n.1)))
+
+abbrev pub num_at : List Token → Read TNum
+num_at = signed_at number_at number_at
+
+unfoldable pub coordinate_number_at : List Token → Read TCoordinate
+coordinate_number_at ts = cond_read (starts name_sorts ts) (refuse_at 10 ts) (do
+  n ← number_at ts
+  Ok (inr n.0, n.1))
+
+abbrev pub coordinate_at : List Token → Read (TSigned TCoordinate TCoordinate)
+coordinate_at = signed_at coordinate_number_at coordinate_number_at
+
+unfoldable pub unit_at : List Token → Read TUnit
+unit_at ts = cond_read (starts name_sorts ts) (refuse_at 10 ts) (cond_read (starts beyond_unit_sorts ts) (refuse_at 11 ts) (do
+  n ← unit_number_at ts
+  Ok (inr (inr n.0), n.1)))
+
+unfoldable pub zero_at : List Token → Read TZero
+zero_at ts = cond_read (starts name_sorts ts) (refuse_at 10 ts) (cond_read (starts beyond_zero_sorts ts) (refuse_at 11 ts) (do
+  n ← zero_number_at ts
+  Ok (inr (inr n.0), n.1)))
+
+abbrev pub degree_at : List Token → Read (TSigned TUnit TZero)
+degree_at = signed_at unit_at zero_at
+
+-- ---- variables
+
+unfoldable pub comma_name_at : List Token → Read Name
+comma_name_at ts = do
+  c ← expect_at tok.Comma ts
+  name_at c.1
+
+unfoldable pub names_at : List Token → Read (Name × List Name)
+names_at ts = do
+  n ← name_at ts
+  more ← loop (66 ∷ []) comma_name_at (length n.1) n.1
+  Ok ((n.0, more.0), more.1)
+
+-- REAL, by its offset
+unfoldable pub type_at : List Token → Read TType
+type_at ts = cond_read (starts other_type_sorts ts) (refuse_at 5 ts) (do
+  r ← word_at word.Real ts
+  Ok (inr r.0, r.1))
+
+unfoldable pub decl_at : List Token → Read TDecl
+decl_at ts = do
+  n ← names_at ts
+  c ← expect_at tok.Colon n.1
+  t ← type_at c.1
+  s ← expect_at tok.Semicolon t.1
+  Ok (record { names = n.0; type = t.0 }, s.1)
+
+abbrev pub decls_at : List Token → Read (List TDecl)
+decls_at ts = loop name_sorts decl_at (length ts) ts
+
+unfoldable pub vars_at : List Token → Read TVars
+vars_at ts = do
+  v ← direction_at ts
+  ds ← decls_at v.1
+  e ← key_at key.EndVar ds.1
+  Ok (record { at = v.0.0; direction = v.0.1; decls = ds.0; end = e.0 }, e.1)
+
+unfoldable pub section_at : List Token → Read TSection
+section_at ts = cond_read (starts var_sorts ts) (refuse_at 6 ts) (do
+  v ← vars_at ts
+  Ok (inr v.0, v.1))
+
+abbrev pub sections_at : List Token → Read (List TSection)
+sections_at ts = loop (5 ∷ 2 ∷ 3 ∷ []) section_at (length ts) ts
+
+-- ---- terms of an input, and ranges
+
+unfoldable pub point_at : List Token → Read TPoint
+point_at ts = do
+  o ← open_at ts
+  x ← coordinate_at o.1
+  c ← expect_at tok.Comma x.1
+  d ← degree_at c.1
+  e ← expect_at tok.Close d.1
+  Ok (record { open_at = o.0; x = x.0; degree = d.0 }, e.1)
+
+unfoldable pub some_points_at : List Token → Read (TPoint × List TPoint)
+some_points_at ts = do
+  p ← point_at ts
+  more ← loop (60 ∷ []) point_at (length p.1) p.1
+  Ok ((p.0, more.0), more.1)
+
+unfoldable pub points_at : List Token → Read TPoints
+points_at ts = cond_read (starts signed_sorts ts) (refuse_at 14 ts) (do
+  p ← some_points_at ts
+  Ok (inr p.0, p.1))
+
+unfoldable pub term_at : List Token → Read TTerm
+term_at ts = do
+  t ← key_at key.Term ts
+  n ← name_at t.1
+  a ← expect_at tok.Assign n.1
+  p ← points_at a.1
+  s ← expect_at tok.Semicolon p.1
+  Ok (record { at = t.0; name = n.0; points = p.0 }, s.1)
+
+unfoldable pub opening_at : List Token → Read (Bool × ℕ)
+opening_at ts = cond_read (starts (62 ∷ []) ts) (do
+  a ← expect_at tok.Assign ts
+  o ← open_at a.1
+  Ok ((true, o.0), o.1)) (do
+  o ← open_at ts
+  Ok ((false, o.0), o.1))
+
+unfoldable pub range_at : List Token → Read TRange
+range_at ts = do
+  r ← key_at key.Range ts
+  o ← opening_at r.1
+  l ← num_at o.1
+  t ← expect_at tok.To l.1
+  h ← num_at t.1
+  c ← expect_at tok.Close h.1
+  s ← expect_at tok.Semicolon c.1
+  Ok (record { at = r.0; assigned = o.0.0; open_at = o.0.1; low = l.0; high = h.0 }, s.1)
+
+unfoldable pub fuzzy_line_at : List Token → Read (TTerm ⊎ TRange)
+fuzzy_line_at ts = cond_read (starts (10 ∷ []) ts) (do
+  t ← term_at ts
+  Ok (inl t.0, t.1)) (do
+  r ← range_at ts
+  Ok (inr r.0, r.1))
+
+abbrev pub fuzzy_lines_at : List Token → Read (List (TTerm ⊎ TRange))
+fuzzy_lines_at ts = loop (10 ∷ 11 ∷ []) fuzzy_line_at (length ts) ts
+
+unfoldable pub fuzzify_at : List Token → Read TFuzzify
+fuzzify_at ts = do
+  f ← key_at key.Fuzzify ts
+  n ← name_at f.1
+  ls ← fuzzy_lines_at n.1
+  e ← key_at key.EndFuzzify ls.1
+  Ok (record { at = f.0; name = n.0; lines = ls.0; end = e.0 }, e.1)
+
+-- ---- terms of an output
+
+unfoldable pub choice_at : Word → (sorts : List ℕ) → ℕ → List Token → Read (Among sorts ⊎ ℕ)
+choice_at w sorts code ts = cond_read (starts sorts ts) (refuse_at code ts) (do
+  x ← word_at w ts
+  Ok (inr x.0, x.1))
+
+unfoldable pub setting_at : Keyword → Word → (sorts : List ℕ) → ℕ → List Token → Read (TSetting sorts)
+setting_at k w sorts code ts = do
+  x ← key_at k ts
+  c ← expect_at tok.Colon x.1
+  y ← choice_at w sorts code c.1
+  s ← expect_at tok.Semicolon y.1
+  Ok (record { at = x.0; word = y.0 }, s.1)
+
+abbrev pub accu_at : List Token → Read TAccu
+accu_at = setting_at key.Accu word.Max accu_sorts 4
+
+abbrev pub method_at : List Token → Read TMethod
+method_at = setting_at key.Method word.Cogs method_sorts 1
+
+unfoldable pub singleton_value_at : List Token → Read (Among open_sorts ⊎ TNum)
+singleton_value_at ts = cond_read (starts open_sorts ts) (refuse_at 13 ts) (do
+  n ← num_at ts
+  Ok (inr n.0, n.1))
+
+unfoldable pub singleton_at : List Token → Read TSingleton
+singleton_at ts = do
+  t ← key_at key.Term ts
+  n ← name_at t.1
+  a ← expect_at tok.Assign n.1
+  v ← singleton_value_at a.1
+  s ← expect_at tok.Semicolon v.1
+  Ok (record { at = t.0; name = n.0; value = v.0 }, s.1)
+
+unfoldable pub fallback_value_at : List Token → Read (TNum ⊎ ℕ)
+fallback_value_at ts = cond_read (starts signed_sorts ts) (do
+  n ← num_at ts
+  Ok (inl n.0, n.1)) (do
+  x ← word_at word.Nc ts
+  Ok (inr x.0, x.1))
+
+unfoldable pub fallback_at : List Token → Read TFallback
+fallback_at ts = do
+  d ← key_at key.Default ts
+  a ← expect_at tok.Assign d.1
+  v ← fallback_value_at a.1
+  s ← expect_at tok.Semicolon v.1
+  Ok (record { at = d.0; value = v.0 }, s.1)
+
+unfoldable pub defuzzy_line_at : List Token → Read TDefuzzyLine
+defuzzy_line_at ts = cond_read (starts (10 ∷ []) ts) (do
+  t ← singleton_at ts
+  Ok (inl t.0, t.1)) (cond_read (starts (12 ∷ []) ts) (do
+  a ← accu_at ts
+  Ok (inr (inl a.0), a.1)) (cond_read (starts (13 ∷ []) ts) (do
+  m ← method_at ts
+  Ok (inr (inr (inl m.0)), m.1)) (cond_read (starts (14 ∷ []) ts) (do
+  d ← fallback_at ts
+  Ok (inr (inr (inr (inl d.0))), d.1)) (do
+  r ← range_at ts
+  Ok (inr (inr (inr (inr r.0))), r.1)))))
+
+abbrev pub defuzzy_lines_at : List Token → Read (List TDefuzzyLine)
+defuzzy_lines_at ts = loop (10 ∷ 12 ∷ 13 ∷ 14 ∷ 11 ∷ []) defuzzy_line_at (length ts) ts
+
+unfoldable pub defuzzify_at : List Token → Read TDefuzzify
+defuzzify_at ts = do
+  d ← key_at key.Defuzzify ts
+  n ← name_at d.1
+  ls ← defuzzy_lines_at n.1
+  e ← key_at key.EndDefuzzify ls.1
+  Ok (record { at = d.0; name = n.0; lines = ls.0; end = e.0 }, e.1)
+
+unfoldable pub part_at : List Token → Read TPart
+part_at ts = cond_read (starts option_sorts ts) (refuse_at 7 ts) (cond_read (starts (6 ∷ []) ts) (do
+  f ← fuzzify_at ts
+  Ok (inr (inl f.0), f.1)) (do
+  d ← defuzzify_at ts
+  Ok (inr (inr d.0), d.1)))
+
+abbrev pub parts_at : List Token → Read (List TPart)
+parts_at ts = loop (26 ∷ 6 ∷ 8 ∷ []) part_at (length ts) ts
+
+-- ---- conditions
+
+unfoldable pub not_word_at : List Token → Read (Option ℕ)
+not_word_at ts = cond_read (starts (22 ∷ []) ts) (do
+  x ← key_at key.Not ts
+  Ok (Some x.0, x.1)) (Ok (None, ts))
+
+-- name IS [NOT] name, unless AND, OR, THEN or ")" is behind the first name
+unfoldable pub operand_at : List Token → Read TNot
+operand_at ts = do
+  v ← name_at ts
+  cond_read (starts follow_sorts v.1) (Err (fault_at (Unsupported 12) (suc (length v.1)))) (do
+    i ← key_at key.Is v.1
+    n ← not_word_at i.1
+    t ← name_at n.1
+    Ok (is v.0 i.0 n.0 t.0, t.1))
+
+unfoldable pub conjunct_in : (List Token → Read TNot) → List Token → Read (ℕ × TNot)
+conjunct_in inner ts = do
+  x ← key_at key.And ts
+  t ← inner x.1
+  Ok ((x.0, t.0), t.1)
+
+unfoldable pub and_in : (List Token → Read TNot) → List Token → Read TAnd
+and_in inner ts = do
+  t ← inner ts
+  more ← loop (23 ∷ []) (conjunct_in inner) (length t.1) t.1
+  Ok (and_of t.0 (nots_of more.0), more.1)
+
+unfoldable pub alternative_in : (List Token → Read TNot) → List Token → Read (ℕ × TAnd)
+alternative_in inner ts = do
+  x ← key_at key.Or ts
+  a ← and_in inner x.1
+  Ok ((x.0, a.0), a.1)
+
+unfoldable pub or_in : (List Token → Read TNot) → List Token → Read TOr
+or_in inner ts = do
+  a ← and_in inner ts
+  more ← loop (24 ∷ []) (alternative_in inner) (length a.1) a.1
+  Ok (or_of a.0 (ands_of more.0), more.1)
+
+unfoldable pub neg_in : (List Token → Read TNot) → List Token → Read TNot
+neg_in inner ts = do
+  x ← key_at key.Not ts
+  t ← inner x.1
+  Ok (neg x.0 t.0, t.1)
+
+unfoldable pub group_in : (List Token → Read TNot) → List Token → Read TNot
+group_in inner ts = do
+  x ← open_at ts
+  o ← or_in inner x.1
+  y ← expect_at tok.Close o.1
+  Ok (group x.0 o.0, y.1)
+
+unfoldable pub opened_in : (List Token → Read TNot) → List Token → Read TNot
+opened_in inner ts = cond_read (starts (22 ∷ []) ts) (neg_in inner ts) (group_in inner ts)
+
+-- a condition's part, where n more "(" and NOT may be open
+unfoldable pub not_at : ℕ → List Token → Read TNot
+not_at zero ts = cond_read (starts (22 ∷ 60 ∷ []) ts) (Err (fault_at Deep (length ts))) (operand_at ts)
+not_at (suc n) ts = cond_read (starts (22 ∷ 60 ∷ []) ts) (opened_in (not_at n) ts) (operand_at ts)
+
+-- ---- rules
+
+unfoldable pub conclusion_at : List Token → Read Conclusion
+conclusion_at ts = do
+  v ← name_at ts
+  i ← key_at key.Is v.1
+  t ← name_at i.1
+  Ok (record { variable = v.0; is_at = i.0; term = t.0 }, t.1)
+
+unfoldable pub comma_conclusion_at : List Token → Read Conclusion
+comma_conclusion_at ts = do
+  x ← expect_at tok.Comma ts
+  conclusion_at x.1
+
+unfoldable pub conclusions_at : List Token → Read (Conclusion × List Conclusion)
+conclusions_at ts = do
+  c ← conclusion_at ts
+  more ← loop (66 ∷ []) comma_conclusion_at (length c.1) c.1
+  Ok ((c.0, more.0), more.1)
+
+unfoldable pub weight_value_at : List Token → Read (Among name_sorts ⊎ TNum)
+weight_value_at ts = cond_read (starts name_sorts ts) (refuse_at 15 ts) (do
+  n ← num_at ts
+  Ok (inr n.0, n.1))
+
+unfoldable pub with_at : List Token → Read TWeight
+with_at ts = do
+  w ← key_at key.With ts
+  v ← weight_value_at w.1
+  s ← expect_at tok.Semicolon v.1
+  Ok (record { at = w.0; value = v.0 }, s.1)
+
+unfoldable pub weight_at : List Token → Read (TWeight ⊎ Unit {0})
+weight_at ts = cond_read (starts (20 ∷ []) ts) (do
+  w ← with_at ts
+  Ok (inl w.0, w.1)) (do
+  s ← expect_at tok.Semicolon ts
+  Ok (inr s.0, s.1))
+
+unfoldable pub rule_at : List Token → Read TRule
+rule_at ts = do
+  r ← key_at key.Rule ts
+  n ← label_at r.1
+  c ← expect_at tok.Colon n.1
+  i ← key_at key.If c.1
+  o ← or_in (not_at 64) i.1
+  t ← key_at key.Then o.1
+  cs ← conclusions_at t.1
+  w ← weight_at cs.1
+  Ok (record { at = r.0; label = n.0; if_at = i.0; condition = o.0; then_at = t.0; conclusions = cs.0; weight = w.0 }, w.1)
+
+unfoldable pub rule_item_at : List Token → Read TRuleItem
+rule_item_at ts = cond_read (starts option_sorts ts) (refuse_at 7 ts) (do
+  r ← rule_at ts
+  Ok (inr r.0, r.1))
+
+abbrev pub rules_at : List Token → Read (List TRuleItem)
+rules_at ts = loop (26 ∷ 17 ∷ []) rule_item_at (length ts) ts
+
+unfoldable pub act_word_at : List Token → Read (ℕ ⊎ ℕ)
+act_word_at ts = cond_read (starts (31 ∷ []) ts) (do
+  m ← word_at word.Min ts
+  Ok (inl m.0, m.1)) (do
+  p ← word_at word.Prod ts
+  Ok (inr p.0, p.1))
+
+unfoldable pub act_at : List Token → Read TAct
+act_at ts = do
+  a ← key_at key.Act ts
+  c ← expect_at tok.Colon a.1
+  w ← act_word_at c.1
+  s ← expect_at tok.Semicolon w.1
+  Ok (record { at = a.0; word = w.0 }, s.1)
+
+unfoldable pub rule_line_at : List Token → Read TRuleLine
+rule_line_at ts = cond_read (starts (23 ∷ []) ts) (do
+  a ← setting_at key.And word.Min and_sorts 2 ts
+  Ok (inl a.0, a.1)) (cond_read (starts (24 ∷ []) ts) (do
+  o ← setting_at key.Or word.Max or_sorts 3 ts
+  Ok (inr (inl o.0), o.1)) (cond_read (starts (25 ∷ []) ts) (do
+  a ← act_at ts
+  Ok (inr (inr (inl a.0)), a.1)) (do
+  a ← accu_at ts
+  Ok (inr (inr (inr a.0)), a.1))))
+
+abbrev pub rule_lines_at : List Token → Read (List TRuleLine)
+rule_lines_at ts = loop (23 ∷ 24 ∷ 25 ∷ 12 ∷ []) rule_line_at (length ts) ts
+
+unfoldable pub rulebase_at : List Token → Read TRulebase
+rulebase_at ts = do
+  b ← key_at key.Ruleblock ts
+  n ← name_at b.1
+  ls ← rule_lines_at n.1
+  rs ← rules_at ls.1
+  e ← key_at key.EndRuleblock rs.1
+  Ok (record { at = b.0; name = n.0; lines = ls.0; rules = rs.0; end = e.0 }, e.1)
+
+unfoldable pub end_at : List Token → Read TEnd
+end_at ts = cond_read (starts option_sorts ts) (refuse_at 7 ts) (cond_read (starts ruleblock_sorts ts) (refuse_at 8 ts) (do
+  e ← key_at key.EndFunctionBlock ts
+  Ok (inr (inr e.0), e.1)))
+
+unfoldable pub block_at : List Token → Read TBlock
+block_at ts = do
+  b ← key_at key.FunctionBlock ts
+  n ← name_at b.1
+  vs ← sections_at n.1
+  ps ← parts_at vs.1
+  rs ← rulebase_at ps.1
+  e ← end_at rs.1
+  Ok (record { at = b.0; name = n.0; vars = vs.0; parts = ps.0; rules = rs.0; end = e.0 }, e.1)
+
+-- all of the tokens
+unfoldable pub all_of : List Token → Result TBlock Fault
+all_of ts = block_at ts >>= ended

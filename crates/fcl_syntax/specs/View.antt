@@ -1,0 +1,188 @@
+-- A tree of the program as a tree of the grammar, where nothing is refused.
+use Rattle.std.specs.Prelude.{ℕ, Bool, true, false, List, [], ◌∷◌, map, Option, Some, None, ◌⊎◌}
+use Rattle.std.proofs.Common.{inl, inr}
+use Rattle.fcl_syntax.specs.declared.tree.ActWord.{ActWord}
+use Rattle.fcl_syntax.specs.declared.tree.ActWord.TheVariants as act
+use Rattle.fcl_syntax.specs.declared.tree.Activation.{Activation}
+use Rattle.fcl_syntax.specs.declared.tree.Alternative.{Alternative, Alternative-F, fold-Alternative}
+use Rattle.fcl_syntax.specs.declared.tree.And.{And, And-F, fold-And}
+use Rattle.fcl_syntax.specs.declared.tree.Conjunct.{Conjunct, Conjunct-F, fold-Conjunct}
+use Rattle.fcl_syntax.specs.declared.tree.Decl.{Decl}
+use Rattle.fcl_syntax.specs.declared.tree.Defuzzify.{Defuzzify}
+use Rattle.fcl_syntax.specs.declared.tree.DefuzzyLine.{DefuzzyLine}
+use Rattle.fcl_syntax.specs.declared.tree.DefuzzyLine.TheVariants as defuzzy
+use Rattle.fcl_syntax.specs.declared.tree.Degree.{Degree}
+use Rattle.fcl_syntax.specs.declared.tree.Degree.TheVariants as degree
+use Rattle.fcl_syntax.specs.declared.tree.Fallback.{Fallback}
+use Rattle.fcl_syntax.specs.declared.tree.FallbackValue.{FallbackValue}
+use Rattle.fcl_syntax.specs.declared.tree.FallbackValue.TheVariants as fallback
+use Rattle.fcl_syntax.specs.declared.tree.FunctionBlock.{FunctionBlock}
+use Rattle.fcl_syntax.specs.declared.tree.Fuzzify.{Fuzzify}
+use Rattle.fcl_syntax.specs.declared.tree.FuzzyLine.{FuzzyLine}
+use Rattle.fcl_syntax.specs.declared.tree.FuzzyLine.TheVariants as fuzzy
+use Rattle.fcl_syntax.specs.declared.tree.Not.{Not, Not-F, fold-Not}
+use Rattle.fcl_syntax.specs.declared.tree.Not.TheOpen as open_not
+use Rattle.fcl_syntax.specs.declared.tree.Num.{Num}
+use Rattle.fcl_syntax.specs.declared.tree.Num.TheVariants as num
+use Rattle.fcl_syntax.specs.declared.tree.Number.{Number}
+use Rattle.fcl_syntax.specs.declared.tree.Operand.{Operand}
+use Rattle.fcl_syntax.specs.declared.tree.Or.{Or, Or-F, fold-Or}
+use Rattle.fcl_syntax.specs.declared.tree.Part.{Part}
+use Rattle.fcl_syntax.specs.declared.tree.Part.TheVariants as part
+use Rattle.fcl_syntax.specs.declared.tree.Point.{Point}
+use Rattle.fcl_syntax.specs.declared.tree.Range.{Range}
+use Rattle.fcl_syntax.specs.declared.tree.Rule.{Rule}
+use Rattle.fcl_syntax.specs.declared.tree.RuleLine.{RuleLine}
+use Rattle.fcl_syntax.specs.declared.tree.RuleLine.TheVariants as line
+use Rattle.fcl_syntax.specs.declared.tree.Rulebase.{Rulebase}
+use Rattle.fcl_syntax.specs.declared.tree.Setting.{Setting}
+use Rattle.fcl_syntax.specs.declared.tree.Singleton.{Singleton}
+use Rattle.fcl_syntax.specs.declared.tree.Term.{Term}
+use Rattle.fcl_syntax.specs.declared.tree.Vars.{Vars}
+use Rattle.fcl_syntax.specs.declared.tree.Weight.{Weight}
+use Rattle.fcl_syntax.specs.Grammar.{TSigned, plus, minus, bare, TNum, TDecl, TVars, TSection, TCoordinate, TUnit, TZero, TPoint, TTerm, TRange, TFuzzify, TSetting, TSingleton, TFallback, TDefuzzyLine, TDefuzzify, TPart, TNot, neg, group, is, TNots, no_nots, more_nots, TAnd, and_of, TAnds, no_ands, more_ands, TOr, or_of, TWeight, TRule, TRuleItem, TAct, TRuleLine, TRulebase, TBlock}
+
+-- ---- variables, terms and ranges
+
+abbrev pub view_decl : Decl → TDecl
+view_decl d = record { names = (d.first, d.more.items); type = inr d.real }
+
+abbrev pub view_vars : Vars → TVars
+view_vars v = record { at = v.at; direction = v.direction; decls = map view_decl v.decls.items; end = v.end }
+
+abbrev pub view_section : Vars → TSection
+view_section v = inr (view_vars v)
+
+abbrev pub view_num : Num → TNum
+view_num (num.Plus n) = plus n
+view_num (num.Minus n) = minus n
+view_num (num.Bare n) = bare n
+
+abbrev pub view_coordinate : Num → TSigned TCoordinate TCoordinate
+view_coordinate (num.Plus n) = plus (inr n)
+view_coordinate (num.Minus n) = minus (inr n)
+view_coordinate (num.Bare n) = bare (inr n)
+
+abbrev pub view_degree : Degree → TSigned TUnit TZero
+view_degree (degree.Plus n) = plus (inr (inr n))
+view_degree (degree.Minus n) = minus (inr (inr n))
+view_degree (degree.Bare n) = bare (inr (inr n))
+
+abbrev pub view_point : Point → TPoint
+view_point p = record { open_at = p.open_at; x = view_coordinate p.x; degree = view_degree p.degree }
+
+abbrev pub view_term : Term → TTerm
+view_term t = record { at = t.at; name = t.name; points = inr (view_point t.first, map view_point t.more.items) }
+
+abbrev pub view_range : Range → TRange
+view_range r = record { at = r.at; assigned = r.assigned; open_at = r.open_at; low = view_num r.low; high = view_num r.high }
+
+abbrev pub view_fuzzy_line : FuzzyLine → TTerm ⊎ TRange
+view_fuzzy_line (fuzzy.Term t) = inl (view_term t)
+view_fuzzy_line (fuzzy.Range r) = inr (view_range r)
+
+abbrev pub view_fuzzify : Fuzzify → TFuzzify
+view_fuzzify f = record { at = f.at; name = f.name; lines = map view_fuzzy_line f.lines.items; end = f.end }
+
+abbrev pub view_setting : {sorts : List ℕ} → Setting → TSetting sorts
+view_setting s = record { at = s.at; word = inr s.word }
+
+abbrev pub view_singleton : Singleton → TSingleton
+view_singleton s = record { at = s.at; name = s.name; value = inr (view_num s.value) }
+
+abbrev pub view_value : FallbackValue → TNum ⊎ ℕ
+view_value (fallback.Number n) = inl (view_num n)
+view_value (fallback.Nc at) = inr at
+
+abbrev pub view_fallback : Fallback → TFallback
+view_fallback d = record { at = d.at; value = view_value d.value }
+
+abbrev pub view_defuzzy_line : DefuzzyLine → TDefuzzyLine
+view_defuzzy_line (defuzzy.Singleton s) = inl (view_singleton s)
+view_defuzzy_line (defuzzy.Accu s) = inr (inl (view_setting s))
+view_defuzzy_line (defuzzy.Method s) = inr (inr (inl (view_setting s)))
+view_defuzzy_line (defuzzy.Default d) = inr (inr (inr (inl (view_fallback d))))
+view_defuzzy_line (defuzzy.Range r) = inr (inr (inr (inr (view_range r))))
+
+abbrev pub view_defuzzify : Defuzzify → TDefuzzify
+view_defuzzify d = record { at = d.at; name = d.name; lines = map view_defuzzy_line d.lines.items; end = d.end }
+
+abbrev pub view_part : Part → TPart
+view_part (part.Fuzzify f) = inr (inl (view_fuzzify f))
+view_part (part.Defuzzify d) = inr (inr (view_defuzzify d))
+
+-- ---- conditions
+
+abbrev pub nots_of : List (ℕ × TNot) → TNots
+nots_of [] = no_nots
+nots_of (t ∷ ts) = more_nots t.0 t.1 (nots_of ts)
+
+abbrev pub ands_of : List (ℕ × TAnd) → TAnds
+ands_of [] = no_ands
+ands_of (a ∷ items) = more_ands a.0 a.1 (ands_of items)
+
+abbrev pub not_step : Not-F TNot (ℕ × TAnd) TAnd (ℕ × TNot) TOr → TNot
+not_step (open_not.Not at t) = neg at t.value
+not_step (open_not.Group at o) = group at o.value
+not_step (open_not.Is o) = is o.variable o.is_at o.not_at o.term
+
+abbrev pub alternative_step : Alternative-F TNot (ℕ × TAnd) TAnd (ℕ × TNot) TOr → ℕ × TAnd
+alternative_step a = (a.at, a.and)
+
+abbrev pub and_step : And-F TNot (ℕ × TAnd) TAnd (ℕ × TNot) TOr → TAnd
+and_step a = and_of a.first (nots_of a.more.items)
+
+abbrev pub conjunct_step : Conjunct-F TNot (ℕ × TAnd) TAnd (ℕ × TNot) TOr → ℕ × TNot
+conjunct_step c = (c.at, c.not)
+
+abbrev pub or_step : Or-F TNot (ℕ × TAnd) TAnd (ℕ × TNot) TOr → TOr
+or_step o = or_of o.first (ands_of o.more.items)
+
+abbrev pub view_not : Not → TNot
+view_not = fold-Not TNot (ℕ × TAnd) TAnd (ℕ × TNot) TOr not_step alternative_step and_step conjunct_step or_step
+
+abbrev pub view_alternative : Alternative → ℕ × TAnd
+view_alternative = fold-Alternative TNot (ℕ × TAnd) TAnd (ℕ × TNot) TOr not_step alternative_step and_step conjunct_step or_step
+
+abbrev pub view_and : And → TAnd
+view_and = fold-And TNot (ℕ × TAnd) TAnd (ℕ × TNot) TOr not_step alternative_step and_step conjunct_step or_step
+
+abbrev pub view_conjunct : Conjunct → ℕ × TNot
+view_conjunct = fold-Conjunct TNot (ℕ × TAnd) TAnd (ℕ × TNot) TOr not_step alternative_step and_step conjunct_step or_step
+
+abbrev pub view_or : Or → TOr
+view_or = fold-Or TNot (ℕ × TAnd) TAnd (ℕ × TNot) TOr not_step alternative_step and_step conjunct_step or_step
+
+-- ---- rules
+
+abbrev pub view_with : Weight → TWeight
+view_with w = record { at = w.at; value = inr (view_num w.num) }
+
+abbrev pub view_weight : Option Weight → TWeight ⊎ Unit {0}
+view_weight None = inr tt
+view_weight (Some w) = inl (view_with w)
+
+abbrev pub view_rule : Rule → TRule
+view_rule r = record { at = r.at; label = r.label; if_at = r.if_at; condition = view_or r.condition; then_at = r.then_at; conclusions = (r.first, r.more.items); weight = view_weight r.weight }
+
+abbrev pub view_rule_item : Rule → TRuleItem
+view_rule_item r = inr (view_rule r)
+
+abbrev pub view_act_word : ActWord → ℕ ⊎ ℕ
+view_act_word (act.Min at) = inl at
+view_act_word (act.Prod at) = inr at
+
+abbrev pub view_act : Activation → TAct
+view_act a = record { at = a.at; word = view_act_word a.word }
+
+abbrev pub view_rule_line : RuleLine → TRuleLine
+view_rule_line (line.And s) = inl (view_setting s)
+view_rule_line (line.Or s) = inr (inl (view_setting s))
+view_rule_line (line.Act a) = inr (inr (inl (view_act a)))
+view_rule_line (line.Accu s) = inr (inr (inr (view_setting s)))
+
+abbrev pub view_rulebase : Rulebase → TRulebase
+view_rulebase r = record { at = r.at; name = r.name; lines = map view_rule_line r.lines.items; rules = map view_rule_item r.rules.items; end = r.end }
+
+abbrev pub view : FunctionBlock → TBlock
+view b = record { at = b.at; name = b.name; vars = map view_section b.vars.items; parts = map view_part b.parts.items; rules = view_rulebase b.rules; end = inr (inr b.end) }

@@ -1,0 +1,64 @@
+//! Tokens to the tree of a function block, or the first fault.
+
+ghost use Rattle.std.proofs.Common.{inr};
+ghost use Rattle.fcl_syntax.specs.Form.{Gives};
+ghost use Rattle.fcl_syntax.specs.Reading.{end_at, block_at, all_of};
+ghost use Rattle.fcl_syntax.specs.View.{view};
+
+use crate::fault::{Kind, ParseError};
+use crate::rules::rulebase;
+use crate::single::{fault, is_keyword, keyword, name};
+use crate::terms::parts;
+use crate::token::{Keyword, Token};
+use crate::tree::FunctionBlock;
+use crate::variables::sections;
+use std::alloc::Global;
+
+// END_FUNCTION_BLOCK, where OPTION and RULEBLOCK are refused.
+#[tactic(auto, unfolding(crate::specs::Reading::end_at))]
+fn end(tokens: &[Token]) -> Result<(u32, &[Token]), ParseError>
+    ensures { Gives (λ x. (inr (inr x.0), x.1.now)) result (end_at tokens.now) }
+{
+    if is_keyword(tokens, Keyword::Options) {
+        return Err(fault(Kind::Unsupported(7), tokens));
+    }
+    if is_keyword(tokens, Keyword::Ruleblock) {
+        return Err(fault(Kind::Unsupported(8), tokens));
+    }
+    keyword(tokens, Keyword::EndFunctionBlock)
+}
+
+#[tactic(auto, unfolding(crate::specs::Reading::block_at))]
+fn block(alloc: Global, tokens: &[Token]) -> Result<(FunctionBlock, &[Token]), ParseError>
+    ensures { Gives (λ x. (view x.0, x.1.now)) result (block_at tokens.now) }
+{
+    let (at, rest) = keyword(tokens, Keyword::FunctionBlock)?;
+    let (name, rest) = name(rest)?;
+    let (vars, rest) = sections(alloc, rest)?;
+    let (parts, rest) = parts(alloc, rest)?;
+    let (rules, rest) = rulebase(alloc, rest)?;
+    let (end, rest) = end(rest)?;
+    Ok((
+        FunctionBlock {
+            at,
+            name,
+            vars,
+            parts,
+            rules,
+            end,
+        },
+        rest,
+    ))
+}
+
+/// The tree that the tokens spell, or their first fault.
+#[tactic(auto, unfolding(crate::specs::Reading::all_of))]
+pub fn function_block(alloc: Global, tokens: &[Token]) -> Result<FunctionBlock, ParseError>
+    ensures { Gives view result (all_of tokens.now) }
+{
+    let (block, rest) = block(alloc, tokens)?;
+    if !rest.is_empty() {
+        return Err(fault(Kind::Expected, rest));
+    }
+    Ok(block)
+}

@@ -1,0 +1,42 @@
+//! Why there is no tree.
+
+ghost use Rattle.std.specs.Prelude.{◌≡◌};
+ghost use Rattle.fcl_syntax.specs.declared.fault.ParseError.TheVariants.{Memory};
+
+use std::alloc::{AllocError, AllocFailed};
+
+#[derive(Clone, Copy, Debug, PartialEq, Eq)]
+pub enum Kind {
+    Expected,
+    Deep,
+    Unsupported(u8),
+}
+
+/// A fault, and how many tokens are left at it.
+#[derive(Clone, Copy, Debug, PartialEq, Eq)]
+pub struct Fault {
+    pub kind: Kind,
+    pub left: usize,
+}
+
+#[derive(Debug, Drop)]
+pub enum ParseError {
+    Memory,
+    Fault(Fault),
+}
+
+impl From<AllocError> for ParseError {
+    ghost from_gives = { λ _ e. e ≡ Memory };
+
+    fn from(_e: AllocError) -> ParseError {
+        ParseError::Memory
+    }
+}
+
+impl<T: Drop> From<AllocFailed<T>> for ParseError {
+    ghost from_gives = { λ _ e. e ≡ Memory };
+
+    fn from(_e: AllocFailed<T>) -> ParseError {
+        ParseError::Memory
+    }
+}

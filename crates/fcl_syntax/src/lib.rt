@@ -1,0 +1,27 @@
+//! The syntax of the Fuzzy Control Language: texts to trees.
+//!
+//! [`parse`] reads the text of one function block, as the grammar of IEC 61131-7 has it in the
+//! profile of `docs/LANGUAGE.md`. It answers a [`Tree`] exactly where the text spells it, and
+//! otherwise exactly the text's first [`SyntaxFault`] with its place.
+#![tactic(auto)]
+
+mod block;
+mod conditions;
+mod fault;
+mod lexer;
+mod rules;
+mod single;
+mod terms;
+mod text;
+mod token;
+mod tree;
+mod variables;
+
+pub use text::{SyntaxFault, parse};
+pub use token::{Amount, Word};
+pub use tree::{
+    ActWord, Activation, Alternative, And, Conclusion, Conjunct, Decl, Defuzzify, DefuzzyLine,
+    Degree, Direction, Fallback, FallbackValue, FunctionBlock, Fuzzify, FuzzyLine, Label, Name,
+    Not, Num, Number, Operand, Or, Part, Point, Range, Rule, RuleLine, Rulebase, Setting,
+    Singleton, Term, Tree, UnitNumber, Vars, Weight, ZeroNumber,
+};

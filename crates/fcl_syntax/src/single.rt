@@ -1,0 +1,251 @@
+//! Single tokens: whether one is next, and what is behind it.
+
+ghost use Rattle.std.specs.Prelude.{◌≡◌, [], ◌∷◌, length};
+ghost use Rattle.fcl_syntax.specs.Form.{Gives, starts};
+ghost use Rattle.fcl_syntax.specs.Marks.{mem, sort, key_sort, word_sort, name_sorts, number_sorts, signed_sorts, other_type_sorts, beyond_unit_sorts, beyond_zero_sorts};
+ghost use Rattle.fcl_syntax.specs.Reading.{IsBare, unit, expect_at, key_at, word_at, open_at, name_at, number_at, unit_number_at, zero_number_at, label_at, direction_at};
+
+use crate::fault::{Fault, Kind, ParseError};
+use crate::token::{Amount, Keyword, Token, Word};
+use crate::tree::{Direction, Label, Name, Number, UnitNumber, ZeroNumber};
+
+pub fn fault(kind: Kind, tokens: &[Token]) -> ParseError
+    ensures { result ≡ ParseError.Fault (record { kind = kind; left = length tokens.now }) }
+{
+    ParseError::Fault(Fault {
+        kind,
+        left: tokens.len(),
+    })
+}
+
+#[tactic(auto, unfolding(crate::specs::Reading::expect_at))]
+pub fn expect(tokens: &[Token], token: Token) -> Result<&[Token], ParseError>
+    requires { IsBare token }
+    ensures { Gives (λ x. (unit, x.now)) result (expect_at token tokens.now) }
+{
+    match tokens {
+        [first, rest @ ..] if *first == token => Ok(rest),
+        _ => Err(fault(Kind::Expected, tokens)),
+    }
+}
+
+pub fn is_next(tokens: &[Token], token: Token) -> bool
+    requires { IsBare token }
+    ensures { result ≡ starts (sort token ∷ []) tokens.now }
+{
+    match tokens {
+        [first, ..] => *first == token,
+        [] => false,
+    }
+}
+
+#[tactic(auto, unfolding(crate::specs::Reading::key_at))]
+pub fn keyword(tokens: &[Token], wanted: Keyword) -> Result<(u32, &[Token]), ParseError>
+    ensures { Gives (λ x. (x.0, x.1.now)) result (key_at wanted tokens.now) }
+{
+    match tokens {
+        [Token::Word(at, word), rest @ ..] if *word == wanted => Ok((*at, rest)),
+        _ => Err(fault(Kind::Expected, tokens)),
+    }
+}
+
+fn same_keyword(word: Keyword, wanted: Keyword) -> bool
+    ensures { result ≡ mem (key_sort word) (key_sort wanted ∷ []) }
+{
+    word == wanted
+}
+
+pub fn is_keyword(tokens: &[Token], wanted: Keyword) -> bool
+    ensures { result ≡ starts (key_sort wanted ∷ []) tokens.now }
+{
+    match tokens {
+        [Token::Word(_, word), ..] => same_keyword(*word, wanted),
+        _ => false,
+    }
+}
+
+#[tactic(auto, unfolding(crate::specs::Reading::word_at))]
+pub fn word(tokens: &[Token], wanted: Word) -> Result<(u32, &[Token]), ParseError>
+    ensures { Gives (λ x. (x.0, x.1.now)) result (word_at wanted tokens.now) }
+{
+    match tokens {
+        [Token::Name(at, word), rest @ ..] if *word == wanted => Ok((*at, rest)),
+        _ => Err(fault(Kind::Expected, tokens)),
+    }
+}
+
+pub fn is_word(tokens: &[Token], wanted: Word) -> bool
+    ensures { result ≡ starts (word_sort wanted ∷ []) tokens.now }
+{
+    match tokens {
+        [Token::Name(_, word), ..] => *word == wanted,
+        _ => false,
+    }
+}
+
+#[tactic(auto, unfolding(crate::specs::Reading::open_at))]
+pub fn open(tokens: &[Token]) -> Result<(u32, &[Token]), ParseError>
+    ensures { Gives (λ x. (x.0, x.1.now)) result (open_at tokens.now) }
+{
+    match tokens {
+        [Token::Open(at), rest @ ..] => Ok((*at, rest)),
+        _ => Err(fault(Kind::Expected, tokens)),
+    }
+}
+
+pub fn is_open(tokens: &[Token]) -> bool
+    ensures { result ≡ starts (60 ∷ []) tokens.now }
+{
+    matches!(tokens, [Token::Open(_), ..])
+}
+
+#[tactic(auto, unfolding(crate::specs::Reading::name_at))]
+pub fn name(tokens: &[Token]) -> Result<(Name, &[Token]), ParseError>
+    ensures { Gives (λ x. (x.0, x.1.now)) result (name_at tokens.now) }
+{
+    match tokens {
+        [Token::Name(at, word), rest @ ..] => Ok((
+            Name {
+                at: *at,
+                word: *word,
+            },
+            rest,
+        )),
+        _ => Err(fault(Kind::Expected, tokens)),
+    }
+}
+
+pub fn is_name(tokens: &[Token]) -> bool
+    ensures { result ≡ starts name_sorts tokens.now }
+{
+    matches!(tokens, [Token::Name(..), ..])
+}
+
+/// A name that is not REAL.
+pub fn is_other_type(tokens: &[Token]) -> bool
+    ensures { result ≡ starts other_type_sorts tokens.now }
+{
+    is_name(tokens) && !is_word(tokens, Word::Real)
+}
+
+#[tactic(auto, unfolding(crate::specs::Reading::number_at))]
+pub fn number(tokens: &[Token]) -> Result<(Number, &[Token]), ParseError>
+    ensures { Gives (λ x. (x.0, x.1.now)) result (number_at tokens.now) }
+{
+    match tokens {
+        [Token::Number(at, amount, whole), rest @ ..] => Ok((
+            Number {
+                at: *at,
+                amount: *amount,
+                whole: *whole,
+            },
+            rest,
+        )),
+        _ => Err(fault(Kind::Expected, tokens)),
+    }
+}
+
+/// A number that is 0 or 1.
+#[tactic(auto, unfolding(crate::specs::Reading::unit_number_at))]
+pub fn unit_number(tokens: &[Token]) -> Result<(UnitNumber, &[Token]), ParseError>
+    ensures { Gives (λ x. (x.0, x.1.now)) result (unit_number_at tokens.now) }
+{
+    match tokens {
+        [Token::Number(at, Amount::Zero, whole), rest @ ..] => Ok((
+            UnitNumber {
+                at: *at,
+                is_one: false,
+                whole: *whole,
+            },
+            rest,
+        )),
+        [Token::Number(at, Amount::One, whole), rest @ ..] => Ok((
+            UnitNumber {
+                at: *at,
+                is_one: true,
+                whole: *whole,
+            },
+            rest,
+        )),
+        _ => Err(fault(Kind::Expected, tokens)),
+    }
+}
+
+/// A number that is 0.
+#[tactic(auto, unfolding(crate::specs::Reading::zero_number_at))]
+pub fn zero_number(tokens: &[Token]) -> Result<(ZeroNumber, &[Token]), ParseError>
+    ensures { Gives (λ x. (x.0, x.1.now)) result (zero_number_at tokens.now) }
+{
+    match tokens {
+        [Token::Number(at, Amount::Zero, whole), rest @ ..] => Ok((
+            ZeroNumber {
+                at: *at,
+                whole: *whole,
+            },
+            rest,
+        )),
+        _ => Err(fault(Kind::Expected, tokens)),
+    }
+}
+
+/// A number without a point.
+#[tactic(auto, unfolding(crate::specs::Reading::label_at))]
+pub fn label(tokens: &[Token]) -> Result<(Label, &[Token]), ParseError>
+    ensures { Gives (λ x. (x.0, x.1.now)) result (label_at tokens.now) }
+{
+    match tokens {
+        [Token::Number(at, amount, true), rest @ ..] => Ok((
+            Label {
+                at: *at,
+                amount: *amount,
+            },
+            rest,
+        )),
+        _ => Err(fault(Kind::Expected, tokens)),
+    }
+}
+
+pub fn is_number(tokens: &[Token]) -> bool
+    ensures { result ≡ starts number_sorts tokens.now }
+{
+    matches!(tokens, [Token::Number(..), ..])
+}
+
+/// A number or a sign.
+pub fn is_signed(tokens: &[Token]) -> bool
+    ensures { result ≡ starts signed_sorts tokens.now }
+{
+    matches!(
+        tokens,
+        [Token::Plus | Token::Minus | Token::Number(..), ..]
+    )
+}
+
+/// A number other than 0 and 1.
+pub fn is_beyond_unit(tokens: &[Token]) -> bool
+    ensures { result ≡ starts beyond_unit_sorts tokens.now }
+{
+    matches!(tokens, [Token::Number(_, Amount::Other(_), _), ..])
+}
+
+/// A number other than 0.
+pub fn is_beyond_zero(tokens: &[Token]) -> bool
+    ensures { result ≡ starts beyond_zero_sorts tokens.now }
+{
+    matches!(
+        tokens,
+        [Token::Number(_, Amount::One | Amount::Other(_), _), ..]
+    )
+}
+
+/// VAR_INPUT or VAR_OUTPUT.
+#[tactic(auto, unfolding(crate::specs::Reading::direction_at))]
+pub fn direction(tokens: &[Token]) -> Result<((u32, Direction), &[Token]), ParseError>
+    ensures { Gives (λ x. (x.0, x.1.now)) result (direction_at tokens.now) }
+{
+    match tokens {
+        [Token::Word(at, Keyword::VarInput), rest @ ..] => Ok(((*at, Direction::Input), rest)),
+        [Token::Word(at, Keyword::VarOutput), rest @ ..] => Ok(((*at, Direction::Output), rest)),
+        _ => Err(fault(Kind::Expected, tokens)),
+    }
+}

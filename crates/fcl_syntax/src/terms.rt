@@ -1,0 +1,478 @@
+//! FUZZIFY and DEFUZZIFY.
+
+ghost use Rattle.std.specs.Prelude.{◌≡◌, [], ◌∷◌, length, map};
+ghost use Rattle.std.proofs.Common.{inl, inr};
+ghost use Rattle.fcl_syntax.specs.Form.{Gives, loop, starts};
+ghost use Rattle.fcl_syntax.specs.Marks.{word_sort};
+ghost use Rattle.fcl_syntax.specs.Reading.{num_at, coordinate_number_at, coordinate_at, unit_at, zero_at, degree_at, point_at, some_points_at, points_at, term_at, opening_at, range_at, fuzzy_line_at, fuzzy_lines_at, fuzzify_at, choice_at, setting_at, accu_at, method_at, singleton_value_at, singleton_at, fallback_value_at, fallback_at, defuzzy_line_at, defuzzy_lines_at, defuzzify_at, part_at, parts_at};
+ghost use Rattle.fcl_syntax.specs.View.{view_num, view_coordinate, view_degree, view_point, view_term, view_range, view_fuzzy_line, view_fuzzify, view_setting, view_singleton, view_value, view_fallback, view_defuzzy_line, view_defuzzify, view_part};
+
+use crate::fault::{Kind, ParseError};
+use crate::single::{expect, fault, is_beyond_unit, is_beyond_zero, is_keyword, is_name, is_next, is_open, is_signed, is_word, keyword, name, number, open, unit_number, word, zero_number};
+use crate::token::{Keyword, Token, Word};
+use crate::tree::{
+    Defuzzify, DefuzzyLine, Degree, Fallback, FallbackValue, Fuzzify, FuzzyLine, Num, Number, Part,
+    Point, Range, Setting, Singleton, Term, UnitNumber, ZeroNumber,
+};
+use std::alloc::Global;
+
+// ---- numbers
+
+#[tactic(auto, unfolding(crate::specs::Reading::signed_at))]
+pub fn num(tokens: &[Token]) -> Result<(Num, &[Token]), ParseError>
+    ensures { Gives (λ x. (view_num x.0, x.1.now)) result (num_at tokens.now) }
+{
+    if is_next(tokens, Token::Plus) {
+        let rest = expect(tokens, Token::Plus)?;
+        let (number, rest) = number(rest)?;
+        return Ok((Num::Plus(number), rest));
+    }
+    if is_next(tokens, Token::Minus) {
+        let rest = expect(tokens, Token::Minus)?;
+        let (number, rest) = number(rest)?;
+        return Ok((Num::Minus(number), rest));
+    }
+    let (number, rest) = number(tokens)?;
+    Ok((Num::Bare(number), rest))
+}
+
+// A number of a point, where a name is refused.
+#[tactic(auto, unfolding(crate::specs::Reading::coordinate_number_at))]
+fn coordinate_number(tokens: &[Token]) -> Result<(Number, &[Token]), ParseError>
+    ensures { Gives (λ x. (inr x.0, x.1.now)) result (coordinate_number_at tokens.now) }
+{
+    if is_name(tokens) {
+        return Err(fault(Kind::Unsupported(10), tokens));
+    }
+    number(tokens)
+}
+
+#[tactic(auto, unfolding(crate::specs::Reading::signed_at))]
+fn coordinate(tokens: &[Token]) -> Result<(Num, &[Token]), ParseError>
+    ensures { Gives (λ x. (view_coordinate x.0, x.1.now)) result (coordinate_at tokens.now) }
+{
+    if is_next(tokens, Token::Plus) {
+        let rest = expect(tokens, Token::Plus)?;
+        let (number, rest) = coordinate_number(rest)?;
+        return Ok((Num::Plus(number), rest));
+    }
+    if is_next(tokens, Token::Minus) {
+        let rest = expect(tokens, Token::Minus)?;
+        let (number, rest) = coordinate_number(rest)?;
+        return Ok((Num::Minus(number), rest));
+    }
+    let (number, rest) = coordinate_number(tokens)?;
+    Ok((Num::Bare(number), rest))
+}
+
+// 0 or 1, where a name and another number are refused.
+#[tactic(auto, unfolding(crate::specs::Reading::unit_at))]
+fn zero_or_one(tokens: &[Token]) -> Result<(UnitNumber, &[Token]), ParseError>
+    ensures { Gives (λ x. (inr (inr x.0), x.1.now)) result (unit_at tokens.now) }
+{
+    if is_name(tokens) {
+        return Err(fault(Kind::Unsupported(10), tokens));
+    }
+    if is_beyond_unit(tokens) {
+        return Err(fault(Kind::Unsupported(11), tokens));
+    }
+    unit_number(tokens)
+}
+
+// 0 behind a minus sign, where a name and another number are refused.
+#[tactic(auto, unfolding(crate::specs::Reading::zero_at))]
+fn zero(tokens: &[Token]) -> Result<(ZeroNumber, &[Token]), ParseError>
+    ensures { Gives (λ x. (inr (inr x.0), x.1.now)) result (zero_at tokens.now) }
+{
+    if is_name(tokens) {
+        return Err(fault(Kind::Unsupported(10), tokens));
+    }
+    if is_beyond_zero(tokens) {
+        return Err(fault(Kind::Unsupported(11), tokens));
+    }
+    zero_number(tokens)
+}
+
+#[tactic(auto, unfolding(crate::specs::Reading::signed_at))]
+fn degree(tokens: &[Token]) -> Result<(Degree, &[Token]), ParseError>
+    ensures { Gives (λ x. (view_degree x.0, x.1.now)) result (degree_at tokens.now) }
+{
+    if is_next(tokens, Token::Plus) {
+        let rest = expect(tokens, Token::Plus)?;
+        let (number, rest) = zero_or_one(rest)?;
+        return Ok((Degree::Plus(number), rest));
+    }
+    if is_next(tokens, Token::Minus) {
+        let rest = expect(tokens, Token::Minus)?;
+        let (number, rest) = zero(rest)?;
+        return Ok((Degree::Minus(number), rest));
+    }
+    let (number, rest) = zero_or_one(tokens)?;
+    Ok((Degree::Bare(number), rest))
+}
+
+// ---- terms of an input
+
+#[tactic(auto, unfolding(crate::specs::Reading::point_at))]
+fn point(tokens: &[Token]) -> Result<(Point, &[Token]), ParseError>
+    ensures { Gives (λ x. (view_point x.0, x.1.now)) result (point_at tokens.now) }
+{
+    let (open_at, rest) = open(tokens)?;
+    let (x, rest) = coordinate(rest)?;
+    let rest = expect(rest, Token::Comma)?;
+    let (degree, rest) = degree(rest)?;
+    let rest = expect(rest, Token::Close)?;
+    Ok((Point { open_at, x, degree }, rest))
+}
+
+fn more_points(alloc: Global, tokens: &[Token]) -> Result<(Vec<Point>, &[Token]), ParseError>
+    ensures { Gives (λ x. (map view_point x.0.items, x.1.now)) result (loop (60 ∷ []) point_at (length tokens.now) tokens.now) }
+{
+    let mut more = Vec::new(alloc);
+    let mut rest = tokens;
+    'each: while is_open(rest) {
+        let (next, after) = point(rest)?;
+        more.push(next)?;
+        rest = after;
+    }
+    Ok((more, rest))
+}
+
+#[tactic(auto, unfolding(crate::specs::Reading::some_points_at))]
+fn some_points(alloc: Global, tokens: &[Token]) -> Result<((Point, Vec<Point>), &[Token]), ParseError>
+    ensures { Gives (λ x. ((view_point x.0.0, map view_point x.0.1.items), x.1.now)) result (some_points_at tokens.now) }
+{
+    let (first, rest) = point(tokens)?;
+    let (more, rest) = more_points(alloc, rest)?;
+    Ok(((first, more), rest))
+}
+
+// The points of a term, where a number and a sign are refused.
+#[tactic(auto, unfolding(crate::specs::Reading::points_at))]
+fn points(alloc: Global, tokens: &[Token]) -> Result<((Point, Vec<Point>), &[Token]), ParseError>
+    ensures { Gives (λ x. (inr (view_point x.0.0, map view_point x.0.1.items), x.1.now)) result (points_at tokens.now) }
+{
+    if is_signed(tokens) {
+        return Err(fault(Kind::Unsupported(14), tokens));
+    }
+    some_points(alloc, tokens)
+}
+
+#[tactic(auto, unfolding(crate::specs::Reading::term_at))]
+fn term(alloc: Global, tokens: &[Token]) -> Result<(Term, &[Token]), ParseError>
+    ensures { Gives (λ x. (view_term x.0, x.1.now)) result (term_at tokens.now) }
+{
+    let (at, rest) = keyword(tokens, Keyword::Term)?;
+    let (name, rest) = name(rest)?;
+    let rest = expect(rest, Token::Assign)?;
+    let ((first, more), rest) = points(alloc, rest)?;
+    let rest = expect(rest, Token::Semicolon)?;
+    Ok((
+        Term {
+            at,
+            name,
+            first,
+            more,
+        },
+        rest,
+    ))
+}
+
+// ---- ranges
+
+// [":="] "("
+#[tactic(auto, unfolding(crate::specs::Reading::opening_at))]
+fn opening(tokens: &[Token]) -> Result<((bool, u32), &[Token]), ParseError>
+    ensures { Gives (λ x. (x.0, x.1.now)) result (opening_at tokens.now) }
+{
+    if is_next(tokens, Token::Assign) {
+        let rest = expect(tokens, Token::Assign)?;
+        let (at, rest) = open(rest)?;
+        return Ok(((true, at), rest));
+    }
+    let (at, rest) = open(tokens)?;
+    Ok(((false, at), rest))
+}
+
+#[tactic(auto, unfolding(crate::specs::Reading::range_at))]
+fn range(tokens: &[Token]) -> Result<(Range, &[Token]), ParseError>
+    ensures { Gives (λ x. (view_range x.0, x.1.now)) result (range_at tokens.now) }
+{
+    let (at, rest) = keyword(tokens, Keyword::Range)?;
+    let ((assigned, open_at), rest) = opening(rest)?;
+    let (low, rest) = num(rest)?;
+    let rest = expect(rest, Token::To)?;
+    let (high, rest) = num(rest)?;
+    let rest = expect(rest, Token::Close)?;
+    let rest = expect(rest, Token::Semicolon)?;
+    Ok((
+        Range {
+            at,
+            assigned,
+            open_at,
+            low,
+            high,
+        },
+        rest,
+    ))
+}
+
+// ---- FUZZIFY
+
+#[tactic(auto, unfolding(crate::specs::Reading::fuzzy_line_at))]
+fn fuzzy_line(alloc: Global, tokens: &[Token]) -> Result<(FuzzyLine, &[Token]), ParseError>
+    ensures { Gives (λ x. (view_fuzzy_line x.0, x.1.now)) result (fuzzy_line_at tokens.now) }
+{
+    if is_keyword(tokens, Keyword::Term) {
+        let (term, rest) = term(alloc, tokens)?;
+        return Ok((FuzzyLine::Term(term), rest));
+    }
+    let (range, rest) = range(tokens)?;
+    Ok((FuzzyLine::Range(range), rest))
+}
+
+fn is_fuzzy_line(tokens: &[Token]) -> bool
+    ensures { result ≡ starts (10 ∷ 11 ∷ []) tokens.now }
+{
+    is_keyword(tokens, Keyword::Term) || is_keyword(tokens, Keyword::Range)
+}
+
+fn fuzzy_lines(alloc: Global, tokens: &[Token]) -> Result<(Vec<FuzzyLine>, &[Token]), ParseError>
+    ensures { Gives (λ x. (map view_fuzzy_line x.0.items, x.1.now)) result (fuzzy_lines_at tokens.now) }
+{
+    let mut more = Vec::new(alloc);
+    let mut rest = tokens;
+    'each: while is_fuzzy_line(rest) {
+        let (next, after) = fuzzy_line(alloc, rest)?;
+        more.push(next)?;
+        rest = after;
+    }
+    Ok((more, rest))
+}
+
+#[tactic(auto, unfolding(crate::specs::Reading::fuzzify_at))]
+fn fuzzify(alloc: Global, tokens: &[Token]) -> Result<(Fuzzify, &[Token]), ParseError>
+    ensures { Gives (λ x. (view_fuzzify x.0, x.1.now)) result (fuzzify_at tokens.now) }
+{
+    let (at, rest) = keyword(tokens, Keyword::Fuzzify)?;
+    let (name, rest) = name(rest)?;
+    let (lines, rest) = fuzzy_lines(alloc, rest)?;
+    let (end, rest) = keyword(rest, Keyword::EndFuzzify)?;
+    Ok((
+        Fuzzify {
+            at,
+            name,
+            lines,
+            end,
+        },
+        rest,
+    ))
+}
+
+// ---- settings
+
+/// Two words that are refused, and the code.
+#[derive(Clone, Copy)]
+pub struct Refused {
+    pub first: Word,
+    pub second: Word,
+    pub code: u8,
+}
+
+#[tactic(auto, unfolding(crate::specs::Reading::choice_at))]
+fn choice(tokens: &[Token], wanted: Word, refused: Refused) -> Result<(u32, &[Token]), ParseError>
+    ensures { Gives (λ x. (inr x.0, x.1.now)) result (choice_at wanted (word_sort refused.first ∷ word_sort refused.second ∷ []) refused.code tokens.now) }
+{
+    if is_word(tokens, refused.first) || is_word(tokens, refused.second) {
+        return Err(fault(Kind::Unsupported(refused.code), tokens));
+    }
+    word(tokens, wanted)
+}
+
+/// `KEYWORD : word ;`
+#[tactic(auto, unfolding(crate::specs::Reading::setting_at))]
+pub fn setting(tokens: &[Token], wanted: Keyword, word: Word, refused: Refused) -> Result<(Setting, &[Token]), ParseError>
+    ensures { Gives (λ x. (view_setting x.0, x.1.now)) result (setting_at wanted word (word_sort refused.first ∷ word_sort refused.second ∷ []) refused.code tokens.now) }
+{
+    let (at, rest) = keyword(tokens, wanted)?;
+    let rest = expect(rest, Token::Colon)?;
+    let (word, rest) = choice(rest, word, refused)?;
+    let rest = expect(rest, Token::Semicolon)?;
+    Ok((Setting { at, word }, rest))
+}
+
+pub fn accu(tokens: &[Token]) -> Result<(Setting, &[Token]), ParseError>
+    ensures { Gives (λ x. (view_setting x.0, x.1.now)) result (accu_at tokens.now) }
+{
+    let refused = Refused {
+        first: Word::Bsum,
+        second: Word::Nsum,
+        code: 4,
+    };
+    setting(tokens, Keyword::Accu, Word::Max, refused)
+}
+
+fn method(tokens: &[Token]) -> Result<(Setting, &[Token]), ParseError>
+    ensures { Gives (λ x. (view_setting x.0, x.1.now)) result (method_at tokens.now) }
+{
+    let refused = Refused {
+        first: Word::Centre,
+        second: Word::Extreme,
+        code: 1,
+    };
+    setting(tokens, Keyword::Method, Word::Cogs, refused)
+}
+
+// ---- DEFUZZIFY
+
+// The number of a singleton, where "(" is refused.
+#[tactic(auto, unfolding(crate::specs::Reading::singleton_value_at))]
+fn singleton_value(tokens: &[Token]) -> Result<(Num, &[Token]), ParseError>
+    ensures { Gives (λ x. (inr (view_num x.0), x.1.now)) result (singleton_value_at tokens.now) }
+{
+    if is_open(tokens) {
+        return Err(fault(Kind::Unsupported(13), tokens));
+    }
+    num(tokens)
+}
+
+#[tactic(auto, unfolding(crate::specs::Reading::singleton_at))]
+fn singleton(tokens: &[Token]) -> Result<(Singleton, &[Token]), ParseError>
+    ensures { Gives (λ x. (view_singleton x.0, x.1.now)) result (singleton_at tokens.now) }
+{
+    let (at, rest) = keyword(tokens, Keyword::Term)?;
+    let (name, rest) = name(rest)?;
+    let rest = expect(rest, Token::Assign)?;
+    let (value, rest) = singleton_value(rest)?;
+    let rest = expect(rest, Token::Semicolon)?;
+    Ok((Singleton { at, name, value }, rest))
+}
+
+// num | NC
+#[tactic(auto, unfolding(crate::specs::Reading::fallback_value_at))]
+fn fallback_value(tokens: &[Token]) -> Result<(FallbackValue, &[Token]), ParseError>
+    ensures { Gives (λ x. (view_value x.0, x.1.now)) result (fallback_value_at tokens.now) }
+{
+    if is_signed(tokens) {
+        let (value, rest) = num(tokens)?;
+        return Ok((FallbackValue::Number(value), rest));
+    }
+    let (at, rest) = word(tokens, Word::Nc)?;
+    Ok((FallbackValue::Nc(at), rest))
+}
+
+#[tactic(auto, unfolding(crate::specs::Reading::fallback_at))]
+fn fallback(tokens: &[Token]) -> Result<(Fallback, &[Token]), ParseError>
+    ensures { Gives (λ x. (view_fallback x.0, x.1.now)) result (fallback_at tokens.now) }
+{
+    let (at, rest) = keyword(tokens, Keyword::Default)?;
+    let rest = expect(rest, Token::Assign)?;
+    let (value, rest) = fallback_value(rest)?;
+    let rest = expect(rest, Token::Semicolon)?;
+    Ok((Fallback { at, value }, rest))
+}
+
+#[tactic(auto, unfolding(crate::specs::Reading::defuzzy_line_at))]
+fn defuzzy_line(tokens: &[Token]) -> Result<(DefuzzyLine, &[Token]), ParseError>
+    ensures { Gives (λ x. (view_defuzzy_line x.0, x.1.now)) result (defuzzy_line_at tokens.now) }
+{
+    if is_keyword(tokens, Keyword::Term) {
+        let (line, rest) = singleton(tokens)?;
+        return Ok((DefuzzyLine::Singleton(line), rest));
+    }
+    if is_keyword(tokens, Keyword::Accu) {
+        let (line, rest) = accu(tokens)?;
+        return Ok((DefuzzyLine::Accu(line), rest));
+    }
+    if is_keyword(tokens, Keyword::Method) {
+        let (line, rest) = method(tokens)?;
+        return Ok((DefuzzyLine::Method(line), rest));
+    }
+    if is_keyword(tokens, Keyword::Default) {
+        let (line, rest) = fallback(tokens)?;
+        return Ok((DefuzzyLine::Default(line), rest));
+    }
+    let (line, rest) = range(tokens)?;
+    Ok((DefuzzyLine::Range(line), rest))
+}
+
+fn is_defuzzy_line(tokens: &[Token]) -> bool
+    ensures { result ≡ starts (10 ∷ 12 ∷ 13 ∷ 14 ∷ 11 ∷ []) tokens.now }
+{
+    is_keyword(tokens, Keyword::Term)
+        || is_keyword(tokens, Keyword::Accu)
+        || is_keyword(tokens, Keyword::Method)
+        || is_keyword(tokens, Keyword::Default)
+        || is_keyword(tokens, Keyword::Range)
+}
+
+fn defuzzy_lines(alloc: Global, tokens: &[Token]) -> Result<(Vec<DefuzzyLine>, &[Token]), ParseError>
+    ensures { Gives (λ x. (map view_defuzzy_line x.0.items, x.1.now)) result (defuzzy_lines_at tokens.now) }
+{
+    let mut more = Vec::new(alloc);
+    let mut rest = tokens;
+    'each: while is_defuzzy_line(rest) {
+        let (next, after) = defuzzy_line(rest)?;
+        more.push(next)?;
+        rest = after;
+    }
+    Ok((more, rest))
+}
+
+#[tactic(auto, unfolding(crate::specs::Reading::defuzzify_at))]
+fn defuzzify(alloc: Global, tokens: &[Token]) -> Result<(Defuzzify, &[Token]), ParseError>
+    ensures { Gives (λ x. (view_defuzzify x.0, x.1.now)) result (defuzzify_at tokens.now) }
+{
+    let (at, rest) = keyword(tokens, Keyword::Defuzzify)?;
+    let (name, rest) = name(rest)?;
+    let (lines, rest) = defuzzy_lines(alloc, rest)?;
+    let (end, rest) = keyword(rest, Keyword::EndDefuzzify)?;
+    Ok((
+        Defuzzify {
+            at,
+            name,
+            lines,
+            end,
+        },
+        rest,
+    ))
+}
+
+// ---- both
+
+#[tactic(auto, unfolding(crate::specs::Reading::part_at))]
+fn part(alloc: Global, tokens: &[Token]) -> Result<(Part, &[Token]), ParseError>
+    ensures { Gives (λ x. (view_part x.0, x.1.now)) result (part_at tokens.now) }
+{
+    if is_keyword(tokens, Keyword::Options) {
+        return Err(fault(Kind::Unsupported(7), tokens));
+    }
+    if is_keyword(tokens, Keyword::Fuzzify) {
+        let (part, rest) = fuzzify(alloc, tokens)?;
+        return Ok((Part::Fuzzify(part), rest));
+    }
+    let (part, rest) = defuzzify(alloc, tokens)?;
+    Ok((Part::Defuzzify(part), rest))
+}
+
+// Whether a part is next, or OPTION in its place.
+fn is_part(tokens: &[Token]) -> bool
+    ensures { result ≡ starts (26 ∷ 6 ∷ 8 ∷ []) tokens.now }
+{
+    is_keyword(tokens, Keyword::Options)
+        || is_keyword(tokens, Keyword::Fuzzify)
+        || is_keyword(tokens, Keyword::Defuzzify)
+}
+
+pub fn parts(alloc: Global, tokens: &[Token]) -> Result<(Vec<Part>, &[Token]), ParseError>
+    ensures { Gives (λ x. (map view_part x.0.items, x.1.now)) result (parts_at tokens.now) }
+{
+    let mut more = Vec::new(alloc);
+    let mut rest = tokens;
+    'each: while is_part(rest) {
+        let (next, after) = part(alloc, rest)?;
+        more.push(next)?;
+        rest = after;
+    }
+    Ok((more, rest))
+}

@@ -1,0 +1,114 @@
+//! Texts to trees.
+
+ghost use Rattle.std.specs.Prelude.{◌≡◌, ◌≤◌, length, IfOk, IfErr};
+ghost use Rattle.std.specs.Str.{str_to_ascii_lowercase};
+ghost use Rattle.fcl_syntax.specs.Grammar.{TBlock};
+ghost use Rattle.fcl_syntax.specs.Text.{SpellsTree, IsFirstFault, OrMemory, GivesTree, GivesFault, Reads, read_text, token_fault, grammar_fault, place_of};
+ghost use Rattle.fcl_syntax.specs.View.{view};
+
+use crate::block::function_block;
+use crate::fault::{Kind, ParseError};
+use crate::lexer::{LexError, LexFault, LexKind, lex};
+use crate::tree::Tree;
+use fz_num::DecFault;
+use std::alloc::Global;
+use thiserror::Error;
+
+/// Why a text has no tree, with the offset of the place.
+#[derive(Debug, Drop, Error)]
+pub enum SyntaxFault {
+    /// A byte that begins no token.
+    #[error("at {0}: a byte that begins no token")]
+    BadByte(u32),
+    /// A comment without its end, at its beginning.
+    #[error("at {0}: a comment without its end")]
+    OpenComment(u32),
+    /// A number that is no decimal, at its first digit.
+    #[error("at {0}: a number out of form ({1:?})")]
+    Number(u32, DecFault),
+    /// The first token that no text of the grammar has after the tokens before it, or the text's
+    /// length where it ends too early.
+    #[error("at {0}: not expected here")]
+    Expected(u32),
+    /// What the profile leaves out, and its code of 1 to 8 or 10 to 15.
+    #[error("at {0}: not supported (code {1})")]
+    Unsupported(u32, u8),
+    /// The 65th parenthesis or NOT that is open at once.
+    #[error("at {0}: too deep")]
+    Deep(u32),
+    #[error("out of memory")]
+    Memory,
+}
+
+fn token_fault(fault: LexFault) -> SyntaxFault
+    ensures { result ≡ token_fault fault }
+{
+    match fault.kind {
+        LexKind::BadByte => SyntaxFault::BadByte(fault.at),
+        LexKind::OpenComment => SyntaxFault::OpenComment(fault.at),
+        LexKind::Number(reason) => SyntaxFault::Number(fault.at, reason),
+    }
+}
+
+fn grammar_fault(kind: Kind, at: u32) -> SyntaxFault
+    ensures { result ≡ grammar_fault kind at }
+{
+    match kind {
+        Kind::Expected => SyntaxFault::Expected(at),
+        Kind::Deep => SyntaxFault::Deep(at),
+        Kind::Unsupported(code) => SyntaxFault::Unsupported(at, code),
+    }
+}
+
+// The place of the token where this many are left, or the end.
+fn place(places: &[u32], left: usize, end: u32) -> u32
+    ensures { result ≡ place_of places.now left end }
+{
+    match places.split_at(places.len().saturating_sub(left)).1 {
+        [] => end,
+        [first, ..] => *first,
+    }
+}
+
+fn read(alloc: Global, text: &[u8]) -> Result<Tree, SyntaxFault>
+    requires { length text.now ≤ 1048576 }
+    ensures read { Reads result (read_text text.now) }
+    ensures kept { IfOk result (λ tree. tree.text.items ≡ str_to_ascii_lowercase text.now) }
+{
+    let (tokens, places) = match lex(alloc, text) {
+        Ok(lexed) => lexed,
+        Err(LexError::Memory) => return Err(SyntaxFault::Memory),
+        Err(LexError::Fault(fault)) => return Err(token_fault(fault)),
+    };
+    let block = match function_block(alloc, &tokens) {
+        Ok(block) => block,
+        Err(ParseError::Memory) => return Err(SyntaxFault::Memory),
+        Err(ParseError::Fault(fault)) => {
+            let at = place(&places, fault.left, text.len() as u32);
+            return Err(grammar_fault(fault.kind, at));
+        }
+    };
+    match text.to_ascii_lowercase(alloc) {
+        Ok(text) => Ok(Tree { text, block }),
+        Err(_) => Err(SyntaxFault::Memory),
+    }
+}
+
+/// The tree that a text spells, or its first fault.
+///
+/// Token faults come before all others. Then it is the first place with a fault, where at one
+/// place `Deep` comes before `Unsupported`, and that before `Expected`.
+pub fn parse(alloc: Global, text: &[u8]) -> Result<Tree, SyntaxFault>
+    requires { length text.now ≤ 1048576 }
+
+    // A tree that is answered is spelled by the text, and the one spelled is answered.
+    ensures found { IfOk result (λ tree. SpellsTree text.now (view tree.block)) }
+    ensures only { (t : TBlock) → SpellsTree text.now t → GivesTree result t }
+    ensures kept { IfOk result (λ tree. tree.text.items ≡ str_to_ascii_lowercase text.now) }
+
+    // Otherwise it is the text's first fault; a text has at most one.
+    ensures fault { IfErr result (OrMemory (IsFirstFault text.now)) }
+    ensures only_fault { (e : SyntaxFault) → IsFirstFault text.now e → GivesFault result e }
+{
+    read(alloc, text)
+}

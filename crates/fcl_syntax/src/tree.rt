@@ -1,0 +1,320 @@
+//! The tree of a text: a node for each production of the grammar, its parts in their order.
+//!
+//! A keyword, a name, a number and an opening parenthesis have their offset in the text, a keyword
+//! mostly as the `at` of the node that it begins.
+
+ghost use Rattle.std.specs.Prelude.{◌≡◌, drop};
+ghost use Rattle.std.specs.List.{take_while};
+ghost use Rattle.fcl_syntax.specs.Lexing.{is_name_byte};
+
+use crate::lexer::name_len;
+use crate::token::{Amount, Word};
+
+/// The tree of a text, with a copy of the text in small letters.
+#[derive(Drop)]
+pub struct Tree {
+    pub text: Vec<u8>,
+    pub block: FunctionBlock,
+}
+
+impl Tree {
+    /// A name in small letters, so that names that differ only in case are equal.
+    pub fn letters(&self, name: Name) -> &[u8]
+        ensures { result.now ≡ take_while is_name_byte (drop name.at self.now.text.items) }
+    {
+        let text = self.text.as_slice();
+        let rest = text.split_at((name.at as usize).min(text.len())).1;
+        rest.split_at(name_len(rest)).0
+    }
+}
+
+/// A name. Its letters stand in the text at its offset.
+#[derive(Clone, Copy)]
+pub struct Name {
+    pub at: u32,
+    pub word: Word,
+}
+
+/// A function block. `end` is the offset of END_FUNCTION_BLOCK.
+#[derive(Drop)]
+pub struct FunctionBlock {
+    pub at: u32,
+    pub name: Name,
+    pub vars: Vec<Vars>,
+    pub parts: Vec<Part>,
+    pub rules: Rulebase,
+    pub end: u32,
+}
+
+#[derive(Clone, Copy, Debug, PartialEq, Eq)]
+pub enum Direction {
+    Input,
+    Output,
+}
+
+/// VAR_INPUT or VAR_OUTPUT up to END_VAR.
+#[derive(Drop)]
+pub struct Vars {
+    pub at: u32,
+    pub direction: Direction,
+    pub decls: Vec<Decl>,
+    pub end: u32,
+}
+
+/// Names of one type. `real` is the offset of REAL.
+#[derive(Drop)]
+pub struct Decl {
+    pub first: Name,
+    pub more: Vec<Name>,
+    pub real: u32,
+}
+
+#[derive(Drop)]
+pub enum Part {
+    Fuzzify(Fuzzify),
+    Defuzzify(Defuzzify),
+}
+
+/// FUZZIFY up to END_FUZZIFY.
+#[derive(Drop)]
+pub struct Fuzzify {
+    pub at: u32,
+    pub name: Name,
+    pub lines: Vec<FuzzyLine>,
+    pub end: u32,
+}
+
+#[derive(Drop)]
+pub enum FuzzyLine {
+    Term(Term),
+    Range(Range),
+}
+
+/// A term of an input.
+#[derive(Drop)]
+pub struct Term {
+    pub at: u32,
+    pub name: Name,
+    pub first: Point,
+    pub more: Vec<Point>,
+}
+
+/// A point of a term. `open_at` is the offset of its parenthesis.
+#[derive(Clone, Copy)]
+pub struct Point {
+    pub open_at: u32,
+    pub x: Num,
+    pub degree: Degree,
+}
+
+/// A number. `whole` says that it is written without a point.
+#[derive(Clone, Copy)]
+pub struct Number {
+    pub at: u32,
+    pub amount: Amount,
+    pub whole: bool,
+}
+
+/// A number with or without a sign.
+#[derive(Clone, Copy)]
+pub enum Num {
+    Plus(Number),
+    Minus(Number),
+    Bare(Number),
+}
+
+/// A number that is 0 or 1.
+#[derive(Clone, Copy)]
+pub struct UnitNumber {
+    pub at: u32,
+    pub is_one: bool,
+    pub whole: bool,
+}
+
+/// A number that is 0.
+#[derive(Clone, Copy)]
+pub struct ZeroNumber {
+    pub at: u32,
+    pub whole: bool,
+}
+
+/// A degree, with or without a sign.
+#[derive(Clone, Copy)]
+pub enum Degree {
+    Plus(UnitNumber),
+    Minus(ZeroNumber),
+    Bare(UnitNumber),
+}
+
+/// RANGE. `assigned` says that `:=` stands behind it, `open_at` is the offset of its parenthesis.
+#[derive(Clone, Copy)]
+pub struct Range {
+    pub at: u32,
+    pub assigned: bool,
+    pub open_at: u32,
+    pub low: Num,
+    pub high: Num,
+}
+
+/// DEFUZZIFY up to END_DEFUZZIFY.
+#[derive(Drop)]
+pub struct Defuzzify {
+    pub at: u32,
+    pub name: Name,
+    pub lines: Vec<DefuzzyLine>,
+    pub end: u32,
+}
+
+#[derive(Clone, Copy)]
+pub enum DefuzzyLine {
+    Singleton(Singleton),
+    Accu(Setting),
+    Method(Setting),
+    Default(Fallback),
+    Range(Range),
+}
+
+/// A term of an output.
+#[derive(Clone, Copy)]
+pub struct Singleton {
+    pub at: u32,
+    pub name: Name,
+    pub value: Num,
+}
+
+/// A line `KEYWORD : word ;` whose word can only be one. `word` is the offset of that word.
+#[derive(Clone, Copy)]
+pub struct Setting {
+    pub at: u32,
+    pub word: u32,
+}
+
+/// DEFAULT.
+#[derive(Clone, Copy)]
+pub struct Fallback {
+    pub at: u32,
+    pub value: FallbackValue,
+}
+
+/// What stands behind `DEFAULT :=`: a number, or NC at its offset.
+#[derive(Clone, Copy)]
+pub enum FallbackValue {
+    Number(Num),
+    Nc(u32),
+}
+
+/// RULEBLOCK up to END_RULEBLOCK.
+#[derive(Drop)]
+pub struct Rulebase {
+    pub at: u32,
+    pub name: Name,
+    pub lines: Vec<RuleLine>,
+    pub rules: Vec<Rule>,
+    pub end: u32,
+}
+
+#[derive(Clone, Copy)]
+pub enum RuleLine {
+    And(Setting),
+    Or(Setting),
+    Act(Activation),
+    Accu(Setting),
+}
+
+/// ACT, and the offset of its word.
+#[derive(Clone, Copy)]
+pub struct Activation {
+    pub at: u32,
+    pub word: ActWord,
+}
+
+#[derive(Clone, Copy)]
+pub enum ActWord {
+    Min(u32),
+    Prod(u32),
+}
+
+/// A rule. `if_at` and `then_at` are the offsets of IF and THEN.
+#[derive(Drop)]
+pub struct Rule {
+    pub at: u32,
+    pub label: Label,
+    pub if_at: u32,
+    pub condition: Or,
+    pub then_at: u32,
+    pub first: Conclusion,
+    pub more: Vec<Conclusion>,
+    pub weight: Option<Weight>,
+}
+
+/// The number of a rule, which only labels it.
+#[derive(Clone, Copy)]
+pub struct Label {
+    pub at: u32,
+    pub amount: Amount,
+}
+
+/// Parts of a condition with OR between them.
+#[derive(Drop)]
+#[cycle(condition)]
+pub struct Or {
+    pub first: And,
+    pub more: Vec<Alternative>,
+}
+
+/// OR, and the part behind it.
+#[derive(Drop)]
+#[cycle(condition)]
+pub struct Alternative {
+    pub at: u32,
+    pub and: And,
+}
+
+/// Parts of a condition with AND between them.
+#[derive(Drop)]
+#[cycle(condition)]
+pub struct And {
+    pub first: Not,
+    pub more: Vec<Conjunct>,
+}
+
+/// AND, and the part behind it.
+#[derive(Drop)]
+#[cycle(condition)]
+pub struct Conjunct {
+    pub at: u32,
+    pub not: Not,
+}
+
+/// A part of a condition: NOT with what it negates, a parenthesis with its content, or an operand.
+#[derive(Drop)]
+#[cycle(condition)]
+pub enum Not {
+    Not(u32, Box<Not>),
+    Group(u32, Box<Or>),
+    Is(Operand),
+}
+
+/// `name IS [NOT] name`, with the offsets of IS and NOT.
+#[derive(Clone, Copy)]
+pub struct Operand {
+    pub variable: Name,
+    pub is_at: u32,
+    pub not_at: Option<u32>,
+    pub term: Name,
+}
+
+/// `name IS name` behind THEN.
+#[derive(Clone, Copy)]
+pub struct Conclusion {
+    pub variable: Name,
+    pub is_at: u32,
+    pub term: Name,
+}
+
+/// WITH and its number.
+#[derive(Clone, Copy)]
+pub struct Weight {
+    pub at: u32,
+    pub num: Num,
+}

@@ -1,0 +1,90 @@
+-- What a valid block has at its numbers.
+use Rattle.std.proofs.Common.{◌≡◌, ℕ, zero, suc, ◌-◌, ◌<◌, ◌≤◌, List, [], ◌∷◌, length, get_or, Option, Some, None, slice_get, refl, subst, arith}
+use Rattle.std.specs.Prelude.{All, IsSomeAnd, IfSome, ◌≤ℤ◌}
+use Rattle.std.proofs.lemmas.Int.{ints}
+use Rattle.std.proofs.lemmas.Option.{slice_get_within, get_or_from_slice_get, slice_get_read, slice_get-get_or}
+use Rattle.fz_num.specs.declared.dec.Dec.{Dec}
+use Rattle.fuzzy_meaning.specs.declared.block.Block.{Block}
+use Rattle.fuzzy_meaning.specs.declared.block.Input.{Input}
+use Rattle.fuzzy_meaning.specs.declared.block.Output.{Output}
+use Rattle.fuzzy_meaning.specs.declared.block.Trapezoid.{Trapezoid}
+use Rattle.fuzzy_meaning.specs.Blocks.{IsValid, IsValidInput, IsValidOutput, IsValidTerm, IsTrapezoid, IsInScale, IsWithin, HasTerm, AreInputs, output_at}
+use Rattle.fuzzy_meaning.specs.Degrees.{degree}
+use Rattle.fuzzy_meaning.specs.Meaning.{literal_degree}
+
+-- what holds of each element holds of the one at a place
+pub All-slice_get : {X : Type 0} (P : X → Type 0) (xs : List X) (i : ℕ) (x : X) → All P xs → slice_get xs i ≡ Some x → P x
+All-slice_get P xs i x h e = subst P (get_or_from_slice_get xs i x x e) (h i x (slice_get_within xs i x e))
+
+-- what holds of the element that there is
+pub IsSomeAnd-some : {X : Type 0} (P : X → Type 0) (o : Option X) (x : X) → o ≡ Some x → IsSomeAnd o P → P x
+IsSomeAnd-some P o x e h = subst (λ y. IsSomeAnd y P) e h
+
+pub IfSome-some : {X : Type 0} (P : X → Type 0) (o : Option X) (x : X) → o ≡ Some x → IfSome o P → P x
+IfSome-some P o x e h = subst (λ y. IfSome y P) e h
+
+-- a place that has an element lies within the list
+pub IsSomeAnd-within : {X : Type 0} (P : X → Type 0) (xs : List X) (i : ℕ) → IsSomeAnd (slice_get xs i) P → i < length xs
+IsSomeAnd-within P [] i h = absurd h
+IsSomeAnd-within P (x ∷ xs) zero h = omega arith
+IsSomeAnd-within P (x ∷ xs) (suc i) h = let l : i < length xs = IsSomeAnd-within P xs i h in omega arith
+
+in_scale : (lo hi x : Dec) → IsInScale lo.0 → IsInScale hi.0 → lo.0 ≤ℤ x.0 → x.0 ≤ℤ hi.0 → IsInScale x.0
+in_scale lo hi x l h from to = record { low = omega (arith, ints); high = omega (arith, ints) }
+
+pub IsInScale-within : (i : Input) (x : Dec) → IsValidInput i → IsWithin i.lo i.hi x → IsInScale x.0
+IsInScale-within i x v w = in_scale i.lo i.hi x v.lo_in v.hi_in w.low w.high
+
+left_in : (lo hi b : Dec) (a : Option Dec) → IsInScale lo.0 → IsInScale hi.0 → b.0 ≤ℤ hi.0 → IfSome a (λ p. (lo.0 ≤ℤ p.0) × (p.0 ≤ℤ b.0)) → IfSome a (λ p. IsInScale p.0 × (p.0 ≤ℤ b.0))
+left_in lo hi b None l h to e = e
+left_in lo hi b (Some a) l h to e = (in_scale lo hi a l h e.0 (omega (arith, ints, e.1)), e.1)
+
+right_in : (lo hi c : Dec) (d : Option Dec) → IsInScale lo.0 → IsInScale hi.0 → lo.0 ≤ℤ c.0 → IfSome d (λ p. (c.0 ≤ℤ p.0) × (p.0 ≤ℤ hi.0)) → IfSome d (λ p. IsInScale p.0 × (c.0 ≤ℤ p.0))
+right_in lo hi c None l h from e = e
+right_in lo hi c (Some d) l h from e = (in_scale lo hi d l h (omega (arith, ints, e.0)) e.1, e.0)
+
+pub IsTrapezoid-valid : (i : Input) (t : Trapezoid) → IsValidInput i → IsValidTerm i.lo i.hi t → IsTrapezoid t
+IsTrapezoid-valid i t v w =
+    let b_to : t.b.0 ≤ℤ i.hi.0 = omega (arith, ints, w.peak, w.c_in) in
+    let c_from : i.lo.0 ≤ℤ t.c.0 = omega (arith, ints, w.b_in, w.peak) in
+    record {
+      a_in = left_in i.lo i.hi t.b t.a v.lo_in v.hi_in b_to w.a_in;
+      b_in = in_scale i.lo i.hi t.b v.lo_in v.hi_in w.b_in b_to;
+      peak = w.peak;
+      c_in = in_scale i.lo i.hi t.c v.lo_in v.hi_in c_from w.c_in;
+      d_in = right_in i.lo i.hi t.c t.d v.lo_in v.hi_in c_from w.d_in;
+    }
+
+-- the input and the term that numbers name, and the number of the input
+pub record IsLiteral (b : Block) (xs : List Dec) (i t : ℕ) (input : Input) (term : Trapezoid) (x : Dec) : Type 0 where
+  pub input_is : slice_get b.inputs (i - 1) ≡ Some input
+  pub term_is : slice_get input.terms (t - 1) ≡ Some term
+  pub x_is : slice_get xs (i - 1) ≡ Some x
+
+pub literal_degree-found : (b : Block) (xs : List Dec) (i t : ℕ) (input : Input) (term : Trapezoid) (x : Dec) → IsLiteral b xs i t input term x → literal_degree b xs i t ≡ degree term x
+literal_degree-found b xs i t input term x l = rw (l.input_is, l.term_is, l.x_is) refl
+
+pub IsTrapezoid-literal : (b : Block) (xs : List Dec) (i t : ℕ) (input : Input) (term : Trapezoid) (x : Dec) → IsValid b → IsLiteral b xs i t input term x → IsTrapezoid term
+IsTrapezoid-literal b xs i t input term x v l =
+    let vi = All-slice_get IsValidInput b.inputs (i - 1) input v.inputs l.input_is in
+    IsTrapezoid-valid input term vi (All-slice_get (IsValidTerm input.lo input.hi) input.terms (t - 1) term vi.terms l.term_is)
+
+pub IsInScale-literal : (b : Block) (xs : List Dec) (i t : ℕ) (input : Input) (term : Trapezoid) (x : Dec) → IsValid b → AreInputs b xs → IsLiteral b xs i t input term x → IsInScale x.0
+IsInScale-literal b xs i t input term x v are l =
+    IsInScale-within input x (All-slice_get IsValidInput b.inputs (i - 1) input v.inputs l.input_is) (are.within (i - 1) input x l.input_is l.x_is)
+
+-- what is read there
+pub IsLiteral-read : (b : Block) (xs : List Dec) (i t : ℕ) (input : Input) (e : Trapezoid) (y : Dec) → HasTerm b i t → AreInputs b xs → input ≡ get_or b.inputs (i - 1) input → IsLiteral b xs i t input (get_or input.terms (t - 1) e) (get_or xs (i - 1) y)
+IsLiteral-read b xs i t input e y has are is =
+    let in_block : i - 1 < length b.inputs = IsSomeAnd-within (λ x. t ≤ length x.terms) b.inputs (i - 1) has.term_to in
+    let input_is = slice_get_read b.inputs (length b.inputs) (i - 1) input refl in_block is in
+    let few : t ≤ length input.terms = IsSomeAnd-some (λ x. t ≤ length x.terms) (slice_get b.inputs (i - 1)) input input_is has.term_to in
+    let from = has.term_from in
+    let in_terms : t - 1 < length input.terms = omega arith in
+    let count = are.count in
+    let in_xs : i - 1 < length xs = omega arith in
+    record { input_is = input_is; term_is = slice_get-get_or input.terms (t - 1) e in_terms; x_is = slice_get-get_or xs (i - 1) y in_xs }
+
+-- an output that a number names is valid
+pub IsValidOutput-at : (b : Block) (o : ℕ) (x : Output) → IsValid b → output_at b o ≡ Some x → IsValidOutput x
+IsValidOutput-at b o x v e = All-slice_get IsValidOutput b.outputs (o - 1) x v.outputs e

@@ -1,0 +1,4 @@
+pub mod BlockLemmas
+pub mod ConditionLemmas
+pub mod ShareLemmas
+pub mod ExampleLemmas

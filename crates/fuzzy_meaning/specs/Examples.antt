@@ -1,0 +1,66 @@
+-- Blocks that are valid.
+use Rattle.std.specs.Prelude.{ℕ, zero, suc, [], ◌∷◌, Some, None, ℤ, pos, neg_ℤ, replicate}
+use Rattle.std.specs.Global.{Box}
+use Rattle.fz_num.specs.declared.dec.Dec.{Dec}
+use Rattle.fuzzy_meaning.specs.declared.block.Block.{Block}
+use Rattle.fuzzy_meaning.specs.declared.block.Input.{Input}
+use Rattle.fuzzy_meaning.specs.declared.block.Output.{Output}
+use Rattle.fuzzy_meaning.specs.declared.block.Rule.{Rule}
+use Rattle.fuzzy_meaning.specs.declared.block.Trapezoid.{Trapezoid}
+use Rattle.fuzzy_meaning.specs.declared.block.Cond.{Cond, Is, Not'}
+use Rattle.fuzzy_meaning.specs.Blocks.{IsValid}
+
+abbrev pub dec : ℤ → Dec
+dec z = record { 0 = z }
+
+-- an input from 0 to 256 with a falling and a rising term, and a rule for each
+abbrev pub cold : Trapezoid
+cold = record { a = None; b = dec (pos 0); c = dec (pos 0); d = Some (dec (pos 2560000)) }
+
+abbrev pub hot : Trapezoid
+hot = record { a = Some (dec (pos 0)); b = dec (pos 2560000); c = dec (pos 2560000); d = None }
+
+abbrev pub heater : Block
+heater = record {
+  inputs = record { lo = dec (pos 0); hi = dec (pos 2560000); terms = cold ∷ hot ∷ [] } ∷ [];
+  outputs = record { lo = dec (pos 0); hi = dec (pos 1000000); singletons = dec (pos 0) ∷ dec (pos 1000000) ∷ []; default = Some (dec (pos 0)) } ∷ [];
+  rules =
+      record { cond = Is 1 1; weight = None; concl = (1, 1) ∷ [] } ∷
+      record { cond = Is 1 2; weight = None; concl = (1, 2) ∷ [] } ∷ [];
+}
+
+-- with vertical edges, a complement and DEFAULT := NC; p is where the condition under NOT lies
+abbrev pub step_at : ℕ → Trapezoid
+step_at n = record { a = Some (dec (pos n)); b = dec (pos n); c = dec (pos n); d = None }
+
+abbrev pub latch : Box (Unit {0}) → Block
+latch p = record {
+  inputs = record { lo = dec (pos 0); hi = dec (pos 2560000); terms = step_at 640000 ∷ step_at 1920000 ∷ [] } ∷ [];
+  outputs = record { lo = dec (pos 0); hi = dec (pos 1000000); singletons = dec (pos 0) ∷ dec (pos 1000000) ∷ []; default = None } ∷ [];
+  rules =
+      record { cond = Not' p (Is 1 1); weight = None; concl = (1, 2) ∷ [] } ∷
+      record { cond = Is 1 2; weight = None; concl = (1, 1) ∷ [] } ∷ [];
+}
+
+-- every limit is met: counts, depth, size and magnitudes
+unfoldable pub nots : Box (Unit {0}) → ℕ → Cond → Cond
+nots p zero c = c
+nots p (suc n) c = Not' p (nots p n c)
+
+abbrev pub full_term : Trapezoid
+full_term = record { a = Some (dec (neg_ℤ (pos 1000000000))); b = dec (pos 0); c = dec (pos 0); d = Some (dec (pos 1000000000)) }
+
+abbrev pub full_input : Input
+full_input = record { lo = dec (neg_ℤ (pos 1000000000)); hi = dec (pos 1000000000); terms = replicate 15 full_term }
+
+abbrev pub full_output : Output
+full_output = record { lo = dec (pos 1000000000); hi = dec (pos 1000010000); singletons = replicate 15 (dec (pos 1000000000)); default = Some (dec (pos 1000000000)) }
+
+unfoldable pub full_rule : Box (Unit {0}) → Rule
+full_rule p = record { cond = nots p 255 (Is 8 15); weight = Some (dec (pos 10000)); concl = replicate 3840 (4, 15) }
+
+abbrev pub full : Box (Unit {0}) → Block
+full p = record { inputs = replicate 8 full_input; outputs = replicate 4 full_output; rules = replicate 256 (full_rule p) }
+
+abbrev pub ExamplesAreValid : Type 0
+ExamplesAreValid = IsValid heater × ((p : Box (Unit {0})) → IsValid (latch p) × IsValid (full p))

@@ -1,0 +1,13 @@
+pub mod ChoicesLemmas
+pub mod SpreadLemmas
+pub mod CondLemmas
+pub mod SizeLemmas
+pub mod TableLemmas
+pub mod SlotLemmas
+pub mod NumberLemmas
+pub mod BlockLemmas
+pub mod ListLemmas
+pub mod RuleLemmas
+pub mod MemberLemmas
+pub mod LayoutLemmas
+pub mod TruthLemmas

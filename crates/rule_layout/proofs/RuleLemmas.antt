@@ -1,0 +1,99 @@
+-- The sizes of rules, one after another.
+use Rattle.std.proofs.Common.{◌≡◌, ℕ, ◌+◌, ◌*◌, ◌<◌, ◌≤◌, false, List, [], ◌∷◌, ◌++◌, length, map, get_or, take, replicate, Some, None, Ok, refl, sym, ap, ap₂, ◌∙◌, subst, arith}
+use Rattle.std.specs.Prelude.{All, flat_map}
+use Rattle.std.proofs.lemmas.List.{take_more, get_or-take, length-take, flat_map_more}
+use Rattle.std.proofs.lemmas.List.Sums.{sum_by_more, sum_by-cons}
+use Rattle.std.proofs.lemmas.List.Elements.{All-head, All-tail}
+use Rattle.std.proofs.Math.Nat.{mul-le-mul_left}
+use Rattle.fuzzy_meaning.specs.declared.block.Rule.{Rule}
+use Rattle.fuzzy_meaning.specs.Conditions.{condition_of, nodes}
+use Rattle.rule_layout.specs.declared.sizes.Size.{Size}
+use Rattle.rule_layout.specs.Spreading.{Literal, total_length}
+use Rattle.rule_layout.specs.Sizes.{IsCountable, rule_entries, entry_count, IsSizeOfRule, IsSizeOfRules, IsSum, IsSmall}
+use Rattle.rule_layout.specs.declared.flat.Conjunction.{Conjunction}
+use Rattle.rule_layout.specs.Slots.{out_slot}
+use Rattle.rule_layout.specs.Tables.{table_number, table_literal, table_literals}
+use Rattle.rule_layout.specs.Layouts.{rule_spread, conjunction_count, IsFirstTooMany, table_conjunction, table_conjunctions, with_conclusions}
+use Rattle.rule_layout.proofs.SpreadLemmas.{entries_le}
+
+entries_bound : (e m n k : ℕ) → e ≤ m * n → n + k ≤ 1048576 → e + m * (k + 2) ≤ m * 2097152
+entries_bound e m n k h few =
+    let wide : m * (n + (k + 2)) ≤ m * 2097152 = mul-le-mul_left m (omega arith) in
+    omega (arith, wide)
+
+rule_entries_le : (r : Rule) → IsCountable r → rule_entries r ≤ length (rule_spread r) * 2097152
+rule_entries_le r h = entries_bound (total_length (rule_spread r)) (length (rule_spread r)) (nodes (condition_of r.cond)) (length r.concl) (entries_le false (condition_of r.cond)) h.few
+
+pub entry_count_le : (rules : List Rule) → All IsCountable rules → entry_count rules ≤ conjunction_count rules * 2097152
+entry_count_le [] h = omega arith
+entry_count_le (r ∷ rs) h =
+    let here = rule_entries_le r (All-head IsCountable r rs h) in
+    let later = entry_count_le rs (All-tail IsCountable r rs h) in
+    let entries = sum_by-cons rule_entries r rs in
+    let counts = sum_by-cons (λ (q : Rule). length (rule_spread q)) r rs in
+    omega (arith, here, later, entries, counts)
+
+All-take : {X : Type 0} (P : X → Type 0) (xs : List X) (i : ℕ) → All P xs → All P (take i xs)
+All-take P xs i h = λ k d lt.
+    let inside : k < i = omega (arith, lt, length-take i xs) in
+    subst P (sym (get_or-take i xs k d inside)) (h k d (omega (arith, lt, length-take i xs)))
+
+module _ (rules : List Rule) (i : ℕ) (r : Rule) (lt : i < length rules) (here : r ≡ get_or rules i r) where
+  pub count_more : conjunction_count (take (i + 1) rules) ≡ conjunction_count (take i rules) + length (rule_spread r)
+  count_more = sum_by_more (λ (q : Rule). length (rule_spread q)) rules i r lt ∙ ap (λ (q : Rule). conjunction_count (take i rules) + length (rule_spread q)) (sym here)
+
+  pub entries_more : entry_count (take (i + 1) rules) ≡ entry_count (take i rules) + rule_entries r
+  entries_more = sum_by_more rule_entries rules i r lt ∙ ap (λ (q : Rule). entry_count (take i rules) + rule_entries q) (sym here)
+
+  pub rules_more : (t s u : Size) → IsSizeOfRules (take i rules) (Ok t) → IsSizeOfRule r (Some s) → IsSum t s (Some u) → IsSizeOfRules (take (i + 1) rules) (Ok u)
+  rules_more t s u h k sum = (
+    omega (arith, count_more, h.0, h.1, h.2, k.0, k.1, k.2, sum.0, sum.1, sum.2),
+    omega (arith, count_more, h.0, h.1, h.2, k.0, k.1, k.2, sum.0, sum.1, sum.2),
+    omega (arith, entries_more, h.0, h.1, h.2, k.0, k.1, k.2, sum.0, sum.1, sum.2),
+  )
+
+  pub too_many_by_rule : (t : Size) (n : ℕ) → n ≡ i + 1 → IsSizeOfRules (take i rules) (Ok t) → IsSizeOfRule r None → IsFirstTooMany rules n
+  too_many_by_rule t n e h k = record {
+    from = omega arith;
+    to = omega arith;
+    before = subst (λ (m : ℕ). conjunction_count (take m rules) ≤ 512) (omega arith) h.0;
+    over = subst (λ (m : ℕ). 512 < conjunction_count (take m rules)) (sym e) (omega (arith, count_more, k));
+  }
+
+  pub too_many_by_sum : (t s : Size) (n : ℕ) → n ≡ i + 1 → IsSizeOfRules (take i rules) (Ok t) → IsSizeOfRule r (Some s) → IsSum t s None → IsFirstTooMany rules n
+  too_many_by_sum t s n e h k sum = record {
+    from = omega arith;
+    to = omega arith;
+    before = subst (λ (m : ℕ). conjunction_count (take m rules) ≤ 512) (omega arith) h.0;
+    over = subst (λ (m : ℕ). 512 < conjunction_count (take m rules)) (sym e) (omega (arith, count_more, h.1, k.1, sum));
+  }
+
+pub rules_small : (rules : List Rule) (i : ℕ) (t : Size) → All IsCountable rules → IsSizeOfRules (take i rules) (Ok t) → IsSmall t
+rules_small rules i t h k = record {
+  few = omega (arith, k.0, k.1);
+  short = omega (arith, k.0, k.1, k.2, entry_count_le (take i rules) (All-take IsCountable rules i h));
+}
+
+pub rule_small : (r : Rule) (s : Size) → IsCountable r → IsSizeOfRule r (Some s) → IsSmall s
+rule_small r s h k = record { few = omega (arith, k.0, k.1); short = omega (arith, k.0, k.1, k.2, rule_entries_le r h) }
+
+pub replicate_as_map : {X : Type 0} (w n : ℕ) (xs : List X) → n ≡ length xs → replicate n w ≡ map (λ _. w) xs
+replicate_as_map w n [] e = rw e refl
+replicate_as_map w n (x ∷ xs) e = rw e (ap (λ (ws : List ℕ). w ∷ ws) (replicate_as_map w (length xs) xs refl))
+
+-- one rule's part of a list more
+pub flat_map_step : {X A : Type 0} (f : X → List A) (xs : List X) (i : ℕ) (x : X) (front back : List A) → i < length xs → x ≡ get_or xs i x →
+    front ≡ flat_map f (take i xs) → back ≡ front ++ f x → back ≡ flat_map f (take (i + 1) xs)
+flat_map_step f xs i x front back lt here before more =
+    more ∙ (ap (λ w. w ++ f x) before ∙ (flat_map_more f [] (take i xs) x ∙ ap (flat_map f) (ap (λ y. take i xs ++ y ∷ []) here ∙ sym (take_more xs i x lt))))
+
+with_conclusions-map : (table concl : List ℕ) (r : Rule) (cs : List (List Literal)) → concl ≡ map (λ p. table_number table (out_slot p)) r.concl →
+    map (with_conclusions concl) (table_literals table cs) ≡ map (table_conjunction table r) cs
+with_conclusions-map table concl r [] e = refl
+with_conclusions-map table concl r (c ∷ cs) e =
+    ap₂ (λ (w : List ℕ) (v : List Conjunction). with_conclusions w (map (table_literal table) c) ∷ v) e (with_conclusions-map table concl r cs e)
+
+pub table_conjunctions_made : (table : List ℕ) (r : Rule) (spread : List (List ℕ)) (concl : List ℕ) → spread ≡ table_literals table (rule_spread r) → concl ≡ map (λ p. table_number table (out_slot p)) r.concl →
+    map (with_conclusions concl) spread ≡ table_conjunctions table r
+table_conjunctions_made table r spread concl e k =
+    ap (map (with_conclusions concl)) e ∙ with_conclusions-map table concl r (rule_spread r) k

@@ -1,0 +1,8 @@
+use Rattle.std.proofs.Common.{◌≡◌, ℕ, take}
+use Rattle.rule_layout.specs.Grid.{IsInGrid}
+use Rattle.rule_layout.specs.Slots.{is_complemented}
+use Rattle.rule_layout.specs.Tables.{is_marked}
+use Rattle.rule_layout.proofs.slots.Complements.new.Given as goal
+
+abbrev pub invariant-loop-rule : goal.invariant-loop-rule
+invariant-loop-rule l = (i t : ℕ) → IsInGrid i t → is_marked l.complements.table i t ≡ is_complemented (take l.rule-index l.rules) i t

@@ -1,0 +1,7 @@
+use Rattle.std.proofs.Common.{◌≡◌, ◌++◌, map, filter, take}
+use Rattle.rule_layout.specs.Slots.{complement_slot}
+use Rattle.rule_layout.specs.Tables.{is_marked}
+use Rattle.rule_layout.proofs.slots.push_complement_slots.Given as goal
+
+abbrev pub invariant-loop-input : goal.invariant-loop-input
+invariant-loop-input l = l.slots.items ≡ l.initial.slots.items ++ map complement_slot (filter (λ p. is_marked l.used.table p.0 p.1) (take l.input-index l.terms))

@@ -1,0 +1,6 @@
+use Rattle.std.proofs.Common.{◌≡◌, take}
+use Rattle.rule_layout.specs.Spreading.{choices}
+use Rattle.rule_layout.proofs.spreading.extended.Given as goal
+
+abbrev pub invariant-loop-head : goal.invariant-loop-head
+invariant-loop-head l = l.all.items ≡ choices (take l.head-index l.head-items) l.tails

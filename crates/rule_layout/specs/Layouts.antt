@@ -1,0 +1,118 @@
+-- What a block's rules are laid out as, and when they are too many.
+use Rattle.std.specs.Prelude.{◌≡◌, ℕ, ◌-◌, ◌*◌, ◌<◌, ◌≤◌, Bool, false, not, ◌&&◌, nat_le, List, map, length, take, sum_by, flat_map, All, Option, Some, None, pos, int_lt, if◌then◌else◌}
+use Rattle.std.specs.List.{list_any}
+use Rattle.fz_num.specs.declared.dec.Dec.{Dec}
+use Rattle.fuzzy_meaning.specs.declared.block.Block.{Block}
+use Rattle.fuzzy_meaning.specs.declared.block.Rule.{Rule}
+use Rattle.fuzzy_meaning.specs.Conditions.{condition_of}
+use Rattle.rule_layout.specs.declared.flat.Slot.{Slot}
+use Rattle.rule_layout.specs.declared.flat.Conjunction.{Conjunction}
+use Rattle.rule_layout.specs.declared.flat.Form.{Form}
+use Rattle.rule_layout.specs.declared.flat.Form.TheVariants.{Rev, Revw}
+use Rattle.rule_layout.specs.declared.flat.Flat.{Flat}
+use Rattle.rule_layout.specs.declared.flat.LayoutFault.{LayoutFault}
+use Rattle.rule_layout.specs.declared.flat.LayoutFault.TheVariants.{TooManyRules, ListTooLong, Memory}
+use Rattle.rule_layout.specs.Spreading.{Literal, spread_of}
+use Rattle.rule_layout.specs.Grid.{FitsGrid}
+use Rattle.rule_layout.specs.Slots.{slots_of, literal_number, conclusion_number, out_slot}
+use Rattle.rule_layout.specs.Tables.{table_literal, table_number, IsInTable}
+use Rattle.rule_layout.specs.Lists.{marked}
+use Rattle.byte_scaling.specs.Weights.{weight_byte_of}
+
+-- a rule's condition spread
+abbrev pub rule_spread : Rule → List (List Literal)
+rule_spread r = spread_of false (condition_of r.cond)
+
+-- a conjunction of a rule, by the numbers of the slots
+abbrev pub conjunction_of : List Slot → Rule → List Literal → Conjunction
+conjunction_of ss r ls = record { literals = map (literal_number ss) ls; conclusions = map (conclusion_number ss) r.concl }
+
+abbrev pub rule_conjunctions : List Slot → Rule → List Conjunction
+rule_conjunctions ss r = map (conjunction_of ss r) (rule_spread r)
+
+abbrev pub rule_weights : Rule → List ℕ
+rule_weights r = map (λ _. weight_byte_of r.weight) (rule_spread r)
+
+unfoldable pub conjunctions_of : Block → List Conjunction
+conjunctions_of b = flat_map (rule_conjunctions (slots_of b)) b.rules
+
+unfoldable pub weights_of : Block → List ℕ
+weights_of b = flat_map rule_weights b.rules
+
+-- a weight below 1
+abbrev pub is_below_one : Option Dec → Bool
+is_below_one None = false
+is_below_one (Some w) = int_lt w.0 (pos 10000)
+
+-- REV, where bytes can number the slots and no rule has a weight below 1
+abbrev pub form_by : ℕ → List Rule → Form
+form_by slots rules = if nat_le slots 254 && not (list_any (λ r. is_below_one r.weight) rules) then Rev else Revw
+
+unfoldable pub form_of : Block → Form
+form_of b = form_by (length (slots_of b)) b.rules
+
+unfoldable pub flat_of : Block → Flat
+flat_of b = record { slots = slots_of b; conjunctions = conjunctions_of b; weights = weights_of b; form = form_of b }
+
+-- how many conjunctions the rules have in all
+abbrev pub conjunction_count : List Rule → ℕ
+conjunction_count rules = sum_by (λ r. length (rule_spread r)) rules
+
+-- how many bytes an element of the list has
+abbrev pub element_width : Form → ℕ
+element_width Rev = 1
+element_width Revw = 2
+
+-- how many bytes the list has
+unfoldable pub list_size : Block → ℕ
+list_size b = element_width (form_of b) * length (marked 0xFE 0xFF (conjunctions_of b))
+
+-- the limits of a layout
+pub record IsWithinLimits (b : Block) : Type 0 where
+  pub few_conjunctions : conjunction_count b.rules ≤ 512
+  pub short_list : list_size b ≤ 9984
+
+-- the first rule, from 1, with which the conjunctions are more than 512
+pub record IsFirstTooMany (rules : List Rule) (n : ℕ) : Type 0 where
+  pub from : 1 ≤ n
+  pub to : n ≤ length rules
+  pub before : conjunction_count (take (n - 1) rules) ≤ 512
+  pub over : 512 < conjunction_count (take n rules)
+
+-- each number of the conjunction is below n
+pub record IsBelow (n : ℕ) (c : Conjunction) : Type 0 where
+  pub literals : All (λ k. k < n) c.literals
+  pub conclusions : All (λ k. k < n) c.conclusions
+
+-- what a list of rules in bytes or words needs: its marks are no slots
+pub record IsLaidOut (f : Flat) : Type 0 where
+  pub few_slots : length f.slots ≤ 300
+  pub few_for_rev : f.form ≡ Rev → length f.slots ≤ 254
+  pub in_range : All (IsBelow (length f.slots)) f.conjunctions
+
+-- a conjunction of a rule, by a table of the slots' numbers
+abbrev pub table_conjunction : List ℕ → Rule → List Literal → Conjunction
+table_conjunction table r ls = record { literals = map (table_literal table) ls; conclusions = map (λ p. table_number table (out_slot p)) r.concl }
+
+abbrev pub table_conjunctions : List ℕ → Rule → List Conjunction
+table_conjunctions table r = map (table_conjunction table r) (rule_spread r)
+
+-- a rule that can be spread by a table
+pub record IsSpreadable (r : Rule) : Type 0 where
+  pub fits : FitsGrid (condition_of r.cond)
+  pub conclusions : All (λ p. IsInTable (out_slot p)) r.concl
+
+abbrev pub with_conclusions : List ℕ → List ℕ → Conjunction
+with_conclusions concl ls = record { literals = ls; conclusions = concl }
+
+-- the list is too long by its number of bytes, and the conjunctions are not too many
+pub record IsTooLong (b : Block) (n : ℕ) : Type 0 where
+  pub few_conjunctions : conjunction_count b.rules ≤ 512
+  pub bytes : n ≡ list_size b
+  pub over : 9984 < n
+
+-- the fault is the block's; want of memory is no one's
+abbrev pub IsFaultOf : Block → LayoutFault → Type 0
+IsFaultOf b (TooManyRules n) = IsFirstTooMany b.rules n
+IsFaultOf b (ListTooLong n) = IsTooLong b n
+IsFaultOf b Memory = Unit {0}

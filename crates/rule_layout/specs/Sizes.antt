@@ -1,0 +1,52 @@
+-- What the sizes of lists of conjunctions say.
+use Rattle.std.specs.Prelude.{◌≡◌, ℕ, ◌+◌, ◌*◌, ◌<◌, ◌≤◌, List, length, sum_by, Option, Some, None, Result, Ok, Err}
+use Rattle.fuzzy_meaning.specs.declared.block.Rule.{Rule}
+use Rattle.fuzzy_meaning.specs.Conditions.{condition_of}
+use Rattle.fuzzy_meaning.specs.Blocks.{rule_size}
+use Rattle.rule_layout.specs.declared.flat.LayoutFault.{LayoutFault}
+use Rattle.rule_layout.specs.declared.flat.LayoutFault.TheVariants.{TooManyRules, ListTooLong, Memory}
+use Rattle.rule_layout.specs.declared.sizes.Size.{Size}
+use Rattle.rule_layout.specs.Spreading.{total_length}
+use Rattle.rule_layout.specs.Grid.{FitsGrid}
+use Rattle.rule_layout.specs.Layouts.{rule_spread, conjunction_count, IsFirstTooMany}
+
+-- at most 512 conjunctions, of some two million entries each
+pub record IsSmall (s : Size) : Type 0 where
+  pub few : s.conjunctions ≤ 512
+  pub short : s.entries ≤ s.conjunctions * 2097152
+
+-- the list's numbers of conjunctions and entries, or none where there are more than 512
+abbrev pub IsSizeOf : {A : Type 0} → List (List A) → Option Size → Type 0
+IsSizeOf xs None = 512 < length xs
+IsSizeOf xs (Some s) = (length xs ≤ 512) × (s.conjunctions ≡ length xs) × (s.entries ≡ total_length xs)
+
+abbrev pub IsSum : Size → Size → Option Size → Type 0
+IsSum s o None = 512 < s.conjunctions + o.conjunctions
+IsSum s o (Some r) = (r.conjunctions ≡ s.conjunctions + o.conjunctions) × (r.conjunctions ≤ 512) × (r.entries ≡ s.entries + o.entries)
+
+abbrev pub IsProduct : Size → Size → Option Size → Type 0
+IsProduct s o None = 512 < s.conjunctions * o.conjunctions
+IsProduct s o (Some r) = (r.conjunctions ≡ s.conjunctions * o.conjunctions) × (r.conjunctions ≤ 512) × (r.entries ≡ s.entries * o.conjunctions + s.conjunctions * o.entries)
+
+-- a rule whose size can be counted
+pub record IsCountable (r : Rule) : Type 0 where
+  pub fits : FitsGrid (condition_of r.cond)
+  pub few : rule_size r ≤ 1048576
+
+-- the elements of the list that a rule gives: each conjunction has the rule's conclusions and two
+-- marks
+abbrev pub rule_entries : Rule → ℕ
+rule_entries r = total_length (rule_spread r) + length (rule_spread r) * (length r.concl + 2)
+
+abbrev pub entry_count : List Rule → ℕ
+entry_count rules = sum_by rule_entries rules
+
+abbrev pub IsSizeOfRule : Rule → Option Size → Type 0
+IsSizeOfRule r None = 512 < length (rule_spread r)
+IsSizeOfRule r (Some s) = (length (rule_spread r) ≤ 512) × (s.conjunctions ≡ length (rule_spread r)) × (s.entries ≡ rule_entries r)
+
+abbrev pub IsSizeOfRules : List Rule → Result Size LayoutFault → Type 0
+IsSizeOfRules rules (Ok s) = (conjunction_count rules ≤ 512) × (s.conjunctions ≡ conjunction_count rules) × (s.entries ≡ entry_count rules)
+IsSizeOfRules rules (Err (TooManyRules n)) = IsFirstTooMany rules n
+IsSizeOfRules rules (Err (ListTooLong n)) = ⊥
+IsSizeOfRules rules (Err Memory) = ⊥

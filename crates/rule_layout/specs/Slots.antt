@@ -1,0 +1,79 @@
+-- The slots of a block, and their numbers.
+use Rattle.std.specs.Prelude.{ℕ, ◌+◌, ◌==◌, ◌&&◌, ◌||◌, Bool, false, not, List, [], ◌∷◌, ◌++◌, map, filter, length, if◌then◌else◌}
+use Rattle.std.specs.List.{range_with_len, list_any}
+use Rattle.fuzzy_meaning.specs.declared.block.Block.{Block}
+use Rattle.fuzzy_meaning.specs.declared.block.Input.{Input}
+use Rattle.fuzzy_meaning.specs.declared.block.Output.{Output}
+use Rattle.fuzzy_meaning.specs.declared.block.Rule.{Rule}
+use Rattle.fuzzy_meaning.specs.Conditions.{Condition, is, negation, all, any, Conditions, end, also, condition_of}
+use Rattle.rule_layout.specs.declared.flat.Slot.{Slot}
+use Rattle.rule_layout.specs.declared.flat.Slot.TheVariants.{Term, Complement, Out}
+use Rattle.rule_layout.specs.Spreading.{Literal}
+
+-- the terms of variable i, of which there are n, and then those of the variables after it: each
+-- a variable and a term of it, both from 1
+abbrev pub terms_from : ℕ → List ℕ → List (ℕ × ℕ)
+terms_from i [] = []
+terms_from i (n ∷ ns) = map (λ t. (i, t)) (range_with_len 1 n) ++ terms_from (i + 1) ns
+
+abbrev pub term_count : Input → ℕ
+term_count x = length x.terms
+
+abbrev pub singleton_count : Output → ℕ
+singleton_count x = length x.singletons
+
+abbrev pub input_terms : Block → List (ℕ × ℕ)
+input_terms b = terms_from 1 (map term_count b.inputs)
+
+abbrev pub output_terms : Block → List (ℕ × ℕ)
+output_terms b = terms_from 1 (map singleton_count b.outputs)
+
+-- input i and term t stand in the condition under an odd number of NOTs
+abbrev mutual
+  pub has_complement : ℕ → ℕ → Bool → Condition → Bool
+  has_complement i t odd (is j u) = odd && (i == j && t == u)
+  has_complement i t odd (negation c) = has_complement i t (not odd) c
+  has_complement i t odd (all cs) = some_has_complement i t odd cs
+  has_complement i t odd (any cs) = some_has_complement i t odd cs
+
+  pub some_has_complement : ℕ → ℕ → Bool → Conditions → Bool
+  some_has_complement i t odd end = false
+  some_has_complement i t odd (also c cs) = has_complement i t odd c || some_has_complement i t odd cs
+
+-- some rule uses the complement of input i's term t
+abbrev pub is_complemented : List Rule → ℕ → ℕ → Bool
+is_complemented rules i t = list_any (λ r. has_complement i t false (condition_of r.cond)) rules
+
+abbrev pub term_slot : ℕ × ℕ → Slot
+term_slot p = Term p.0 p.1
+
+abbrev pub complement_slot : ℕ × ℕ → Slot
+complement_slot p = Complement p.0 p.1
+
+abbrev pub out_slot : ℕ × ℕ → Slot
+out_slot p = Out p.0 p.1
+
+-- all input terms in the order of their declaration, the complements that some rule uses, in the
+-- same order, and all output terms
+unfoldable pub slots_of : Block → List Slot
+slots_of b = map term_slot (input_terms b) ++ (map complement_slot (filter (λ p. is_complemented b.rules p.0 p.1) (input_terms b)) ++ map out_slot (output_terms b))
+
+abbrev pub is_same_slot : Slot → Slot → Bool
+is_same_slot (Term i t) (Term j u) = i == j && t == u
+is_same_slot (Complement i t) (Complement j u) = i == j && t == u
+is_same_slot (Out i t) (Out j u) = i == j && t == u
+is_same_slot _ _ = false
+
+-- a slot's first place in a list of slots, from 0
+abbrev pub number_in : List Slot → Slot → ℕ
+number_in [] s = 0
+number_in (x ∷ xs) s = if is_same_slot s x then 0 else number_in xs s + 1
+
+abbrev pub literal_slot : Literal → Slot
+literal_slot l = if l.complement then Complement l.input l.term else Term l.input l.term
+
+abbrev pub literal_number : List Slot → Literal → ℕ
+literal_number ss l = number_in ss (literal_slot l)
+
+abbrev pub conclusion_number : List Slot → ℕ × ℕ → ℕ
+conclusion_number ss p = number_in ss (out_slot p)

@@ -1,0 +1,216 @@
+//! The layout of a block's rules.
+ghost use Rattle.std.specs.Prelude.{◌≡◌, ◌*◌, ◌<◌, ◌≤◌, ◌++◌, nat_le, ◌&&◌, not, map, replicate, flat_map, length, All, IfOk, IfErr, OnOk, IfSome, sum_by, true, false};
+ghost use Rattle.std.specs.List.{list_any};
+ghost use Rattle.fuzzy_meaning.specs.Blocks.{IsValid, IsWeight, rule_size};
+ghost use Rattle.rule_layout.specs.declared.flat.LayoutFault.TheVariants.{Memory};
+ghost use Rattle.rule_layout.specs.Slots.{out_slot};
+ghost use Rattle.rule_layout.specs.Tables.{IsInTable, table_number};
+ghost use Rattle.rule_layout.specs.Sizes.{IsCountable, IsSizeOfRule, IsSizeOfRules};
+ghost use Rattle.rule_layout.specs.Layouts.{flat_of, IsWithinLimits, IsFaultOf, IsLaidOut, rule_spread, rule_weights, table_conjunctions, IsSpreadable, is_below_one, form_by, element_width, with_conclusions};
+
+use crate::flat::{Conjunction, Flat, Form, LayoutFault, Slot};
+use crate::sizes::{Size, size_of};
+use crate::slots::{SlotNumbers, slots};
+use crate::spreading::conjunctions;
+use byte_scaling::weight_byte;
+use fuzzy_meaning::{Block, Rule};
+use fz_list::List;
+use fz_num::Dec;
+use std::alloc::{AllocError, Global};
+
+/// The most bytes of a rule list.
+const MOST_LIST_BYTES: u32 = 9984;
+
+/// The most slots that bytes can number beside the marks `$FE` and `$FF`.
+const MOST_BYTE_SLOTS: usize = 254;
+
+impl From<AllocError> for LayoutFault {
+    ghost from_gives = { λ _ e. e ≡ Memory };
+
+    fn from(_: AllocError) -> LayoutFault {
+        LayoutFault::Memory
+    }
+}
+
+/// A block's rules laid out. The number of conjunctions and the length of the list are found
+/// before anything is spread, and so are `TooManyRules` and, where that does not come,
+/// `ListTooLong`.
+pub fn spread(alloc: Global, block: &Block) -> Result<Flat, LayoutFault>
+    requires { IsValid block.now }
+    ensures value { IfOk result (λ f. f ≡ flat_of block.now) }
+    ensures limits { OnOk result (IsWithinLimits block.now) }
+    ensures fault { IfErr result (IsFaultOf block.now) }
+
+    // What `Flat::bytes` and `Flat::words` ask for.
+    ensures laid_out { IfOk result IsLaidOut }
+{
+    let rules = block.rules.as_slice();
+    let size = size_of_rules(rules)?;
+    let slots = slots(alloc, block)?;
+    let form = form_of(slots.len(), rules);
+    let bytes = element_width(form) * size.entries;
+    if bytes > MOST_LIST_BYTES {
+        return Err(LayoutFault::ListTooLong(bytes));
+    }
+    let numbers = SlotNumbers::new(&slots);
+    let conjunctions = conjunctions_of(alloc, &numbers, rules)?;
+    let weights = weights_of(alloc, rules)?;
+    Ok(Flat {
+        slots: List::new(slots),
+        conjunctions: List::new(conjunctions),
+        weights: List::new(weights),
+        form,
+    })
+}
+
+/// The number of conjunctions that rules spread into and the number of elements of their list.
+fn size_of_rules(rules: &[Rule]) -> Result<Size, LayoutFault>
+    requires countable { All IsCountable rules.now }
+    requires few { length rules.now ≤ 256 }
+    ensures { IsSizeOfRules rules.now result }
+{
+    let mut total = Size::NONE;
+    let mut number = 0;
+    for rule in rules {
+        number += 1;
+        let Some(size) = size_of_rule(rule) else {
+            return Err(LayoutFault::TooManyRules(number));
+        };
+        let Some(sum) = total.plus(size) else {
+            return Err(LayoutFault::TooManyRules(number));
+        };
+        total = sum;
+    }
+    Ok(total)
+}
+
+/// The same of one rule: each conjunction has the rule's conclusions and two marks.
+fn size_of_rule(rule: &Rule) -> Option<Size>
+    requires { IsCountable rule.now }
+    ensures { IsSizeOfRule rule.now result }
+{
+    let size = size_of(&rule.cond, false)?;
+    let others = rule.concl.len() as u32 + 2;
+    Some(Size {
+        conjunctions: size.conjunctions,
+        entries: size.entries + size.conjunctions * others,
+    })
+}
+
+fn form_of(slots: usize, rules: &[Rule]) -> Form
+    ensures { result ≡ form_by slots rules.now }
+{
+    if slots <= MOST_BYTE_SLOTS && !is_weighted(rules) {
+        Form::Rev
+    } else {
+        Form::Revw
+    }
+}
+
+/// Whether some rule has a weight below 1.
+fn is_weighted(rules: &[Rule]) -> bool
+    ensures { result ≡ list_any (λ r. is_below_one r.weight) rules.now }
+{
+    rules.iter().any(|rule| is_below_one(rule.weight))
+}
+
+fn is_below_one(weight: Option<Dec>) -> bool
+    ensures { result ≡ is_below_one weight }
+{
+    match weight {
+        None => false,
+        Some(weight) => weight.0 < 10000,
+    }
+}
+
+/// The bytes of an element of the list.
+fn element_width(form: Form) -> u32
+    ensures { result ≡ element_width form }
+{
+    match form {
+        Form::Rev => 1,
+        Form::Revw => 2,
+    }
+}
+
+/// The conjunctions of some rules, in order.
+fn conjunctions_of(
+    alloc: Global,
+    numbers: &SlotNumbers,
+    rules: &[Rule],
+) -> Result<Vec<Conjunction>, AllocError>
+    requires { All IsSpreadable rules.now }
+    ensures { IfOk result
+        (λ v. v.items ≡ flat_map (table_conjunctions numbers.now.table) rules.now) }
+{
+    let mut all = Vec::new(alloc);
+    for rule in rules {
+        let conclusions = conclusions_of(alloc, numbers, rule.concl.as_slice())?;
+        let spread = conjunctions(alloc, numbers, &rule.cond, false)?;
+        push_conjunctions(alloc, &mut all, spread, &conclusions)?;
+    }
+    Ok(all)
+}
+
+/// The slots that a rule's conclusions raise.
+fn conclusions_of(
+    alloc: Global,
+    numbers: &SlotNumbers,
+    conclusions: &[(u8, u8)],
+) -> Result<Vec<u16>, AllocError>
+    requires { All (λ p. IsInTable (out_slot p)) conclusions.now }
+    ensures { IfOk result
+        (λ v. v.items ≡ map (λ p. table_number numbers.now.table (out_slot p)) conclusions.now) }
+{
+    let mut all = Vec::new(alloc);
+    for (output, term) in conclusions {
+        all.push(numbers.number(Slot::Out(*output, *term)))?;
+    }
+    Ok(all)
+}
+
+/// Puts conjunctions of one rule behind those before.
+fn push_conjunctions(
+    alloc: Global,
+    all: &mut Vec<Conjunction>,
+    spread: Vec<List<u16>>,
+    conclusions: &[u16],
+) -> Result<(), AllocError>
+    ensures { OnOk result
+        (all.new.items ≡ all.old.items ++ map (with_conclusions conclusions.now) spread.items) }
+{
+    for literals in spread {
+        let conclusions = List::new(Vec::from_slice(alloc, conclusions)?);
+        all.push(Conjunction {
+            literals,
+            conclusions,
+        })?;
+    }
+    Ok(())
+}
+
+/// The weight bytes, one for each conjunction.
+fn weights_of(alloc: Global, rules: &[Rule]) -> Result<Vec<u8>, AllocError>
+    requires countable { All IsCountable rules.now }
+    requires few { All (λ r. length (rule_spread r) ≤ 512) rules.now }
+    requires weights { All (λ r. IfSome r.weight IsWeight) rules.now }
+    ensures { IfOk result (λ v. v.items ≡ flat_map rule_weights rules.now) }
+{
+    let mut weights = Vec::new(alloc);
+    for rule in rules {
+        if let Some(size) = size_of(&rule.cond, false) {
+            push_times(&mut weights, weight_byte(rule.weight), size.conjunctions)?;
+        }
+    }
+    Ok(weights)
+}
+
+/// Puts a byte behind the others a number of times.
+fn push_times(bytes: &mut Vec<u8>, byte: u8, times: u32) -> Result<(), AllocError>
+    ensures { OnOk result (bytes.new.items ≡ bytes.old.items ++ replicate times byte) }
+{
+    for _time in 0..times {
+        bytes.push(byte)?;
+    }
+    Ok(())
+}

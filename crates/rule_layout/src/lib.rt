@@ -1,0 +1,22 @@
+//! The rules of a block laid out for the fuzzy instructions REV and REVW (CPU12 Reference Manual).
+//!
+//! [`spread`] turns each rule into conjunctions, which have neither OR nor NOT, and numbers the
+//! bytes that they read and write, the slots. [`Flat`] holds the result, and [`Flat::bytes`] and
+//! [`Flat::words`] give it as the list that REV or REVW evaluates.
+//!
+//! `spread` answers exactly the layout of its definition, or refuses exactly where the
+//! conjunctions are more than 512 or else the list would have more than 9984 bytes. For any
+//! values of the input terms the greatest of a rule's conjunctions is the truth of its condition.
+#![tactic(auto)]
+
+mod flat;
+mod laws;
+mod layout;
+mod lists;
+mod sizes;
+mod slots;
+mod spreading;
+
+pub use flat::{Conjunction, Flat, Form, LayoutFault, Slot};
+pub use laws::spreading_law;
+pub use layout::spread;

@@ -1,0 +1,129 @@
+//! How much conditions spread into, found without spreading them.
+ghost use Rattle.std.specs.Prelude.{ℕ, ◌+◌, ◌*◌, ◌<◌, ◌≤◌, ◌^◌, map, MatchOption};
+ghost use Rattle.fuzzy_meaning.specs.Conditions.{condition_of, conditions, nodes, total_nodes};
+ghost use Rattle.rule_layout.specs.Spreading.{spread_of, one_after_another, each_choice};
+ghost use Rattle.rule_layout.specs.Sizes.{IsSizeOf};
+ghost use Rattle.rule_layout.specs.Grid.{FitsGrid, AllFitGrid};
+
+use fuzzy_meaning::Cond;
+
+/// The most conjunctions that rules may have in all.
+pub const MOST_CONJUNCTIONS: u32 = 512;
+
+/// A number of conjunctions, at most 512, and of entries in them.
+#[derive(Clone, Copy)]
+pub struct Size {
+    pub conjunctions: u32,
+    pub entries: u32,
+}
+
+impl Size {
+    ghost use Rattle.rule_layout.specs.Sizes.{IsSum, IsProduct, IsSmall};
+
+    pub const NONE: Size = Size {
+        conjunctions: 0,
+        entries: 0,
+    };
+
+    /// One conjunction without entries.
+    pub const EMPTY: Size = Size {
+        conjunctions: 1,
+        entries: 0,
+    };
+
+    /// One conjunction of one entry.
+    pub const LITERAL: Size = Size {
+        conjunctions: 1,
+        entries: 1,
+    };
+
+    /// The conjunctions of both, where they are few enough.
+    pub fn plus(self, other: Size) -> Option<Size>
+        requires self_small { IsSmall self }
+        requires other_small { IsSmall other }
+        ensures { IsSum self other result }
+    {
+        let conjunctions = self.conjunctions + other.conjunctions;
+        if conjunctions > MOST_CONJUNCTIONS {
+            return None;
+        }
+        Some(Size {
+            conjunctions,
+            entries: self.entries + other.entries,
+        })
+    }
+
+    /// Each conjunction followed by each of the other's, where they are few enough.
+    fn times(self, other: Size) -> Option<Size>
+        requires self_small { IsSmall self }
+        requires other_small { IsSmall other }
+        ensures { IsProduct self other result }
+    {
+        let conjunctions = self.conjunctions * other.conjunctions;
+        if conjunctions > MOST_CONJUNCTIONS {
+            return None;
+        }
+        Some(Size {
+            conjunctions,
+            entries: self.entries * other.conjunctions + self.conjunctions * other.entries,
+        })
+    }
+}
+
+/// What a condition spreads into, or None where that is more than 512 conjunctions. `odd` says
+/// that it stands under an odd number of NOTs.
+#[cycle(size)]
+pub fn size_of(cond: &Cond, odd: bool) -> Option<Size>
+    requires fits { FitsGrid (condition_of cond.now) }
+    requires few { nodes (condition_of cond.now) ≤ 1048576 }
+    ensures { IsSizeOf (spread_of odd (condition_of cond.now)) result }
+{
+    match cond {
+        Cond::Is(_, _) => Some(Size::LITERAL),
+        Cond::Not(part) => size_of(part, !odd),
+        Cond::And(parts) => {
+            if odd {
+                size_in_turn(parts, odd)
+            } else {
+                size_of_choices(parts, odd)
+            }
+        }
+        Cond::Or(parts) => {
+            if odd {
+                size_of_choices(parts, odd)
+            } else {
+                size_in_turn(parts, odd)
+            }
+        }
+    }
+}
+
+/// What the lists of some conditions are one after another.
+#[cycle(size)]
+fn size_in_turn(parts: &[Cond], odd: bool) -> Option<Size>
+    requires fits { AllFitGrid (conditions (map condition_of parts.now)) }
+    requires few { total_nodes (conditions (map condition_of parts.now)) ≤ 1048576 }
+    ensures { IsSizeOf (one_after_another odd (conditions (map condition_of parts.now))) result }
+{
+    let mut total = Size::NONE;
+    for part in parts {
+        let size = size_of(part, odd)?;
+        total = total.plus(size)?;
+    }
+    Some(total)
+}
+
+/// What each choice of one conjunction per condition is.
+#[cycle(size)]
+fn size_of_choices(parts: &[Cond], odd: bool) -> Option<Size>
+    requires fits { AllFitGrid (conditions (map condition_of parts.now)) }
+    requires few { total_nodes (conditions (map condition_of parts.now)) ≤ 1048576 }
+    ensures { IsSizeOf (each_choice odd (conditions (map condition_of parts.now))) result }
+{
+    let mut total = Size::EMPTY;
+    for part in parts {
+        let size = size_of(part, odd)?;
+        total = total.times(size)?;
+    }
+    Some(total)
+}

@@ -1,0 +1,154 @@
+//! Conditions spread into conjunctions.
+ghost use Rattle.std.specs.Prelude.{◌≡◌, ◌++◌, ◌∷◌, [], map, IfOk, OnOk};
+ghost use Rattle.fuzzy_meaning.specs.Conditions.{condition_of, conditions};
+ghost use Rattle.rule_layout.specs.Spreading.{spread_of, one_after_another, each_choice, choices, literal};
+ghost use Rattle.rule_layout.specs.Grid.{FitsGrid, AllFitGrid};
+ghost use Rattle.rule_layout.specs.Tables.{table_literals};
+
+use crate::flat::Slot;
+use crate::slots::SlotNumbers;
+use fuzzy_meaning::Cond;
+use fz_list::List;
+use std::alloc::{AllocError, Global};
+
+/// The conjunctions that a condition spreads into, by the numbers of their literals' slots.
+/// `odd` says that the condition stands under an odd number of NOTs.
+#[cycle(spread)]
+pub fn conjunctions(
+    alloc: Global,
+    numbers: &SlotNumbers,
+    cond: &Cond,
+    odd: bool,
+) -> Result<Vec<List<u16>>, AllocError>
+    requires { FitsGrid (condition_of cond.now) }
+    ensures { IfOk result
+        (λ v. v.items ≡ table_literals numbers.now.table (spread_of odd (condition_of cond.now))) }
+{
+    match cond {
+        Cond::Is(input, term) => {
+            let slot = if odd {
+                Slot::Complement(*input, *term)
+            } else {
+                Slot::Term(*input, *term)
+            };
+            let literals = vec![in alloc; numbers.number(slot)]?;
+            single(alloc, List::new(literals))
+        }
+        Cond::Not(part) => conjunctions(alloc, numbers, part, !odd),
+        Cond::And(parts) => {
+            if odd {
+                in_turn(alloc, numbers, parts, odd)
+            } else {
+                by_choice(alloc, numbers, parts, odd)
+            }
+        }
+        Cond::Or(parts) => {
+            if odd {
+                by_choice(alloc, numbers, parts, odd)
+            } else {
+                in_turn(alloc, numbers, parts, odd)
+            }
+        }
+    }
+}
+
+/// The conjunctions of some conditions one after another.
+#[cycle(spread)]
+fn in_turn(
+    alloc: Global,
+    numbers: &SlotNumbers,
+    parts: &[Cond],
+    odd: bool,
+) -> Result<Vec<List<u16>>, AllocError>
+    requires { AllFitGrid (conditions (map condition_of parts.now)) }
+    ensures { IfOk result (λ v. v.items
+        ≡ table_literals numbers.now.table (one_after_another odd (conditions (map condition_of parts.now)))) }
+{
+    let mut all = Vec::new(alloc);
+    for part in parts {
+        let mut more = conjunctions(alloc, numbers, part, odd)?;
+        all.append(&mut more)?;
+    }
+    Ok(all)
+}
+
+/// Each choice of one conjunction per condition, the first condition's changing slowest.
+#[cycle(spread)]
+fn by_choice(
+    alloc: Global,
+    numbers: &SlotNumbers,
+    parts: &[Cond],
+    odd: bool,
+) -> Result<Vec<List<u16>>, AllocError>
+    requires { AllFitGrid (conditions (map condition_of parts.now)) }
+    ensures { IfOk result (λ v. v.items
+        ≡ table_literals numbers.now.table (each_choice odd (conditions (map condition_of parts.now)))) }
+{
+    let mut chosen = single(alloc, List::new(Vec::new(alloc)))?;
+    for part in parts {
+        let tails = conjunctions(alloc, numbers, part, odd)?;
+        chosen = extended(alloc, chosen, &tails)?;
+    }
+    Ok(chosen)
+}
+
+fn single(alloc: Global, literals: List<u16>) -> Result<Vec<List<u16>>, AllocError>
+    ensures { IfOk result (λ v. v.items ≡ literals ∷ []) }
+{
+    let mut all = Vec::new(alloc);
+    all.push(literals)?;
+    Ok(all)
+}
+
+/// Each head followed by each tail. One tail goes behind the heads in place, so that an AND of
+/// many literals takes no copies.
+fn extended(
+    alloc: Global,
+    heads: Vec<List<u16>>,
+    tails: &[List<u16>],
+) -> Result<Vec<List<u16>>, AllocError>
+    ensures { IfOk result (λ v. v.items ≡ choices heads.items tails.now) }
+{
+    if let [tail] = tails {
+        return followed(alloc, heads, tail.as_slice());
+    }
+    let mut all = Vec::new(alloc);
+    for head in &heads {
+        push_choices(alloc, &mut all, head.as_slice(), tails)?;
+    }
+    Ok(all)
+}
+
+/// Each head followed by the tail.
+fn followed(
+    alloc: Global,
+    heads: Vec<List<u16>>,
+    tail: &[u16],
+) -> Result<Vec<List<u16>>, AllocError>
+    ensures { IfOk result (λ v. v.items ≡ map (λ head. head ++ tail.now) heads.items) }
+{
+    let mut all = Vec::new(alloc);
+    for head in heads {
+        let mut literals = head.into_vec();
+        literals.extend_from_slice(tail)?;
+        all.push(List::new(literals))?;
+    }
+    Ok(all)
+}
+
+/// Puts the head followed by each tail behind the rest.
+fn push_choices(
+    alloc: Global,
+    all: &mut Vec<List<u16>>,
+    head: &[u16],
+    tails: &[List<u16>],
+) -> Result<(), AllocError>
+    ensures { OnOk result (all.new.items ≡ all.old.items ++ map (λ tail. head.now ++ tail) tails.now) }
+{
+    for tail in tails {
+        let mut literals = Vec::from_slice(alloc, head)?;
+        literals.extend_from_slice(tail.as_slice())?;
+        all.push(List::new(literals))?;
+    }
+    Ok(())
+}
