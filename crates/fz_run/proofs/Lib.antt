@@ -8,3 +8,7 @@ pub mod CalmSteps
 pub mod TakeSteps
 pub mod CalmFrames
 pub mod CalmTakes
+pub mod CalmSamples
+pub mod Expected
+pub mod CalmRowsLaw
+pub mod WriteHandlers

@@ -20,7 +20,7 @@ follow_before : (j k : ℕ) (plan : List Request) → Follow k plan → j ≤ k 
 follow_before j k [] h l = tt
 follow_before j k (r ∷ rs) h l = (let h0 = h.0 in omega (arith, h0), h.1)
 
-not_after_le : (a b : Request) → NotAfter a b → a.sample ≤ b.sample
+pub not_after_le : (a b : Request) → NotAfter a b → a.sample ≤ b.sample
 not_after_le a b (inl l) = omega arith
 not_after_le a b (inr e) = let s = e.0 in omega (arith, s)
 
@@ -39,10 +39,10 @@ is_one k r e = grind (arith, nat_tests)
 is_other : (k : ℕ) (r : Request) → (r.sample ≡ k → ⊥) → is_of k r ≡ false
 is_other k r e = grind (arith, nat_tests)
 
-one_is : (k : ℕ) (r : Request) → is_of k r ≡ true → r.sample ≡ k
+pub one_is : (k : ℕ) (r : Request) → is_of k r ≡ true → r.sample ≡ k
 one_is k r e = grind (arith, nat_tests)
 
-other_is : (k : ℕ) (r : Request) → is_of k r ≡ false → r.sample ≡ k → ⊥
+pub other_is : (k : ℕ) (r : Request) → is_of k r ≡ false → r.sample ≡ k → ⊥
 other_is k r e = grind (arith, nat_tests)
 
 first_here : (k : ℕ) (r : Request) (rs : List Request) → is_of k r ≡ true → requests_first k (r ∷ rs) ≡ r ∷ requests_first k rs
@@ -51,10 +51,10 @@ first_here k r rs e = take_while-cons (is_of k) r rs ∙ ap (λ (b : Bool). if b
 first_not : (k : ℕ) (r : Request) (rs : List Request) → is_of k r ≡ false → requests_first k (r ∷ rs) ≡ []
 first_not k r rs e = take_while-cons (is_of k) r rs ∙ ap (λ (b : Bool). if b then r ∷ requests_first k rs else []) e
 
-of_here : (k : ℕ) (r : Request) (rs : List Request) → is_of k r ≡ true → requests_of k (r ∷ rs) ≡ r ∷ requests_of k rs
+pub of_here : (k : ℕ) (r : Request) (rs : List Request) → is_of k r ≡ true → requests_of k (r ∷ rs) ≡ r ∷ requests_of k rs
 of_here k r rs e = ap (λ (b : Bool). if b then r ∷ requests_of k rs else requests_of k rs) e
 
-of_not : (k : ℕ) (r : Request) (rs : List Request) → is_of k r ≡ false → requests_of k (r ∷ rs) ≡ requests_of k rs
+pub of_not : (k : ℕ) (r : Request) (rs : List Request) → is_of k r ≡ false → requests_of k (r ∷ rs) ≡ requests_of k rs
 of_not k r rs e = ap (λ (b : Bool). if b then r ∷ requests_of k rs else requests_of k rs) e
 
 -- no request of an earlier sample

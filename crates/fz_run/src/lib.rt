@@ -14,6 +14,7 @@
 
 pub mod board;
 pub mod handler;
+pub mod laws;
 mod rows;
 pub mod sample;
 
