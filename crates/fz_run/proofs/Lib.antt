@@ -1,0 +1,14 @@
+pub mod Takings
+pub mod Onward
+pub mod Boards
+pub mod Arrivals
+pub mod PlanSlices
+pub mod RowSteps
+pub mod CalmSteps
+pub mod TakeSteps
+pub mod CalmFrames
+pub mod CalmTakes
+pub mod CalmSamples
+pub mod Expected
+pub mod CalmRowsLaw
+pub mod WriteHandlers
