@@ -12,3 +12,6 @@ pub mod Averaging
 pub mod Quotients
 pub mod RuleMemory
 pub mod Ruling
+pub mod SlotValues
+pub mod RuleFacts
+pub mod Evaluating
