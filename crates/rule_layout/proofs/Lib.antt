@@ -13,3 +13,4 @@ pub mod LayoutLemmas
 pub mod TruthLemmas
 pub mod MassLemmas
 pub mod LaidOutLemmas
+pub mod ExampleLemmas

@@ -7,3 +7,4 @@ pub mod Sizes
 pub mod Tables
 pub mod Truths
 pub mod Masses
+pub mod Examples

@@ -20,3 +20,6 @@ mod spreading;
 pub use flat::{Conjunction, Flat, Form, LayoutFault, Slot};
 pub use laws::{mass_law, spreading_law};
 pub use layout::spread;
+
+#[cfg(test)]
+mod tests;
