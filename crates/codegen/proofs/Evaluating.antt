@@ -107,7 +107,7 @@ has_put_from m p n bs h le =
     let lt : length (take n bs) ≡ n = omega (arith, length-take n bs) in
     subst (λ k. HasBytes (put m p bs) (p + k) (drop n bs)) lt (bytes_back (put m p bs) p (take n bs) (drop n bs) q)
 
-outputs_few : (b : Block) → IsValid b → sum_by singleton_count b.outputs ≤ 60
+pub outputs_few : (b : Block) → IsValid b → sum_by singleton_count b.outputs ≤ 60
 outputs_few b v = omega (arith, sum_by-le singleton_count 15 b.outputs (few_singletons b v), v.few_outputs)
 
 -- the outputs, and back
@@ -233,7 +233,7 @@ no_code : (base : ℕ) (inputs : List Input) (at : ℕ) (ps : List (ℕ × ℕ))
 no_code base inputs at [] rest = let e : at ≡ at + 0 = omega arith in ap (λ k. slots_code base inputs k rest) e
 no_code base inputs at (p ∷ ps) rest = let e : at + 1 + length ps ≡ at + suc (length ps) = omega arith in no_code base inputs (at + 1) ps rest ∙ ap (λ k. slots_code base inputs k rest) e
 
-slots_code_is : (l : Layout) (b : Block) → slots_code l.slots b.inputs l.slots (slots_of b) ≡ slots_code l.slots b.inputs (l.slots + length (input_terms b)) (further_slots b)
+pub slots_code_is : (l : Layout) (b : Block) → slots_code l.slots b.inputs l.slots (slots_of b) ≡ slots_code l.slots b.inputs (l.slots + length (input_terms b)) (further_slots b)
 slots_code_is l b = ap (slots_code l.slots b.inputs l.slots) (slots_are b) ∙ no_code l.slots b.inputs l.slots (input_terms b) (further_slots b)
 
 -- the complements and the cleared slots

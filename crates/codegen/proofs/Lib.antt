@@ -15,3 +15,13 @@ pub mod Ruling
 pub mod SlotValues
 pub mod RuleFacts
 pub mod Evaluating
+pub mod Answering
+pub mod Framing
+pub mod Decoding
+pub mod Standing
+pub mod Founding
+pub mod Arriving
+pub mod Sampling
+pub mod Law
+pub mod Masses
+pub mod BlockMasses

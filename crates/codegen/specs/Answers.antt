@@ -4,6 +4,7 @@ use Rattle.fuzzy_meaning.specs.declared.block.Block.{Block}
 use Rattle.fuzzy_meaning.specs.Blocks.{IsValid}
 use Rattle.point_slope.specs.Bytes.{byte_answer}
 use Rattle.rule_layout.specs.Layouts.{IsWithinLimits}
+use Rattle.cpu12_isa.specs.Fits.{AreBytes}
 use Rattle.cpu12_asm.specs.Bytes.{byte_at}
 use Rattle.cpu12_asm.specs.Items.{given_by}
 use Rattle.cpu12_parts.specs.State.{State}
@@ -22,9 +23,10 @@ abbrev pub put : List ℕ → ℕ → List ℕ → List ℕ
 put mem at [] = mem
 put mem at (v ∷ vs) = put (slice_set mem at v) (at + 1) vs
 
--- a memory that has just the bytes that are given, and else 0
+-- a memory of bytes that has just those that are given, and else 0
 pub record HasGiven (mem : List ℕ) (given : List (ℕ × ℕ)) : Type 0 where
   pub size : length mem ≡ 65536
+  pub fits : AreBytes mem
   pub bytes : (at : ℕ) → at < 65536 → slice_index mem at ≡ byte_or_zero (byte_at given at)
 
 -- the first arrival where the code waits, from reset

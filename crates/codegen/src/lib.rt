@@ -12,6 +12,7 @@ mod code;
 mod data;
 mod firmware;
 mod items;
+mod laws;
 mod layout;
 
 pub use firmware::{Firmware, compile};

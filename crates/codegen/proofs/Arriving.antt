@@ -1,0 +1,119 @@
+-- From reset to where the code waits.
+use Rattle.std.proofs.Common.{◌≡◌, ◌≢◌, ◌⊎◌, inl, inr, ℕ, zero, suc, ◌+◌, ◌-◌, ◌*◌, ◌/◌, ◌%◌, ◌^◌, ◌<◌, ◌≤◌, true, false, Ok, List, [], ◌∷◌, ◌++◌, map, length, set, get_or, refl, sym, ap, ap₂, ◌∙◌, subst, arith, length-set, get_or-set_same}
+use Rattle.std.proofs.lemmas.List.{length-map}
+use Rattle.fuzzy_meaning.specs.declared.block.Block.{Block}
+use Rattle.fuzzy_meaning.specs.declared.block.Output.{Output}
+use Rattle.cpu12_isa.specs.declared.instr.Instr.{Instr}
+use Rattle.cpu12_isa.specs.declared.instr.Instr.TheVariants.{LdsImmediate, ClrExtended, Andcc}
+use Rattle.cpu12_isa.specs.Code.{decode_at}
+use Rattle.cpu12_isa.specs.Fits.{FitsRegs, AreBytes}
+use Rattle.cpu12_isa.specs.Memory.{plus}
+use Rattle.cpu12_isa.proofs.Fitting.{stays_fit}
+use Rattle.cpu12_asm.specs.declared.items.Item.TheVariants.{Op}
+use Rattle.cpu12_asm.specs.Items.{given_by, IsRising}
+use Rattle.cpu12_parts.specs.State.{State}
+use Rattle.cpu12_parts.specs.Whole.{after_plain, IsWholeStep}
+use Rattle.cpu12_emul.specs.Image.{byte_or_zero}
+use Rattle.cpu12_emul.specs.Step.{reset_with}
+use Rattle.codegen.specs.declared.layout.Layout.{Layout}
+use Rattle.codegen.specs.Code.{frame_code, eval_code}
+use Rattle.codegen.specs.Data.{table_bytes, singleton_bytes, weight_bytes, rule_bytes}
+use Rattle.codegen.specs.Images.{bytes_at, vector_items, firmware_items, IsApart}
+use Rattle.codegen.specs.Answers.{HasGiven, IsArrived}
+use Rattle.codegen.specs.Ways.{Way}
+use Rattle.codegen.proofs.Flags.{unmasked}
+use Rattle.codegen.proofs.Memory.{HasBytes, SameHigh, high_set, bytes_set_out, bytes_after_set}
+use Rattle.codegen.proofs.Stepping.{Ctx, Live, decode_same, calm_of}
+use Rattle.codegen.proofs.Framing.{Home, waits}
+use Rattle.codegen.proofs.Decoding.{decode_here}
+use Rattle.codegen.proofs.Standing.{none_below}
+use Rattle.codegen.proofs.Founding.{IsFramed, Stood, FrameBytes, start_code}
+
+-- memory below the code is 0
+pub zero_below : (image : List ℕ) (l : Layout) (b : Block) → HasGiven image (given_by (firmware_items l b)) → IsRising (firmware_items l b) → (q : ℕ) → q < l.code → q < 65536 → get_or image q 0 ≡ 0
+unfolding firmware_items
+zero_below image l b h rise q lt small = h.bytes q small ∙ ap byte_or_zero (none_below l.code q (map Op (frame_code l ++ eval_code l b) ++ (bytes_at l.tables (table_bytes b) ++ (bytes_at l.singletons (singleton_bytes b) ++ (bytes_at l.weights (weight_bytes b) ++ (bytes_at l.rules (rule_bytes l.slots b) ++ vector_items l))))) rise.1 lt)
+
+-- an answer of 0 for each output
+abbrev pub zeros_of : List Output → List ℕ
+zeros_of os = map (λ _. 0) os
+
+zeros_stand : (m : List ℕ) (p n : ℕ) (os : List Output) → ((q : ℕ) → q < n → get_or m q 0 ≡ 0) → p + length os ≤ n → HasBytes m p (zeros_of os)
+zeros_stand m p n [] h le = tt
+zeros_stand m p n (o ∷ os) h le = (h p (omega arith), zeros_stand m (p + 1) n os h (omega arith))
+
+pub length-zeros_of : (os : List Output) → length (zeros_of os) ≡ length os
+length-zeros_of os = length-map os (λ _. 0)
+
+pub zeros_at : (os : List Output) (k : ℕ) → get_or (zeros_of os) k 0 ≡ 0
+zeros_at [] k = refl
+zeros_at (o ∷ os) zero = refl
+zeros_at (o ∷ os) (suc k) = zeros_at os k
+
+-- the first arrival
+pub record Arrived (c : Ctx) (b : Block) : Type 0 where
+  pub t : State
+  pub arrived : IsArrived c.layout c.image c.flags t
+  pub home : Home c (zeros_of b.outputs) t
+
+pub arrive : (c : Ctx) (b : Block) → IsFramed c.layout → IsApart c.layout → length b.outputs ≤ 4 → Stood c.image c.layout b → FrameBytes c.image c.layout b → HasGiven c.image (given_by (firmware_items c.layout b)) → ((q : ℕ) → q < c.layout.code → get_or c.image q 0 ≡ 0) → Arrived c b
+arrive c b f a few h fb g zero_low =
+    let l = c.layout in
+    let lo = f.low in
+    let hi = f.high in
+    let w = f.wait in
+    let r = a.ready in
+    let i = a.inputs in
+    let o = a.outputs in
+    let z = a.slots in
+    let size = g.size in
+    let s0 = reset_with c.image in
+    let s1 = after_plain c.flags (LdsImmediate 0x2000) s0 in
+    let s2 = after_plain c.flags (ClrExtended l.ready) s1 in
+    let s3 = after_plain c.flags (Andcc 0xEF) s2 in
+    let p0 : s0.regs.pc ≡ l.code = ap₂ (λ x y. x * 2 ^ 8 + y) h.start.0 h.start.1.0 ∙ omega arith in
+    let p1 : s1.regs.pc ≡ l.code + 3 = omega arith in
+    let p2 : s2.regs.pc ≡ l.code + 6 = omega arith in
+    let p3 : s3.regs.pc ≡ l.code + 8 = omega arith in
+    let m = set c.image l.ready 0 in
+    let same : SameHigh c.image m = high_set c.image c.image l.ready 0 (omega arith) (λ at le. refl) in
+    let d0 : decode_at c.image s0.regs.pc ≡ Ok (LdsImmediate 0x2000) = ap (decode_at c.image) p0 ∙ decode_here c.image l.code (LdsImmediate 0x2000) tt (omega arith) (fb.start.0, (fb.start.1.0, (fb.start.1.1.0, tt))) in
+    let at1 : l.code + 1 + 1 + 1 ≡ l.code + 3 = omega arith in
+    let b1 : HasBytes c.image (l.code + 3) (121 ∷ l.ready / 2 ^ 8 ∷ l.ready % 2 ^ 8 ∷ 16 ∷ 239 ∷ []) = subst (λ p. HasBytes c.image p (121 ∷ l.ready / 2 ^ 8 ∷ l.ready % 2 ^ 8 ∷ 16 ∷ 239 ∷ [])) at1 fb.start.1.1.1 in
+    let d1 : decode_at c.image s1.regs.pc ≡ Ok (ClrExtended l.ready) = ap (decode_at c.image) p1 ∙ decode_here c.image (l.code + 3) (ClrExtended l.ready) tt (omega arith) (b1.0, (b1.1.0, (b1.1.1.0, tt))) in
+    let at2 : l.code + 3 + 1 + 1 + 1 ≡ l.code + 6 = omega arith in
+    let b2 : HasBytes c.image (l.code + 6) (16 ∷ 239 ∷ []) = subst (λ p. HasBytes c.image p (16 ∷ 239 ∷ [])) at2 b1.1.1.1 in
+    let d2 : decode_at m s2.regs.pc ≡ Ok (Andcc 0xEF) = ap (decode_at m) p2 ∙ decode_same c.image m (l.code + 6) (omega arith) (omega arith) same ∙ decode_here c.image (l.code + 6) (Andcc 0xEF) tt (omega arith) (b2.0, (b2.1.0, tt)) in
+    let f0 : FitsRegs s0.regs = record { a = omega arith; b = omega arith; x = omega arith; y = omega arith; sp = omega arith; pc = omega arith; ccr = omega arith } in
+    let f1 = (stays_fit c.flags (LdsImmediate 0x2000) s0.regs c.image c.fits (omega arith) f0 g.fits).0 in
+    let f2 = (stays_fit c.flags (ClrExtended l.ready) s1.regs c.image c.fits (omega arith) f1 g.fits).0 in
+    let bm : AreBytes m = bytes_after_set c.image l.ready 0 g.fits (omega arith) (omega arith) in
+    let f3 = (stays_fit c.flags (Andcc 0xEF) s2.regs m c.fits (omega arith) f2 bm).0 in
+    let live : Live c s3 = record {
+      temps = refl;
+      size = length-set c.image l.ready 0 ∙ g.size;
+      bytes = bm;
+      fits = f3;
+      stack = inr refl;
+      unmasked = unmasked s2.regs.ccr.0;
+      same = same;
+    } in
+    let ready : get_or m l.ready 0 ≡ 0 = get_or-set_same c.image l.ready 0 0 (omega arith) in
+    let home : s3.regs.pc ≡ l.wait = p3 ∙ sym w in
+    record {
+      t = s3;
+      arrived = record {
+        ds = 0 ∷ 0 ∷ 0 ∷ [];
+        way = (s1, ((omega arith, inl (LdsImmediate 0x2000, (record { decoded = d0; plain = refl; after = refl }, refl))), (s2, ((omega arith, inl (ClrExtended l.ready, (record { decoded = d1; plain = refl; after = refl }, refl))), (s3, ((omega arith, inl (Andcc 0xEF, (record { decoded = d2; plain = refl; after = refl }, refl))), refl))))));
+        wait = home;
+        idle = waits l s3 home ready;
+        calm = calm_of c s3 live (omega arith) (omega arith);
+      };
+      home = record {
+        live = live;
+        pc_is = home;
+        sp_is = refl;
+        outs = bytes_set_out c.image l.ready 0 l.outputs (zeros_of b.outputs) (inr (omega arith)) (zeros_stand c.image l.outputs l.code b.outputs zero_low (omega arith));
+        ready_is = ready;
+      };
+    }

@@ -1,0 +1,102 @@
+-- The instructions of the code, from their bytes.
+use Rattle.std.proofs.Common.{◌≡◌, ◌≢◌, ℕ, zero, suc, ◌+◌, ◌*◌, ◌/◌, ◌%◌, ◌^◌, ◌<◌, ◌≤◌, Ok, Err, List, [], ◌∷◌, ◌++◌, flat_map, length, get_or, refl, sym, ap, ap₂, ◌∙◌, subst, arith, length-append}
+use Rattle.cpu12_isa.specs.declared.instr.Instr.{Instr}
+use Rattle.cpu12_isa.specs.declared.instr.Instr.TheVariants.{LdaaImmediate, LdaaExtended, LdabImmediate, LdxImmediate, LdyImmediate, LdsImmediate, StaaExtended, StabExtended, ClrExtended, Coma, CpxImmediate, Beq, Bra, JsrExtended, Rts, Andcc, Orcc, TransferYD, Ediv, Mem, Rev, Revw, Wav}
+use Rattle.cpu12_isa.specs.Code.{encode_of, decode_of, decode_at, FitsOperands}
+use Rattle.cpu12_isa.specs.Memory.{plus}
+use Rattle.codegen.proofs.Memory.{HasBytes, bytes_front, bytes_back}
+use Rattle.codegen.proofs.Stepping.{Ctx, Here, Stands, sizes}
+
+-- the instructions that the code is made of
+abbrev pub IsUsed : Instr → Type 0
+IsUsed (LdaaImmediate v) = Unit {0}
+IsUsed (LdaaExtended v) = Unit {0}
+IsUsed (LdabImmediate v) = Unit {0}
+IsUsed (LdxImmediate v) = Unit {0}
+IsUsed (LdyImmediate v) = Unit {0}
+IsUsed (LdsImmediate v) = Unit {0}
+IsUsed (StaaExtended v) = Unit {0}
+IsUsed (StabExtended v) = Unit {0}
+IsUsed (ClrExtended v) = Unit {0}
+IsUsed Coma = Unit {0}
+IsUsed (CpxImmediate v) = Unit {0}
+IsUsed (Beq v) = Unit {0}
+IsUsed (Bra v) = Unit {0}
+IsUsed (JsrExtended v) = Unit {0}
+IsUsed Rts = Unit {0}
+IsUsed (Andcc v) = Unit {0}
+IsUsed (Orcc v) = Unit {0}
+IsUsed TransferYD = Unit {0}
+IsUsed Ediv = Unit {0}
+IsUsed Mem = Unit {0}
+IsUsed Rev = Unit {0}
+IsUsed Revw = Unit {0}
+IsUsed Wav = Unit {0}
+IsUsed i = ⊥
+
+one : (m : List ℕ) (p a : ℕ) → get_or m p 0 ≡ a → decode_at m p ≡ decode_of (a ∷ get_or m (plus p 1) 0 ∷ get_or m (plus p 2) 0 ∷ get_or m (plus p 3) 0 ∷ get_or m (plus p 4) 0 ∷ get_or m (plus p 5) 0 ∷ [])
+one m p a h = ap (λ v. decode_of (v ∷ get_or m (plus p 1) 0 ∷ get_or m (plus p 2) 0 ∷ get_or m (plus p 3) 0 ∷ get_or m (plus p 4) 0 ∷ get_or m (plus p 5) 0 ∷ [])) h
+
+two : (m : List ℕ) (p a b : ℕ) → p + 6 < 65536 → get_or m p 0 ≡ a → get_or m (p + 1) 0 ≡ b → decode_at m p ≡ decode_of (a ∷ b ∷ get_or m (plus p 2) 0 ∷ get_or m (plus p 3) 0 ∷ get_or m (plus p 4) 0 ∷ get_or m (plus p 5) 0 ∷ [])
+two m p a b le h0 h1 =
+    let e : plus p 1 ≡ p + 1 = omega arith in
+    one m p a h0 ∙ ap (λ v. decode_of (a ∷ v ∷ get_or m (plus p 2) 0 ∷ get_or m (plus p 3) 0 ∷ get_or m (plus p 4) 0 ∷ get_or m (plus p 5) 0 ∷ [])) (ap (λ k. get_or m k 0) e ∙ h1)
+
+three : (m : List ℕ) (p a b d : ℕ) → p + 6 < 65536 → get_or m p 0 ≡ a → get_or m (p + 1) 0 ≡ b → get_or m (p + 1 + 1) 0 ≡ d → decode_at m p ≡ decode_of (a ∷ b ∷ d ∷ get_or m (plus p 3) 0 ∷ get_or m (plus p 4) 0 ∷ get_or m (plus p 5) 0 ∷ [])
+three m p a b d le h0 h1 h2 =
+    let e : plus p 2 ≡ p + 1 + 1 = omega arith in
+    two m p a b le h0 h1 ∙ ap (λ v. decode_of (a ∷ b ∷ v ∷ get_or m (plus p 3) 0 ∷ get_or m (plus p 4) 0 ∷ get_or m (plus p 5) 0 ∷ [])) (ap (λ k. get_or m k 0) e ∙ h2)
+
+whole_word : (w : ℕ) → w / 2 ^ 8 * 2 ^ 8 + w % 2 ^ 8 ≡ w
+whole_word w = omega arith
+
+-- an instruction whose bytes stand at a place is decoded there
+pub decode_here : (m : List ℕ) (p : ℕ) (i : Instr) → IsUsed i → p + 6 < 65536 → HasBytes m p (encode_of i) → decode_at m p ≡ Ok i
+decode_here m p (LdaaImmediate v) u le h = two m p 134 v le h.0 h.1.0
+decode_here m p (LdaaExtended w) u le h = three m p 182 (w / 2 ^ 8) (w % 2 ^ 8) le h.0 h.1.0 h.1.1.0 ∙ ap (λ v. Ok (LdaaExtended v)) (whole_word w)
+decode_here m p (LdabImmediate v) u le h = two m p 198 v le h.0 h.1.0
+decode_here m p (LdxImmediate w) u le h = three m p 206 (w / 2 ^ 8) (w % 2 ^ 8) le h.0 h.1.0 h.1.1.0 ∙ ap (λ v. Ok (LdxImmediate v)) (whole_word w)
+decode_here m p (LdyImmediate w) u le h = three m p 205 (w / 2 ^ 8) (w % 2 ^ 8) le h.0 h.1.0 h.1.1.0 ∙ ap (λ v. Ok (LdyImmediate v)) (whole_word w)
+decode_here m p (LdsImmediate w) u le h = three m p 207 (w / 2 ^ 8) (w % 2 ^ 8) le h.0 h.1.0 h.1.1.0 ∙ ap (λ v. Ok (LdsImmediate v)) (whole_word w)
+decode_here m p (StaaExtended w) u le h = three m p 122 (w / 2 ^ 8) (w % 2 ^ 8) le h.0 h.1.0 h.1.1.0 ∙ ap (λ v. Ok (StaaExtended v)) (whole_word w)
+decode_here m p (StabExtended w) u le h = three m p 123 (w / 2 ^ 8) (w % 2 ^ 8) le h.0 h.1.0 h.1.1.0 ∙ ap (λ v. Ok (StabExtended v)) (whole_word w)
+decode_here m p (ClrExtended w) u le h = three m p 121 (w / 2 ^ 8) (w % 2 ^ 8) le h.0 h.1.0 h.1.1.0 ∙ ap (λ v. Ok (ClrExtended v)) (whole_word w)
+decode_here m p Coma u le h = one m p 65 h.0
+decode_here m p (CpxImmediate w) u le h = three m p 142 (w / 2 ^ 8) (w % 2 ^ 8) le h.0 h.1.0 h.1.1.0 ∙ ap (λ v. Ok (CpxImmediate v)) (whole_word w)
+decode_here m p (Beq v) u le h = two m p 39 v le h.0 h.1.0
+decode_here m p (Bra v) u le h = two m p 32 v le h.0 h.1.0
+decode_here m p (JsrExtended w) u le h = three m p 22 (w / 2 ^ 8) (w % 2 ^ 8) le h.0 h.1.0 h.1.1.0 ∙ ap (λ v. Ok (JsrExtended v)) (whole_word w)
+decode_here m p Rts u le h = one m p 61 h.0
+decode_here m p (Andcc v) u le h = two m p 16 v le h.0 h.1.0
+decode_here m p (Orcc v) u le h = two m p 20 v le h.0 h.1.0
+decode_here m p TransferYD u le h = two m p 183 100 le h.0 h.1.0
+decode_here m p Ediv u le h = one m p 17 h.0
+decode_here m p Mem u le h = one m p 1 h.0
+decode_here m p Rev u le h = two m p 24 58 le h.0 h.1.0
+decode_here m p Revw u le h = two m p 24 59 le h.0 h.1.0
+decode_here m p Wav u le h = two m p 24 60 le h.0 h.1.0
+decode_here m p i u le h = absurd u
+
+-- code of such instructions whose operands fit
+abbrev pub UsedCode : List Instr → Type 0
+UsedCode [] = Unit {0}
+UsedCode (i ∷ is) = IsUsed i × FitsOperands i × UsedCode is
+
+pub used_append : (a b : List Instr) → UsedCode a → UsedCode b → UsedCode (a ++ b)
+used_append [] b u v = v
+used_append (i ∷ a) b u v = (u.0, u.1, used_append a b u.2 v)
+
+abbrev pub code_bytes : List Instr → List ℕ
+code_bytes is = flat_map encode_of is
+
+-- code that stands in the image above where it waits
+pub stands_of : (c : Ctx) (p : ℕ) (is : List Instr) → UsedCode is → HasBytes c.image p (code_bytes is) → 0x2000 ≤ p → c.layout.wait < p → p + sizes is + 6 < 65536 → Stands c p is
+stands_of c p [] u h lo w hi = tt
+stands_of c p (i ∷ is) u h lo w hi =
+    (record {
+      low = lo;
+      high = omega arith;
+      off = λ e. omega arith;
+      fits = u.1;
+      decoded = decode_here c.image p i u.0 (omega arith) (bytes_front c.image p (encode_of i) (code_bytes is) h);
+    }, stands_of c (p + length (encode_of i)) is u.2 (bytes_back c.image p (encode_of i) (code_bytes is) h) (omega arith) (omega arith) (omega arith))

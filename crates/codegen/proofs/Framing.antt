@@ -1,0 +1,228 @@
+-- A sample, from where the code waits back to there.
+use Rattle.std.proofs.Common.{◌≡◌, ◌≢◌, ◌⊎◌, inl, inr, ℕ, zero, suc, ◌+◌, ◌-◌, ◌*◌, ◌/◌, ◌%◌, ◌^◌, ◌<◌, ◌≤◌, min, Bool, true, false, ◌&&◌, ◌||◌, nat_lt, nat_le, Ok, List, [], ◌∷◌, ◌++◌, length, set, All, get_or, refl, sym, ap, ap₂, ◌∙◌, subst, arith, length-set, get_or-set_same, get_or-set_other}
+use Rattle.std.specs.Prelude.{◌==◌, if◌then◌else◌}
+use Rattle.std.proofs.lemmas.Bool.{cases_eq, or_parts}
+use Rattle.std.proofs.lemmas.Bool.Decides.{nat_tests}
+use Rattle.fuzzy_meaning.specs.declared.block.Block.{Block}
+use Rattle.cpu12_isa.specs.declared.instr.Instr.TheVariants.{LdaaExtended, ClrExtended, Beq, Bra, JsrExtended}
+use Rattle.cpu12_isa.specs.Agreement.{AllShown, Uncovers, IsWritten}
+use Rattle.cpu12_isa.specs.Code.{decode_at}
+use Rattle.cpu12_isa.specs.Flags.{has}
+use Rattle.cpu12_isa.specs.Meaning.{effect}
+use Rattle.cpu12_isa.specs.Memory.{plus}
+use Rattle.cpu12_parts.specs.State.{State}
+use Rattle.cpu12_parts.specs.Laws.{addresses}
+use Rattle.cpu12_parts.specs.Whole.{after_plain}
+use Rattle.codegen.specs.declared.layout.Layout.{Layout}
+use Rattle.codegen.specs.Images.{IsApart}
+use Rattle.codegen.specs.Firing.{slots_after}
+use Rattle.codegen.specs.Answers.{put, given}
+use Rattle.codegen.specs.Ways.{is_free, is_hidden, is_idle, IsCalm}
+use Rattle.codegen.proofs.Flags.{masked_tested, zero_tested}
+use Rattle.codegen.proofs.Memory.{HasBytes, length-put, has_put, at_put_out, bytes_put_out, bytes_set_out, bytes_after_set, bytes_after_put, high_set, high_put}
+use Rattle.codegen.proofs.Stepping.{Ctx, Here, Live, Stands, Next, next, plain_next, Goes, goes_one, goes_on, goes_most, calm_of, low_shown, high_shown, not_at}
+use Rattle.codegen.proofs.Instructions.{clr, beq_on}
+use Rattle.codegen.proofs.Quotients.{output_bytes, length-output_bytes}
+use Rattle.codegen.proofs.Evaluating.{Evals, Returns, masses, evaluated, eval_most, eval_parts, eval_run, length-after}
+
+-- the code around EVAL
+pub record HasFrame (c : Ctx) : Type 0 where
+  pub low : 0x2000 ≤ c.layout.wait
+  pub high : c.layout.wait + 40 < 65536
+  pub load : decode_at c.image c.layout.wait ≡ Ok (LdaaExtended c.layout.ready)
+  pub rest : Stands c (c.layout.wait + 3) (Beq 0xFB ∷ JsrExtended c.layout.eval ∷ ClrExtended c.layout.ready ∷ Bra 0xF3 ∷ [])
+
+-- what holds each time the machine waits
+pub record Home (c : Ctx) (bs : List ℕ) (s : State) : Type 0 where
+  pub live : Live c s
+  pub pc_is : s.regs.pc ≡ c.layout.wait
+  pub sp_is : s.regs.sp ≡ 0x2000
+  pub outs : HasBytes s.mem c.layout.outputs bs
+  pub ready_is : get_or s.mem c.layout.ready 0 ≡ 0
+
+and_false : (x : Bool) → (x && false) ≡ false
+and_false true = refl
+and_false false = refl
+
+not_ready : (l : Layout) (s : State) → get_or s.mem l.ready 0 ≡ 1 → is_idle l s ≡ false
+not_ready l s h = let a : (get_or s.mem l.ready 0 == 0) ≡ false = grind (arith, nat_tests) in rw a (and_false (s.regs.pc == l.wait))
+
+pub waits : (l : Layout) (s : State) → s.regs.pc ≡ l.wait → get_or s.mem l.ready 0 ≡ 0 → is_idle l s ≡ true
+waits l s e h =
+    let a : (s.regs.pc == l.wait) ≡ true = grind (arith, nat_tests) in
+    let b : (get_or s.mem l.ready 0 == 0) ≡ true = grind (arith, nat_tests) in
+    rw (a, b)
+
+-- JSR from an empty stack
+jsr_uncovers : (sp a b at : ℕ) → sp ≡ 0x2000 → is_hidden (plus sp 65534) at ≡ false → (is_hidden sp at ≡ false) ⊎ IsWritten ((plus sp 65534, a) ∷ (plus sp 65535, b) ∷ []) at
+jsr_uncovers sp a b at e h =
+    let low : plus sp 65534 ≡ 0x1FFE = omega arith in
+    let next : plus sp 65535 ≡ 0x1FFF = omega arith in
+    elim (cases_eq at 0x1FFE) [
+      | inl e0 ↦ inr (inl (e0 ∙ sym low))
+      | inr n0 ↦ elim (cases_eq at 0x1FFF) [
+        | inl e1 ↦ inr (inr (inl (e1 ∙ sym next)))
+        | inr n1 ↦ inl (let q = or_parts (is_free at) (nat_le 0x1FE0 at && nat_lt at (plus sp 65534)) h in
+            let t : (nat_le 0x1FE0 at && nat_lt at sp) ≡ false = grind (arith, nat_tests, q.1, low) in rw (q.0, t))
+      ]
+    ]
+
+jsr_run : (c : Ctx) (s : State) (p to : ℕ) → Live c s → s.regs.pc ≡ p → Here c p (JsrExtended to) → s.regs.sp ≡ 0x2000 → Next c s (after_plain c.flags (JsrExtended to) s) to
+jsr_run c s p to l ep h es =
+    let low : plus s.regs.sp 65534 ≡ 0x1FFE = omega arith in
+    let over : plus s.regs.sp 65535 ≡ 0x1FFF = omega arith in
+    let m = min s.regs.sp (plus s.regs.sp 65534) in
+    let r0 : is_hidden m (plus s.regs.sp 65534) ≡ false = high_shown m (plus s.regs.sp 65534) (omega arith) (omega arith) in
+    let r1 : is_hidden m (plus s.regs.sp 65535) ≡ false = high_shown m (plus s.regs.sp 65535) (omega arith) (omega arith) in
+    plain_next c s p to (JsrExtended to) l (not_at c.layout s p ep h.off) ep h.low h.high h.decoded refl h.fits tt (r0, (r1, tt)) (λ at g. jsr_uncovers s.regs.sp (plus s.regs.pc 3 / 2 ^ 8) (plus s.regs.pc 3 % 2 ^ 8) at es g) (omega arith, (omega arith, tt)) (inl low) refl refl
+
+bra_back : (c : Ctx) (s : State) (p : ℕ) → Live c s → s.regs.pc ≡ p → Here c p (Bra 0xF3) → 11 ≤ p → Next c s (after_plain c.flags (Bra 0xF3) s) (p - 11)
+bra_back c s p l ep h le = next c s p (p - 11) (Bra 0xF3) l ep h refl (omega arith) tt tt refl refl (omega (arith, h.high))
+
+-- up to EVAL
+record Called (c : Ctx) (s : State) : Type 0 where
+  t : State
+  goes : Goes c 3 0 s t
+  live : Live c t
+  pc_is : t.regs.pc ≡ c.layout.eval
+  sp_is : t.regs.sp ≡ 0x1FFE
+  mem_is : t.mem ≡ set (set s.mem 0x1FFE ((c.layout.wait + 8) / 2 ^ 8)) 0x1FFF ((c.layout.wait + 8) % 2 ^ 8)
+
+call_run : (c : Ctx) (s : State) → HasFrame c → c.layout.ready < 0x1800 → Live c s → s.regs.pc ≡ c.layout.wait → s.regs.sp ≡ 0x2000 → get_or s.mem c.layout.ready 0 ≡ 1 → Called c s
+call_run c s f low l ep es er =
+    let p = c.layout.wait in
+    let hi = f.high in
+    let s1 = after_plain c.flags (LdaaExtended c.layout.ready) s in
+    let s2 = after_plain c.flags (Beq 0xFB) s1 in
+    let s3 = after_plain c.flags (JsrExtended c.layout.eval) s2 in
+    let n1 = plain_next c s p (p + 3) (LdaaExtended c.layout.ready) l (not_ready c.layout s er) ep f.low (omega arith) f.load refl (omega arith) (low_shown s.regs.sp c.layout.ready low, tt) tt (λ at g. inl g) tt l.stack (masked_tested s.regs.ccr _ _) (omega arith) in
+    let nz : (get_or s.mem c.layout.ready 0 == 0) ≡ false = grind (arith, nat_tests) in
+    let z : has s1.regs.ccr 2 ≡ false = zero_tested s.regs.ccr _ (get_or s.mem c.layout.ready 0 == 0) ∙ nz in
+    let n2 = beq_on c s1 (p + 3) 0xFB n1.live n1.pc_is f.rest.0 (omega arith) z in
+    let n3 = jsr_run c s2 (p + 3 + 2) c.layout.eval n2.live n2.pc_is f.rest.1.0 es in
+    let e0 : plus s.regs.sp 65534 ≡ 0x1FFE = omega arith in
+    let e1 : plus s.regs.sp 65535 ≡ 0x1FFF = omega arith in
+    let er : plus s2.regs.pc 3 ≡ p + 8 = omega (arith, n2.pc_is) in
+    record {
+      t = s3;
+      goes = goes_on c 1 0 2 0 s s1 s3 (goes_one c s s1 (p + 3) n1) (goes_on c 1 0 1 0 s1 s2 s3 (goes_one c s1 s2 (p + 3 + 2) n2) (goes_one c s2 s3 c.layout.eval n3));
+      live = n3.live;
+      pc_is = refl;
+      sp_is = e0;
+      mem_is = ap₂ (λ a b. set (set s.mem a (plus s2.regs.pc 3 / 2 ^ 8)) b (plus s2.regs.pc 3 % 2 ^ 8)) e0 e1 ∙ ap (λ r. set (set s.mem 0x1FFE (r / 2 ^ 8)) 0x1FFF (r % 2 ^ 8)) er;
+    }
+
+-- back to where the code waits
+record Left (c : Ctx) (s : State) : Type 0 where
+  t : State
+  goes : Goes c 2 0 s t
+  live : Live c t
+  pc_is : t.regs.pc ≡ c.layout.wait
+  sp_is : t.regs.sp ≡ s.regs.sp
+  mem_is : t.mem ≡ set s.mem c.layout.ready 0
+
+leave_run : (c : Ctx) (s : State) → HasFrame c → c.layout.ready < 0x1800 → Live c s → s.regs.pc ≡ c.layout.wait + 8 → Left c s
+leave_run c s f low l ep =
+    let p = c.layout.wait in
+    let s1 = after_plain c.flags (ClrExtended c.layout.ready) s in
+    let s2 = after_plain c.flags (Bra 0xF3) s1 in
+    let n1 = clr c s (p + 3 + 2 + 3) c.layout.ready l (ep ∙ omega arith) f.rest.1.1.0 low in
+    let n2 = bra_back c s1 (p + 3 + 2 + 3 + 3) n1.live n1.pc_is f.rest.1.1.1.0 (omega arith) in
+    record { t = s2; goes = goes_on c 1 0 1 0 s s1 s2 (goes_one c s s1 _ n1) (goes_one c s1 s2 _ n2); live = n2.live; pc_is = n2.pc_is ∙ omega arith; sp_is = refl; mem_is = refl }
+
+-- the state with a sample's bytes and READY
+pub given_live : (c : Ctx) (bytes : List ℕ) (s : State) → Live c s → All (λ v. v < 2 ^ 8) bytes → c.layout.inputs + length bytes ≤ 0x1800 → c.layout.ready < 0x1800 → Live c (given c.layout bytes s)
+given_live c bytes s l fit le low =
+    let m = put s.mem c.layout.inputs bytes in
+    let lm : length m ≡ 65536 = length-put s.mem c.layout.inputs bytes ∙ l.size in
+    let ls = l.size in
+    record {
+      temps = l.temps;
+      size = length-set m c.layout.ready 1 ∙ lm;
+      bytes = bytes_after_set m c.layout.ready 1 (bytes_after_put s.mem c.layout.inputs bytes l.bytes fit (omega arith)) (omega arith) (omega arith);
+      fits = l.fits;
+      stack = l.stack;
+      unmasked = l.unmasked;
+      same = high_set c.image m c.layout.ready 1 (omega arith) (high_put c.image s.mem c.layout.inputs bytes (omega arith) l.same);
+    }
+
+-- one sample
+pub record Sampled (c : Ctx) (b : Block) (bytes bs : List ℕ) (s : State) : Type 0 where
+  pub t : State
+  pub goes : Goes c (5 + eval_most b) (eval_parts b) s t
+  pub home : Home c (output_bytes b.outputs (masses b bytes) bs) t
+
+pushed_word : (m : List ℕ) (r : ℕ) → length m ≡ 65536 → get_or (set (set m 0x1FFE (r / 2 ^ 8)) 0x1FFF (r % 2 ^ 8)) 0x1FFE 0 * 2 ^ 8 + get_or (set (set m 0x1FFE (r / 2 ^ 8)) 0x1FFF (r % 2 ^ 8)) 0x1FFF 0 ≡ r
+pushed_word m r lm =
+    let hi = r / 2 ^ 8 in
+    let lo = r % 2 ^ 8 in
+    let ls = length-set m 0x1FFE hi in
+    let a : get_or (set (set m 0x1FFE hi) 0x1FFF lo) 0x1FFE 0 ≡ hi = get_or-set_other (set m 0x1FFE hi) 0x1FFF 0x1FFE lo 0 (omega arith) ∙ get_or-set_same m 0x1FFE hi 0 (omega arith) in
+    let b : get_or (set (set m 0x1FFE hi) 0x1FFF lo) 0x1FFF 0 ≡ lo = get_or-set_same (set m 0x1FFE hi) 0x1FFF lo 0 (omega arith) in
+    ap₂ (λ x y. x * 2 ^ 8 + y) a b ∙ omega arith
+
+returned : (c : Ctx) (b : Block) (bytes bs m : List ℕ) (s u : State) → Evals c c.layout b bytes bs → HasFrame c → Goes c (3 + eval_most b) (eval_parts b) s u → Live c u → u.regs.pc ≡ c.layout.wait + 8 → u.regs.sp ≡ 0x2000 → u.mem ≡ evaluated c.layout b bytes bs m → Sampled c b bytes bs s
+returned c b bytes bs m s u h f g l ep es em =
+    let apart = h.apart in
+    let a1 = apart.ready in
+    let a2 = apart.inputs in
+    let a3 = apart.outputs in
+    let a4 = apart.slots in
+    let qs = output_bytes b.outputs (masses b bytes) bs in
+    let lq = length-output_bytes b.outputs (masses b bytes) bs h.count in
+    let few = h.valid.few_outputs in
+    let r = leave_run c u f (omega arith) l ep in
+    let ls : length (put m c.layout.slots (slots_after b bytes)) ≡ 65536 = sym (length-put (put m c.layout.slots (slots_after b bytes)) c.layout.outputs qs) ∙ ap length (sym em) ∙ l.size in
+    let here : HasBytes u.mem c.layout.outputs qs = subst (λ x. HasBytes x c.layout.outputs qs) (sym em) (has_put (put m c.layout.slots (slots_after b bytes)) c.layout.outputs qs (omega arith)) in
+    let lu = l.size in
+    record {
+      t = r.t;
+      goes = goes_most c (3 + eval_most b + 2) (eval_parts b + 0) _ _ s r.t (omega arith) (omega arith) (goes_on c (3 + eval_most b) (eval_parts b) 2 0 s u r.t g r.goes);
+      home = record {
+        live = r.live;
+        pc_is = r.pc_is;
+        sp_is = r.sp_is ∙ es;
+        outs = subst (λ x. HasBytes x c.layout.outputs qs) (sym r.mem_is) (bytes_set_out u.mem c.layout.ready 0 c.layout.outputs qs (inr (omega arith)) here);
+        ready_is = ap (λ x. get_or x c.layout.ready 0) r.mem_is ∙ get_or-set_same u.mem c.layout.ready 0 0 (omega arith);
+      };
+    }
+
+pub sample_run : (c : Ctx) (b : Block) (bytes bs : List ℕ) (s : State) → Evals c c.layout b bytes bs → HasFrame c → Home c bs s → Sampled c b bytes bs (given c.layout bytes s)
+sample_run c b bytes bs s h f home =
+    let apart = h.apart in
+    let few = h.valid.few_inputs in
+    let n = h.input.count in
+    let a1 = apart.ready in
+    let a2 = apart.inputs in
+    let a3 = apart.outputs in
+    let a4 = apart.slots in
+    let s0 = given c.layout bytes s in
+    let l0 = given_live c bytes s home.live h.input.fit (omega arith) (omega arith) in
+    let m = put s.mem c.layout.inputs bytes in
+    let ls = home.live.size in
+    let lm : length m ≡ 65536 = length-put s.mem c.layout.inputs bytes ∙ home.live.size in
+    let er : get_or s0.mem c.layout.ready 0 ≡ 1 = get_or-set_same m c.layout.ready 1 0 (omega arith) in
+    let hi : HasBytes s0.mem c.layout.inputs bytes = bytes_set_out m c.layout.ready 1 c.layout.inputs bytes (inr (omega arith)) (has_put s.mem c.layout.inputs bytes (omega arith)) in
+    let ho : HasBytes s0.mem c.layout.outputs bs = bytes_set_out m c.layout.ready 1 c.layout.outputs bs (inr (omega arith)) (bytes_put_out s.mem c.layout.inputs bytes c.layout.outputs bs (inr (omega arith)) home.outs) in
+    called s0 l0 hi ho (call_run c s0 f (omega arith) l0 home.pc_is home.sp_is er)
+  where
+    then_leave : (s0 : State) (r : Called c s0) → Returns c (eval_most b) (eval_parts b) r.t (c.layout.wait + 8) (evaluated c.layout b bytes bs r.t.mem) → Sampled c b bytes bs s0
+    then_leave s0 r e = returned c b bytes bs r.t.mem s0 e.t h f (goes_most c (3 + eval_most b) (0 + eval_parts b) (3 + eval_most b) (eval_parts b) s0 e.t (omega arith) (omega arith) (goes_on c 3 0 (eval_most b) (eval_parts b) s0 r.t e.t r.goes e.goes)) e.live e.pc_is e.sp_is e.mem_is
+
+    called : (s0 : State) → Live c s0 → HasBytes s0.mem c.layout.inputs bytes → HasBytes s0.mem c.layout.outputs bs → Called c s0 → Sampled c b bytes bs s0
+    called s0 l0 hi ho r =
+        let apart = h.apart in
+        let few = h.valid.few_inputs in
+        let outs = h.valid.few_outputs in
+        let n = h.input.count in
+        let k = h.count in
+        let a2 = apart.inputs in
+        let a3 = apart.outputs in
+        let a4 = apart.slots in
+        let ret = c.layout.wait + 8 in
+        let m1 = set s0.mem 0x1FFE (ret / 2 ^ 8) in
+        let m2 = set m1 0x1FFF (ret % 2 ^ 8) in
+        let keep : (p : ℕ) (xs : List ℕ) → p + length xs ≤ 0x1800 → HasBytes s0.mem p xs → HasBytes r.t.mem p xs = λ p xs le hx. subst (λ x. HasBytes x p xs) (sym r.mem_is) (bytes_set_out m1 0x1FFF (ret % 2 ^ 8) p xs (inl (omega arith)) (bytes_set_out s0.mem 0x1FFE (ret / 2 ^ 8) p xs (inl (omega arith)) hx)) in
+        let w : get_or r.t.mem 0x1FFE 0 * 2 ^ 8 + get_or r.t.mem 0x1FFF 0 ≡ ret = ap (λ (x : List ℕ). get_or x 0x1FFE 0 * 2 ^ 8 + get_or x 0x1FFF 0) r.mem_is ∙ pushed_word s0.mem ret l0.size in
+        let e = eval_run c c.layout b bytes bs ret r.t h r.live r.pc_is r.sp_is (keep c.layout.inputs bytes (omega arith) hi) (keep c.layout.outputs bs (omega arith) ho) w in
+        then_leave s0 r e

@@ -1,0 +1,5 @@
+use Rattle.codegen.proofs.Law.{answers_samples}
+use Rattle.codegen.proofs.laws.answers_samples.Goals as goal
+
+pub returns : goal.returns
+returns c = answers_samples

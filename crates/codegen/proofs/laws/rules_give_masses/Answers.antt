@@ -1,0 +1,5 @@
+use Rattle.codegen.proofs.BlockMasses.{rules_give_masses}
+use Rattle.codegen.proofs.laws.rules_give_masses.Goals as goal
+
+pub returns : goal.returns
+returns c = rules_give_masses

@@ -1,0 +1,14 @@
+//! Laws of the generated code.
+ghost use Rattle.codegen.specs.Answers.{AnswersSamples};
+ghost use Rattle.codegen.specs.Firing.{RulesGiveMasses};
+
+/// The rules leave in the slots of the outputs' terms their masses.
+pub fn rules_give_masses()
+    ensures { RulesGiveMasses }
+{}
+
+/// The firmware of a block answers every list of samples by the byte answer, whatever the open
+/// flags are, within its bounds; and at each instruction what an interrupt may change is not read.
+pub fn answers_samples()
+    ensures { AnswersSamples }
+{}
