@@ -13,9 +13,7 @@ use Rattle.rule_layout.specs.declared.flat.Flat.{Flat}
 use Rattle.rule_layout.specs.declared.flat.LayoutFault.{LayoutFault}
 use Rattle.rule_layout.specs.declared.flat.LayoutFault.TheVariants.{TooManyRules, ListTooLong, Memory}
 use Rattle.rule_layout.specs.Spreading.{Literal, spread_of}
-use Rattle.rule_layout.specs.Grid.{FitsGrid}
-use Rattle.rule_layout.specs.Slots.{slots_of, number_in, literal_number, conclusion_number, out_slot}
-use Rattle.rule_layout.specs.Tables.{table_literal, table_number, IsInTable}
+use Rattle.rule_layout.specs.Slots.{slots_of, number_in, literal_number, conclusion_number}
 use Rattle.rule_layout.specs.Lists.{marked}
 use Rattle.byte_scaling.specs.Weights.{weight_byte_of}
 
@@ -94,21 +92,6 @@ pub record IsLaidOut (f : Flat) : Type 0 where
   pub some_conjunction : 1 ≤ length f.conjunctions
   pub weighed : length f.weights ≡ length f.conjunctions
   pub unscaled : f.form ≡ Rev → All (λ w. w ≡ 255) f.weights
-
--- a conjunction of a rule, by a table of the slots' numbers
-abbrev pub table_conjunction : List ℕ → Rule → List Literal → Conjunction
-table_conjunction table r ls = record { literals = map (table_literal table) ls; conclusions = map (λ p. table_number table (out_slot p)) r.concl }
-
-abbrev pub table_conjunctions : List ℕ → Rule → List Conjunction
-table_conjunctions table r = map (table_conjunction table r) (rule_spread r)
-
--- a rule that can be spread by a table
-pub record IsSpreadable (r : Rule) : Type 0 where
-  pub fits : FitsGrid (condition_of r.cond)
-  pub conclusions : All (λ p. IsInTable (out_slot p)) r.concl
-
-abbrev pub with_conclusions : List ℕ → List ℕ → Conjunction
-with_conclusions concl ls = record { literals = ls; conclusions = concl }
 
 -- the list is too long by its number of bytes, and the conjunctions are not too many
 pub record IsTooLong (b : Block) (n : ℕ) : Type 0 where

@@ -8,3 +8,4 @@ pub mod Tables
 pub mod Truths
 pub mod Masses
 pub mod Examples
+pub mod Steps
