@@ -4,6 +4,7 @@ use Rattle.std.specs.List.{list_any}
 use Rattle.fz_num.specs.declared.dec.Dec.{Dec}
 use Rattle.fuzzy_meaning.specs.declared.block.Block.{Block}
 use Rattle.fuzzy_meaning.specs.declared.block.Rule.{Rule}
+use Rattle.fuzzy_meaning.specs.Blocks.{IsValid}
 use Rattle.fuzzy_meaning.specs.Conditions.{condition_of}
 use Rattle.rule_layout.specs.declared.flat.Slot.{Slot}
 use Rattle.rule_layout.specs.declared.flat.Conjunction.{Conjunction}
@@ -91,6 +92,7 @@ pub record IsLaidOut (f : Flat) : Type 0 where
   pub in_range : All (IsBelow (length f.slots)) f.conjunctions
   pub some_conjunction : 1 ≤ length f.conjunctions
   pub weighed : length f.weights ≡ length f.conjunctions
+  pub weight_bytes : All (λ w. w ≤ 255) f.weights
   pub unscaled : f.form ≡ Rev → All (λ w. w ≡ 255) f.weights
 
 -- the list is too long by its number of bytes, and the conjunctions are not too many
@@ -104,3 +106,7 @@ abbrev pub IsFaultOf : Block → LayoutFault → Type 0
 IsFaultOf b (TooManyRules n) = IsFirstTooMany b.rules n
 IsFaultOf b (ListTooLong n) = IsTooLong b n
 IsFaultOf b Memory = Unit {0}
+
+-- a valid block's layout is one, also where it is over its limits
+abbrev pub LayoutLaw : Type 0
+LayoutLaw = (b : Block) → IsValid b → IsLaidOut (flat_of b)

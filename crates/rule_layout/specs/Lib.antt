@@ -9,3 +9,4 @@ pub mod Truths
 pub mod Masses
 pub mod Examples
 pub mod Steps
+pub mod Numbers

@@ -19,7 +19,7 @@ mod slots;
 mod spreading;
 
 pub use flat::{Conjunction, Flat, Form, LayoutFault, Slot};
-pub use laws::{mass_law, spreading_law};
+pub use laws::{layout_law, mass_law, slot_number_laws, spreading_law};
 pub use layout::spread;
 
 #[cfg(test)]
