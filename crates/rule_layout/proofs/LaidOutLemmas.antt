@@ -20,7 +20,7 @@ use Rattle.rule_layout.specs.declared.flat.Flat.{Flat}
 use Rattle.rule_layout.specs.Spreading.{Literal}
 use Rattle.rule_layout.specs.Slots.{terms_from, term_count, singleton_count, input_terms, output_terms, term_slot, complement_slot, out_slot, is_complemented, slots_of, is_same_slot, number_in}
 use Rattle.rule_layout.specs.Tables.{place_of}
-use Rattle.rule_layout.specs.Layouts.{rule_spread, conjunction_of, rule_conjunctions, rule_weights, conjunctions_of, weights_of, is_below_one, form_by, form_of, flat_of, IsLaidOut}
+use Rattle.rule_layout.specs.Layouts.{rule_spread, conjunction_of, rule_conjunctions, rule_weights, conjunctions_of, weights_of, is_below_one, form_by, form_of, flat_of, IsLaidOut, LayoutLaw}
 use Rattle.rule_layout.proofs.SpreadLemmas.{some_conjunction}
 use Rattle.rule_layout.proofs.BlockLemmas.{rule_fits, few_terms, few_singletons}
 use Rattle.rule_layout.proofs.NumberLemmas.{slot_from_same}
@@ -131,6 +131,27 @@ unscaled_weight : (w : Option Dec) → is_below_one w ≡ false → IfSome w IsW
 unscaled_weight None e h = refl
 unscaled_weight (Some w) e h = full_weight w.0 e h.high
 
+small_weight : (z : ℤ) → pos 0 ≤ℤ z → z ≤ℤ pos 10000 → (512 * unsigned_abs z + 10000) / 20000 - 1 ≤ 255
+small_weight (pos n) from to =
+    let most : n ≤ 10000 = omega (arith, ints) in
+    omega arith
+small_weight (negsuc n) from to = absurd (omega (arith, ints))
+
+weight_byte_le : (w : Option Dec) → IfSome w IsWeight → weight_byte_of w ≤ 255
+weight_byte_le None h = omega arith
+weight_byte_le (Some w) h = small_weight w.0 h.low h.high
+
+All-alike_le : (w : ℕ) (xs : List (List Literal)) → w ≤ 255 → All (λ k. k ≤ 255) (map (λ _. w) xs)
+All-alike_le w [] le = All-nil (λ k. k ≤ 255)
+All-alike_le w (x ∷ xs) le = All-cons (λ k. k ≤ 255) w (map (λ _. w) xs) le (All-alike_le w xs le)
+
+weights_le : (rules : List Rule) → All (λ r. IfSome r.weight IsWeight) rules → All (λ w. w ≤ 255) (flat_map rule_weights rules)
+weights_le [] h = All-nil (λ w. w ≤ 255)
+weights_le (r ∷ rs) h =
+    All-append (λ w. w ≤ 255) (rule_weights r) (flat_map rule_weights rs)
+    (All-alike_le (weight_byte_of r.weight) (rule_spread r) (weight_byte_le r.weight (All-head (λ q. IfSome q.weight IsWeight) r rs h)))
+    (weights_le rs (All-tail (λ q. IfSome q.weight IsWeight) r rs h))
+
 All-alike : (w n : ℕ) (xs : List (List Literal)) → w ≡ n → All (λ k. k ≡ n) (map (λ _. w) xs)
 All-alike w n [] e = All-nil (λ k. k ≡ n)
 All-alike w n (x ∷ xs) e = All-cons (λ k. k ≡ n) w (map (λ _. w) xs) e (All-alike w n xs e)
@@ -170,6 +191,13 @@ laid_out_made b f v same =
       in_range = numbers_in_range b v;
       some_conjunction = some;
       weighed = weighed;
+      weight_bytes = weights_le b.rules (λ k d lt. (v.rules k d lt).weight);
       unscaled = λ e. unscaled_rules b.rules (λ k d lt. (v.rules k d lt).weight) (form_by_unscaled (length (slots_of b)) b.rules e);
     } in
     subst IsLaidOut (sym same) made
+
+pub slots_apart : (b : Block) → IsValid b → (k : ℕ) (s : Slot) → k < length (slots_of b) → number_in (slots_of b) (get_or (slots_of b) k s) ≡ k
+slots_apart b v k s lt = number_in-get_or 0 300 k (slots_of b) s (slots_rise b v) lt
+
+pub layout_law_lem : LayoutLaw
+layout_law_lem b v = laid_out_made b (flat_of b) v refl

@@ -20,7 +20,8 @@ use Rattle.rule_layout.specs.Lists.{marked}
 use Rattle.rule_layout.specs.Slots.{terms_from, term_count, singleton_count, input_terms, output_terms, term_slot, complement_slot, out_slot, is_complemented, slots_of, literal_number, conclusion_number}
 use Rattle.rule_layout.specs.Tables.{IsInTable, IsNumbering, table_number, table_literal}
 use Rattle.rule_layout.specs.Sizes.{IsCountable, rule_entries, entry_count, IsSizeOfRules}
-use Rattle.rule_layout.specs.Layouts.{conjunction_count, rule_spread, conjunction_of, rule_conjunctions, conjunctions_of, table_conjunction, table_conjunctions, IsBelow, IsSpreadable, element_width, form_by, form_of, rule_weights, weights_of, flat_of, list_size}
+use Rattle.rule_layout.specs.Layouts.{conjunction_count, rule_spread, conjunction_of, rule_conjunctions, conjunctions_of, IsBelow, element_width, form_by, form_of, rule_weights, weights_of, flat_of, list_size}
+use Rattle.rule_layout.specs.Steps.{table_conjunction, table_conjunctions, IsSpreadable}
 use Rattle.rule_layout.proofs.BlockLemmas.{input_terms_in_grid, output_terms_in_table, few_terms, few_singletons, rule_fits}
 use Rattle.rule_layout.proofs.ListLemmas.{mark, marked-cons}
 use Rattle.rule_layout.proofs.RuleLemmas.{entry_count_le}

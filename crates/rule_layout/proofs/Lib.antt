@@ -14,3 +14,4 @@ pub mod TruthLemmas
 pub mod MassLemmas
 pub mod LaidOutLemmas
 pub mod ExampleLemmas
+pub mod PlaceLemmas

@@ -8,3 +8,5 @@ pub mod Tables
 pub mod Truths
 pub mod Masses
 pub mod Examples
+pub mod Steps
+pub mod Numbers

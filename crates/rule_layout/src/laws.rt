@@ -1,5 +1,7 @@
 //! Laws of the layout, each the contract of a function that does nothing.
+ghost use Rattle.rule_layout.specs.Layouts.{LayoutLaw};
 ghost use Rattle.rule_layout.specs.Masses.{MassLaw};
+ghost use Rattle.rule_layout.specs.Numbers.{TermNumberLaw, OutNumberLaw};
 ghost use Rattle.rule_layout.specs.Truths.{SpreadingLaw};
 
 /// Spreading keeps the truth: where each input term has a whole number from 0 to n, a complement
@@ -15,4 +17,19 @@ pub fn spreading_law()
 /// term's byte mass. With a weight byte of 255, as REV has for each conjunction, nothing is scaled.
 pub fn mass_law()
     ensures { MassLaw }
+{}
+
+/// Where the slots of a term stand, counted from 0: before the slot of an input's term stand the
+/// terms of the inputs before it and the terms before it, and before that of an output's term all
+/// input terms, the complements, and the output terms before it.
+pub fn slot_number_laws()
+    ensures input_term { TermNumberLaw }
+    ensures output_term { OutNumberLaw }
+{}
+
+/// The layout of a valid block has what its lists and the machine need: slots that are apart and
+/// numbered by their places, numbers that are slots and no marks, at least one conjunction, and
+/// for each a weight byte, which for REV is 255.
+pub fn layout_law()
+    ensures { LayoutLaw }
 {}

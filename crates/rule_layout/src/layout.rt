@@ -6,7 +6,8 @@ ghost use Rattle.rule_layout.specs.declared.flat.LayoutFault.TheVariants.{Memory
 ghost use Rattle.rule_layout.specs.Slots.{out_slot};
 ghost use Rattle.rule_layout.specs.Tables.{IsInTable, table_number};
 ghost use Rattle.rule_layout.specs.Sizes.{IsCountable, IsSizeOfRule, IsSizeOfRules};
-ghost use Rattle.rule_layout.specs.Layouts.{flat_of, IsWithinLimits, IsFaultOf, IsLaidOut, rule_spread, rule_weights, table_conjunctions, IsSpreadable, is_below_one, form_by, element_width, with_conclusions};
+ghost use Rattle.rule_layout.specs.Layouts.{flat_of, IsWithinLimits, IsFaultOf, IsLaidOut, rule_spread, rule_weights, is_below_one, form_by, element_width};
+ghost use Rattle.rule_layout.specs.Steps.{table_conjunctions, IsSpreadable, with_conclusions};
 
 use crate::flat::{Conjunction, Flat, Form, LayoutFault, Slot};
 use crate::sizes::{Size, size_of};

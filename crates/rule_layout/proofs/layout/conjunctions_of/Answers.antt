@@ -2,7 +2,7 @@ use Rattle.std.proofs.Common.{◌++◌, List, map, ap, ◌∙◌}
 use Rattle.rule_layout.specs.declared.flat.Conjunction.{Conjunction}
 use Rattle.rule_layout.specs.Slots.{out_slot}
 use Rattle.rule_layout.specs.Tables.{table_number}
-use Rattle.rule_layout.specs.Layouts.{table_conjunctions}
+use Rattle.rule_layout.specs.Steps.{table_conjunctions}
 use Rattle.rule_layout.proofs.RuleLemmas.{flat_map_step, table_conjunctions_made}
 use Rattle.rule_layout.proofs.layout.conjunctions_of.Goals as goal
 

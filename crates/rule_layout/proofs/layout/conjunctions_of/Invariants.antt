@@ -1,6 +1,6 @@
 use Rattle.std.proofs.Common.{◌≡◌, take}
 use Rattle.std.specs.Prelude.{flat_map}
-use Rattle.rule_layout.specs.Layouts.{table_conjunctions}
+use Rattle.rule_layout.specs.Steps.{table_conjunctions}
 use Rattle.rule_layout.proofs.layout.conjunctions_of.Given as goal
 
 abbrev pub invariant-loop-rule : goal.invariant-loop-rule
