@@ -1,36 +1,7 @@
 //! Tables and grades of a falling and a rising term over 256 cells.
-ghost use Rattle.std.specs.Prelude.{◌≡◌, IfOk, length};
-ghost use Rattle.fuzzy_meaning.specs.Blocks.{IsValidInput};
-
-use crate::{grade, row, slope};
-use fuzzy_meaning::{Input, Trapezoid};
-use fz_list::List;
-use fz_num::Dec;
-use std::alloc::{AllocError, Global};
+use crate::{grade, row, slope, table};
+use fuzzy_meaning::heater;
 use std::test::Fail;
-
-fn input(alloc: Global) -> Result<Input, AllocError>
-    ensures valid { IfOk result IsValidInput }
-    ensures two { IfOk result (λ i. length i.terms ≡ 2) }
-{
-    let cold = Trapezoid {
-        a: None,
-        b: Dec(0),
-        c: Dec(0),
-        d: Some(Dec(2_560_000)),
-    };
-    let hot = Trapezoid {
-        a: Some(Dec(0)),
-        b: Dec(2_560_000),
-        c: Dec(2_560_000),
-        d: None,
-    };
-    Ok(Input {
-        lo: Dec(0),
-        hi: Dec(2_560_000),
-        terms: List::new(vec![in alloc; cold, hot]?),
-    })
-}
 
 #[test]
 fn a_grade_lies_under_both_sides(rt: HostRuntime) {
@@ -58,8 +29,15 @@ fn slopes_are_rounded_to_the_nearest(rt: HostRuntime) {
 
 #[test]
 fn a_missing_point_leaves_its_side_open(rt: HostRuntime) -> Result<(), Fail> {
-    let input = input(rt.alloc())?;
-    assert_eq!(rt; row(&input, 1), [0, 255, 0, 1]);
-    assert_eq!(rt; row(&input, 2), [0, 255, 1, 0]);
+    let block = heater(rt.alloc())?;
+    let rows = table(rt.alloc(), &block)?;
+    assert_eq!(rt;
+        rows.as_slice(),
+        [[0, 255, 0, 1], [0, 255, 1, 0]].as_slice()
+    );
+    let inputs = block.inputs.as_slice();
+    assert_eq!(rt; inputs.len(), 1);
+    assert_eq!(rt; inputs[0].terms.len(), 2);
+    assert_eq!(rt; row(&inputs[0], 2), [0, 255, 1, 0]);
     Ok(())
 }
