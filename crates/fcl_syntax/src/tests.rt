@@ -268,3 +268,29 @@ fn block_is_read(rt: HostRuntime) -> Result<(), Fail> {
     assert_eq!(rt; tree.letters(tree.block.name), b"a".as_slice());
     Ok(())
 }
+
+const RULES_HEAD: &[u8] = b"FUNCTION_BLOCK a RULEBLOCK r\n";
+const RULE: &[u8] = b"RULE 1 : IF t IS hot THEN power IS on;\n";
+const RULES_TAIL: &[u8] = b"END_RULEBLOCK END_FUNCTION_BLOCK";
+
+// The longest text that may be read: rules, and then blanks.
+fn longest(alloc: Global) -> Result<Vec<u8>, AllocError> {
+    let mut text = Vec::from_slice(alloc, RULES_HEAD)?;
+    for _ in 0..26_000 {
+        text.extend_from_slice(RULE)?;
+    }
+    for _ in text.len()..1_048_576 - RULES_TAIL.len() {
+        text.push(b' ')?;
+    }
+    text.extend_from_slice(RULES_TAIL)?;
+    Ok(text)
+}
+
+#[test]
+fn longest_text(rt: HostRuntime) -> Result<(), Fail> {
+    let text = longest(rt.alloc())?;
+    assert_eq!(rt; text.len(), 1_048_576);
+    let tree = parse(rt.alloc(), &text)?;
+    assert_eq!(rt; tree.block.rules.rules.len(), 26_000);
+    Ok(())
+}
