@@ -50,7 +50,11 @@ fn place(outputs: &[Output], output: u32, term: u32) -> Option<(u8, u8)>
     None
 }
 
-fn conclusion(source: &Source<'_, '_, '_>, outputs: &[Output], conclusion: &Conclusion) -> Result<(u8, u8), LoadFault>
+fn conclusion(
+    source: &Source<'_, '_, '_>,
+    outputs: &[Output],
+    conclusion: &Conclusion,
+) -> Result<(u8, u8), LoadFault>
     ensures { IfOk result (λ p. HasSingletonIn outputs.now p.0 p.1) }
 {
     let letters = source.tree.letters(conclusion.variable);
@@ -67,7 +71,11 @@ fn conclusion(source: &Source<'_, '_, '_>, outputs: &[Output], conclusion: &Conc
     }
 }
 
-fn conclusions(source: &Source<'_, '_, '_>, outputs: &[Output], rule: &fcl_syntax::Rule) -> Result<Vec<(u8, u8)>, LoadFault>
+fn conclusions(
+    source: &Source<'_, '_, '_>,
+    outputs: &[Output],
+    rule: &fcl_syntax::Rule,
+) -> Result<Vec<(u8, u8)>, LoadFault>
     ensures { IfOk result (λ v. (1 ≤ length v.items) × AllHaveSingletons outputs.now v.items) }
 {
     let mut places = Vec::new(source.alloc);
@@ -88,7 +96,11 @@ fn count(conclusions: &[(u8, u8)]) -> Result<u32, LoadFault>
 }
 
 // A rule, and a bound on its conditions and conclusions.
-fn rule(source: &Source<'_, '_, '_>, outputs: &[Output], rule: &fcl_syntax::Rule) -> Result<(fuzzy_meaning::Rule, u32), LoadFault>
+fn rule(
+    source: &Source<'_, '_, '_>,
+    outputs: &[Output],
+    rule: &fcl_syntax::Rule,
+) -> Result<(fuzzy_meaning::Rule, u32), LoadFault>
     ensures { IfOk result (λ r. FitsBlock source.now.inputs.now outputs.now r.0 × (rule_size r.0 ≤ r.1)) }
 {
     let (cond, size) = or(source, &rule.condition, ROOM)?;
@@ -106,7 +118,10 @@ fn rule(source: &Source<'_, '_, '_>, outputs: &[Output], rule: &fcl_syntax::Rule
     ))
 }
 
-fn rules(source: &Source<'_, '_, '_>, outputs: &[Output]) -> Result<Vec<fuzzy_meaning::Rule>, LoadFault>
+fn rules(
+    source: &Source<'_, '_, '_>,
+    outputs: &[Output],
+) -> Result<Vec<fuzzy_meaning::Rule>, LoadFault>
     ensures all { IfOk result (λ v. All (FitsBlock source.now.inputs.now outputs.now) v.items) }
     ensures size { IfOk result (λ v. sum_by rule_size v.items ≤ 1048576) }
     ensures count { IfOk result (λ v. (1 ≤ length v.items) × (length v.items ≤ 256)) }

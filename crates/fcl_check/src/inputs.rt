@@ -28,10 +28,7 @@ impl Corners {
     fn with(self, point: &Point) -> Corners {
         let x = value(point.x);
         match (is_one(point.degree), self.top) {
-            (false, None) => Corners {
-                a: Some(x),
-                ..self
-            },
+            (false, None) => Corners { a: Some(x), ..self },
             (false, Some(_)) => Corners {
                 d: self.d.or(Some(x)),
                 ..self

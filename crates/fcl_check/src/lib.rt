@@ -18,3 +18,6 @@ mod sections;
 
 pub use fault::LoadFault;
 pub use loading::load;
+
+#[cfg(test)]
+mod tests;

@@ -7,9 +7,7 @@ use crate::fault::LoadFault;
 use crate::names::Names;
 use crate::numbers::{Span, value};
 use crate::sections::{TERMS, defuzzy_range};
-use fcl_syntax::{
-    Defuzzify, DefuzzyLine, Direction, Fallback, FallbackValue, Name, Part, Tree,
-};
+use fcl_syntax::{Defuzzify, DefuzzyLine, Direction, Fallback, FallbackValue, Name, Part, Tree};
 use fuzzy_meaning::Output;
 use fz_list::List;
 use fz_num::Dec;
@@ -41,10 +39,12 @@ pub fn is_complete(section: &Defuzzify) -> bool {
 fn number_of(line: &DefuzzyLine) -> Option<Dec> {
     match line {
         DefuzzyLine::Singleton(singleton) => Some(value(singleton.value)),
-        DefuzzyLine::Default(Fallback {
-            value: FallbackValue::Number(num),
-            ..
-        }) => Some(value(*num)),
+        DefuzzyLine::Default(
+            Fallback {
+                value: FallbackValue::Number(num),
+                ..
+            },
+        ) => Some(value(*num)),
         _ => None,
     }
 }
@@ -137,7 +137,11 @@ fn section_of<'a>(tree: &'a Tree, names: &Names<'a>, name: Name) -> Option<&'a D
 }
 
 /// The outputs in the order of their declaration.
-pub fn outputs<'a>(alloc: Global, tree: &'a Tree, names: &Names<'a>) -> Result<Vec<Output>, LoadFault>
+pub fn outputs<'a>(
+    alloc: Global,
+    tree: &'a Tree,
+    names: &Names<'a>,
+) -> Result<Vec<Output>, LoadFault>
     ensures { IfOk result (λ v. (1 ≤ length v.items) × ((length v.items ≤ 4) × All IsValidOutput v.items)) }
 {
     let mut outputs = Vec::new(alloc);
