@@ -5,3 +5,4 @@ pub mod Slices
 pub mod Calm
 pub mod Undisturbed
 pub mod CalmRows
+pub mod Stretches
