@@ -2,3 +2,16 @@ pub mod Joins
 pub mod Lists
 pub mod Sizes
 pub mod Placement
+pub mod Memory
+pub mod Flags
+pub mod Stepping
+pub mod Instructions
+pub mod Fuzzify
+pub mod Filling
+pub mod Averaging
+pub mod Quotients
+pub mod RuleMemory
+pub mod Ruling
+pub mod SlotValues
+pub mod RuleFacts
+pub mod Evaluating

@@ -57,7 +57,7 @@ length-weights : (f : Form) (weights : List ℕ) → length (weight_bytes_by f w
 length-weights form.Rev weights = omega arith
 length-weights form.Revw weights = omega arith
 
-length-weights_of : (b : Block) → length (weights_of b) ≡ conjunction_count b.rules
+pub length-weights_of : (b : Block) → length (weights_of b) ≡ conjunction_count b.rules
 unfolding weights_of
 length-weights_of b = length-rule_weights b.rules
 

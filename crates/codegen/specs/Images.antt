@@ -1,5 +1,5 @@
 -- The image of a block's firmware, item by item.
-use Rattle.std.specs.Prelude.{ℕ, ◌+◌, ◌^◌, ◌<◌, List, ◌∷◌, ◌++◌, map}
+use Rattle.std.specs.Prelude.{ℕ, ◌+◌, ◌^◌, ◌<◌, ◌≤◌, List, ◌∷◌, ◌++◌, map}
 use Rattle.fuzzy_meaning.specs.declared.block.Block.{Block}
 use Rattle.cpu12_isa.specs.declared.instr.Instr.{Instr}
 use Rattle.cpu12_asm.specs.declared.items.Item.{Item}
@@ -35,3 +35,18 @@ pub record HasRoom (l : Layout) : Type 0 where
   pub outputs : l.outputs + 4 < 2 ^ 16
   pub slots : l.slots + 1024 < 2 ^ 16
   pub singletons : l.singletons + 64 < 2 ^ 16
+
+-- the regions of RAM stand one above another below FREE, and those of ROM above it
+pub record IsApart (l : Layout) : Type 0 where
+  pub ready : l.ready < l.inputs
+  pub inputs : l.inputs + 8 ≤ l.outputs
+  pub outputs : l.outputs + 4 ≤ l.slots
+  pub slots : l.slots + 300 ≤ 0x1800
+  pub tables : 0x2000 ≤ l.tables
+  pub tables_end : l.tables + 480 < 2 ^ 16
+  pub singletons : 0x2000 ≤ l.singletons
+  pub singletons_end : l.singletons + 60 < 2 ^ 16
+  pub weights : 0x2000 ≤ l.weights
+  pub weights_end : l.weights + 512 < 2 ^ 16
+  pub rules : 0x2000 ≤ l.rules
+  pub rules_end : l.rules + 9984 < 2 ^ 16

@@ -19,3 +19,6 @@ pub use degrees::degree;
 pub use examples::examples_are_valid;
 pub use masses::{mass, strength};
 pub use truths::truth;
+
+#[cfg(test)]
+mod tests;

@@ -1,5 +1,5 @@
 -- What a block's rules are laid out as, and when they are too many.
-use Rattle.std.specs.Prelude.{◌≡◌, ℕ, ◌-◌, ◌*◌, ◌<◌, ◌≤◌, Bool, false, not, ◌&&◌, nat_le, List, map, length, take, sum_by, flat_map, All, Option, Some, None, pos, int_lt, if◌then◌else◌}
+use Rattle.std.specs.Prelude.{◌≡◌, ℕ, ◌-◌, ◌*◌, ◌<◌, ◌≤◌, Bool, false, not, ◌&&◌, nat_le, List, map, length, get_or, take, sum_by, flat_map, All, Option, Some, None, pos, int_lt, if◌then◌else◌}
 use Rattle.std.specs.List.{list_any}
 use Rattle.fz_num.specs.declared.dec.Dec.{Dec}
 use Rattle.fuzzy_meaning.specs.declared.block.Block.{Block}
@@ -14,7 +14,7 @@ use Rattle.rule_layout.specs.declared.flat.LayoutFault.{LayoutFault}
 use Rattle.rule_layout.specs.declared.flat.LayoutFault.TheVariants.{TooManyRules, ListTooLong, Memory}
 use Rattle.rule_layout.specs.Spreading.{Literal, spread_of}
 use Rattle.rule_layout.specs.Grid.{FitsGrid}
-use Rattle.rule_layout.specs.Slots.{slots_of, literal_number, conclusion_number, out_slot}
+use Rattle.rule_layout.specs.Slots.{slots_of, number_in, literal_number, conclusion_number, out_slot}
 use Rattle.rule_layout.specs.Tables.{table_literal, table_number, IsInTable}
 use Rattle.rule_layout.specs.Lists.{marked}
 use Rattle.byte_scaling.specs.Weights.{weight_byte_of}
@@ -84,11 +84,16 @@ pub record IsBelow (n : ℕ) (c : Conjunction) : Type 0 where
   pub literals : All (λ k. k < n) c.literals
   pub conclusions : All (λ k. k < n) c.conclusions
 
--- what a list of rules in bytes or words needs: its marks are no slots
+-- a layout: the slots are apart, so that a slot's place is its number; each number is a slot's, so
+-- that no mark of a list is one; each conjunction has a weight byte, which for REV scales nothing
 pub record IsLaidOut (f : Flat) : Type 0 where
   pub few_slots : length f.slots ≤ 300
   pub few_for_rev : f.form ≡ Rev → length f.slots ≤ 254
+  pub apart : (k : ℕ) (s : Slot) → k < length f.slots → number_in f.slots (get_or f.slots k s) ≡ k
   pub in_range : All (IsBelow (length f.slots)) f.conjunctions
+  pub some_conjunction : 1 ≤ length f.conjunctions
+  pub weighed : length f.weights ≡ length f.conjunctions
+  pub unscaled : f.form ≡ Rev → All (λ w. w ≡ 255) f.weights
 
 -- a conjunction of a rule, by a table of the slots' numbers
 abbrev pub table_conjunction : List ℕ → Rule → List Literal → Conjunction

@@ -97,7 +97,7 @@ fn size_of_rule(rule: &Rule) -> Option<Size>
     })
 }
 
-fn form_of(slots: usize, rules: &[Rule]) -> Form
+pub(crate) fn form_of(slots: usize, rules: &[Rule]) -> Form
     ensures { result ≡ form_by slots rules.now }
 {
     if slots <= MOST_BYTE_SLOTS && !is_weighted(rules) {

@@ -18,5 +18,8 @@ mod slots;
 mod spreading;
 
 pub use flat::{Conjunction, Flat, Form, LayoutFault, Slot};
-pub use laws::spreading_law;
+pub use laws::{mass_law, spreading_law};
 pub use layout::spread;
+
+#[cfg(test)]
+mod tests;

@@ -5,7 +5,8 @@ use Rattle.rule_layout.specs.declared.flat.Slot.{Slot}
 use Rattle.rule_layout.specs.Tables.{IsInTable, IsNumbering}
 use Rattle.rule_layout.specs.Sizes.{IsCountable, IsSizeOfRules}
 use Rattle.rule_layout.specs.Layouts.{IsSpreadable, table_conjunctions}
-use Rattle.rule_layout.proofs.LayoutLemmas.{slots_in_table, few_slots, rules_countable, rules_spreadable, entries_fit, bytes_fit, form_made, list_size_made, flat_made, conjunctions_by_table, laid_out_made, weights_made}
+use Rattle.rule_layout.proofs.LayoutLemmas.{slots_in_table, few_slots, rules_countable, rules_spreadable, entries_fit, bytes_fit, form_made, list_size_made, flat_made, conjunctions_by_table, weights_made}
+use Rattle.rule_layout.proofs.LaidOutLemmas.{laid_out_made}
 use Rattle.rule_layout.proofs.layout.spread.Goals as goal
 
 pub size_of_rules-requires-clause-countable : goal.size_of_rules-requires-clause-countable
