@@ -19,3 +19,4 @@ pub mod Decoding
 pub mod PartSteps
 pub mod SumSteps
 pub mod WholeSteps
+pub mod AnswerWays

@@ -3,7 +3,7 @@ use Rattle.std.proofs.Common.{◌≡◌, ℕ, Bool, true, false, Result, Ok, Lis
 use Rattle.cpu12_isa.specs.declared.instr.Regs.{Regs}
 use Rattle.cpu12_isa.specs.declared.instr.Instr.{Instr}
 use Rattle.cpu12_isa.specs.declared.instr.Instr.TheVariants.{Rev, Revw, Wav, Wavr}
-use Rattle.cpu12_isa.specs.Act.{Act, outcome, read_by, bind}
+use Rattle.cpu12_isa.specs.Act.{Act, outcome, read_by, bind, write_all}
 use Rattle.cpu12_isa.specs.Agreement.{AllShown, Uncovers}
 use Rattle.cpu12_isa.specs.Code.{decode_of, six_from}
 use Rattle.cpu12_isa.specs.Memory.{bytes_at}
@@ -15,7 +15,7 @@ use Rattle.cpu12_parts.specs.declared.temps.Temps.TheVariants.{Free}
 use Rattle.cpu12_parts.specs.State.{State}
 use Rattle.cpu12_parts.specs.Whole.{IsPlainStep, after_plain}
 use Rattle.cpu12_emul.specs.declared.ends.Stepped.TheVariants.{Plain}
-use Rattle.cpu12_emul.specs.Step.{Left, left_by_plain, instruction_act, step_act, applied}
+use Rattle.cpu12_emul.specs.Step.{Left, Next, left_by_plain, instruction_act, step_act, applied, next_of}
 use Rattle.fz_run.specs.Undisturbed.{is_hidden, Calmed}
 use Rattle.fz_run.specs.Stretches.{Stretch, Kept, Calmly}
 use Rattle.fz_run.proofs.Stretching.{plain_stretch, shown_all}
@@ -67,3 +67,24 @@ plain_step open_to flags Q i s t c p reads covers q =
   where
     by : Temps → State
     by u = record { regs = s.regs; temps = u; mem = s.mem }
+
+-- its step, whatever the state keeps beside
+pub plain_next : (flags : ℕ) (i : Instr) (s t : State) → s.temps ≡ Free → IsPlainStep flags i s t → next_of flags s ≡ Ok (record { state = t; kind = Plain })
+plain_next flags i s t free p =
+    let r = s.regs in
+    let m = s.mem in
+    let act : instruction_act flags r Free (decode_of (bytes_at m (six_from r.pc))) ≡ bind (act_of flags i r) (left_by_plain Free) = ap (instruction_act flags r Free) p.decoded ∙ plain_does flags r Free i p.plain in
+    let goes : outcome (step_act flags r Free) m ≡ Ok (left_by Free (effect flags i r m)) = ap (λ (k : Act (Result Left ℕ)). outcome k m) act ∙ outcome_bind (act_of flags i r) (left_by_plain Free) m in
+    ap (λ (u : Temps). applied (outcome (step_act flags r u) m) m) free
+    ∙ ap (λ (k : Result Left ℕ). applied k m) goes
+    ∙ ap (λ (u : Temps). after u) (sym free)
+    ∙ ap (λ (u : State). by u) (sym p.after)
+  where
+    left_by : Temps → Effect → Left
+    left_by u e = record { regs = e.regs; temps = u; writes = e.writes; kind = Plain }
+
+    after : Temps → Result Next ℕ
+    after u = (let e = effect flags i s.regs s.mem in Ok (record { state = record { regs = e.regs; temps = u; mem = write_all e.writes s.mem }; kind = Plain }))
+
+    by : State → Result Next ℕ
+    by u = Ok (record { state = u; kind = Plain })

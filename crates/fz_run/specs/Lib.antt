@@ -6,3 +6,5 @@ pub mod Calm
 pub mod Undisturbed
 pub mod CalmRows
 pub mod Stretches
+pub mod Answering
+pub mod Arrival
