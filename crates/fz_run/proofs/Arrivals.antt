@@ -1,9 +1,13 @@
 -- The way to LOOP, by its next step.
-use Rattle.std.proofs.Common.{◌≡◌, ℕ, zero, suc, ◌-◌, ◌<◌, ◌==◌, true, false, Ok, Err, refl, arith}
+use Rattle.std.proofs.Common.{◌≡◌, ℕ, zero, suc, ◌-◌, ◌<◌, ◌==◌, true, false, Ok, Err, refl, ap, ◌∙◌, arith}
 use Rattle.std.proofs.lemmas.Bool.Decides.{nat_tests}
 use Rattle.cpu12_parts.specs.State.{State}
 use Rattle.cpu12_emul.specs.Step.{Next, next_of}
+use Rattle.cpu12_parts.specs.declared.temps.Temps.TheVariants.{Free}
+use Rattle.cpu12_emul.specs.declared.ends.Stepped.TheVariants.{Plain}
 use Rattle.fz_run.specs.Rows.{arrival}
+use Rattle.fz_run.specs.Arrival.{PlainWay, ArrivesPlainly}
+use Rattle.fz_run.proofs.PlainSteps.{plain_next}
 
 there : (pc loop : ℕ) → pc ≡ loop → (pc == loop) ≡ true
 there pc loop e = grind (arith, nat_tests)
@@ -30,3 +34,14 @@ pub arrives_spent : (flags loop n : ℕ) (s : State) → n ≡ 0 → arrival fla
 unfolding arrival
 arrives_spent flags loop zero s z = refl
 arrives_spent flags loop (suc n) s z = absurd (omega arith)
+
+pub arrives_plainly : ArrivesPlainly
+arrives_plainly flags loop zero most s t free w at le = arrives flags loop most s (ap (λ (u : State). u.regs.pc) w ∙ at) ∙ w
+arrives_plainly flags loop (suc n) most s t free w at le =
+    let u = w.0 in
+    let i = w.1.1.0 in
+    let p = w.1.1.1 in
+    let next : Next = record { state = u; kind = Plain } in
+    let kept : u.temps ≡ Free = ap (λ (v : State). v.temps) p.after ∙ free in
+    arrives_later flags loop most s next w.1.0 (omega arith) (plain_next flags i s u free p)
+    ∙ arrives_plainly flags loop n (most - 1) u t kept w.1.2 at (omega arith)

@@ -12,3 +12,11 @@ pub mod CalmSamples
 pub mod Expected
 pub mod CalmRowsLaw
 pub mod WriteHandlers
+pub mod GoodPlans
+pub mod Stretching
+pub mod PlainSteps
+pub mod Decoding
+pub mod PartSteps
+pub mod SumSteps
+pub mod WholeSteps
+pub mod AnswerWays

@@ -5,3 +5,6 @@ pub mod Slices
 pub mod Calm
 pub mod Undisturbed
 pub mod CalmRows
+pub mod Stretches
+pub mod Answering
+pub mod Arrival

@@ -227,3 +227,6 @@ fn run_samples<M: Mem, H: Handler<Request>>(
     }
     rows
 }
+
+#[cfg(test)]
+mod tests;
