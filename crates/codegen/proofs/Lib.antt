@@ -26,3 +26,4 @@ pub mod Law
 pub mod Masses
 pub mod BlockMasses
 pub mod EvalLaw
+pub mod GivenBytes
