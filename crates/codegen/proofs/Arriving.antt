@@ -56,8 +56,8 @@ pub record Arrived (c : Ctx) (b : Block) : Type 0 where
   pub arrived : IsArrived c.layout c.image c.flags t
   pub home : Home c (zeros_of b.outputs) t
 
-pub arrive : (c : Ctx) (b : Block) → IsFramed c.layout → IsApart c.layout → length b.outputs ≤ 4 → Stood c.image c.layout b → FrameBytes c.image c.layout b → HasGiven c.image (given_by (firmware_items c.layout b)) → ((q : ℕ) → q < c.layout.code → get_or c.image q 0 ≡ 0) → Arrived c b
-arrive c b f a few h fb g zero_low =
+pub arrive : (c : Ctx) (b : Block) → IsFramed c.layout → IsApart c.layout → length b.outputs ≤ 4 → Stood c.image c.layout b → FrameBytes c.image c.layout b → HasGiven c.image (given_by (firmware_items c.layout b)) → AreBytes c.image → ((q : ℕ) → q < c.layout.code → get_or c.image q 0 ≡ 0) → Arrived c b
+arrive c b f a few h fb g bytes zero_low =
     let l = c.layout in
     let lo = f.low in
     let hi = f.high in
@@ -85,9 +85,9 @@ arrive c b f a few h fb g zero_low =
     let b2 : HasBytes c.image (l.code + 6) (16 ∷ 239 ∷ []) = subst (λ p. HasBytes c.image p (16 ∷ 239 ∷ [])) at2 b1.1.1.1 in
     let d2 : decode_at m s2.regs.pc ≡ Ok (Andcc 0xEF) = ap (decode_at m) p2 ∙ decode_same c.image m (l.code + 6) (omega arith) (omega arith) same ∙ decode_here c.image (l.code + 6) (Andcc 0xEF) tt (omega arith) (b2.0, (b2.1.0, tt)) in
     let f0 : FitsRegs s0.regs = record { a = omega arith; b = omega arith; x = omega arith; y = omega arith; sp = omega arith; pc = omega arith; ccr = omega arith } in
-    let f1 = (stays_fit c.flags (LdsImmediate 0x2000) s0.regs c.image c.fits (omega arith) f0 g.fits).0 in
-    let f2 = (stays_fit c.flags (ClrExtended l.ready) s1.regs c.image c.fits (omega arith) f1 g.fits).0 in
-    let bm : AreBytes m = bytes_after_set c.image l.ready 0 g.fits (omega arith) (omega arith) in
+    let f1 = (stays_fit c.flags (LdsImmediate 0x2000) s0.regs c.image c.fits (omega arith) f0 bytes).0 in
+    let f2 = (stays_fit c.flags (ClrExtended l.ready) s1.regs c.image c.fits (omega arith) f1 bytes).0 in
+    let bm : AreBytes m = bytes_after_set c.image l.ready 0 bytes (omega arith) (omega arith) in
     let f3 = (stays_fit c.flags (Andcc 0xEF) s2.regs m c.fits (omega arith) f2 bm).0 in
     let live : Live c s3 = record {
       temps = refl;

@@ -75,7 +75,7 @@ used_outputs sx sy at (o ∷ os) v hx hy h =
         (tt, omega arith, (tt, omega arith, (tt, omega arith, (tt, tt, used_quotient at o o.default (omega arith) vo vo.default_in))))
         (used_outputs (sx + length o.singletons) (sy + length o.singletons) (at + 1) os (λ k d lt. v (suc k) d (omega arith)) (omega arith) (omega arith) (omega arith))
 
-used_eval : (l : Layout) (b : Block) → IsApart l → IsValid b → UsedCode (eval_code l b)
+pub used_eval : (l : Layout) (b : Block) → IsApart l → IsValid b → UsedCode (eval_code l b)
 used_eval l b a v =
     let zs = replicate (length b.inputs) 0 in
     let lz : length zs ≡ length b.inputs = length-replicate {A = ℕ} (length b.inputs) 0 in
@@ -99,7 +99,7 @@ used_eval l b a v =
       (used_append (rules_code l (form_of b)) _ (used_rules l (form_of b) a)
       (used_append (outputs_code l.singletons (l.slots + input_slots (slots_of b) b.outputs) l.outputs b.outputs) _ outs (tt, tt, tt))))))
 
-sizes_is : (is : List Instr) → sizes is ≡ code_size is
+pub sizes_is : (is : List Instr) → sizes is ≡ code_size is
 sizes_is [] = refl
 sizes_is (i ∷ is) = ap (λ n. length (encode_of i) + n) (sizes_is is)
 

@@ -25,3 +25,5 @@ pub mod Sampling
 pub mod Law
 pub mod Masses
 pub mod BlockMasses
+pub mod EvalLaw
+pub mod GivenBytes

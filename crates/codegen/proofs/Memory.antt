@@ -4,6 +4,7 @@ use Rattle.std.proofs.lemmas.List.{set_comm, set-set}
 use Rattle.std.proofs.lemmas.Bool.{cases_eq, cases_lt}
 use Rattle.cpu12_isa.specs.Fits.{AreBytes}
 use Rattle.codegen.specs.Answers.{put}
+pub use Rattle.codegen.specs.Evaluation.{HasBytes}
 
 pub length-put : (m : List ℕ) (p : ℕ) (bs : List ℕ) → length (put m p bs) ≡ length m
 length-put m p [] = refl
@@ -46,11 +47,6 @@ set_put_in m p (b ∷ bs) (suc j) v lt =
 -- one more byte behind those that were put
 pub put_end : (m : List ℕ) (p : ℕ) (bs : List ℕ) (v : ℕ) → set (put m p bs) (p + length bs) v ≡ put m p (bs ++ v ∷ [])
 put_end m p bs v = sym (put_append m p bs (v ∷ []))
-
--- these bytes stand at a place
-abbrev pub HasBytes : List ℕ → ℕ → List ℕ → Type 0
-HasBytes m p [] = Unit {0}
-HasBytes m p (b ∷ bs) = (get_or m p 0 ≡ b) × HasBytes m (p + 1) bs
 
 pub bytes_front : (m : List ℕ) (p : ℕ) (a b : List ℕ) → HasBytes m p (a ++ b) → HasBytes m p a
 bytes_front m p [] b h = tt

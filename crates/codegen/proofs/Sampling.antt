@@ -23,7 +23,7 @@ use Rattle.codegen.proofs.Answering.{mass_of, answers_are}
 use Rattle.codegen.proofs.Framing.{HasFrame, Home, Sampled, sample_run, waits}
 
 -- the bounds are those of the parts
-count_bound : (b : Block) → 5 + eval_most b ≡ instruction_bound b
+pub count_bound : (b : Block) → 5 + eval_most b ≡ instruction_bound b
 unfolding instruction_bound
 count_bound b = omega arith
 
@@ -36,7 +36,7 @@ parts_and_outputs (o ∷ os) v =
 some_entries : (cs : List Conjunction) (ws : List ℕ) → HasRules cs ws → 2 ≤ sum_by entry_count cs
 some_entries cs ws h = subst (λ xs. 2 ≤ sum_by entry_count xs) (sym h.conjunctions_are) (omega (arith, sum_by-cons entry_count h.k h.ks))
 
-steps_fit : (b : Block) → IsValid b → (n : ℕ) → n ≤ 5 + eval_most b + eval_parts b → n ≤ step_bound b
+pub steps_fit : (b : Block) → IsValid b → (n : ℕ) → n ≤ 5 + eval_most b + eval_parts b → n ≤ step_bound b
 unfolding step_bound
 steps_fit b v n h =
     let some : 2 ≤ element_count b = some_entries (conjunctions_of b) _ (has_rules b v) in

@@ -4,12 +4,11 @@ use Rattle.fuzzy_meaning.specs.declared.block.Block.{Block}
 use Rattle.fuzzy_meaning.specs.Blocks.{IsValid}
 use Rattle.point_slope.specs.Bytes.{byte_answer}
 use Rattle.rule_layout.specs.Layouts.{IsWithinLimits}
-use Rattle.cpu12_isa.specs.Fits.{AreBytes}
 use Rattle.cpu12_asm.specs.Bytes.{byte_at}
 use Rattle.cpu12_asm.specs.Items.{given_by}
 use Rattle.cpu12_parts.specs.State.{State}
 use Rattle.cpu12_parts.specs.Whole.{IsWholeStep}
-use Rattle.cpu12_emul.specs.Image.{byte_or_zero}
+use Rattle.cpu12_emul.specs.Image.{byte_or_zero, image_memory}
 use Rattle.cpu12_emul.specs.Step.{reset_with}
 use Rattle.codegen.specs.declared.layout.Layout.{Layout}
 use Rattle.codegen.specs.Layouts.{main_layout}
@@ -23,10 +22,9 @@ abbrev pub put : List ℕ → ℕ → List ℕ → List ℕ
 put mem at [] = mem
 put mem at (v ∷ vs) = put (slice_set mem at v) (at + 1) vs
 
--- a memory of bytes that has just those that are given, and else 0
+-- a memory that has just the bytes that are given, and else 0
 pub record HasGiven (mem : List ℕ) (given : List (ℕ × ℕ)) : Type 0 where
   pub size : length mem ≡ 65536
-  pub fits : AreBytes mem
   pub bytes : (at : ℕ) → at < 65536 → slice_index mem at ≡ byte_or_zero (byte_at given at)
 
 -- the first arrival where the code waits, from reset
@@ -63,3 +61,8 @@ abbrev pub AnswersSamples : Type 0
 AnswersSamples = (b : Block) (image : List ℕ) (flags : ℕ) (samples : List (List ℕ)) → IsValid b → IsWithinLimits b
     → HasGiven image (given_by (firmware_items main_layout b)) → flags < 2 ^ 8 → All (AreInputBytes b) samples
     → (s : State) × (IsArrived main_layout image flags s × AreAnswered main_layout b image flags (λ o. 0) samples s)
+
+-- An image answers every list of samples of a block so, from its own memory.
+abbrev pub AnswersFrom : Block → List (ℕ × ℕ) → Type 0
+AnswersFrom b image = (flags : ℕ) (samples : List (List ℕ)) → flags < 2 ^ 8 → All (AreInputBytes b) samples
+    → (s : State) × (IsArrived main_layout (image_memory image) flags s × AreAnswered main_layout b (image_memory image) flags (λ o. 0) samples s)

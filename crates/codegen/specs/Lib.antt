@@ -6,3 +6,4 @@ pub mod Bounds
 pub mod Ways
 pub mod Firing
 pub mod Answers
+pub mod Evaluation

@@ -7,6 +7,7 @@ ghost use Rattle.rule_layout.specs.Layouts.{IsWithinLimits, IsFaultOf};
 ghost use Rattle.codegen.specs.Layouts.{main_layout};
 ghost use Rattle.codegen.specs.Images.{firmware_items};
 ghost use Rattle.codegen.specs.Bounds.{instruction_bound, step_bound};
+ghost use Rattle.codegen.specs.Answers.{AnswersFrom};
 
 use crate::bounds::{instruction_bound, step_bound};
 use crate::items::firmware_items;
@@ -44,6 +45,7 @@ pub fn compile(alloc: Global, block: &Block) -> Result<Firmware, LayoutFault>
     ensures loop_at { IfOk result (λ f. f.loop_at ≡ 0xC008) }
     ensures instructions { IfOk result (λ f. f.instr_bound ≡ instruction_bound block.now) }
     ensures steps { IfOk result (λ f. f.step_bound ≡ step_bound block.now) }
+    ensures answers { IfOk result (λ f. AnswersFrom block.now f.image.bytes) }
 
     // Refused exactly where the rules can't be laid out.
     ensures limits { OnOk result (IsWithinLimits block.now) }

@@ -1,5 +1,6 @@
 //! Laws of the generated code.
 ghost use Rattle.codegen.specs.Answers.{AnswersSamples};
+ghost use Rattle.codegen.specs.Evaluation.{EvalAnswers};
 ghost use Rattle.codegen.specs.Firing.{RulesGiveMasses};
 
 /// The rules leave in the slots of the outputs' terms their masses.
@@ -11,4 +12,10 @@ pub fn rules_give_masses()
 /// flags are, within its bounds; and at each instruction what an interrupt may change is not read.
 pub fn answers_samples()
     ensures { AnswersSamples }
+{}
+
+/// EVAL answers the byte answer at the addresses of any layout whose regions are apart, and comes
+/// back to its caller within the bounds less the five instructions around it.
+pub fn eval_answers()
+    ensures { EvalAnswers }
 {}

@@ -1,6 +1,12 @@
-use Rattle.std.proofs.Common.{length, ap, ◌∙◌, arith}
+use Rattle.std.proofs.Common.{List, length, ap, ◌∙◌, subst, arith}
+use Rattle.cpu12_asm.specs.declared.items.Item.{Item}
+use Rattle.cpu12_asm.specs.Bytes.{Holds}
+use Rattle.cpu12_asm.specs.Items.{given_by}
+use Rattle.codegen.specs.Layouts.{main_layout}
+use Rattle.codegen.specs.Images.{firmware_items}
 use Rattle.codegen.proofs.Joins.{slots-flat_of}
 use Rattle.codegen.proofs.Placement.{HasSizes, main_rises, length-main_items, element_count-le}
+use Rattle.codegen.proofs.Law.{answers_from}
 use Rattle.codegen.proofs.firmware.compile.Goals as goal
 
 pub assemble_items-requires : goal.assemble_items-requires
@@ -25,3 +31,10 @@ unreachable-requires-in-Err-Overlap c =
 
 pub step_bound-step_bound-requires-clause-short : goal.step_bound-step_bound-requires-clause-short
 step_bound-step_bound-requires-clause-short c = omega (arith, element_count-le c.args.block.now, c.in-Ok.ensures.limits.short_list)
+
+pub returns-clause-answers : goal.returns-clause-answers
+returns-clause-answers c =
+    let b = c.args.block.now in
+    let e = c.as_slice.ensures.value ∙ c.in-Ok-firmware_items.ensures in
+    let h : Holds c.in-Ok-assemble_items.image.bytes (given_by (firmware_items main_layout b)) = subst (λ (xs : List Item). Holds c.in-Ok-assemble_items.image.bytes (given_by xs)) e c.in-Ok-assemble_items.ensures.bytes in
+    answers_from b c.in-Ok-assemble_items.image.bytes c.requires c.in-Ok.ensures.limits h

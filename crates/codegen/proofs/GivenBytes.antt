@@ -1,0 +1,208 @@
+-- What a firmware gives are bytes.
+use Rattle.std.proofs.Common.{◌≡◌, ℕ, zero, suc, ◌+◌, ◌-◌, ◌*◌, ◌/◌, ◌%◌, ◌^◌, ◌<◌, ◌≤◌, ◌⊎◌, inl, inr, min, Bool, true, false, cond, List, [], ◌∷◌, ◌++◌, map, flat_map, length, All, get_or, Option, Some, None, refl, sym, ap, ◌∙◌, subst, arith, div-lt_iff_lt-mul, nat_cmp}
+use Rattle.std.specs.Prelude.{◌==◌, if◌then◌else◌}
+use Rattle.std.specs.BTreeMap.{is_at}
+use Rattle.std.proofs.lemmas.Bool.{cases_lt}
+use Rattle.std.proofs.lemmas.Bool.Decides.{nat_tests}
+use Rattle.std.proofs.lemmas.List.{get_or_past}
+use Rattle.fz_num.specs.declared.dec.Dec.{Dec}
+use Rattle.fuzzy_meaning.specs.declared.block.Block.{Block}
+use Rattle.fuzzy_meaning.specs.declared.block.Input.{Input}
+use Rattle.fuzzy_meaning.specs.declared.block.Output.{Output}
+use Rattle.fuzzy_meaning.specs.declared.block.Trapezoid.{Trapezoid}
+use Rattle.fuzzy_meaning.specs.Blocks.{IsValid, IsValidOutput, IsWithin}
+use Rattle.byte_scaling.specs.Cells.{byte_of, nearest_byte}
+use Rattle.byte_scaling.proofs.CellLemmas.{nearest_byte-le}
+use Rattle.point_slope.specs.Tables.{slope_of, left_point, left_slope, right_point, right_slope, row_of, rows_of}
+use Rattle.rule_layout.specs.declared.flat.Conjunction.{Conjunction}
+use Rattle.rule_layout.specs.declared.flat.Form.{Form}
+use Rattle.rule_layout.specs.declared.flat.Form.TheVariants as form
+use Rattle.rule_layout.specs.Lists.{marked, at_address, list_bytes, list_words}
+use Rattle.rule_layout.specs.Slots.{slots_of}
+use Rattle.rule_layout.specs.Layouts.{conjunctions_of, weights_of, form_of, IsBelow}
+use Rattle.rule_layout.proofs.LayoutLemmas.{few_slots, numbers_in_range}
+use Rattle.rule_layout.proofs.ListLemmas.{marked_below}
+use Rattle.cpu12_isa.specs.declared.instr.Instr.{Instr}
+use Rattle.cpu12_isa.specs.declared.instr.Instr.TheVariants.{LdaaImmediate, LdaaExtended, LdabImmediate, LdxImmediate, LdyImmediate, LdsImmediate, StaaExtended, StabExtended, ClrExtended, Coma, CpxImmediate, Beq, Bra, JsrExtended, Rts, Andcc, Orcc, TransferYD, Ediv, Mem, Rev, Revw, Wav}
+use Rattle.cpu12_isa.specs.Code.{encode_of, FitsOperands}
+use Rattle.cpu12_isa.specs.Fits.{AreBytes}
+use Rattle.cpu12_asm.specs.declared.items.Item.{Item}
+use Rattle.cpu12_asm.specs.declared.items.Item.TheVariants.{Place, Byte, Op}
+use Rattle.cpu12_asm.specs.Bytes.{byte_at, placed}
+use Rattle.cpu12_asm.specs.Items.{item_bytes, place_after, given_from, given_by}
+use Rattle.cpu12_emul.specs.Image.{byte_or_zero}
+use Rattle.codegen.specs.Code.{frame_code, eval_code}
+use Rattle.codegen.specs.Data.{table_bytes, singleton_bytes, singleton_bytes_of, weight_bytes, weight_bytes_by, rule_bytes, rule_bytes_by, bytes_of_word}
+use Rattle.codegen.specs.Images.{bytes_at, vector_items, firmware_items, IsApart}
+use Rattle.codegen.specs.Layouts.{main_layout}
+use Rattle.codegen.proofs.RuleMemory.{Below, below_all}
+use Rattle.codegen.proofs.RuleFacts.{weights_below, rev_is_plain}
+use Rattle.codegen.proofs.Decoding.{IsUsed, UsedCode}
+use Rattle.codegen.proofs.Founding.{used_eval}
+
+-- items that give bytes
+abbrev ItemsFit : List Item → Type 0
+ItemsFit [] = Unit {0}
+ItemsFit (x ∷ xs) = Below 256 (item_bytes x) × ItemsFit xs
+
+fit_append : (xs ys : List Item) → ItemsFit xs → ItemsFit ys → ItemsFit (xs ++ ys)
+fit_append [] ys a b = b
+fit_append (x ∷ xs) ys a b = (a.0, fit_append xs ys a.1 b)
+
+fit_bytes : (bs : List ℕ) → Below 256 bs → ItemsFit (map Byte bs)
+fit_bytes [] h = tt
+fit_bytes (b ∷ bs) h = ((h.0, tt), fit_bytes bs h.1)
+
+below_append : (n : ℕ) (xs ys : List ℕ) → Below n xs → Below n ys → Below n (xs ++ ys)
+below_append n [] ys a b = b
+below_append n (x ∷ xs) ys a b = (a.0, below_append n xs ys a.1 b)
+
+encoded_fits : (i : Instr) → IsUsed i → FitsOperands i → Below 256 (encode_of i)
+encoded_fits (LdaaImmediate v) u h = (omega arith, (h, tt))
+encoded_fits (LdaaExtended v) u h = (omega arith, (omega arith, (omega arith, tt)))
+encoded_fits (LdabImmediate v) u h = (omega arith, (h, tt))
+encoded_fits (LdxImmediate v) u h = (omega arith, (omega arith, (omega arith, tt)))
+encoded_fits (LdyImmediate v) u h = (omega arith, (omega arith, (omega arith, tt)))
+encoded_fits (LdsImmediate v) u h = (omega arith, (omega arith, (omega arith, tt)))
+encoded_fits (StaaExtended v) u h = (omega arith, (omega arith, (omega arith, tt)))
+encoded_fits (StabExtended v) u h = (omega arith, (omega arith, (omega arith, tt)))
+encoded_fits (ClrExtended v) u h = (omega arith, (omega arith, (omega arith, tt)))
+encoded_fits Coma u h = (omega arith, tt)
+encoded_fits (CpxImmediate v) u h = (omega arith, (omega arith, (omega arith, tt)))
+encoded_fits (Beq v) u h = (omega arith, (h, tt))
+encoded_fits (Bra v) u h = (omega arith, (h, tt))
+encoded_fits (JsrExtended v) u h = (omega arith, (omega arith, (omega arith, tt)))
+encoded_fits Rts u h = (omega arith, tt)
+encoded_fits (Andcc v) u h = (omega arith, (h, tt))
+encoded_fits (Orcc v) u h = (omega arith, (h, tt))
+encoded_fits TransferYD u h = (omega arith, (omega arith, tt))
+encoded_fits Ediv u h = (omega arith, tt)
+encoded_fits Mem u h = (omega arith, tt)
+encoded_fits Rev u h = (omega arith, (omega arith, tt))
+encoded_fits Revw u h = (omega arith, (omega arith, tt))
+encoded_fits Wav u h = (omega arith, (omega arith, tt))
+encoded_fits i u h = absurd u
+
+fit_code : (is : List Instr) → UsedCode is → ItemsFit (map Op is)
+fit_code [] h = tt
+fit_code (i ∷ is) h = (encoded_fits i h.0 h.1, fit_code is h.2)
+
+-- tables
+quotient_small : (w : ℕ) → (510 + suc w) / (2 * suc w) < 256
+quotient_small w = small (510 + suc w) (2 * suc w) (omega arith) (omega arith)
+  where
+    small : (n d : ℕ) → 0 < d → n < 256 * d → n / d < 256
+    small n d pos h = grind (arith, div-lt_iff_lt-mul)
+
+slope_small : (w : ℕ) → slope_of w < 256
+slope_small zero = omega arith
+slope_small (suc w) = let a : (suc w == 0) ≡ false = grind (arith, nat_tests) in subst (λ (t : Bool). (if t then 0 else (510 + suc w) / (2 * suc w)) < 256) (sym a) (quotient_small w)
+
+byte_small : (i : Input) (x : Dec) → byte_of i x < 256
+byte_small i x = omega arith
+
+left_small : (i : Input) (a : Option Dec) → left_point i a < 256
+left_small i None = omega arith
+left_small i (Some a) = byte_small i a
+
+right_small : (i : Input) (d : Option Dec) → right_point i d < 256
+right_small i None = omega arith
+right_small i (Some d) = byte_small i d
+
+left_slope_small : (i : Input) (a : Option Dec) (b : Dec) → left_slope i a b < 256
+left_slope_small i None b = omega arith
+left_slope_small i (Some a) b = slope_small (byte_of i b - byte_of i a)
+
+right_slope_small : (i : Input) (c : Dec) (d : Option Dec) → right_slope i c d < 256
+right_slope_small i c None = omega arith
+right_slope_small i c (Some d) = slope_small (byte_of i d - byte_of i c)
+
+rows_fit : (x : Input) (ts : List Trapezoid) (rest : List (List ℕ)) → Below 256 (flat_map (λ row. row) rest) → Below 256 (flat_map (λ row. row) (map (row_of x) ts ++ rest))
+rows_fit x [] rest h = h
+rows_fit x (t ∷ ts) rest h = (left_small x t.a, (right_small x t.d, (left_slope_small x t.a t.b, (right_slope_small x t.c t.d, rows_fit x ts rest h))))
+
+tables_fit : (xs : List Input) → Below 256 (flat_map (λ row. row) (flat_map rows_of xs))
+tables_fit [] = tt
+tables_fit (x ∷ xs) = rows_fit x x.terms (flat_map rows_of xs) (tables_fit xs)
+
+-- singletons
+own_fit : (o : Output) (us : List Dec) → IsValidOutput o → All (IsWithin o.lo o.hi) us → Below 256 (map (nearest_byte o) us)
+own_fit o [] v h = tt
+own_fit o (u ∷ us) v h = (let q = nearest_byte-le o u v.range (h 0 u (omega arith)) in omega arith, own_fit o us v (λ k d lt. h (suc k) d (omega arith)))
+
+singletons_fit : (os : List Output) → All IsValidOutput os → Below 256 (flat_map singleton_bytes_of os)
+singletons_fit [] v = tt
+singletons_fit (o ∷ os) v = let w = v 0 o (omega arith) in below_append 256 (singleton_bytes_of o) (flat_map singleton_bytes_of os) (own_fit o o.singletons w w.singletons) (singletons_fit os (λ k d lt. v (suc k) d (omega arith)))
+
+-- weights and the rule list
+weights_fit : (f : Form) (ws : List ℕ) → Below 256 ws → Below 256 (weight_bytes_by f ws)
+weights_fit form.Rev ws h = tt
+weights_fit form.Revw ws h = h
+
+words_fit : (ws : List ℕ) → Below 65536 ws → Below 256 (flat_map bytes_of_word ws)
+words_fit [] h = tt
+words_fit (w ∷ ws) h = (let q = h.0 in omega arith, (omega arith, words_fit ws h.1))
+
+added_below : (base n m : ℕ) (ks : List ℕ) → base + n ≤ m → Below n ks → Below m (map (λ k. base + k) ks)
+added_below base n m [] le h = tt
+added_below base n m (k ∷ ks) le h = (let q = h.0 in omega arith, added_below base n m ks le h.1)
+
+marked_fits : (s e m : ℕ) (c : Conjunction) (cs : List Conjunction) → s < m → e < m → Below m c.literals → Below m c.conclusions → Below m (marked s e cs) → Below m (marked s e (c ∷ cs))
+marked_fits s e m c [] hs he a b r = below_append m c.literals _ a (hs, below_append m c.conclusions _ b (he, tt))
+marked_fits s e m c (d ∷ cs) hs he a b r = below_append m c.literals _ a (hs, below_append m c.conclusions _ b (hs, r))
+
+list_words_fit : (base n : ℕ) (cs : List Conjunction) → base + n ≤ 65534 → All (IsBelow n) cs → Below 65536 (list_words base cs)
+list_words_fit base n [] le h = tt
+list_words_fit base n (c ∷ cs) le h =
+    let k = h 0 c (omega arith) in
+    marked_fits 65534 65535 65536 (at_address base c) (map (at_address base) cs) (omega arith) (omega arith) (added_below base n 65536 c.literals (omega arith) (below_all n c.literals k.literals)) (added_below base n 65536 c.conclusions (omega arith) (below_all n c.conclusions k.conclusions)) (list_words_fit base n cs le (λ j d lt. h (suc j) d (omega arith)))
+
+rules_fit : (base n : ℕ) (f : Form) (cs : List Conjunction) → (f ≡ form.Rev → n ≤ 254) → base + n ≤ 65534 → All (IsBelow n) cs → Below 256 (rule_bytes_by base f cs)
+rules_fit base n form.Rev cs small le h = below_all 256 (list_bytes cs) (marked_below 0xFE 0xFF n 256 cs h (let q = small refl in omega arith) (omega arith) (omega arith))
+rules_fit base n form.Revw cs small le h = words_fit (list_words base cs) (list_words_fit base n cs le h)
+
+word_fits : (w : ℕ) → w < 65536 → Below 256 (bytes_of_word w)
+word_fits w h = (omega arith, (omega arith, tt))
+
+-- a firmware's items give bytes
+items_fit : (b : Block) → IsValid b → IsApart main_layout → ItemsFit (firmware_items main_layout b)
+unfolding firmware_items
+items_fit b v a =
+    let frame : ItemsFit (map Op (frame_code main_layout)) = ((omega arith, (omega arith, (omega arith, tt))), ((omega arith, (omega arith, (omega arith, tt))), ((omega arith, (omega arith, tt)), ((omega arith, (omega arith, (omega arith, tt))), ((omega arith, (omega arith, tt)), ((omega arith, (omega arith, (omega arith, tt))), ((omega arith, (omega arith, (omega arith, tt))), ((omega arith, (omega arith, tt)), ((omega arith, tt), tt))))))))) in
+    let few = few_slots b v in
+    let small : form_of b ≡ form.Rev → length (slots_of b) ≤ 254 = λ e. (rev_is_plain b v e).0 in
+    let code : ItemsFit (map Op (frame_code main_layout ++ eval_code main_layout b)) = fit_append (map Op (frame_code main_layout)) (map Op (eval_code main_layout b)) frame (fit_code (eval_code main_layout b) (used_eval main_layout b a v)) in
+    (tt, fit_append (map Op (frame_code main_layout ++ eval_code main_layout b)) _ code
+      (tt, fit_append (map Byte (table_bytes b)) _ (fit_bytes (table_bytes b) (tables_fit b.inputs))
+      (tt, fit_append (map Byte (singleton_bytes b)) _ (fit_bytes (singleton_bytes b) (singletons_fit b.outputs v.outputs))
+      (tt, fit_append (map Byte (weight_bytes b)) _ (fit_bytes (weight_bytes b) (weights_fit (form_of b) (weights_of b) (weights_below b v)))
+      (tt, fit_append (map Byte (rule_bytes main_layout.slots b)) _ (fit_bytes (rule_bytes main_layout.slots b) (rules_fit main_layout.slots (length (slots_of b)) (form_of b) (conjunctions_of b) small (omega arith) (numbers_in_range b v)))
+      (tt, ((omega arith, tt), ((omega arith, tt), (tt, ((omega arith, tt), ((omega arith, tt), tt)))))))))))
+
+-- pairs whose second is a byte
+abbrev PairsFit : List (ℕ × ℕ) → Type 0
+PairsFit [] = Unit {0}
+PairsFit (p ∷ ps) = (p.1 < 256) × PairsFit ps
+
+placed_fit : (at : ℕ) (bs : List ℕ) (ps : List (ℕ × ℕ)) → Below 256 bs → PairsFit ps → PairsFit (placed at bs ++ ps)
+placed_fit at [] ps h k = k
+placed_fit at (b ∷ bs) ps h k = (h.0, placed_fit (at + 1) bs ps h.1 k)
+
+given_fit : (at : ℕ) (items : List Item) → ItemsFit items → PairsFit (given_from at items)
+given_fit at [] h = tt
+given_fit at (x ∷ xs) h = placed_fit at (item_bytes x) (given_from (place_after at x) xs) h.0 (given_fit (place_after at x) xs h.1)
+
+found_fits : (ps : List (ℕ × ℕ)) (q : ℕ) → PairsFit ps → byte_or_zero (byte_at ps q) < 256
+found_fits [] q h = omega arith
+found_fits (p ∷ ps) q h = chosen (is_at (nat_cmp q) p.0) (found_fits ps q h.1)
+  where
+    chosen : (t : Bool) → byte_or_zero (byte_at ps q) < 256 → byte_or_zero (cond t (Some p.1) (byte_at ps q)) < 256
+    chosen true k = h.0
+    chosen false k = k
+
+-- a memory that has what a firmware gives is one of bytes
+pub memory_fits : (b : Block) (mem : List ℕ) → IsValid b → IsApart main_layout → length mem ≡ 65536 → ((at : ℕ) → at < 65536 → get_or mem at 0 ≡ byte_or_zero (byte_at (given_by (firmware_items main_layout b)) at)) → AreBytes mem
+memory_fits b mem v a size h at = elim (cases_lt at 65536) [
+  | inl lt ↦ (let e = h at lt in let f = found_fits (given_by (firmware_items main_layout b)) at (given_fit 0 (firmware_items main_layout b) (items_fit b v a)) in omega arith)
+  | inr le ↦ (let e : get_or mem at 0 ≡ 0 = get_or_past mem at 0 (omega arith) in omega arith)
+]

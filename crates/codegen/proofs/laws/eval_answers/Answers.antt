@@ -1,0 +1,5 @@
+use Rattle.codegen.proofs.EvalLaw.{eval_answers}
+use Rattle.codegen.proofs.laws.eval_answers.Goals as goal
+
+pub returns : goal.returns
+returns c = eval_answers
