@@ -20,7 +20,7 @@ use Rattle.rule_layout.specs.Lists.{marked}
 use Rattle.rule_layout.specs.Slots.{terms_from, term_count, singleton_count, input_terms, output_terms, term_slot, complement_slot, out_slot, is_complemented, slots_of, literal_number, conclusion_number}
 use Rattle.rule_layout.specs.Tables.{IsInTable, IsNumbering, table_number, table_literal}
 use Rattle.rule_layout.specs.Sizes.{IsCountable, rule_entries, entry_count, IsSizeOfRules}
-use Rattle.rule_layout.specs.Layouts.{conjunction_count, rule_spread, conjunction_of, rule_conjunctions, conjunctions_of, IsBelow, element_width, form_by, form_of, rule_weights, weights_of, flat_of, list_size}
+use Rattle.rule_layout.specs.Layouts.{rule_spread, conjunction_of, rule_conjunctions, conjunctions_of, IsBelow, element_width, form_by, form_of, rule_weights, weights_of, flat_of, list_size}
 use Rattle.rule_layout.specs.Steps.{table_conjunction, table_conjunctions, IsSpreadable}
 use Rattle.rule_layout.proofs.BlockLemmas.{input_terms_in_grid, output_terms_in_table, few_terms, few_singletons, rule_fits}
 use Rattle.rule_layout.proofs.ListLemmas.{mark, marked-cons}
@@ -155,10 +155,6 @@ rules_spreadable b v = λ k d lt.
 
 pub rules_weighed : (b : Block) → IsValid b → All (λ r. IfSome r.weight IsWeight) b.rules
 rules_weighed b v = λ k d lt. (v.rules k d lt).weight
-
--- no rule has more conjunctions than all together
-pub rules_few : (rules : List Rule) → conjunction_count rules ≤ 512 → All (λ r. length (rule_spread r) ≤ 512) rules
-rules_few rules few = λ k d lt. omega (arith, few, get_or-le-sum_by (λ (r : Rule). length (rule_spread r)) rules k d lt)
 
 width_le : (f : Form) → element_width f ≤ 2
 width_le Rev = omega arith
