@@ -3,3 +3,4 @@ pub mod Images
 pub mod Stepping
 pub mod Taking
 mod Bytes
+pub mod Fitting

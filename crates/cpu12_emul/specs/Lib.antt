@@ -3,3 +3,4 @@ pub mod Step
 pub mod Take
 pub mod Run
 pub mod Undisturbed
+pub mod Fits

@@ -1,6 +1,7 @@
 // Laws of the machine.
 ghost use Rattle.cpu12_isa.specs.declared.instr.Instr.TheVariants.{Rev, Revw, Wav};
 ghost use Rattle.cpu12_parts.specs.Cuts.{rev, revw, wav};
+ghost use Rattle.cpu12_emul.specs.Fits.{StepFits};
 ghost use Rattle.cpu12_emul.specs.Image.{HoldsImage};
 ghost use Rattle.cpu12_emul.specs.Run.{RunEnds};
 ghost use Rattle.cpu12_emul.specs.Undisturbed.{StepAgrees, WavrGoesOn, StepKeeps, TakesQuietly, TakeKeeps, FrameIsOnStack, PlainIsStep, PartIsStep, SumsAreStep};
@@ -68,4 +69,9 @@ pub fn take_keeps()
 /// A frame is the registers' nine bytes, and the sums' six where they run.
 pub fn frame_is_on_stack()
     ensures { FrameIsOnStack }
+{}
+
+/// A step leaves registers, sums and bytes that fit.
+pub fn step_fits()
+    ensures { StepFits }
 {}

@@ -147,7 +147,7 @@ page_b7_fits bs b = (tt, (tt, tt))
 page_eb_fits : (bs : List ℕ) → AreBytes bs → AllFit (page_eb bs)
 page_eb_fits bs b = (tt, tt)
 
-bytes_at_fit : (mem ats : List ℕ) → AreBytes mem → AreBytes (bytes_at mem ats)
+pub bytes_at_fit : (mem ats : List ℕ) → AreBytes mem → AreBytes (bytes_at mem ats)
 bytes_at_fit mem [] b at = omega arith
 bytes_at_fit mem (x ∷ ats) b zero = b x
 bytes_at_fit mem (x ∷ ats) b (suc at) = bytes_at_fit mem ats b at

@@ -3,3 +3,4 @@ pub mod WavParts
 pub mod RuleParts
 pub mod RevWalks
 pub mod OverCuts
+pub mod PartFits

@@ -6,3 +6,4 @@ pub mod Rules
 pub mod Averages
 pub mod Laws
 pub mod Whole
+pub mod Fits

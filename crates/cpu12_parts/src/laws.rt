@@ -1,5 +1,6 @@
 // Laws of the parts.
 ghost use Rattle.cpu12_parts.specs.Cuts.{rev, revw, wav};
+ghost use Rattle.cpu12_parts.specs.Fits.{PartFits};
 ghost use Rattle.cpu12_parts.specs.Laws.{AreKept, Any, GoesOn, WritesBelow, KeepsNothing, IsSteady, CutsChangeNothing, RevIsWhole, RevwIsWhole, WavIsWhole, RevOverCuts, RevwOverCuts, WavOverCuts};
 
 /// What WAV's `suspend` put away, its `resume` gets back.
@@ -102,3 +103,18 @@ pub fn wav_over_cuts()
     wav_cuts();
     wav_is_whole();
 }
+
+/// A part of REV leaves what fits.
+pub fn rev_fits()
+    ensures { PartFits rev }
+{}
+
+/// A part of REVW leaves what fits.
+pub fn revw_fits()
+    ensures { PartFits revw }
+{}
+
+/// A part of WAV leaves what fits.
+pub fn wav_fits()
+    ensures { PartFits wav }
+{}
