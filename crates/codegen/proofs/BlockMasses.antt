@@ -1,5 +1,5 @@
 -- The masses of a block's output terms, by its conjunctions.
-use Rattle.std.proofs.Common.{◌≡◌, ◌≢◌, ◌⊎◌, inl, inr, ⊎_elim, ℕ, zero, suc, ◌+◌, ◌-◌, ◌*◌, ◌/◌, ◌^◌, ◌<◌, ◌≤◌, min, max, Bool, true, false, ◌&&◌, ◌||◌, List, [], ◌∷◌, ◌++◌, map, flat_map, length, take, drop, sum_by, All, get_or, Option, Some, None, slice_get, refl, sym, ap, ap₂, ◌∙◌, subst, arith, length-append, length-drop, append_assoc, get_or-drop, ext_get_or, true≢false, take_at}
+use Rattle.std.proofs.Common.{◌≡◌, ◌≢◌, ◌⊎◌, inl, inr, ℕ, zero, suc, ◌+◌, ◌-◌, ◌<◌, ◌≤◌, min, max, Bool, true, false, ◌&&◌, ◌||◌, List, [], ◌∷◌, ◌++◌, map, flat_map, length, take, drop, sum_by, All, get_or, Option, Some, None, slice_get, refl, sym, ap, ap₂, ◌∙◌, subst, arith, length-append, length-drop, append_assoc, get_or-drop, ext_get_or, take_at}
 use Rattle.std.specs.Prelude.{◌==◌, if◌then◌else◌, nat_lt}
 use Rattle.std.specs.List.{list_any, range_with_len}
 use Rattle.std.specs.Option.{option_map_or}
@@ -14,15 +14,15 @@ use Rattle.fuzzy_meaning.specs.declared.block.Output.{Output}
 use Rattle.fuzzy_meaning.specs.declared.block.Rule.{Rule}
 use Rattle.fuzzy_meaning.specs.declared.block.Trapezoid.{Trapezoid}
 use Rattle.fuzzy_meaning.specs.Blocks.{IsValid, input_at}
-use Rattle.fuzzy_meaning.specs.Conditions.{level, condition_of}
+use Rattle.fuzzy_meaning.specs.Conditions.{condition_of}
 use Rattle.fuzzy_meaning.specs.Rules.{concludes}
 use Rattle.byte_scaling.specs.Weights.{weight_byte_of}
 use Rattle.point_slope.specs.Tables.{row_of, side, grade_under, grade_of}
-use Rattle.point_slope.specs.Bytes.{literal_grade, byte_truth, byte_strength, byte_mass_among, byte_mass}
+use Rattle.point_slope.specs.Bytes.{literal_grade, byte_strength, byte_mass_among, byte_mass}
 use Rattle.rule_layout.specs.declared.flat.Slot.{Slot}
 use Rattle.rule_layout.specs.declared.flat.Slot.TheVariants.{Term, Complement, Out}
 use Rattle.rule_layout.specs.declared.flat.Conjunction.{Conjunction}
-use Rattle.rule_layout.specs.Spreading.{Literal, spread_of}
+use Rattle.rule_layout.specs.Spreading.{Literal}
 use Rattle.rule_layout.specs.Truths.{literal_value, least_literal, greatest_conjunction}
 use Rattle.rule_layout.specs.Slots.{terms_from, singleton_count, input_terms, output_terms, term_slot, complement_slot, out_slot, is_same_slot, number_in, slots_of, literal_slot, literal_number, conclusion_number}
 use Rattle.rule_layout.specs.Layouts.{rule_spread, conjunction_of, rule_conjunctions, rule_weights, conjunctions_of, weights_of}
@@ -30,12 +30,11 @@ use Rattle.rule_layout.proofs.NumberLemmas.{slot_from_same}
 use Rattle.rule_layout.proofs.MemberLemmas.{HasSlot, LiteralHasSlot, RuleHasSlots, rules_have_slots}
 use Rattle.rule_layout.proofs.TruthLemmas.{spreading_law_lem}
 use Rattle.cpu12_parts.specs.Parts.{weighted}
-use Rattle.codegen.specs.Bounds.{output_term_count}
 use Rattle.codegen.specs.Code.{input_slots}
-use Rattle.codegen.specs.Firing.{AreInputBytes, slot_before, slots_before, least_of, fired, slots_after, RulesGiveMasses}
+use Rattle.codegen.specs.Firing.{slot_before, slots_before, least_of, slots_after, RulesGiveMasses}
 use Rattle.codegen.proofs.RuleMemory.{Below, length-fired}
-use Rattle.codegen.proofs.RuleFacts.{HasRules, has_rules}
-use Rattle.codegen.proofs.SlotValues.{complements_of, further_slots, slots_are, length-slots, length-input_terms, length-output_terms}
+use Rattle.codegen.proofs.RuleFacts.{has_rules}
+use Rattle.codegen.proofs.SlotValues.{complements_of, further_slots, slots_are, length-slots, length-output_terms}
 use Rattle.codegen.proofs.Masses.{hit, degree, Between, AllSplit, fired_at, hit_max, hit_zero, weighted_max}
 
 -- a slot that has a number stands there
@@ -96,9 +95,9 @@ length-front b = omega (arith, ap length (slots_split b), length-append (front_o
 out_number : (b : Block) (o t : ℕ) → number_in (slots_of b) (Out o t) ≡ input_slots (slots_of b) b.outputs + number_in (map out_slot (output_terms b)) (Out o t)
 out_number b o t =
     ap (λ ss. number_in ss (Out o t)) (slots_are b)
-        ∙ out_behind_terms o t (input_terms b) (further_slots b)
-        ∙ ap (λ n. length (input_terms b) + n) (out_behind_complements o t (complements_of b) (map out_slot (output_terms b)))
-        ∙ omega (arith, length-front b, length-append (map term_slot (input_terms b)) (map complement_slot (complements_of b)), length-map (input_terms b) term_slot, length-map (complements_of b) complement_slot)
+    ∙ out_behind_terms o t (input_terms b) (further_slots b)
+    ∙ ap (λ n. length (input_terms b) + n) (out_behind_complements o t (complements_of b) (map out_slot (output_terms b)))
+    ∙ omega (arith, length-front b, length-append (map term_slot (input_terms b)) (map complement_slot (complements_of b)), length-map (input_terms b) term_slot, length-map (complements_of b) complement_slot)
 
 literal_is : (c : Bool) (i t : ℕ) → IsLiteral (if c then Complement i t else Term i t)
 literal_is true i t = tt
@@ -125,8 +124,8 @@ least_from b bytes t [] le h = omega arith
 least_from b bytes t (l ∷ ls) le h =
     let v = literal_at b bytes l (h 0 l (omega arith)) in
     ap (λ k. least_of (slots_before b bytes) (min t k) (map (literal_number (slots_of b)) ls)) v
-        ∙ least_from b bytes (min t (literal_value 255 (literal_grade b bytes) l)) ls (omega arith) (λ k d lt. h (suc k) d (omega arith))
-        ∙ omega arith
+    ∙ least_from b bytes (min t (literal_value 255 (literal_grade b bytes) l)) ls (omega arith) (λ k d lt. h (suc k) d (omega arith))
+    ∙ omega arith
 
 least_le : (g : ℕ → ℕ → ℕ) (ls : List Literal) → least_literal 255 g ls ≤ 255
 least_le g [] = omega arith
@@ -225,7 +224,7 @@ hit_is : (b : Block) (cs : List (ℕ × ℕ)) (o t k s : ℕ) → All (λ p. Has
 hit_is b [] o t k s h e lt = refl
 hit_is b (c ∷ cs) o t k s h e lt =
     ap₂ max (ap (λ (v : Bool). if v then s else 0) (same_number b c o t k (h 0 c (omega arith)) e lt)) (hit_is b cs o t k s (λ j d l. h (suc j) d (omega arith)) e lt)
-        ∙ or_choice ((c.0 == o) && (c.1 == t)) (list_any (λ c. (c.0 == o) && (c.1 == t)) cs) s
+    ∙ or_choice ((c.0 == o) && (c.1 == t)) (list_any (λ c. (c.0 == o) && (c.1 == t)) cs) s
 
 mass_choice : (x : Bool) (s m : ℕ) → max (if x then s else 0) m ≡ (if x then max s m else m)
 mass_choice true s m = refl
@@ -241,8 +240,8 @@ degree_is b bytes o t k (r ∷ rs) h e lt =
     let s = byte_strength b bytes r in
     let rest = degree_is b bytes o t k rs (λ j d l. h (suc j) d (omega arith)) e lt in
     rule_degree b bytes r k (rule_spread r) (flat_map (rule_conjunctions (slots_of b)) rs) (flat_map rule_weights rs) hr.literals
-        ∙ ap₂ max (ap (λ v. hit k v es) (strength_is b bytes r) ∙ hit_is b r.concl o t k s hr.conclusions e lt) rest
-        ∙ mass_choice (concludes r o t) s (byte_mass_among b bytes o t rs)
+    ∙ ap₂ max (ap (λ v. hit k v es) (strength_is b bytes r) ∙ hit_is b r.concl o t k s hr.conclusions e lt) rest
+    ∙ mass_choice (concludes r o t) s (byte_mass_among b bytes o t rs)
 
 -- conjunctions read literals and raise outputs' terms
 literals_below : (b : Block) (ls : List Literal) → All (LiteralHasSlot b) ls → Below (input_slots (slots_of b) b.outputs) (map (literal_number (slots_of b)) ls)

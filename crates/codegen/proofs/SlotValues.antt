@@ -1,23 +1,22 @@
 -- What the slots hold before the rules, slot by slot.
-use Rattle.std.proofs.Common.{◌≡◌, ℕ, zero, suc, ◌+◌, ◌-◌, ◌*◌, ◌<◌, ◌≤◌, Bool, true, false, List, [], ◌∷◌, ◌++◌, map, filter, length, take, sum_by, get_or, Option, Some, None, slice_get, refl, sym, ap, ap₂, ◌∙◌, subst, arith, length-append, append_assoc, append-nil, take_at}
-use Rattle.std.specs.Prelude.{if◌then◌else◌, slice_index}
+use Rattle.std.proofs.Common.{◌≡◌, ℕ, zero, suc, ◌+◌, ◌-◌, ◌*◌, ◌<◌, Bool, true, false, List, [], ◌∷◌, ◌++◌, map, filter, length, take, sum_by, get_or, Option, Some, slice_get, refl, sym, ap, ap₂, ◌∙◌, subst, arith, length-append, append_assoc, take_at}
+use Rattle.std.specs.Prelude.{if◌then◌else◌}
 use Rattle.std.specs.List.{range_with_len}
 use Rattle.std.specs.Option.{option_map_or}
-use Rattle.std.proofs.lemmas.List.{length-map, get_or-append-add, map-append}
+use Rattle.std.proofs.lemmas.List.{length-map, map-append}
 use Rattle.std.proofs.lemmas.List.FromFn.{length-range_with_len}
 use Rattle.std.proofs.lemmas.List.Sums.{sum_by-cons, sum_by-append}
 use Rattle.fuzzy_meaning.specs.declared.block.Block.{Block}
 use Rattle.fuzzy_meaning.specs.declared.block.Input.{Input}
-use Rattle.fuzzy_meaning.specs.declared.block.Output.{Output}
 use Rattle.fuzzy_meaning.specs.declared.block.Trapezoid.{Trapezoid}
 use Rattle.point_slope.specs.Tables.{row_of, grade_of}
 use Rattle.point_slope.specs.Bytes.{literal_grade}
 use Rattle.rule_layout.specs.declared.flat.Slot.{Slot}
 use Rattle.rule_layout.specs.Slots.{terms_from, term_count, singleton_count, input_terms, output_terms, is_complemented, term_slot, complement_slot, out_slot, slots_of}
 use Rattle.codegen.specs.Bounds.{input_term_count, output_term_count, complement_count}
-use Rattle.codegen.specs.Code.{terms_before, input_slots}
+use Rattle.codegen.specs.Code.{terms_before}
 use Rattle.codegen.specs.Firing.{slot_before, slots_before}
-use Rattle.codegen.proofs.Fuzzify.{grades, length-grades}
+use Rattle.codegen.proofs.Fuzzify.{grades}
 use Rattle.codegen.proofs.Filling.{AllCanFill, fill_count}
 
 -- the element behind a list's front
@@ -60,8 +59,8 @@ input_values b bytes vfront vs front x xs v i ei ev el en =
     let gv : get_or bytes (i - 1) 0 ≡ v = ap₂ (λ (l : List ℕ) (n : ℕ). get_or l n 0) ev j ∙ index_behind vfront v vs in
     let of_term : ℕ → ℕ × ℕ = λ t. (i, t) in
     by_number (λ t. grade_of (row_of x t) v) [] x.terms x.terms 0 refl refl
-        ∙ sym (ap₂ (λ (o : Option Input) (w : ℕ). map (λ t. option_map_or (λ (y : Input). option_map_or (λ (term : Trapezoid). grade_of (row_of y term) w) (slice_get y.terms (t - 1)) 0) o 0) (range_with_len 1 (length x.terms))) gx gv)
-        ∙ sym (map_map (term_value b bytes) of_term (range_with_len 1 (length x.terms)))
+    ∙ sym (ap₂ (λ (o : Option Input) (w : ℕ). map (λ t. option_map_or (λ (y : Input). option_map_or (λ (term : Trapezoid). grade_of (row_of y term) w) (slice_get y.terms (t - 1)) 0) o 0) (range_with_len 1 (length x.terms))) gx gv)
+    ∙ sym (map_map (term_value b bytes) of_term (range_with_len 1 (length x.terms)))
 
 grades_from : (b : Block) (bytes vfront vs : List ℕ) (front xs : List Input) (i : ℕ) → b.inputs ≡ front ++ xs → bytes ≡ vfront ++ vs → length vfront ≡ length front → i ≡ length front + 1 → length vs ≡ length xs → grades vs xs ≡ map (term_value b bytes) (terms_from i (map term_count xs))
 grades_from b bytes vfront vs front [] i ei ev el en em = refl
@@ -150,8 +149,8 @@ further_fill b bytes h =
 pub before_are : (b : Block) (bytes : List ℕ) → length bytes ≡ length b.inputs → slots_before b bytes ≡ grades bytes b.inputs ++ map (slot_before b bytes) (further_slots b)
 before_are b bytes h =
     ap (map (slot_before b bytes)) (slots_are b)
-        ∙ map-append (slot_before b bytes) (map term_slot (input_terms b)) (further_slots b)
-        ∙ ap (λ l. l ++ map (slot_before b bytes) (further_slots b)) (map_map (slot_before b bytes) term_slot (input_terms b) ∙ sym (grades_are b bytes h))
+    ∙ map-append (slot_before b bytes) (map term_slot (input_terms b)) (further_slots b)
+    ∙ ap (λ l. l ++ map (slot_before b bytes) (further_slots b)) (map_map (slot_before b bytes) term_slot (input_terms b) ∙ sym (grades_are b bytes h))
 
 -- counts
 length-terms : (i : ℕ) (ns : List ℕ) → length (terms_from i ns) ≡ sum_by (λ n. n) ns
@@ -173,7 +172,7 @@ length-output_terms b = length-terms 1 (map singleton_count b.outputs) ∙ sum_b
 pub length-slots : (b : Block) → length (slots_of b) ≡ input_term_count b + length (complements_of b) + output_term_count b
 length-slots b =
     ap length (slots_are b)
-        ∙ omega (arith, length-append (map term_slot (input_terms b)) (further_slots b), length-append (map complement_slot (complements_of b)) (map out_slot (output_terms b)), length-map (input_terms b) term_slot, length-map (complements_of b) complement_slot, length-map (output_terms b) out_slot, length-input_terms b, length-output_terms b)
+    ∙ omega (arith, length-append (map term_slot (input_terms b)) (further_slots b), length-append (map complement_slot (complements_of b)) (map out_slot (output_terms b)), length-map (input_terms b) term_slot, length-map (complements_of b) complement_slot, length-map (output_terms b) out_slot, length-input_terms b, length-output_terms b)
 
 count_outs : (os : List (ℕ × ℕ)) → fill_count (map out_slot os) ≡ length os
 count_outs [] = refl
