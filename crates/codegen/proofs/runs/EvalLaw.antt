@@ -16,15 +16,15 @@ use Rattle.codegen.specs.Ways.{all_steps, IsCalm, IsCalmInstruction}
 use Rattle.codegen.specs.Evaluation.{HasBytes, HasEval, IsCalled, IsEvaluated, EvalAnswers}
 use Rattle.codegen.proofs.Joins.{sum_by-term_count}
 use Rattle.codegen.proofs.Sizes.{code_size-eval}
-use Rattle.codegen.proofs.Memory.{has_put, at_put_out, byte_in, length-put}
-use Rattle.codegen.proofs.Stepping.{Ctx, Live}
-use Rattle.codegen.proofs.Quotients.{output_bytes, length-output_bytes}
-use Rattle.codegen.proofs.Evaluating.{HasRom, Evals, Returns, masses, evaluated, eval_most, eval_parts, eval_run, length-after}
-use Rattle.codegen.proofs.Answering.{answers_are}
-use Rattle.codegen.proofs.BlockMasses.{rules_give_masses}
-use Rattle.codegen.proofs.Decoding.{stands_of}
-use Rattle.codegen.proofs.Founding.{used_eval, sizes_is}
-use Rattle.codegen.proofs.Sampling.{count_bound, steps_fit}
+use Rattle.codegen.proofs.steps.Memory.{has_put, at_put_out, byte_in, length-put}
+use Rattle.codegen.proofs.steps.Stepping.{Ctx, Live}
+use Rattle.codegen.proofs.phases.Quotients.{output_bytes, length-output_bytes}
+use Rattle.codegen.proofs.phases.Evaluating.{HasRom, Evals, Returns, masses, evaluated, eval_most, eval_parts, eval_run, length-after}
+use Rattle.codegen.proofs.masses.Answering.{answers_are}
+use Rattle.codegen.proofs.masses.BlockMasses.{rules_give_masses}
+use Rattle.codegen.proofs.steps.Decoding.{stands_of}
+use Rattle.codegen.proofs.runs.Founding.{used_eval, sizes_is}
+use Rattle.codegen.proofs.runs.Sampling.{count_bound, steps_fit}
 
 -- a calm instruction is a whole one
 pub calm_is_whole : (flags d : ℕ) (s t : State) → IsCalmInstruction flags d s t → IsWholeStep flags d s t

@@ -29,15 +29,15 @@ use Rattle.codegen.specs.Images.{code_at, bytes_at, firmware_items, IsApart}
 use Rattle.codegen.specs.Answers.{HasGiven}
 use Rattle.codegen.proofs.Joins.{sum_by-term_count}
 use Rattle.codegen.proofs.Sizes.{code_size, code_size-eval}
-use Rattle.codegen.proofs.Memory.{HasBytes, bytes_front, bytes_back}
-use Rattle.codegen.proofs.Stepping.{Ctx, Stands, sizes}
-use Rattle.codegen.proofs.Fuzzify.{grades, length-grades}
-use Rattle.codegen.proofs.Filling.{AllCanFill}
-use Rattle.codegen.proofs.SlotValues.{further_slots, slots_are, further_fill, length-slots, length-input_terms}
-use Rattle.codegen.proofs.Evaluating.{HasRom, slots_code_is, outputs_few}
-use Rattle.codegen.proofs.Framing.{HasFrame}
-use Rattle.codegen.proofs.Decoding.{UsedCode, used_append, code_bytes, stands_of, decode_here}
-use Rattle.codegen.proofs.Standing.{bytes_stand, code_stands}
+use Rattle.codegen.proofs.steps.Memory.{HasBytes, bytes_front, bytes_back}
+use Rattle.codegen.proofs.steps.Stepping.{Ctx, Stands, sizes}
+use Rattle.codegen.proofs.phases.Fuzzify.{grades, length-grades}
+use Rattle.codegen.proofs.phases.Filling.{AllCanFill}
+use Rattle.codegen.proofs.phases.SlotValues.{further_slots, slots_are, further_fill, length-slots, length-input_terms}
+use Rattle.codegen.proofs.phases.Evaluating.{HasRom, slots_code_is, outputs_few}
+use Rattle.codegen.proofs.runs.Framing.{HasFrame}
+use Rattle.codegen.proofs.steps.Decoding.{UsedCode, used_append, code_bytes, stands_of, decode_here}
+use Rattle.codegen.proofs.runs.Standing.{bytes_stand, code_stands}
 
 -- the operands of the code fit
 used_mems : (n : ℕ) → UsedCode (replicate n Mem)

@@ -14,13 +14,13 @@ use Rattle.codegen.specs.Images.{IsApart}
 use Rattle.codegen.specs.Firing.{AreInputBytes, RulesGiveMasses}
 use Rattle.codegen.specs.Answers.{given, IsAnswered, AreAnswered}
 use Rattle.codegen.specs.Ways.{all_steps}
-use Rattle.codegen.proofs.Memory.{byte_in}
-use Rattle.codegen.proofs.Stepping.{Ctx, calm_of}
-use Rattle.codegen.proofs.Quotients.{output_bytes, length-output_bytes, output_parts}
-use Rattle.codegen.proofs.RuleFacts.{HasRules, has_rules}
-use Rattle.codegen.proofs.Evaluating.{HasRom, Evals, masses, eval_most, eval_parts}
-use Rattle.codegen.proofs.Answering.{answers_are}
-use Rattle.codegen.proofs.Framing.{HasFrame, Home, Sampled, sample_run, waits}
+use Rattle.codegen.proofs.steps.Memory.{byte_in}
+use Rattle.codegen.proofs.steps.Stepping.{Ctx, calm_of}
+use Rattle.codegen.proofs.phases.Quotients.{output_bytes, length-output_bytes, output_parts}
+use Rattle.codegen.proofs.phases.RuleFacts.{HasRules, has_rules}
+use Rattle.codegen.proofs.phases.Evaluating.{HasRom, Evals, masses, eval_most, eval_parts}
+use Rattle.codegen.proofs.masses.Answering.{answers_are}
+use Rattle.codegen.proofs.runs.Framing.{HasFrame, Home, Sampled, sample_run, waits}
 
 -- the bounds are those of the parts
 pub count_bound : (b : Block) → 5 + eval_most b ≡ instruction_bound b

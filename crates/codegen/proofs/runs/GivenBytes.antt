@@ -35,10 +35,10 @@ use Rattle.codegen.specs.Code.{frame_code, eval_code}
 use Rattle.codegen.specs.Data.{table_bytes, singleton_bytes, singleton_bytes_of, weight_bytes, weight_bytes_by, rule_bytes, rule_bytes_by, bytes_of_word}
 use Rattle.codegen.specs.Images.{firmware_items, IsApart}
 use Rattle.codegen.specs.Layouts.{main_layout}
-use Rattle.codegen.proofs.RuleMemory.{Below, below_all}
-use Rattle.codegen.proofs.RuleFacts.{weights_below, rev_is_plain}
-use Rattle.codegen.proofs.Decoding.{IsUsed, UsedCode}
-use Rattle.codegen.proofs.Founding.{used_eval}
+use Rattle.codegen.proofs.phases.RuleMemory.{Below, below_all}
+use Rattle.codegen.proofs.phases.RuleFacts.{weights_below, rev_is_plain}
+use Rattle.codegen.proofs.steps.Decoding.{IsUsed, UsedCode}
+use Rattle.codegen.proofs.runs.Founding.{used_eval}
 
 -- items that give bytes
 abbrev ItemsFit : List Item → Type 0

@@ -18,13 +18,13 @@ use Rattle.codegen.specs.Code.{frame_code, eval_code}
 use Rattle.codegen.specs.Data.{table_bytes, singleton_bytes, weight_bytes, rule_bytes}
 use Rattle.codegen.specs.Images.{bytes_at, vector_items, firmware_items, IsApart}
 use Rattle.codegen.specs.Answers.{HasGiven, IsArrived}
-use Rattle.codegen.proofs.Flags.{unmasked}
-use Rattle.codegen.proofs.Memory.{HasBytes, SameHigh, high_set, bytes_set_out, bytes_after_set}
-use Rattle.codegen.proofs.Stepping.{Ctx, Live, decode_same, calm_of}
-use Rattle.codegen.proofs.Framing.{Home, waits}
-use Rattle.codegen.proofs.Decoding.{decode_here}
-use Rattle.codegen.proofs.Standing.{none_below}
-use Rattle.codegen.proofs.Founding.{IsFramed, Stood, FrameBytes}
+use Rattle.codegen.proofs.steps.Flags.{unmasked}
+use Rattle.codegen.proofs.steps.Memory.{HasBytes, SameHigh, high_set, bytes_set_out, bytes_after_set}
+use Rattle.codegen.proofs.steps.Stepping.{Ctx, Live, decode_same, calm_of}
+use Rattle.codegen.proofs.runs.Framing.{Home, waits}
+use Rattle.codegen.proofs.steps.Decoding.{decode_here}
+use Rattle.codegen.proofs.runs.Standing.{none_below}
+use Rattle.codegen.proofs.runs.Founding.{IsFramed, Stood, FrameBytes}
 
 -- memory below the code is 0
 pub zero_below : (image : List ℕ) (l : Layout) (b : Block) → HasGiven image (given_by (firmware_items l b)) → IsRising (firmware_items l b) → (q : ℕ) → q < l.code → q < 65536 → get_or image q 0 ≡ 0

@@ -13,7 +13,7 @@ use Rattle.point_slope.specs.Bytes.{ByteShare, byte_mass, byte_shares_from, byte
 use Rattle.rule_layout.specs.Slots.{terms_from, singleton_count, output_terms}
 use Rattle.cpu12_parts.specs.Averages.{dot, total}
 use Rattle.codegen.specs.Data.{singleton_bytes_of}
-use Rattle.codegen.proofs.Quotients.{or_before, quotient_of, output_byte, output_bytes}
+use Rattle.codegen.proofs.phases.Quotients.{or_before, quotient_of, output_byte, output_bytes}
 
 -- the sums over an output's terms
 sums_total : (b : Block) (bytes : List ℕ) (i : ℕ) (x : Output) (t : ℕ) (us : List Dec) → total (map (λ k. byte_mass b bytes i k) (range_with_len t (length us))) ≡ total_mass (byte_shares_from b bytes i x t us)

@@ -21,8 +21,8 @@ use Rattle.rule_layout.specs.Slots.{slots_of}
 use Rattle.rule_layout.specs.Layouts.{rule_spread, rule_conjunctions, conjunction_of, rule_weights, conjunctions_of, weights_of, is_below_one, form_of, IsBelow}
 use Rattle.rule_layout.proofs.ChoicesLemmas.{length-choices}
 use Rattle.rule_layout.proofs.LayoutLemmas.{numbers_in_range}
-use Rattle.codegen.proofs.RuleMemory.{Below, AllBelow, below_all}
-use Rattle.codegen.proofs.Ruling.{AreFull}
+use Rattle.codegen.proofs.phases.RuleMemory.{Below, AllBelow, below_all}
+use Rattle.codegen.proofs.phases.Ruling.{AreFull}
 
 product_some : (m n : ℕ) → 1 ≤ m → 1 ≤ n → 1 ≤ m * n
 product_some m n a b = grind arith

@@ -32,10 +32,10 @@ use Rattle.rule_layout.proofs.TruthLemmas.{spreading_law_lem}
 use Rattle.cpu12_parts.specs.Parts.{weighted}
 use Rattle.codegen.specs.Code.{input_slots}
 use Rattle.codegen.specs.Firing.{slot_before, slots_before, least_of, slots_after, RulesGiveMasses}
-use Rattle.codegen.proofs.RuleMemory.{Below, length-fired}
-use Rattle.codegen.proofs.RuleFacts.{has_rules}
-use Rattle.codegen.proofs.SlotValues.{complements_of, further_slots, slots_are, length-slots, length-output_terms}
-use Rattle.codegen.proofs.Masses.{hit, degree, Between, AllSplit, fired_at, hit_max, hit_zero, weighted_max}
+use Rattle.codegen.proofs.phases.RuleMemory.{Below, length-fired}
+use Rattle.codegen.proofs.phases.RuleFacts.{has_rules}
+use Rattle.codegen.proofs.phases.SlotValues.{complements_of, further_slots, slots_are, length-slots, length-output_terms}
+use Rattle.codegen.proofs.masses.Masses.{hit, degree, Between, AllSplit, fired_at, hit_max, hit_zero, weighted_max}
 
 -- a slot that has a number stands there
 number_step : (f : Slot → ℕ) (x s : Slot) (xs : List Slot) → (number_in xs s < length xs → get_or (map f xs) (number_in xs s) 0 ≡ f s) → number_in (x ∷ xs) s < length (x ∷ xs) → get_or (map f (x ∷ xs)) (number_in (x ∷ xs) s) 0 ≡ f s

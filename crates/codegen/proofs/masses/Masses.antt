@@ -6,7 +6,7 @@ use Rattle.std.proofs.lemmas.Bool.Decides.{nat_tests}
 use Rattle.rule_layout.specs.declared.flat.Conjunction.{Conjunction}
 use Rattle.cpu12_parts.specs.Parts.{weighted}
 use Rattle.codegen.specs.Firing.{least_of, raised_to, fired}
-use Rattle.codegen.proofs.RuleMemory.{Below, length-raised_to}
+use Rattle.codegen.proofs.phases.RuleMemory.{Below, length-raised_to}
 
 -- t where k is concluded, and else 0
 abbrev pub hit : ℕ → ℕ → List ℕ → ℕ

@@ -12,8 +12,8 @@ use Rattle.cpu12_asm.proofs.Placing.{or_else, byte_at-append, byte_at-placed}
 use Rattle.cpu12_asm.proofs.Rising.{rising_head, rising_end, rising_parts}
 use Rattle.cpu12_emul.specs.Image.{byte_or_zero}
 use Rattle.codegen.specs.Answers.{HasGiven}
-use Rattle.codegen.proofs.Memory.{HasBytes, bytes_by}
-use Rattle.codegen.proofs.Decoding.{code_bytes}
+use Rattle.codegen.proofs.steps.Memory.{HasBytes, bytes_by}
+use Rattle.codegen.proofs.steps.Decoding.{code_bytes}
 
 placed_append : (at : ℕ) (a b : List ℕ) → placed at (a ++ b) ≡ placed at a ++ placed (at + length a) b
 placed_append at [] b = let e : at ≡ at + 0 = omega arith in ap (λ k. placed k b) e

@@ -14,12 +14,12 @@ use Rattle.codegen.specs.Images.{firmware_items, IsApart}
 use Rattle.codegen.specs.Firing.{AreInputBytes, RulesGiveMasses}
 use Rattle.codegen.specs.Answers.{HasGiven, IsArrived, AreAnswered, AnswersSamples, AnswersFrom}
 use Rattle.codegen.proofs.Placement.{HasSizes, main_rises}
-use Rattle.codegen.proofs.Stepping.{Ctx}
-use Rattle.codegen.proofs.Founding.{IsFramed, Stood, stood, frame_bytes, has_frame, has_rom}
-use Rattle.codegen.proofs.Arriving.{Arrived, arrive, zero_below, zeros_of, length-zeros_of, zeros_at}
-use Rattle.codegen.proofs.Sampling.{Runs, are_answered}
-use Rattle.codegen.proofs.BlockMasses.{rules_give_masses}
-use Rattle.codegen.proofs.GivenBytes.{memory_fits}
+use Rattle.codegen.proofs.steps.Stepping.{Ctx}
+use Rattle.codegen.proofs.runs.Founding.{IsFramed, Stood, stood, frame_bytes, has_frame, has_rom}
+use Rattle.codegen.proofs.runs.Arriving.{Arrived, arrive, zero_below, zeros_of, length-zeros_of, zeros_at}
+use Rattle.codegen.proofs.runs.Sampling.{Runs, are_answered}
+use Rattle.codegen.proofs.masses.BlockMasses.{rules_give_masses}
+use Rattle.codegen.proofs.runs.GivenBytes.{memory_fits}
 
 main_apart : IsApart main_layout
 main_apart = record {

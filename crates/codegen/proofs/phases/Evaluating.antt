@@ -32,16 +32,16 @@ use Rattle.codegen.specs.Ways.{is_free, is_hidden}
 use Rattle.codegen.proofs.Joins.{sum_by-term_count}
 use Rattle.codegen.proofs.Lists.{length-marked}
 use Rattle.codegen.proofs.Placement.{length-weights_of}
-use Rattle.codegen.proofs.Memory.{HasBytes, has_put, bytes_back, bytes_put_out, at_put_out}
-use Rattle.codegen.proofs.Stepping.{Ctx, Here, Live, Stands, Next, plain_next, Goes, goes_one, goes_on, goes_most, sizes, stands_front, stands_back, Reaches, reaches_at, high_shown, not_at}
-use Rattle.codegen.proofs.Instructions.{ldx, ldy}
-use Rattle.codegen.proofs.Fuzzify.{fuzzify_run, grades, length-grades}
-use Rattle.codegen.proofs.Filling.{fill_count, slots_run}
-use Rattle.codegen.proofs.Quotients.{output_bytes, length-output_bytes, output_parts, outputs_run}
-use Rattle.codegen.proofs.RuleMemory.{Below, AllBelow, length-fired, length-renamed}
-use Rattle.codegen.proofs.Ruling.{AreFull, AtRules, address, rev_run, revw_run}
-use Rattle.codegen.proofs.RuleFacts.{HasRules, has_rules, all_below, weights_below, rev_is_plain}
-use Rattle.codegen.proofs.SlotValues.{further_slots, slots_are, further_fill, before_are, count_further, length-slots, length-input_terms}
+use Rattle.codegen.proofs.steps.Memory.{HasBytes, has_put, bytes_back, bytes_put_out, at_put_out}
+use Rattle.codegen.proofs.steps.Stepping.{Ctx, Here, Live, Stands, Next, plain_next, Goes, goes_one, goes_on, goes_most, sizes, stands_front, stands_back, Reaches, reaches_at, high_shown, not_at}
+use Rattle.codegen.proofs.steps.Instructions.{ldx, ldy}
+use Rattle.codegen.proofs.phases.Fuzzify.{fuzzify_run, grades, length-grades}
+use Rattle.codegen.proofs.phases.Filling.{fill_count, slots_run}
+use Rattle.codegen.proofs.phases.Quotients.{output_bytes, length-output_bytes, output_parts, outputs_run}
+use Rattle.codegen.proofs.phases.RuleMemory.{Below, AllBelow, length-fired, length-renamed}
+use Rattle.codegen.proofs.phases.Ruling.{AreFull, AtRules, address, rev_run, revw_run}
+use Rattle.codegen.proofs.phases.RuleFacts.{HasRules, has_rules, all_below, weights_below, rev_is_plain}
+use Rattle.codegen.proofs.phases.SlotValues.{further_slots, slots_are, further_fill, before_are, count_further, length-slots, length-input_terms}
 
 -- what stands in the image for EVAL
 pub record HasRom (c : Ctx) (l : Layout) (b : Block) : Type 0 where

@@ -4,8 +4,8 @@ use Rattle.cpu12_isa.specs.declared.instr.Instr.{Instr}
 use Rattle.cpu12_isa.specs.declared.instr.Instr.TheVariants.{LdaaImmediate, LdaaExtended, LdabImmediate, LdxImmediate, LdyImmediate, LdsImmediate, StaaExtended, StabExtended, ClrExtended, Coma, CpxImmediate, Beq, Bra, JsrExtended, Rts, Andcc, Orcc, TransferYD, Ediv, Mem, Rev, Revw, Wav}
 use Rattle.cpu12_isa.specs.Code.{encode_of, decode_of, decode_at, FitsOperands}
 use Rattle.cpu12_isa.specs.Memory.{plus}
-use Rattle.codegen.proofs.Memory.{HasBytes, bytes_front, bytes_back}
-use Rattle.codegen.proofs.Stepping.{Ctx, Stands, sizes}
+use Rattle.codegen.proofs.steps.Memory.{HasBytes, bytes_front, bytes_back}
+use Rattle.codegen.proofs.steps.Stepping.{Ctx, Stands, sizes}
 
 -- the instructions that the code is made of
 abbrev pub IsUsed : Instr → Type 0

@@ -13,9 +13,9 @@ use Rattle.cpu12_parts.specs.State.{State}
 use Rattle.cpu12_parts.specs.Parts.{wav_end}
 use Rattle.cpu12_parts.specs.Averages.{dot, total, wav_whole}
 use Rattle.codegen.specs.Ways.{is_hidden}
-use Rattle.codegen.proofs.Flags.{masked_put, masked_open_hnvc}
-use Rattle.codegen.proofs.Memory.{HasBytes, same_bytes}
-use Rattle.codegen.proofs.Stepping.{Ctx, Here, Live, Goes, goes_part, sp_high, low_shown, high_shown, calm_of, decode_same, not_at}
+use Rattle.codegen.proofs.steps.Flags.{masked_put, masked_open_hnvc}
+use Rattle.codegen.proofs.steps.Memory.{HasBytes, same_bytes}
+use Rattle.codegen.proofs.steps.Stepping.{Ctx, Here, Live, Goes, goes_part, sp_high, low_shown, high_shown, calm_of, decode_same, not_at}
 
 bytes_from : (m : List ℕ) (p : ℕ) (bs : List ℕ) → p + length bs < 65536 → HasBytes m p bs → bytes_at m (from p (length bs)) ≡ bs
 bytes_from m p [] lt h = refl

@@ -13,9 +13,9 @@ use Rattle.codegen.specs.Bounds.{entry_count}
 use Rattle.codegen.specs.Firing.{least_of, raised_to, fired}
 use Rattle.codegen.specs.Ways.{is_hidden}
 use Rattle.codegen.specs.Answers.{put}
-use Rattle.codegen.proofs.Memory.{at_put_in, set_put_in, SameHigh, high_set, bytes_after_set}
+use Rattle.codegen.proofs.steps.Memory.{at_put_in, set_put_in, SameHigh, high_set, bytes_after_set}
 use Rattle.codegen.proofs.Lists.{length-marked}
-use Rattle.codegen.proofs.Stepping.{low_shown, high_shown}
+use Rattle.codegen.proofs.steps.Stepping.{low_shown, high_shown}
 
 -- a form names the slots from a base on
 pub record NamesSlots (f : Form) (base n : ℕ) (name : ℕ → ℕ) : Type 0 where

@@ -18,7 +18,7 @@ use Rattle.cpu12_parts.specs.Laws.{addresses}
 use Rattle.cpu12_parts.specs.Whole.{after_plain}
 use Rattle.codegen.specs.declared.layout.Layout.{Layout}
 use Rattle.codegen.specs.Ways.{Way, all_steps, is_free, is_hidden, is_idle, IsCalm, IsCalmStep}
-use Rattle.codegen.proofs.Memory.{SameHigh, bytes_after_set}
+use Rattle.codegen.proofs.steps.Memory.{SameHigh, bytes_after_set}
 
 -- what a run is under: the layout, the image's memory and the open flags
 pub record Ctx : Type 0 where

@@ -12,9 +12,9 @@ use Rattle.cpu12_parts.specs.State.{State}
 use Rattle.cpu12_parts.specs.Whole.{after_plain}
 use Rattle.codegen.specs.Code.{fuzzify_code}
 use Rattle.codegen.specs.Answers.{put}
-use Rattle.codegen.proofs.Memory.{HasBytes, bytes_front, bytes_back, bytes_put_out, put_append}
-use Rattle.codegen.proofs.Stepping.{Ctx, Live, Stands, Next, Goes, goes_none, goes_one, goes_on, goes_most, sizes, sizes_append, stands_front, stands_back, stands_at}
-use Rattle.codegen.proofs.Instructions.{ldaa, mem, mem_grade}
+use Rattle.codegen.proofs.steps.Memory.{HasBytes, bytes_front, bytes_back, bytes_put_out, put_append}
+use Rattle.codegen.proofs.steps.Stepping.{Ctx, Live, Stands, Next, Goes, goes_none, goes_one, goes_on, goes_most, sizes, sizes_append, stands_front, stands_back, stands_at}
+use Rattle.codegen.proofs.steps.Instructions.{ldaa, mem, mem_grade}
 
 -- where at most n instructions lead, with X and Y
 pub record Graded (c : Ctx) (n : ℕ) (s : State) (pc x y : ℕ) (mem : List ℕ) : Type 0 where

@@ -19,10 +19,10 @@ use Rattle.codegen.specs.Bounds.{output_bound}
 use Rattle.codegen.specs.Code.{quotient_code, output_code, outputs_code}
 use Rattle.codegen.specs.Data.{singleton_bytes_of}
 use Rattle.codegen.specs.Answers.{put}
-use Rattle.codegen.proofs.Memory.{HasBytes, bytes_front, bytes_back, bytes_set_out}
-use Rattle.codegen.proofs.Stepping.{Ctx, Live, Stands, Goes, goes_one, goes_on, sizes, sizes_append, stands_front, stands_back, stands_at, Reaches, reaches_none, reaches_after, reaches_at}
-use Rattle.codegen.proofs.Instructions.{ldab_byte, ldx, ldy, stab, cpx, cpx_zero, beq_on, beq_off, bra_on, tfr, ediv, ediv_y, ediv_sp}
-use Rattle.codegen.proofs.Averaging.{wav_run}
+use Rattle.codegen.proofs.steps.Memory.{HasBytes, bytes_front, bytes_back, bytes_set_out}
+use Rattle.codegen.proofs.steps.Stepping.{Ctx, Live, Stands, Goes, goes_one, goes_on, sizes, sizes_append, stands_front, stands_back, stands_at, Reaches, reaches_none, reaches_after, reaches_at}
+use Rattle.codegen.proofs.steps.Instructions.{ldab_byte, ldx, ldy, stab, cpx, cpx_zero, beq_on, beq_off, bra_on, tfr, ediv, ediv_y, ediv_sp}
+use Rattle.codegen.proofs.phases.Averaging.{wav_run}
 
 abbrev pub or_before : Option ℕ → ℕ → ℕ
 or_before None before = before

@@ -15,12 +15,12 @@ use Rattle.codegen.specs.declared.layout.Layout.{Layout}
 use Rattle.codegen.specs.Firing.{slots_after}
 use Rattle.codegen.specs.Answers.{put, given}
 use Rattle.codegen.specs.Ways.{is_free, is_hidden, is_idle}
-use Rattle.codegen.proofs.Flags.{masked_tested, zero_tested}
-use Rattle.codegen.proofs.Memory.{HasBytes, length-put, has_put, bytes_put_out, bytes_set_out, bytes_after_set, bytes_after_put, high_set, high_put}
-use Rattle.codegen.proofs.Stepping.{Ctx, Here, Live, Stands, Next, next, plain_next, Goes, goes_one, goes_on, goes_most, low_shown, high_shown, not_at}
-use Rattle.codegen.proofs.Instructions.{clr, beq_on}
-use Rattle.codegen.proofs.Quotients.{output_bytes, length-output_bytes}
-use Rattle.codegen.proofs.Evaluating.{Evals, Returns, masses, evaluated, eval_most, eval_parts, eval_run}
+use Rattle.codegen.proofs.steps.Flags.{masked_tested, zero_tested}
+use Rattle.codegen.proofs.steps.Memory.{HasBytes, length-put, has_put, bytes_put_out, bytes_set_out, bytes_after_set, bytes_after_put, high_set, high_put}
+use Rattle.codegen.proofs.steps.Stepping.{Ctx, Here, Live, Stands, Next, next, plain_next, Goes, goes_one, goes_on, goes_most, low_shown, high_shown, not_at}
+use Rattle.codegen.proofs.steps.Instructions.{clr, beq_on}
+use Rattle.codegen.proofs.phases.Quotients.{output_bytes, length-output_bytes}
+use Rattle.codegen.proofs.phases.Evaluating.{Evals, Returns, masses, evaluated, eval_most, eval_parts, eval_run}
 
 -- the code around EVAL
 pub record HasFrame (c : Ctx) : Type 0 where

@@ -16,8 +16,8 @@ use Rattle.rule_layout.specs.Slots.{terms_from, term_count, singleton_count, inp
 use Rattle.codegen.specs.Bounds.{input_term_count, output_term_count, complement_count}
 use Rattle.codegen.specs.Code.{terms_before}
 use Rattle.codegen.specs.Firing.{slot_before, slots_before}
-use Rattle.codegen.proofs.Fuzzify.{grades}
-use Rattle.codegen.proofs.Filling.{AllCanFill, fill_count}
+use Rattle.codegen.proofs.phases.Fuzzify.{grades}
+use Rattle.codegen.proofs.phases.Filling.{AllCanFill, fill_count}
 
 -- the element behind a list's front
 slice_get_behind : {X : Type 0} (front : List X) (x : X) (rest : List X) → slice_get (front ++ x ∷ rest) (length front) ≡ Some x
