@@ -13,6 +13,7 @@ use Rattle.point_slope.specs.Bytes.{ByteShare, byte_mass, byte_shares_from, byte
 use Rattle.rule_layout.specs.Slots.{terms_from, singleton_count, output_terms}
 use Rattle.cpu12_parts.specs.Averages.{dot, total}
 use Rattle.codegen.specs.Data.{singleton_bytes_of}
+use Rattle.codegen.proofs.phases.SlotValues.{slice_get_behind}
 use Rattle.codegen.proofs.phases.Quotients.{or_before, quotient_of, output_byte, output_bytes}
 
 -- the sums over an output's terms
@@ -42,10 +43,6 @@ byte_is b bytes i x before =
     let ed = sums_dot b bytes i x 1 x.singletons in
     ap (λ (n : ℕ). quotient_of (total (own_masses b bytes i x)) (dot (singleton_bytes_of x) (own_masses b bytes i x)) n) (default_is x x.default before)
     ∙ ap₂ (λ (w n : ℕ). quotient_of w n (resting_byte x before)) et ed
-
-slice_get_behind : {X : Type 0} (front : List X) (x : X) (rest : List X) → slice_get (front ++ x ∷ rest) (length front) ≡ Some x
-slice_get_behind [] x rest = refl
-slice_get_behind (y ∷ front) x rest = slice_get_behind front x rest
 
 map_pairs : (f : ℕ × ℕ → ℕ) (i : ℕ) (ts : List ℕ) → map f (map (λ t. (i, t)) ts) ≡ map (λ t. f (i, t)) ts
 map_pairs f i [] = refl

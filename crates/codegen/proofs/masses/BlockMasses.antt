@@ -34,7 +34,7 @@ use Rattle.codegen.specs.Code.{input_slots}
 use Rattle.codegen.specs.Firing.{slot_before, slots_before, least_of, slots_after, RulesGiveMasses}
 use Rattle.codegen.proofs.phases.RuleMemory.{Below, length-fired}
 use Rattle.codegen.proofs.phases.RuleFacts.{has_rules}
-use Rattle.codegen.proofs.phases.SlotValues.{complements_of, further_slots, slots_are, length-slots, length-output_terms}
+use Rattle.codegen.proofs.phases.SlotValues.{complements_of, further_slots, slots_are, length-slots, length-output_terms, place_in, Counted, counted_from}
 use Rattle.codegen.proofs.masses.Masses.{hit, degree, Between, AllSplit, fired_at, hit_max, hit_zero, weighted_max}
 
 -- a slot that has a number stands there
@@ -267,32 +267,6 @@ split_rules b (r ∷ rs) h =
     split_append (input_slots (slots_of b) b.outputs) (length (slots_of b)) (rule_conjunctions (slots_of b) r) (flat_map (rule_conjunctions (slots_of b)) rs) (split_rule b r (rule_spread r) hr.literals hr.conclusions) (split_rules b rs (λ k d lt. h (suc k) d (omega arith)))
 
 -- the outputs' terms are numbered in their order
-abbrev Counted : (ℕ × ℕ → ℕ) → ℕ → List (ℕ × ℕ) → Type 0
-Counted f at [] = Unit {0}
-Counted f at (p ∷ ps) = (f p ≡ at) × Counted f (at + 1) ps
-
-counted_append : (f : ℕ × ℕ → ℕ) (at : ℕ) (ps qs : List (ℕ × ℕ)) → Counted f at ps → Counted f (at + length ps) qs → Counted f at (ps ++ qs)
-counted_append f at [] qs a b = let e : at + 0 ≡ at = omega arith in subst (λ k. Counted f k qs) e b
-counted_append f at (p ∷ ps) qs a b = let e : at + suc (length ps) ≡ at + 1 + length ps = omega arith in (a.0, counted_append f (at + 1) ps qs a.1 (subst (λ k. Counted f k qs) e b))
-
-abbrev place_in : List Output → ℕ × ℕ → ℕ
-place_in os p = sum_by singleton_count (take (p.0 - 1) os) + (p.1 - 1)
-
-counted_range : (os : List Output) (i s n at : ℕ) → sum_by singleton_count (take (i - 1) os) + s ≡ at → Counted (place_in os) at (map (λ t. (i, t)) (range_with_len (s + 1) n))
-counted_range os i s zero at e = tt
-counted_range os i s (suc n) at e = (omega arith, counted_range os i (s + 1) n (at + 1) (omega arith))
-
-counted_from : (outputs front xs : List Output) (i at : ℕ) → outputs ≡ front ++ xs → i ≡ length front + 1 → at ≡ sum_by singleton_count front → Counted (place_in outputs) at (terms_from i (map singleton_count xs))
-counted_from outputs front [] i at e en ea = tt
-counted_from outputs front (x ∷ xs) i at e en ea =
-    let k : i - 1 ≡ length front = omega arith in
-    let cut : take (i - 1) outputs ≡ front = ap₂ (λ (n : ℕ) (l : List Output). take n l) k e ∙ take_at front (x ∷ xs) (length front) refl in
-    let before : sum_by singleton_count (take (i - 1) outputs) ≡ sum_by singleton_count front = ap (sum_by singleton_count) cut in
-    let here = counted_range outputs i 0 (length x.singletons) at (omega arith) in
-    let of_term : ℕ → ℕ × ℕ = λ t. (i, t) in
-    let sums : sum_by singleton_count (front ++ x ∷ []) ≡ sum_by singleton_count front + length x.singletons = sum_by-append singleton_count front (x ∷ []) ∙ omega (arith, sum_by-cons singleton_count x []) in
-    counted_append (place_in outputs) at (map (λ t. (i, t)) (range_with_len 1 (length x.singletons))) (terms_from (i + 1) (map singleton_count xs)) here (counted_from outputs (front ++ x ∷ []) xs (i + 1) _ (e ∙ sym (append_assoc front (x ∷ []) xs)) (omega (arith, length-append front (x ∷ []))) (omega (arith, sums, ea, length-map (range_with_len 1 (length x.singletons)) of_term, length-range_with_len 1 (length x.singletons))))
-
 counted_at : (f : ℕ × ℕ → ℕ) (at : ℕ) (ps : List (ℕ × ℕ)) (j : ℕ) (d : ℕ × ℕ) → Counted f at ps → j < length ps → f (get_or ps j d) ≡ at + j
 counted_at f at [] j d h lt = absurd (omega arith)
 counted_at f at (p ∷ ps) zero d h lt = h.0 ∙ omega arith
@@ -318,7 +292,7 @@ number_of f g fg at (p ∷ ps) (suc j) d h lt = by_test (is_same_slot (out_slot 
     by_test false e go = ap (λ (t : Bool). if t then 0 else number_in (map out_slot ps) (out_slot (get_or ps j d)) + 1) e ∙ omega (arith, go)
 
 number_here : (b : Block) (j : ℕ) (d : ℕ × ℕ) → j < length (output_terms b) → number_in (map out_slot (output_terms b)) (out_slot (get_or (output_terms b) j d)) ≡ j
-number_here b j d lt = number_of (place_in b.outputs) (λ i t. sum_by singleton_count (take (i - 1) b.outputs) + (t - 1)) (λ p. refl) 0 (output_terms b) j d (counted_from b.outputs [] b.outputs 1 0 refl refl refl) lt
+number_here b j d lt = number_of (place_in singleton_count b.outputs) (λ i t. sum_by singleton_count (take (i - 1) b.outputs) + (t - 1)) (λ p. refl) 0 (output_terms b) j d (counted_from singleton_count b.outputs [] b.outputs 1 0 refl refl refl) lt
 
 -- before the rules the slots of outputs' terms are 0
 zeros_of_outs : (b : Block) (bytes : List ℕ) (os : List (ℕ × ℕ)) (j : ℕ) → get_or (map (slot_before b bytes) (map out_slot os)) j 0 ≡ 0

@@ -52,7 +52,7 @@ abbrev pub From : ℕ → List ℕ → Type 0
 From n [] = Unit {0}
 From n (k ∷ ks) = (n ≤ k) × From n ks
 
-below_append : (n : ℕ) (xs ys : List ℕ) → Below n xs → Below n ys → Below n (xs ++ ys)
+pub below_append : (n : ℕ) (xs ys : List ℕ) → Below n xs → Below n ys → Below n (xs ++ ys)
 below_append n [] ys a b = b
 below_append n (x ∷ xs) ys a b = (a.0, below_append n xs ys a.1 b)
 

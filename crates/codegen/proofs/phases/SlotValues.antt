@@ -20,7 +20,7 @@ use Rattle.codegen.proofs.phases.Fuzzify.{grades}
 use Rattle.codegen.proofs.phases.Filling.{AllCanFill, fill_count}
 
 -- the element behind a list's front
-slice_get_behind : {X : Type 0} (front : List X) (x : X) (rest : List X) → slice_get (front ++ x ∷ rest) (length front) ≡ Some x
+pub slice_get_behind : {X : Type 0} (front : List X) (x : X) (rest : List X) → slice_get (front ++ x ∷ rest) (length front) ≡ Some x
 slice_get_behind [] x rest = refl
 slice_get_behind (y ∷ front) x rest = slice_get_behind front x rest
 
@@ -74,36 +74,40 @@ grades_from b bytes vfront (v ∷ vs) front (x ∷ xs) i ei ev el en em =
 pub grades_are : (b : Block) (bytes : List ℕ) → length bytes ≡ length b.inputs → grades bytes b.inputs ≡ map (term_value b bytes) (input_terms b)
 grades_are b bytes h = grades_from b bytes [] bytes [] b.inputs 1 refl refl refl refl h
 
--- terms whose numbers count up from a place
-abbrev Placed : List Input → ℕ → List (ℕ × ℕ) → Type 0
-Placed inputs at [] = Unit {0}
-Placed inputs at (p ∷ ps) = (terms_before inputs p.0 + (p.1 - 1) ≡ at) × Placed inputs (at + 1) ps
+-- the place of a term among those of variables that have so many each
+abbrev pub place_in : {X : Type 0} → (X → ℕ) → List X → ℕ × ℕ → ℕ
+place_in count xs p = sum_by count (take (p.0 - 1) xs) + (p.1 - 1)
 
-placed_append : (inputs : List Input) (at : ℕ) (ps qs : List (ℕ × ℕ)) → Placed inputs at ps → Placed inputs (at + length ps) qs → Placed inputs at (ps ++ qs)
-placed_append inputs at [] qs a b = let e : at + 0 ≡ at = omega arith in subst (λ k. Placed inputs k qs) e b
-placed_append inputs at (p ∷ ps) qs a b = let e : at + suc (length ps) ≡ at + 1 + length ps = omega arith in (a.0, placed_append inputs (at + 1) ps qs a.1 (subst (λ k. Placed inputs k qs) e b))
+-- terms whose places count up from one
+abbrev pub Counted : (ℕ × ℕ → ℕ) → ℕ → List (ℕ × ℕ) → Type 0
+Counted place at [] = Unit {0}
+Counted place at (p ∷ ps) = (place p ≡ at) × Counted place (at + 1) ps
 
-placed_range : (inputs : List Input) (i s n at : ℕ) → terms_before inputs i + s ≡ at → Placed inputs at (map (λ t. (i, t)) (range_with_len (s + 1) n))
-placed_range inputs i s zero at e = tt
-placed_range inputs i s (suc n) at e = (omega arith, placed_range inputs i (s + 1) n (at + 1) (omega arith))
+counted_append : (place : ℕ × ℕ → ℕ) (at : ℕ) (ps qs : List (ℕ × ℕ)) → Counted place at ps → Counted place (at + length ps) qs → Counted place at (ps ++ qs)
+counted_append place at [] qs a b = let e : at + 0 ≡ at = omega arith in subst (λ k. Counted place k qs) e b
+counted_append place at (p ∷ ps) qs a b = let e : at + suc (length ps) ≡ at + 1 + length ps = omega arith in (a.0, counted_append place (at + 1) ps qs a.1 (subst (λ k. Counted place k qs) e b))
 
-placed_from : (inputs front xs : List Input) (i at : ℕ) → inputs ≡ front ++ xs → i ≡ length front + 1 → at ≡ sum_by term_count front → Placed inputs at (terms_from i (map term_count xs))
-placed_from inputs front [] i at e en ea = tt
-placed_from inputs front (x ∷ xs) i at e en ea =
+counted_range : {X : Type 0} (count : X → ℕ) (xs : List X) (i s n at : ℕ) → sum_by count (take (i - 1) xs) + s ≡ at → Counted (place_in count xs) at (map (λ t. (i, t)) (range_with_len (s + 1) n))
+counted_range count xs i s zero at e = tt
+counted_range count xs i s (suc n) at e = (omega arith, counted_range count xs i (s + 1) n (at + 1) (omega arith))
+
+pub counted_from : {X : Type 0} (count : X → ℕ) (all front xs : List X) (i at : ℕ) → all ≡ front ++ xs → i ≡ length front + 1 → at ≡ sum_by count front → Counted (place_in count all) at (terms_from i (map count xs))
+counted_from count all front [] i at e en ea = tt
+counted_from count all front (x ∷ xs) i at e en ea =
     let k : i - 1 ≡ length front = omega arith in
-    let cut : take (i - 1) inputs ≡ front = ap₂ (λ (n : ℕ) (l : List Input). take n l) k e ∙ take_at front (x ∷ xs) (length front) refl in
-    let before : terms_before inputs i ≡ sum_by term_count front = ap (sum_by term_count) cut in
-    let here = placed_range inputs i 0 (length x.terms) at (omega arith) in
+    let cut : take (i - 1) all ≡ front = ap₂ (λ (n : ℕ) (l : List _). take n l) k e ∙ take_at front (x ∷ xs) (length front) refl in
+    let before : sum_by count (take (i - 1) all) ≡ sum_by count front = ap (sum_by count) cut in
+    let here = counted_range count all i 0 (count x) at (omega arith) in
     let of_term : ℕ → ℕ × ℕ = λ t. (i, t) in
-    let sums : sum_by term_count (front ++ x ∷ []) ≡ sum_by term_count front + length x.terms = sum_by-append term_count front (x ∷ []) ∙ omega (arith, sum_by-cons term_count x []) in
-    placed_append inputs at (map (λ t. (i, t)) (range_with_len 1 (length x.terms))) (terms_from (i + 1) (map term_count xs)) here (placed_from inputs (front ++ x ∷ []) xs (i + 1) _ (e ∙ sym (push_front front x xs)) (omega (arith, length-push front x)) (omega (arith, sums, ea, length-map (range_with_len 1 (length x.terms)) of_term, length-range_with_len 1 (length x.terms))))
+    let sums : sum_by count (front ++ x ∷ []) ≡ sum_by count front + count x = sum_by-append count front (x ∷ []) ∙ omega (arith, sum_by-cons count x []) in
+    counted_append (place_in count all) at (map (λ t. (i, t)) (range_with_len 1 (count x))) (terms_from (i + 1) (map count xs)) here (counted_from count all (front ++ x ∷ []) xs (i + 1) _ (e ∙ sym (push_front front x xs)) (omega (arith, length-push front x)) (omega (arith, sums, ea, length-map (range_with_len 1 (count x)) of_term, length-range_with_len 1 (count x))))
 
 -- terms whose values stand among the grades
 abbrev AllKnown : Block → List ℕ → List Input → List ℕ → List (ℕ × ℕ) → Type 0
 AllKnown b bytes inputs gs [] = Unit {0}
 AllKnown b bytes inputs gs (p ∷ ps) = ((terms_before inputs p.0 + (p.1 - 1) < length gs) × (get_or gs (terms_before inputs p.0 + (p.1 - 1)) 0 ≡ literal_grade b bytes p.0 p.1)) × AllKnown b bytes inputs gs ps
 
-known_from : (b : Block) (bytes : List ℕ) (inputs : List Input) (gs front : List ℕ) (at : ℕ) (ps : List (ℕ × ℕ)) → gs ≡ front ++ map (term_value b bytes) ps → length front ≡ at → Placed inputs at ps → AllKnown b bytes inputs gs ps
+known_from : (b : Block) (bytes : List ℕ) (inputs : List Input) (gs front : List ℕ) (at : ℕ) (ps : List (ℕ × ℕ)) → gs ≡ front ++ map (term_value b bytes) ps → length front ≡ at → Counted (place_in term_count inputs) at ps → AllKnown b bytes inputs gs ps
 known_from b bytes inputs gs front at [] e l h = tt
 known_from b bytes inputs gs front at (p ∷ ps) e l h =
     let v = term_value b bytes p in
@@ -142,7 +146,7 @@ fill_slots b bytes inputs gs (p ∷ ps) os h = (h.0, fill_slots b bytes inputs g
 
 pub further_fill : (b : Block) (bytes : List ℕ) → length bytes ≡ length b.inputs → AllCanFill b bytes b.inputs (grades bytes b.inputs) (further_slots b)
 further_fill b bytes h =
-    let known = known_from b bytes b.inputs (grades bytes b.inputs) [] 0 (input_terms b) (grades_are b bytes h) refl (placed_from b.inputs [] b.inputs 1 0 refl refl refl) in
+    let known = known_from b bytes b.inputs (grades bytes b.inputs) [] 0 (input_terms b) (grades_are b bytes h) refl (counted_from term_count b.inputs [] b.inputs 1 0 refl refl refl) in
     fill_slots b bytes b.inputs (grades bytes b.inputs) (complements_of b) (output_terms b) (known_filter b bytes b.inputs (grades bytes b.inputs) (λ p. is_complemented b.rules p.0 p.1) (input_terms b) known)
 
 -- all values are the grades and then those of the further slots

@@ -35,7 +35,7 @@ use Rattle.codegen.specs.Code.{frame_code, eval_code}
 use Rattle.codegen.specs.Data.{table_bytes, singleton_bytes, singleton_bytes_of, weight_bytes, weight_bytes_by, rule_bytes, rule_bytes_by, bytes_of_word}
 use Rattle.codegen.specs.Images.{firmware_items, IsApart}
 use Rattle.codegen.specs.Layouts.{main_layout}
-use Rattle.codegen.proofs.phases.RuleMemory.{Below, below_all}
+use Rattle.codegen.proofs.phases.RuleMemory.{Below, below_all, below_append}
 use Rattle.codegen.proofs.phases.RuleFacts.{weights_below, rev_is_plain}
 use Rattle.codegen.proofs.steps.Decoding.{IsUsed, UsedCode}
 use Rattle.codegen.proofs.runs.Founding.{used_eval}
@@ -52,10 +52,6 @@ fit_append (x ∷ xs) ys a b = (a.0, fit_append xs ys a.1 b)
 fit_bytes : (bs : List ℕ) → Below 256 bs → ItemsFit (map Byte bs)
 fit_bytes [] h = tt
 fit_bytes (b ∷ bs) h = ((h.0, tt), fit_bytes bs h.1)
-
-below_append : (n : ℕ) (xs ys : List ℕ) → Below n xs → Below n ys → Below n (xs ++ ys)
-below_append n [] ys a b = b
-below_append n (x ∷ xs) ys a b = (a.0, below_append n xs ys a.1 b)
 
 encoded_fits : (i : Instr) → IsUsed i → FitsOperands i → Below 256 (encode_of i)
 encoded_fits (LdaaImmediate v) u h = (omega arith, (h, tt))
