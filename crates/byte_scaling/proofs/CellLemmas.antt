@@ -1,7 +1,8 @@
 -- Places in their cells.
 use Rattle.std.proofs.Common.{◌≡◌, ℕ, ◌+◌, ◌*◌, ◌/◌, ◌<◌, ◌≤◌, min, ⊎_elim, refl, subst, arith, mul-le-mul_right}
-use Rattle.std.proofs.lemmas.Bool.{cases_lt}
-use Rattle.fz_num.specs.Fractions.{over}
+use Rattle.std.proofs.lemmas.Bool.{cases_lt, cases_order}
+use Rattle.std.proofs.lemmas.Bool.Decides.{nat_tests}
+use Rattle.fz_num.specs.Fractions.{Fraction, over}
 use Rattle.std.proofs.lemmas.Nat.{le-div}
 use Rattle.std.proofs.lemmas.Int.{ints}
 use Rattle.std.specs.Prelude.{◌≤ℤ◌, ◌<ℤ◌}
@@ -10,7 +11,7 @@ use Rattle.fz_num.specs.Decimals.{distance}
 use Rattle.fuzzy_meaning.specs.declared.block.Input.{Input}
 use Rattle.fuzzy_meaning.specs.declared.block.Output.{Output}
 use Rattle.fuzzy_meaning.specs.Blocks.{IsWithin}
-use Rattle.byte_scaling.specs.Cells.{inside, at_end, byte_of, nearest_byte, IsInCell, IsNearest}
+use Rattle.byte_scaling.specs.Cells.{inside, at_end, byte_of, nearest_byte, IsInCell, IsNearest, CellsAreApart}
 
 -- a place of the range lies in the cell of its part, the high end in the last
 pub IsInCell-part : (w d : ℕ) → 0 < w → d ≤ w → IsInCell w (min 255 (d * 256 / w)) (over d 1)
@@ -53,3 +54,17 @@ nearest-small w d h le = ⊎_elim
 -- the byte nearest to a number of the range is a byte
 pub nearest_byte-le : (o : Output) (x : Dec) → o.lo.0 <ℤ o.hi.0 → IsWithin o.lo o.hi x → nearest_byte o x ≤ 255
 nearest_byte-le o x range within = nearest-small (distance o.lo o.hi) (distance o.lo x) (omega (arith, ints)) (omega (arith, ints))
+
+crossed_cells : (w b c : ℕ) (x : Fraction) → b < c → x.num * 256 < (b + 1) * w * x.den → c * w * x.den ≤ x.num * 256 → ⊥
+crossed_cells w b c x lt to from =
+    let m : (b + 1) * (w * x.den) ≤ c * (w * x.den) = mul-le-mul_right (w * x.den) (omega arith) in
+    omega arith
+
+-- a place of a cell is below every cell after it
+before-next : (w b c : ℕ) (x : Fraction) → c ≤ 255 → b < c → IsInCell w b x → IsInCell w c x → ⊥
+before-next w b c x hc lt (at_end from to last) later = let is : b ≡ 255 = grind (arith, nat_tests) in omega arith
+before-next w b c x hc lt (inside from to) (inside from' to') = crossed_cells w b c x lt to.cross from'.cross
+before-next w b c x hc lt (inside from to) (at_end from' to' last) = crossed_cells w b c x lt to.cross from'.cross
+
+pub cells_apart : CellsAreApart
+cells_apart w b c x hb hc in_b in_c = ⊎_elim (λ e. e) (λ less. ⊎_elim (λ (l : b < c). absurd (before-next w b c x hc l in_b in_c)) (λ (l : c < b). absurd (before-next w c b x hb l in_c in_b)) less) (cases_order b c)

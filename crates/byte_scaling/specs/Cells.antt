@@ -1,5 +1,5 @@
 -- Bytes of a range, and their cells.
-use Rattle.std.specs.Prelude.{ℕ, ◌+◌, ◌*◌, ◌/◌, ◌<◌, ◌≤◌, min, Bool, IsTrue, ◌==◌, pos, ◌+ℤ◌, ◌*ℤ◌}
+use Rattle.std.specs.Prelude.{◌≡◌, ℕ, ◌+◌, ◌*◌, ◌/◌, ◌<◌, ◌≤◌, min, Bool, IsTrue, ◌==◌, pos, ◌+ℤ◌, ◌*ℤ◌}
 use Rattle.fz_num.specs.declared.dec.Dec.{Dec}
 use Rattle.fz_num.specs.Fractions.{Fraction, over, AtMost, IsBelow}
 use Rattle.fz_num.specs.Fracs.{Quotient}
@@ -43,3 +43,7 @@ value_of o q = record { num = pos 255 *ℤ o.lo.0 +ℤ pos (q * distance o.lo o.
 -- the byte nearest to x in an output's range, a tie going up
 abbrev pub nearest_byte : Output → Dec → ℕ
 nearest_byte o x = (510 * distance o.lo x + distance o.lo o.hi) / (2 * distance o.lo o.hi)
+
+-- no place lies in two cells
+abbrev pub CellsAreApart : Type 0
+CellsAreApart = (w b c : ℕ) (x : Fraction) → b ≤ 255 → c ≤ 255 → IsInCell w b x → IsInCell w c x → b ≡ c

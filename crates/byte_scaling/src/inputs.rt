@@ -3,7 +3,7 @@ ghost use Rattle.std.specs.Prelude.{◌≡◌, ◌↔◌, ◌+◌, IsOk, IfOk};
 ghost use Rattle.fz_num.specs.Fractions.{over};
 ghost use Rattle.fz_num.specs.Fracs.{fraction_of};
 ghost use Rattle.fuzzy_meaning.specs.Blocks.{IsValidInput, IsWithin};
-ghost use Rattle.byte_scaling.specs.Cells.{byte_of, LiesInCell};
+ghost use Rattle.byte_scaling.specs.Cells.{byte_of, LiesInCell, CellsAreApart};
 
 use fuzzy_meaning::Input;
 use fz_num::{Dec, Frac};
@@ -51,3 +51,8 @@ pub fn cell(_input: &Input, b: u8) -> (Frac, Frac)
         },
     )
 }
+
+/// No place of a range lies in two cells.
+pub fn cells_are_apart()
+    ensures { CellsAreApart }
+{}

@@ -10,6 +10,9 @@ mod inputs;
 mod outputs;
 mod weights;
 
-pub use inputs::{OutOfRange, byte_within, cell, to_byte};
+pub use inputs::{OutOfRange, byte_within, cell, cells_are_apart, to_byte};
 pub use outputs::{near, value};
 pub use weights::weight_byte;
+
+#[cfg(test)]
+mod tests;

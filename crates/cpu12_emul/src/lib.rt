@@ -13,3 +13,5 @@ pub mod laws;
 pub mod load;
 pub mod machine;
 pub mod run;
+#[cfg(test)]
+mod tests;

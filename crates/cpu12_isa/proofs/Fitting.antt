@@ -1,20 +1,22 @@
 -- What fits stays so.
-use Rattle.std.proofs.Common.{◌≡◌, ℕ, ◌+◌, ◌*◌, ◌/◌, ◌%◌, ◌^◌, ◌<◌, ◌≤◌, ◌==◌, nat_lt, if◌then◌else◌, Bool, true, false, List, get_or, arith, rules, subst, sym, inl, inr}
+use Rattle.std.proofs.Common.{◌≡◌, ℕ, zero, suc, ◌+◌, ◌*◌, ◌/◌, ◌%◌, ◌^◌, ◌<◌, ◌≤◌, ◌==◌, ◌⊎◌, nat_lt, if◌then◌else◌, Bool, true, false, Result, Ok, Err, List, [], ◌∷◌, length, get_or, arith, rules, min, subst, sym, inl, inr, get_or-set_same, get_or-set_other}
 use Rattle.std.proofs.Math.Nat.{div-lt_iff_lt-mul}
-use Rattle.std.proofs.lemmas.Bool.{cases_lt}
+use Rattle.std.proofs.Math.ListN.{set}
+use Rattle.std.proofs.lemmas.Bool.{cases_lt, cases_eq}
 use Rattle.std.proofs.lemmas.Bool.Decides.{nat_tests}
-use Rattle.cpu12_isa.specs.Memory.{plus}
-use Rattle.cpu12_isa.specs.Flags.{put, carry, overflow, zero_result}
-use Rattle.cpu12_isa.specs.Registers.{divided_fraction}
 use Rattle.std.proofs.lemmas.Grind.{common_steps}
+use Rattle.std.proofs.lemmas.List.{get_or_past, length-set}
 use Rattle.std.proofs.lemmas.Nat.{widths}
 use Rattle.cpu12_isa.specs.declared.instr.Regs.{Regs}
 use Rattle.cpu12_isa.specs.declared.instr.Instr.{Instr}
 use Rattle.cpu12_isa.specs.declared.instr.Instr.TheVariants.{LdaaImmediate, Fdiv}
 use Rattle.cpu12_isa.specs.Act.{Act, Give, Get, outcome}
-use Rattle.cpu12_isa.specs.Code.{FitsOperands}
+use Rattle.cpu12_isa.specs.Memory.{plus, word_of, bytes_at}
+use Rattle.cpu12_isa.specs.Flags.{put, carry, overflow, zero_result}
+use Rattle.cpu12_isa.specs.Registers.{divided_fraction}
+use Rattle.cpu12_isa.specs.Code.{FitsOperands, entry, page_18, page_b7, page_eb, page_first, decode_of, six_from}
 use Rattle.cpu12_isa.specs.Meaning.{act_of}
-use Rattle.cpu12_isa.specs.Fits.{FitsRegs, FitsWrites, AreBytes, Leaves, StaysFit}
+use Rattle.cpu12_isa.specs.Fits.{FitsRegs, FitsWrites, AreBytes, Leaves, StaysFit, BytesStay, DecodedFits}
 
 pub leaves_outcome : {A : Type 0} (P : A → Type 0) (act : Act A) (m : List ℕ) → AreBytes m → Leaves P act → P (outcome act m)
 leaves_outcome P (Give a) m b l = l
@@ -95,3 +97,72 @@ stays_fit flags i r m h o f b = (
   },
   leaves_outcome (λ e. FitsWrites e.writes) (act_of flags i r) m b (writes_fit flags i r h o f),
 )
+
+-- a byte written
+byte_set : (m : List ℕ) (i v : ℕ) → v < 2 ^ 8 → AreBytes m → AreBytes (set m i v)
+byte_set m i v f b at = elim (cases_eq at i) [
+  | inl e ↦ elim (cases_lt i (length m)) [
+    | inl l ↦ (let h : get_or (set m i v) i 0 ≡ v = get_or-set_same m i v 0 l in subst (λ (k : ℕ). get_or (set m i v) k 0 < 2 ^ 8) (sym e) (omega (arith, h)))
+    | inr l ↦ (let h : get_or (set m i v) i 0 ≡ 0 = get_or_past (set m i v) i 0 (omega (arith, length-set m i v)) in subst (λ (k : ℕ). get_or (set m i v) k 0 < 2 ^ 8) (sym e) (omega (arith, h)))
+  ]
+  | inr ne ↦ (let h : get_or (set m i v) at 0 ≡ get_or m at 0 = get_or-set_other m i at v 0 ne in let k : get_or m at 0 < 2 ^ 8 = b at in omega (arith, h, k))
+]
+
+pub bytes_stay : BytesStay
+bytes_stay [] m f b = b
+bytes_stay (w ∷ ws) m f b = bytes_stay ws (set m w.0 w.1) f.2 (byte_set m w.0 w.1 f.1 b)
+
+-- each entry of a table has operands that fit
+abbrev AllFit : List (ℕ × Instr) → Type 0
+AllFit [] = Unit {0}
+AllFit (e ∷ es) = FitsOperands e.1 × AllFit es
+
+entry_cases : (b : Bool) (x : Instr) (rest : Result Instr ℕ) (i : Instr) → (if b then Ok x else rest) ≡ Ok i → (x ≡ i) ⊎ (rest ≡ Ok i)
+entry_cases true x rest i e = inl cc
+entry_cases false x rest i e = inr e
+
+entry_fits : (es : List (ℕ × Instr)) (n : ℕ) (i : Instr) → AllFit es → entry es n ≡ Ok i → FitsOperands i
+entry_fits [] n i a e = absurd cc
+entry_fits (x ∷ es) n i a e = elim (entry_cases (n == x.0) x.1 (entry es n) i e) [
+  | inl s ↦ subst FitsOperands s a.0
+  | inr r ↦ entry_fits es n i a.1 r
+]
+
+choice_cases : (b : Bool) (p q : Result Instr ℕ) (i : Instr) → (if b then p else q) ≡ Ok i → (p ≡ Ok i) ⊎ (q ≡ Ok i)
+choice_cases true p q i e = inl e
+choice_cases false p q i e = inr e
+
+word_fits : (bs : List ℕ) (k : ℕ) → AreBytes bs → word_of (get_or bs k 0) (get_or bs (k + 1) 0) < 2 ^ 16
+word_fits bs k b = let h : get_or bs k 0 < 2 ^ 8 = b k in let l : get_or bs (k + 1) 0 < 2 ^ 8 = b (k + 1) in omega (arith, h, l)
+
+page_first_fits : (bs : List ℕ) → AreBytes bs → AllFit (page_first bs)
+page_first_fits bs b = (b 1, (word_fits bs 1 b, (b 1, (word_fits bs 1 b, (word_fits bs 1 b, (word_fits bs 1 b, (word_fits bs 1 b, (word_fits bs 1 b, (word_fits bs 1 b, (word_fits bs 1 b, (tt, (word_fits bs 1 b, (b 1, (b 1, (b 1, (b 1, (b 1, (word_fits bs 1 b, (tt, (b 1, (b 1, (tt, (tt, (tt, (word_fits bs 1 b, (word_fits bs 1 b, (b 1, (word_fits bs 1 b, (b 1, (word_fits bs 1 b, (b 1, (b 1, (word_fits bs 1 b, (b 1, (word_fits bs 1 b, (b 1, (word_fits bs 1 b, (b 1, (word_fits bs 1 b, (tt, (tt, (tt, (tt, (tt, (tt, (tt, (tt, tt)))))))))))))))))))))))))))))))))))))))))))))))
+
+page_18_fits : (bs : List ℕ) → AreBytes bs → AllFit (page_18 bs)
+page_18_fits bs b = (tt, ((b 2, word_fits bs 3 b), ((word_fits bs 2 b, word_fits bs 4 b), (tt, (tt, (tt, tt))))))
+
+page_b7_fits : (bs : List ℕ) → AreBytes bs → AllFit (page_b7 bs)
+page_b7_fits bs b = (tt, (tt, tt))
+
+page_eb_fits : (bs : List ℕ) → AreBytes bs → AllFit (page_eb bs)
+page_eb_fits bs b = (tt, tt)
+
+bytes_at_fit : (mem ats : List ℕ) → AreBytes mem → AreBytes (bytes_at mem ats)
+bytes_at_fit mem [] b at = omega arith
+bytes_at_fit mem (x ∷ ats) b zero = b x
+bytes_at_fit mem (x ∷ ats) b (suc at) = bytes_at_fit mem ats b at
+
+decode_fits : (bs : List ℕ) (i : Instr) → AreBytes bs → decode_of bs ≡ Ok i → FitsOperands i
+decode_fits bs i b e = elim (choice_cases (get_or bs 0 0 == 24) (entry (page_18 bs) (get_or bs 1 0)) (if get_or bs 0 0 == 183 then entry (page_b7 bs) (get_or bs 1 0) else (if get_or bs 0 0 == 235 then entry (page_eb bs) (get_or bs 1 0) else entry (page_first bs) (get_or bs 0 0))) i e) [
+  | inl h ↦ entry_fits (page_18 bs) (get_or bs 1 0) i (page_18_fits bs b) h
+  | inr f ↦ elim (choice_cases (get_or bs 0 0 == 183) (entry (page_b7 bs) (get_or bs 1 0)) (if get_or bs 0 0 == 235 then entry (page_eb bs) (get_or bs 1 0) else entry (page_first bs) (get_or bs 0 0)) i f) [
+    | inl h ↦ entry_fits (page_b7 bs) (get_or bs 1 0) i (page_b7_fits bs b) h
+    | inr g ↦ elim (choice_cases (get_or bs 0 0 == 235) (entry (page_eb bs) (get_or bs 1 0)) (entry (page_first bs) (get_or bs 0 0)) i g) [
+      | inl h ↦ entry_fits (page_eb bs) (get_or bs 1 0) i (page_eb_fits bs b) h
+      | inr h ↦ entry_fits (page_first bs) (get_or bs 0 0) i (page_first_fits bs b) h
+    ]
+  ]
+]
+
+pub decoded_fits : DecodedFits
+decoded_fits mem pc i b e = decode_fits (bytes_at mem (six_from pc)) i (bytes_at_fit mem (six_from pc) b) e

@@ -1,9 +1,9 @@
 -- Registers and writes of the sizes that they have.
-use Rattle.std.specs.Prelude.{ℕ, ◌^◌, ◌<◌, List, [], ◌∷◌, slice_index}
+use Rattle.std.specs.Prelude.{◌≡◌, Ok, ℕ, ◌^◌, ◌<◌, List, [], ◌∷◌, slice_index}
 use Rattle.cpu12_isa.specs.declared.instr.Regs.{Regs}
 use Rattle.cpu12_isa.specs.declared.instr.Instr.{Instr}
-use Rattle.cpu12_isa.specs.Act.{Act, Give, Get}
-use Rattle.cpu12_isa.specs.Code.{FitsOperands}
+use Rattle.cpu12_isa.specs.Act.{write_all, Act, Give, Get}
+use Rattle.cpu12_isa.specs.Code.{FitsOperands, decode_at}
 use Rattle.cpu12_isa.specs.Meaning.{effect}
 
 pub record FitsRegs (r : Regs) : Type 0 where
@@ -32,3 +32,11 @@ Leaves P (Get at next) = (v : ℕ) → v < 2 ^ 8 → Leaves P (next v)
 -- What fits stays so: on a memory of bytes an instruction leaves registers that fit, and writes bytes.
 abbrev pub StaysFit : Type 0
 StaysFit = (flags : ℕ) (i : Instr) (r : Regs) (mem : List ℕ) → flags < 2 ^ 8 → FitsOperands i → FitsRegs r → AreBytes mem → FitsRegs (effect flags i r mem).regs × FitsWrites (effect flags i r mem).writes
+
+-- Writes of bytes leave a memory of bytes.
+abbrev pub BytesStay : Type 0
+BytesStay = (ws : List (ℕ × ℕ)) (mem : List ℕ) → FitsWrites ws → AreBytes mem → AreBytes (write_all ws mem)
+
+-- What is decoded on a memory of bytes has operands that fit.
+abbrev pub DecodedFits : Type 0
+DecodedFits = (mem : List ℕ) (pc : ℕ) (i : Instr) → AreBytes mem → decode_at mem pc ≡ Ok i → FitsOperands i

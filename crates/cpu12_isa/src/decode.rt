@@ -119,11 +119,11 @@ fn decode_page_b7<M: Mem>(m: &M, pc: u16) -> Result<(Instr, u8), Trap>
     ensures fits { IfOk result (λ x. FitsOperands x.0) }
     ensures place { IfErr result (λ t. t.pc ≡ pc) }
 {
-    let second = byte(m, pc, 1);
-    match second {
+    let postbyte = byte(m, pc, 1);
+    match postbyte {
         0x54 => Ok((Instr::TransferXD, 2)),
         0x64 => Ok((Instr::TransferYD, 2)),
-        _ => Err(Trap { pc, byte: second }),
+        _ => Err(Trap { pc, byte: postbyte }),
     }
 }
 
@@ -136,10 +136,10 @@ fn decode_page_eb<M: Mem>(m: &M, pc: u16) -> Result<(Instr, u8), Trap>
     ensures fits { IfOk result (λ x. FitsOperands x.0) }
     ensures place { IfErr result (λ t. t.pc ≡ pc) }
 {
-    let second = byte(m, pc, 1);
-    match second {
+    let postbyte = byte(m, pc, 1);
+    match postbyte {
         0x30 => Ok((Instr::AddbPostIncrementX, 2)),
-        _ => Err(Trap { pc, byte: second }),
+        _ => Err(Trap { pc, byte: postbyte }),
     }
 }
 

@@ -1,6 +1,6 @@
 // Laws of instructions and memories.
 ghost use Rattle.cpu12_isa.specs.Meaning.{Effect};
-ghost use Rattle.cpu12_isa.specs.Fits.{StaysFit};
+ghost use Rattle.cpu12_isa.specs.Fits.{StaysFit, BytesStay, DecodedFits};
 ghost use Rattle.cpu12_isa.specs.Agreement.{ReadsAlone, WritesAgree, WritesStay};
 
 /// What an instruction does depends on the bytes that it reads alone.
@@ -21,4 +21,14 @@ pub fn writes_stay()
 /// Registers and writes keep the sizes that they have.
 pub fn stays_fit()
     ensures { StaysFit }
+{}
+
+/// A memory of bytes stays one.
+pub fn bytes_stay()
+    ensures { BytesStay }
+{}
+
+/// What is decoded has operands that fit.
+pub fn decoded_fits()
+    ensures { DecodedFits }
 {}

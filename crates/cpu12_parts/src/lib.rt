@@ -9,4 +9,6 @@
 pub mod laws;
 pub mod rules;
 pub mod temps;
+#[cfg(test)]
+mod tests;
 pub mod wav;

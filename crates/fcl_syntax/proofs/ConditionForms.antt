@@ -1,5 +1,5 @@
 -- The forms of conditions, by how many more "(" and NOT may be open.
-use Rattle.std.proofs.Common.{◌≡◌, ℕ, zero, suc, true, false, List, [], ◌∷◌, ◌++◌, length, Option, Some, None, Result, Ok, refl, sym, ap, ◌∙◌, inl, inr, ◌⊎◌}
+use Rattle.std.proofs.Common.{◌≡◌, ℕ, zero, suc, true, false, List, [], ◌∷◌, ◌++◌, length, Option, Some, None, Ok, refl, sym, ap, ◌∙◌, inl, inr, ◌⊎◌}
 use Rattle.fcl_syntax.specs.declared.fault.Kind.TheVariants.{Deep}
 use Rattle.fcl_syntax.specs.declared.token.Amount.TheVariants as amount
 use Rattle.fcl_syntax.specs.declared.token.Keyword.TheVariants as key
@@ -10,7 +10,7 @@ use Rattle.fcl_syntax.specs.declared.tree.Name.{Name}
 use Rattle.fcl_syntax.specs.Marks.{sort, mem, follow_sorts, Among, Sym, plain, marked}
 use Rattle.fcl_syntax.specs.Form.{◌>>=◌, loop, disjoint, Form}
 use Rattle.fcl_syntax.specs.Grammar.{TNot, neg, group, is, lone, TNots, no_nots, more_nots, TAnd, and_of, TAnds, no_ands, more_ands, TOr, or_of, not_text, nots_text, and_text, ands_text, or_text}
-use Rattle.fcl_syntax.specs.Reading.{expect_at, key_at, open_at, name_at, not_word_at, operand_at, conjunct_in, and_in, alternative_in, or_in, neg_in, group_in, opened_in, not_at}
+use Rattle.fcl_syntax.specs.Reading.{key_at, name_at, not_word_at, operand_at, conjunct_in, and_in, alternative_in, or_in, neg_in, group_in, opened_in, not_at}
 use Rattle.fcl_syntax.specs.View.{nots_of, ands_of}
 use Rattle.fcl_syntax.proofs.Ahead.{Ahead, ahead}
 use Rattle.fcl_syntax.proofs.Chains.{bind_assoc, bind_cond, chain2}

@@ -10,7 +10,7 @@ use Rattle.fcl_syntax.specs.declared.lexer.LexKind.{LexKind}
 use Rattle.fcl_syntax.specs.declared.lexer.Piece.{Piece}
 use Rattle.fcl_syntax.specs.declared.lexer.Piece.TheVariants as piece
 use Rattle.fcl_syntax.specs.declared.token.Token.{Token}
-use Rattle.fcl_syntax.specs.Lexing.{piece_of, run, starts_name, is_name_byte, is_name_start, Placed, lexed, Lexed, in_front, next_piece}
+use Rattle.fcl_syntax.specs.Lexing.{piece_of, run, starts_name, is_name_byte, is_name_start, lexed, Lexed, in_front, next_piece}
 
 abbrev pub fronted : List Token → List ℕ → Lexed → Lexed
 fronted ts ats (Ok l) = Ok (ts ++ l.0, ats ++ l.1)

@@ -1,6 +1,5 @@
 -- The forms of variables, terms and ranges.
-use Rattle.std.proofs.Common.{◌≡◌, ℕ, Bool, true, false, List, [], ◌∷◌, ◌++◌, length, Option, Some, None, Result, Ok, Err, refl, sym, ap, ◌∙◌, inl, inr, ◌⊎◌}
-use Rattle.fcl_syntax.specs.declared.fault.Fault.{Fault}
+use Rattle.std.proofs.Common.{◌≡◌, ℕ, true, List, [], ◌∷◌, ◌++◌, length, refl, ap, ◌∙◌, inl, inr, ◌⊎◌}
 use Rattle.fcl_syntax.specs.declared.fault.Kind.TheVariants.{Unsupported}
 use Rattle.fcl_syntax.specs.declared.token.Keyword.{Keyword}
 use Rattle.fcl_syntax.specs.declared.token.Keyword.TheVariants as key
@@ -13,11 +12,11 @@ use Rattle.fcl_syntax.specs.declared.tree.Name.{Name}
 use Rattle.fcl_syntax.specs.declared.tree.Number.{Number}
 use Rattle.fcl_syntax.specs.declared.tree.UnitNumber.{UnitNumber}
 use Rattle.fcl_syntax.specs.declared.tree.ZeroNumber.{ZeroNumber}
-use Rattle.fcl_syntax.specs.Marks.{Sym, plain, Among, word_sort, name_sorts, other_type_sorts, signed_sorts, beyond_unit_sorts, beyond_zero_sorts, or_refused, either_text}
-use Rattle.fcl_syntax.specs.Form.{◌>>=◌, Read, loop, disjoint, Form}
-use Rattle.fcl_syntax.specs.Grammar.{behind, each, key_text, word_text, name_text, names_text, TSigned, plus, minus, bare, signed_text, TNum, num_text, TType, type_text, TDecl, decl_text, direction_key, TVars, vars_text, var_sorts, TSection, section_text, TCoordinate, coordinate_text, TUnit, TZero, degree_text, TPoint, point_text, TPoints, points_text, TTerm, term_text, TRange, range_text, opening_text, TFuzzify, fuzzify_text, TSetting, setting_text, accu_sorts, TAccu, accu_text, method_sorts, TMethod, method_text, open_sorts, TSingleton, singleton_text, TFallback, fallback_text, TDefuzzyLine, defuzzy_line_text, TDefuzzify, defuzzify_text, option_sorts, TPart, part_text}
-use Rattle.fcl_syntax.specs.Reading.{IsBare, expect_at, key_at, word_at, open_at, name_at, number_at, unit_number_at, zero_number_at, label_at, direction_at, signed_at, num_at, coordinate_number_at, coordinate_at, unit_at, zero_at, degree_at, comma_name_at, names_at, type_at, decl_at, decls_at, vars_at, section_at, point_at, some_points_at, points_at, term_at, opening_at, range_at, fuzzy_line_at, fuzzy_lines_at, fuzzify_at, choice_at, setting_at, accu_at, method_at, singleton_value_at, singleton_at, fallback_value_at, fallback_at, defuzzy_line_at, defuzzy_lines_at, defuzzify_at, part_at}
-use Rattle.fcl_syntax.proofs.Chains.{bind_assoc, bind_ret, bind_cond, second, chain2, chain3, chain4, chain5, chain6, chain7}
+use Rattle.fcl_syntax.specs.Marks.{Sym, plain, name_sorts, other_type_sorts, beyond_unit_sorts, beyond_zero_sorts}
+use Rattle.fcl_syntax.specs.Form.{loop, disjoint, Form}
+use Rattle.fcl_syntax.specs.Grammar.{behind, each, key_text, name_text, names_text, TSigned, plus, minus, bare, signed_text, TNum, TType, TDecl, decl_text, direction_key, TVars, vars_text, var_sorts, TSection, TCoordinate, TUnit, TZero}
+use Rattle.fcl_syntax.specs.Reading.{IsBare, expect_at, key_at, word_at, open_at, name_at, number_at, unit_number_at, zero_number_at, direction_at, signed_at, coordinate_number_at, unit_at, zero_at, comma_name_at, names_at, type_at, decl_at, decls_at, vars_at, section_at}
+use Rattle.fcl_syntax.proofs.Chains.{bind_assoc, bind_cond, second, chain2, chain3, chain4}
 use Rattle.fcl_syntax.proofs.Classes as class
 use Rattle.fcl_syntax.proofs.Dead.{via}
 use Rattle.fcl_syntax.proofs.Loop.{texts}

@@ -1,5 +1,5 @@
 -- The forms of rules and of the block.
-use Rattle.std.proofs.Common.{◌≡◌, ℕ, true, List, [], ◌∷◌, ◌++◌, length, refl, sym, ap, ◌∙◌, inl, inr, ◌⊎◌}
+use Rattle.std.proofs.Common.{◌≡◌, ℕ, true, List, [], ◌∷◌, ◌++◌, length, refl, ap, ◌∙◌, ◌⊎◌}
 use Rattle.fcl_syntax.specs.declared.fault.Kind.TheVariants.{Unsupported}
 use Rattle.fcl_syntax.specs.declared.token.Keyword.TheVariants as key
 use Rattle.fcl_syntax.specs.declared.token.Token.{Token}
@@ -10,8 +10,8 @@ use Rattle.fcl_syntax.specs.declared.tree.Label.{Label}
 use Rattle.fcl_syntax.specs.declared.tree.Name.{Name}
 use Rattle.fcl_syntax.specs.Marks.{Sym, plain, Among, name_sorts}
 use Rattle.fcl_syntax.specs.Form.{loop, disjoint, Form}
-use Rattle.fcl_syntax.specs.Grammar.{each, key_text, name_text, name_token, conclusion_text, conclusions_text, TNum, TWeight, weight_text, semicolon_text, TOr, TRule, rule_text, option_sorts, TRuleItem, rule_item_text, TSetting, and_sorts, or_sorts, TAct, act_text, TRuleLine, rule_line_text, TRulebase, rulebase_text, ruleblock_sorts, TEnd, end_text, TSection, section_text, TPart, part_text, TBlock, block_text}
-use Rattle.fcl_syntax.specs.Reading.{expect_at, key_at, word_at, name_at, label_at, conclusion_at, comma_conclusion_at, conclusions_at, weight_value_at, with_at, weight_at, or_in, not_at, rule_at, rule_item_at, rules_at, act_word_at, act_at, rule_line_at, rule_lines_at, rulebase_at, end_at, sections_at, parts_at, block_at}
+use Rattle.fcl_syntax.specs.Grammar.{each, key_text, name_text, conclusion_text, conclusions_text, TNum, TWeight, weight_text, TOr, TRule, rule_text, option_sorts, TRuleItem, rule_item_text, and_sorts, or_sorts, TAct, act_text, TRuleLine, TRulebase, rulebase_text, ruleblock_sorts, TEnd, end_text, TSection, TPart, part_text, TBlock, block_text}
+use Rattle.fcl_syntax.specs.Reading.{expect_at, key_at, name_at, label_at, conclusion_at, comma_conclusion_at, conclusions_at, weight_value_at, with_at, weight_at, or_in, not_at, rule_at, rule_item_at, rules_at, act_word_at, act_at, rule_line_at, rule_lines_at, rulebase_at, end_at, sections_at, parts_at, block_at}
 use Rattle.fcl_syntax.proofs.Chains.{bind_assoc, bind_cond, second, chain2, chain3, chain4, chain5, chain6, chain8}
 use Rattle.fcl_syntax.proofs.Classes as class
 use Rattle.fcl_syntax.proofs.ConditionForms.{part, or_form}

@@ -1,5 +1,5 @@
 -- Comparing keywords, and words, is comparing their sorts.
-use Rattle.std.proofs.Common.{◌≡◌, ℕ, Bool, true, false, cond, eqb, List, [], ◌∷◌, refl, sym, ap, ◌∙◌, ◌+◌, arith}
+use Rattle.std.proofs.Common.{◌≡◌, ℕ, Bool, true, false, cond, eqb, [], ◌∷◌, refl, sym, ap, ◌∙◌, ◌+◌, arith}
 use denote.Enum.Bare.{sameb, tag_one}
 use denote.Enum.Declared.{tag_of}
 use Rattle.fcl_syntax.specs.contracts.token.Keyword.{the_type}

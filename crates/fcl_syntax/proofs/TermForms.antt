@@ -1,6 +1,5 @@
 -- The forms of FUZZIFY and DEFUZZIFY.
-use Rattle.std.proofs.Common.{◌≡◌, ℕ, Bool, true, false, List, [], ◌∷◌, ◌++◌, length, Option, Some, None, Result, Ok, Err, refl, sym, ap, ◌∙◌, inl, inr, ◌⊎◌}
-use Rattle.fcl_syntax.specs.declared.fault.Fault.{Fault}
+use Rattle.std.proofs.Common.{◌≡◌, ℕ, Bool, true, false, List, [], ◌∷◌, ◌++◌, length, refl, ap, inl, inr, ◌⊎◌}
 use Rattle.fcl_syntax.specs.declared.fault.Kind.TheVariants.{Unsupported}
 use Rattle.fcl_syntax.specs.declared.token.Keyword.{Keyword}
 use Rattle.fcl_syntax.specs.declared.token.Keyword.TheVariants as key
@@ -8,24 +7,17 @@ use Rattle.fcl_syntax.specs.declared.token.Token.{Token}
 use Rattle.fcl_syntax.specs.declared.token.Token.TheVariants as tok
 use Rattle.fcl_syntax.specs.declared.token.Word.{Word}
 use Rattle.fcl_syntax.specs.declared.token.Word.TheVariants as word
-use Rattle.fcl_syntax.specs.declared.tree.Direction.{Direction}
 use Rattle.fcl_syntax.specs.declared.tree.Name.{Name}
-use Rattle.fcl_syntax.specs.declared.tree.Number.{Number}
-use Rattle.fcl_syntax.specs.declared.tree.UnitNumber.{UnitNumber}
-use Rattle.fcl_syntax.specs.declared.tree.ZeroNumber.{ZeroNumber}
-use Rattle.fcl_syntax.specs.Marks.{Sym, plain, Among, word_sort, name_sorts, other_type_sorts, signed_sorts, beyond_unit_sorts, beyond_zero_sorts, or_refused, either_text}
-use Rattle.fcl_syntax.specs.Form.{◌>>=◌, Read, loop, disjoint, looks_on, Form}
-use Rattle.fcl_syntax.specs.Grammar.{behind, each, key_text, word_text, name_text, names_text, TSigned, plus, minus, bare, signed_text, TNum, num_text, TType, type_text, TDecl, decl_text, direction_key, TVars, vars_text, var_sorts, TSection, section_text, TCoordinate, coordinate_text, TUnit, TZero, degree_text, TPoint, point_text, TPoints, points_text, TTerm, term_text, TRange, range_text, opening_text, TFuzzify, fuzzify_text, TSetting, setting_text, accu_sorts, TAccu, accu_text, method_sorts, TMethod, method_text, open_sorts, TSingleton, singleton_text, TFallback, fallback_text, TDefuzzyLine, defuzzy_line_text, TDefuzzify, defuzzify_text, option_sorts, TPart, part_text}
-use Rattle.fcl_syntax.specs.Reading.{IsBare, expect_at, key_at, word_at, open_at, name_at, number_at, unit_number_at, zero_number_at, label_at, direction_at, signed_at, num_at, coordinate_number_at, coordinate_at, unit_at, zero_at, degree_at, comma_name_at, names_at, type_at, decl_at, decls_at, vars_at, section_at, point_at, some_points_at, points_at, term_at, opening_at, range_at, fuzzy_line_at, fuzzy_lines_at, fuzzify_at, choice_at, setting_at, accu_at, method_at, singleton_value_at, singleton_at, fallback_value_at, fallback_at, defuzzy_line_at, defuzzy_lines_at, defuzzify_at, part_at}
-use Rattle.fcl_syntax.proofs.Chains.{bind_assoc, bind_ret, bind_cond, second, chain2, chain3, chain4, chain5, chain6, chain7}
-use Rattle.fcl_syntax.proofs.Classes as class
+use Rattle.fcl_syntax.specs.Marks.{Sym, Among, word_sort, signed_sorts}
+use Rattle.fcl_syntax.specs.Form.{loop, disjoint, looks_on, Form}
+use Rattle.fcl_syntax.specs.Grammar.{each, key_text, name_text, TSigned, TNum, TCoordinate, TUnit, TZero, TPoint, point_text, TPoints, TTerm, term_text, TRange, range_text, opening_text, TFuzzify, fuzzify_text, TSetting, setting_text, accu_sorts, TAccu, method_sorts, TMethod, open_sorts, TSingleton, singleton_text, TFallback, fallback_text, TDefuzzyLine, TDefuzzify, defuzzify_text, option_sorts, TPart}
+use Rattle.fcl_syntax.specs.Reading.{expect_at, key_at, open_at, name_at, num_at, coordinate_at, degree_at, point_at, some_points_at, points_at, term_at, opening_at, range_at, fuzzy_line_at, fuzzy_lines_at, fuzzify_at, choice_at, setting_at, singleton_value_at, singleton_at, fallback_value_at, fallback_at, defuzzy_line_at, defuzzy_lines_at, defuzzify_at, part_at}
+use Rattle.fcl_syntax.proofs.Chains.{bind_assoc, bind_cond, chain2, chain4, chain5, chain7}
 use Rattle.fcl_syntax.proofs.Dead.{via}
 use Rattle.fcl_syntax.proofs.Loop.{texts}
 use Rattle.fcl_syntax.proofs.Named.{named, either, refuse, many_then}
 use Rattle.fcl_syntax.proofs.Repeat.{then_rep}
 use Rattle.fcl_syntax.proofs.Seq.{seq}
-use Rattle.fcl_syntax.proofs.Small.{one}
-
 use Rattle.fcl_syntax.proofs.Forms.{bare_form, key_form, word_form, open_form, name_form, num_form, coordinate_form, degree_form, each_texts}
 
 -- ---- terms of an input

@@ -1,7 +1,6 @@
 -- The grammar: its trees, and the text of each. Where something is refused, a tree has the token
 -- that is refused in its place, and the text has a mark there; what follows a mark is free.
 use Rattle.std.specs.Prelude.{ℕ, zero, suc, Bool, true, false, List, [], ◌∷◌, ◌++◌, Option, Some, None, ◌⊎◌}
-use Rattle.std.proofs.Common.{inl, inr}
 use Rattle.fcl_syntax.specs.declared.fault.Kind.TheVariants.{Deep, Unsupported}
 use Rattle.fcl_syntax.specs.declared.token.Amount.{Amount}
 use Rattle.fcl_syntax.specs.declared.token.Amount.TheVariants as amount
@@ -19,7 +18,7 @@ use Rattle.fcl_syntax.specs.declared.tree.Name.{Name}
 use Rattle.fcl_syntax.specs.declared.tree.Number.{Number}
 use Rattle.fcl_syntax.specs.declared.tree.UnitNumber.{UnitNumber}
 use Rattle.fcl_syntax.specs.declared.tree.ZeroNumber.{ZeroNumber}
-use Rattle.fcl_syntax.specs.Marks.{key_sort, word_sort, name_sorts, other_type_sorts, signed_sorts, beyond_unit_sorts, beyond_zero_sorts, follow_sorts, Among, Sym, plain, marked, either_text, refused_text, or_refused}
+use Rattle.fcl_syntax.specs.Marks.{key_sort, word_sort, name_sorts, other_type_sorts, signed_sorts, beyond_unit_sorts, beyond_zero_sorts, follow_sorts, Among, Sym, plain, marked, either_text, or_refused}
 
 -- x y z .. as sep x, sep y, sep z ..
 abbrev pub behind : {A : Type 0} → Token → (A → List Sym) → List A → List Sym

@@ -1,5 +1,5 @@
 -- The tokens of a text: it is cut from the left, and each piece is as long as it can be.
-use Rattle.std.specs.Prelude.{◌≡◌, ℕ, zero, suc, ◌+◌, ◌<◌, ◌≤◌, Bool, true, false, List, [], ◌∷◌, length, take, drop, map, Option, Some, None, Result, Ok, Err, ◌==◌, ◌||◌, if◌then◌else◌, pos}
+use Rattle.std.specs.Prelude.{◌≡◌, ℕ, zero, suc, ◌+◌, ◌<◌, ◌≤◌, Bool, true, false, List, [], ◌∷◌, length, take, drop, Option, Some, None, Result, Ok, Err, ◌==◌, ◌||◌, if◌then◌else◌, pos}
 use Rattle.std.specs.List.{take_while}
 use Rattle.std.specs.Char.{is_ascii_digit, is_ascii_alphabetic}
 use Rattle.std.specs.Ordering.{int_eq}
@@ -18,10 +18,10 @@ use Rattle.fcl_syntax.specs.declared.token.Amount.{Amount}
 use Rattle.fcl_syntax.specs.declared.token.Amount.TheVariants as amount
 use Rattle.fcl_syntax.specs.declared.token.Meaning.{Meaning}
 use Rattle.fcl_syntax.specs.declared.token.Meaning.TheVariants as meaning
-use Rattle.fcl_syntax.specs.declared.token.TheConstants.{MEANINGS}
 use Rattle.fcl_syntax.specs.declared.token.Token.{Token}
 use Rattle.fcl_syntax.specs.declared.token.Token.TheVariants as tok
 use Rattle.fcl_syntax.specs.declared.token.Word.TheVariants as word
+use Rattle.fcl_syntax.specs.Meanings.{meanings}
 
 abbrev pub is_blank : ℕ → Bool
 is_blank b = b == 32 || b == 9 || b == 13 || b == 10
@@ -94,7 +94,7 @@ token_of at (meaning.Keyword k) = tok.Word at k
 token_of at (meaning.Name w) = tok.Name at w
 
 unfoldable pub word_token : ℕ → List ℕ → Token
-word_token at text = token_of at (meaning_in (map (λ m. (m.0.now, m.1)) MEANINGS) text)
+word_token at text = token_of at (meaning_in meanings text)
 
 -- `(` or a comment
 unfoldable pub open_piece : ℕ → List ℕ → Piece

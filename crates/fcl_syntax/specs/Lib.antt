@@ -4,5 +4,6 @@ pub mod First
 pub mod Grammar
 pub mod View
 pub mod Reading
+pub mod Meanings
 pub mod Lexing
 pub mod Text

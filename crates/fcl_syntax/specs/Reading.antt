@@ -2,7 +2,7 @@
 use Rattle.std.specs.Prelude.{◌≡◌, ℕ, zero, suc, Bool, true, false, List, [], ◌∷◌, length, Option, Some, None, Result, Ok, Err, ◌==◌, if◌then◌else◌, ◌⊎◌}
 use Rattle.std.proofs.Common.{inl, inr}
 use Rattle.fcl_syntax.specs.declared.fault.Fault.{Fault}
-use Rattle.fcl_syntax.specs.declared.fault.Kind.TheVariants.{Expected, Deep, Unsupported}
+use Rattle.fcl_syntax.specs.declared.fault.Kind.TheVariants.{Deep, Unsupported}
 use Rattle.fcl_syntax.specs.declared.token.Amount.TheVariants as amount
 use Rattle.fcl_syntax.specs.declared.token.Keyword.{Keyword}
 use Rattle.fcl_syntax.specs.declared.token.Keyword.TheVariants as key
@@ -18,7 +18,7 @@ use Rattle.fcl_syntax.specs.declared.tree.Name.{Name}
 use Rattle.fcl_syntax.specs.declared.tree.Number.{Number}
 use Rattle.fcl_syntax.specs.declared.tree.UnitNumber.{UnitNumber}
 use Rattle.fcl_syntax.specs.declared.tree.ZeroNumber.{ZeroNumber}
-use Rattle.fcl_syntax.specs.Marks.{sort, key_sort, word_sort, name_sorts, other_type_sorts, number_sorts, signed_sorts, beyond_unit_sorts, beyond_zero_sorts, follow_sorts, Among}
+use Rattle.fcl_syntax.specs.Marks.{sort, key_sort, word_sort, name_sorts, other_type_sorts, signed_sorts, beyond_unit_sorts, beyond_zero_sorts, follow_sorts, Among}
 use Rattle.fcl_syntax.specs.Form.{◌>>=◌, Read, cond_read, fault_at, starts, one_at, loop, ended}
 use Rattle.fcl_syntax.specs.Grammar.{TSigned, plus, minus, bare, TNum, TType, TDecl, TVars, var_sorts, TSection, TCoordinate, TUnit, TZero, TPoint, TPoints, TTerm, TRange, TFuzzify, TSetting, accu_sorts, TAccu, method_sorts, TMethod, open_sorts, TSingleton, TFallback, TDefuzzyLine, TDefuzzify, option_sorts, TPart, TNot, neg, group, is, TAnd, and_of, TOr, or_of, TWeight, TRule, TRuleItem, and_sorts, or_sorts, TAct, TRuleLine, TRulebase, ruleblock_sorts, TEnd, TBlock}
 use Rattle.fcl_syntax.specs.View.{nots_of, ands_of}
@@ -133,11 +133,11 @@ signed_at f g ts = cond_read (starts (67 ∷ []) ts) (do
   x ← expect_at tok.Plus ts
   n ← f x.1
   Ok (plus n.0, n.1)) (cond_read (starts (68 ∷ []) ts) (do
-  x ← expect_at tok.Minus ts
-  n ← g x.1
-  Ok (minus n.0, n.1)) (do
-  n ← f ts
-  Ok (bare n.0, n.1)))
+    x ← expect_at tok.Minus ts
+    n ← g x.1
+    Ok (minus n.0, n.1)) (do
+      n ← f ts
+      Ok (bare n.0, n.1)))
 
 abbrev pub num_at : List Token → Read TNum
 num_at = signed_at number_at number_at
@@ -244,8 +244,8 @@ opening_at ts = cond_read (starts (62 ∷ []) ts) (do
   a ← expect_at tok.Assign ts
   o ← open_at a.1
   Ok ((true, o.0), o.1)) (do
-  o ← open_at ts
-  Ok ((false, o.0), o.1))
+    o ← open_at ts
+    Ok ((false, o.0), o.1))
 
 unfoldable pub range_at : List Token → Read TRange
 range_at ts = do
@@ -262,8 +262,8 @@ unfoldable pub fuzzy_line_at : List Token → Read (TTerm ⊎ TRange)
 fuzzy_line_at ts = cond_read (starts (10 ∷ []) ts) (do
   t ← term_at ts
   Ok (inl t.0, t.1)) (do
-  r ← range_at ts
-  Ok (inr r.0, r.1))
+    r ← range_at ts
+    Ok (inr r.0, r.1))
 
 abbrev pub fuzzy_lines_at : List Token → Read (List (TTerm ⊎ TRange))
 fuzzy_lines_at ts = loop (10 ∷ 11 ∷ []) fuzzy_line_at (length ts) ts
@@ -315,8 +315,8 @@ unfoldable pub fallback_value_at : List Token → Read (TNum ⊎ ℕ)
 fallback_value_at ts = cond_read (starts signed_sorts ts) (do
   n ← num_at ts
   Ok (inl n.0, n.1)) (do
-  x ← word_at word.Nc ts
-  Ok (inr x.0, x.1))
+    x ← word_at word.Nc ts
+    Ok (inr x.0, x.1))
 
 unfoldable pub fallback_at : List Token → Read TFallback
 fallback_at ts = do
@@ -330,14 +330,14 @@ unfoldable pub defuzzy_line_at : List Token → Read TDefuzzyLine
 defuzzy_line_at ts = cond_read (starts (10 ∷ []) ts) (do
   t ← singleton_at ts
   Ok (inl t.0, t.1)) (cond_read (starts (12 ∷ []) ts) (do
-  a ← accu_at ts
-  Ok (inr (inl a.0), a.1)) (cond_read (starts (13 ∷ []) ts) (do
-  m ← method_at ts
-  Ok (inr (inr (inl m.0)), m.1)) (cond_read (starts (14 ∷ []) ts) (do
-  d ← fallback_at ts
-  Ok (inr (inr (inr (inl d.0))), d.1)) (do
-  r ← range_at ts
-  Ok (inr (inr (inr (inr r.0))), r.1)))))
+    a ← accu_at ts
+    Ok (inr (inl a.0), a.1)) (cond_read (starts (13 ∷ []) ts) (do
+      m ← method_at ts
+      Ok (inr (inr (inl m.0)), m.1)) (cond_read (starts (14 ∷ []) ts) (do
+        d ← fallback_at ts
+        Ok (inr (inr (inr (inl d.0))), d.1)) (do
+          r ← range_at ts
+          Ok (inr (inr (inr (inr r.0))), r.1)))))
 
 abbrev pub defuzzy_lines_at : List Token → Read (List TDefuzzyLine)
 defuzzy_lines_at ts = loop (10 ∷ 12 ∷ 13 ∷ 14 ∷ 11 ∷ []) defuzzy_line_at (length ts) ts
@@ -354,8 +354,8 @@ unfoldable pub part_at : List Token → Read TPart
 part_at ts = cond_read (starts option_sorts ts) (refuse_at 7 ts) (cond_read (starts (6 ∷ []) ts) (do
   f ← fuzzify_at ts
   Ok (inr (inl f.0), f.1)) (do
-  d ← defuzzify_at ts
-  Ok (inr (inr d.0), d.1)))
+    d ← defuzzify_at ts
+    Ok (inr (inr d.0), d.1)))
 
 abbrev pub parts_at : List Token → Read (List TPart)
 parts_at ts = loop (26 ∷ 6 ∷ 8 ∷ []) part_at (length ts) ts
@@ -458,8 +458,8 @@ unfoldable pub weight_at : List Token → Read (TWeight ⊎ Unit {0})
 weight_at ts = cond_read (starts (20 ∷ []) ts) (do
   w ← with_at ts
   Ok (inl w.0, w.1)) (do
-  s ← expect_at tok.Semicolon ts
-  Ok (inr s.0, s.1))
+    s ← expect_at tok.Semicolon ts
+    Ok (inr s.0, s.1))
 
 unfoldable pub rule_at : List Token → Read TRule
 rule_at ts = do
@@ -485,8 +485,8 @@ unfoldable pub act_word_at : List Token → Read (ℕ ⊎ ℕ)
 act_word_at ts = cond_read (starts (31 ∷ []) ts) (do
   m ← word_at word.Min ts
   Ok (inl m.0, m.1)) (do
-  p ← word_at word.Prod ts
-  Ok (inr p.0, p.1))
+    p ← word_at word.Prod ts
+    Ok (inr p.0, p.1))
 
 unfoldable pub act_at : List Token → Read TAct
 act_at ts = do
@@ -500,12 +500,12 @@ unfoldable pub rule_line_at : List Token → Read TRuleLine
 rule_line_at ts = cond_read (starts (23 ∷ []) ts) (do
   a ← setting_at key.And word.Min and_sorts 2 ts
   Ok (inl a.0, a.1)) (cond_read (starts (24 ∷ []) ts) (do
-  o ← setting_at key.Or word.Max or_sorts 3 ts
-  Ok (inr (inl o.0), o.1)) (cond_read (starts (25 ∷ []) ts) (do
-  a ← act_at ts
-  Ok (inr (inr (inl a.0)), a.1)) (do
-  a ← accu_at ts
-  Ok (inr (inr (inr a.0)), a.1))))
+    o ← setting_at key.Or word.Max or_sorts 3 ts
+    Ok (inr (inl o.0), o.1)) (cond_read (starts (25 ∷ []) ts) (do
+      a ← act_at ts
+      Ok (inr (inr (inl a.0)), a.1)) (do
+        a ← accu_at ts
+        Ok (inr (inr (inr a.0)), a.1))))
 
 abbrev pub rule_lines_at : List Token → Read (List TRuleLine)
 rule_lines_at ts = loop (23 ∷ 24 ∷ 25 ∷ 12 ∷ []) rule_line_at (length ts) ts

@@ -12,7 +12,7 @@ use Rattle.fcl_syntax.specs.declared.token.Token.{Token}
 use Rattle.fcl_syntax.specs.declared.tree.Tree.{Tree}
 use Rattle.fcl_syntax.specs.First.{Spells, FirstFault}
 use Rattle.fcl_syntax.specs.Grammar.{TBlock, block_text}
-use Rattle.fcl_syntax.specs.Lexing.{Placed, Lexed, tokenization}
+use Rattle.fcl_syntax.specs.Lexing.{Lexed, tokenization}
 use Rattle.fcl_syntax.specs.Reading.{all_of}
 use Rattle.fcl_syntax.specs.View.{view}
 

@@ -1,5 +1,5 @@
 -- A tree of the program as a tree of the grammar, where nothing is refused.
-use Rattle.std.specs.Prelude.{ℕ, Bool, true, false, List, [], ◌∷◌, map, Option, Some, None, ◌⊎◌}
+use Rattle.std.specs.Prelude.{ℕ, List, [], ◌∷◌, map, Option, Some, None, ◌⊎◌}
 use Rattle.std.proofs.Common.{inl, inr}
 use Rattle.fcl_syntax.specs.declared.tree.ActWord.{ActWord}
 use Rattle.fcl_syntax.specs.declared.tree.ActWord.TheVariants as act
@@ -24,8 +24,6 @@ use Rattle.fcl_syntax.specs.declared.tree.Not.{Not, Not-F, fold-Not}
 use Rattle.fcl_syntax.specs.declared.tree.Not.TheOpen as open_not
 use Rattle.fcl_syntax.specs.declared.tree.Num.{Num}
 use Rattle.fcl_syntax.specs.declared.tree.Num.TheVariants as num
-use Rattle.fcl_syntax.specs.declared.tree.Number.{Number}
-use Rattle.fcl_syntax.specs.declared.tree.Operand.{Operand}
 use Rattle.fcl_syntax.specs.declared.tree.Or.{Or, Or-F, fold-Or}
 use Rattle.fcl_syntax.specs.declared.tree.Part.{Part}
 use Rattle.fcl_syntax.specs.declared.tree.Part.TheVariants as part

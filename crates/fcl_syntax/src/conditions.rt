@@ -110,7 +110,11 @@ fn conjunct(alloc: Global, room: u8, tokens: &[Token]) -> Result<(Conjunct, &[To
 }
 
 #[cycle(condition)]
-fn conjuncts(alloc: Global, room: u8, tokens: &[Token]) -> Result<(Vec<Conjunct>, &[Token]), ParseError>
+fn conjuncts(
+    alloc: Global,
+    room: u8,
+    tokens: &[Token],
+) -> Result<(Vec<Conjunct>, &[Token]), ParseError>
     ensures { Gives (λ x. (map view_conjunct x.0.items, x.1.now)) result (loop (23 ∷ []) (conjunct_in (not_at room)) (length tokens.now) tokens.now) }
 {
     let mut more = Vec::new(alloc);
@@ -135,7 +139,11 @@ fn and(alloc: Global, room: u8, tokens: &[Token]) -> Result<(And, &[Token]), Par
 
 #[cycle(condition)]
 #[tactic(auto, unfolding(crate::specs::Reading::alternative_in))]
-fn alternative(alloc: Global, room: u8, tokens: &[Token]) -> Result<(Alternative, &[Token]), ParseError>
+fn alternative(
+    alloc: Global,
+    room: u8,
+    tokens: &[Token],
+) -> Result<(Alternative, &[Token]), ParseError>
     ensures { Gives (λ x. (view_alternative x.0, x.1.now)) result (alternative_in (not_at room) tokens.now) }
 {
     let (at, rest) = keyword(tokens, Keyword::Or)?;
@@ -144,7 +152,11 @@ fn alternative(alloc: Global, room: u8, tokens: &[Token]) -> Result<(Alternative
 }
 
 #[cycle(condition)]
-fn alternatives(alloc: Global, room: u8, tokens: &[Token]) -> Result<(Vec<Alternative>, &[Token]), ParseError>
+fn alternatives(
+    alloc: Global,
+    room: u8,
+    tokens: &[Token],
+) -> Result<(Vec<Alternative>, &[Token]), ParseError>
     ensures { Gives (λ x. (map view_alternative x.0.items, x.1.now)) result (loop (24 ∷ []) (alternative_in (not_at room)) (length tokens.now) tokens.now) }
 {
     let mut more = Vec::new(alloc);

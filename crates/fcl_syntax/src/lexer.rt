@@ -182,10 +182,7 @@ fn number_piece(at: u32, bytes: &[u8]) -> Piece
         return Piece::Fault(LexKind::Number(DecFault::Shape));
     }
     match Dec::read(&bytes[..n]) {
-        Ok(value) => Piece::Token(
-            Token::Number(at, amount(value), n == digits_len(bytes)),
-            n,
-        ),
+        Ok(value) => Piece::Token(Token::Number(at, amount(value), n == digits_len(bytes)), n),
         Err(fault) => Piece::Fault(LexKind::Number(fault)),
     }
 }

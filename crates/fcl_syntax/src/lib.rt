@@ -25,3 +25,6 @@ pub use tree::{
     Not, Num, Number, Operand, Or, Part, Point, Range, Rule, RuleLine, Rulebase, Setting,
     Singleton, Term, Tree, UnitNumber, Vars, Weight, ZeroNumber,
 };
+
+#[cfg(test)]
+mod tests;

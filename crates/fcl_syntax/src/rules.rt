@@ -9,10 +9,14 @@ ghost use Rattle.fcl_syntax.specs.View.{view_num, view_setting, view_with, view_
 
 use crate::conditions::or;
 use crate::fault::{Kind, ParseError};
-use crate::single::{expect, fault, is_keyword, is_name, is_next, is_word, keyword, label, name, word};
+use crate::single::{
+    expect, fault, is_keyword, is_name, is_next, is_word, keyword, label, name, word,
+};
 use crate::terms::{Refused, accu, num, setting};
 use crate::token::{Keyword, Token, Word};
-use crate::tree::{ActWord, Activation, Conclusion, Num, Rule, RuleLine, Rulebase, Setting, Weight};
+use crate::tree::{
+    ActWord, Activation, Conclusion, Num, Rule, RuleLine, Rulebase, Setting, Weight,
+};
 use std::alloc::Global;
 
 /// How many "(" and NOT may be open at once.
@@ -45,7 +49,10 @@ fn comma_conclusion(tokens: &[Token]) -> Result<(Conclusion, &[Token]), ParseErr
     conclusion(rest)
 }
 
-fn more_conclusions(alloc: Global, tokens: &[Token]) -> Result<(Vec<Conclusion>, &[Token]), ParseError>
+fn more_conclusions(
+    alloc: Global,
+    tokens: &[Token],
+) -> Result<(Vec<Conclusion>, &[Token]), ParseError>
     ensures { Gives (λ x. (x.0.items, x.1.now)) result (loop (66 ∷ []) comma_conclusion_at (length tokens.now) tokens.now) }
 {
     let mut more = Vec::new(alloc);
@@ -59,7 +66,10 @@ fn more_conclusions(alloc: Global, tokens: &[Token]) -> Result<(Vec<Conclusion>,
 }
 
 #[tactic(auto, unfolding(crate::specs::Reading::conclusions_at))]
-fn conclusions(alloc: Global, tokens: &[Token]) -> Result<((Conclusion, Vec<Conclusion>), &[Token]), ParseError>
+fn conclusions(
+    alloc: Global,
+    tokens: &[Token],
+) -> Result<((Conclusion, Vec<Conclusion>), &[Token]), ParseError>
     ensures { Gives (λ x. ((x.0.0, x.0.1.items), x.1.now)) result (conclusions_at tokens.now) }
 {
     let (first, rest) = conclusion(tokens)?;

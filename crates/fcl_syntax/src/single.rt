@@ -215,10 +215,7 @@ pub fn is_number(tokens: &[Token]) -> bool
 pub fn is_signed(tokens: &[Token]) -> bool
     ensures { result ≡ starts signed_sorts tokens.now }
 {
-    matches!(
-        tokens,
-        [Token::Plus | Token::Minus | Token::Number(..), ..]
-    )
+    matches!(tokens, [Token::Plus | Token::Minus | Token::Number(..), ..])
 }
 
 /// A number other than 0 and 1.

@@ -8,7 +8,10 @@ ghost use Rattle.fcl_syntax.specs.Reading.{num_at, coordinate_number_at, coordin
 ghost use Rattle.fcl_syntax.specs.View.{view_num, view_coordinate, view_degree, view_point, view_term, view_range, view_fuzzy_line, view_fuzzify, view_setting, view_singleton, view_value, view_fallback, view_defuzzy_line, view_defuzzify, view_part};
 
 use crate::fault::{Kind, ParseError};
-use crate::single::{expect, fault, is_beyond_unit, is_beyond_zero, is_keyword, is_name, is_next, is_open, is_signed, is_word, keyword, name, number, open, unit_number, word, zero_number};
+use crate::single::{
+    expect, fault, is_beyond_unit, is_beyond_zero, is_keyword, is_name, is_next, is_open,
+    is_signed, is_word, keyword, name, number, open, unit_number, word, zero_number,
+};
 use crate::token::{Keyword, Token, Word};
 use crate::tree::{
     Defuzzify, DefuzzyLine, Degree, Fallback, FallbackValue, Fuzzify, FuzzyLine, Num, Number, Part,
@@ -139,7 +142,10 @@ fn more_points(alloc: Global, tokens: &[Token]) -> Result<(Vec<Point>, &[Token])
 }
 
 #[tactic(auto, unfolding(crate::specs::Reading::some_points_at))]
-fn some_points(alloc: Global, tokens: &[Token]) -> Result<((Point, Vec<Point>), &[Token]), ParseError>
+fn some_points(
+    alloc: Global,
+    tokens: &[Token],
+) -> Result<((Point, Vec<Point>), &[Token]), ParseError>
     ensures { Gives (λ x. ((view_point x.0.0, map view_point x.0.1.items), x.1.now)) result (some_points_at tokens.now) }
 {
     let (first, rest) = point(tokens)?;
@@ -291,7 +297,12 @@ fn choice(tokens: &[Token], wanted: Word, refused: Refused) -> Result<(u32, &[To
 
 /// `KEYWORD : word ;`
 #[tactic(auto, unfolding(crate::specs::Reading::setting_at))]
-pub fn setting(tokens: &[Token], wanted: Keyword, word: Word, refused: Refused) -> Result<(Setting, &[Token]), ParseError>
+pub fn setting(
+    tokens: &[Token],
+    wanted: Keyword,
+    word: Word,
+    refused: Refused,
+) -> Result<(Setting, &[Token]), ParseError>
     ensures { Gives (λ x. (view_setting x.0, x.1.now)) result (setting_at wanted word (word_sort refused.first ∷ word_sort refused.second ∷ []) refused.code tokens.now) }
 {
     let (at, rest) = keyword(tokens, wanted)?;
@@ -406,7 +417,10 @@ fn is_defuzzy_line(tokens: &[Token]) -> bool
         || is_keyword(tokens, Keyword::Range)
 }
 
-fn defuzzy_lines(alloc: Global, tokens: &[Token]) -> Result<(Vec<DefuzzyLine>, &[Token]), ParseError>
+fn defuzzy_lines(
+    alloc: Global,
+    tokens: &[Token],
+) -> Result<(Vec<DefuzzyLine>, &[Token]), ParseError>
     ensures { Gives (λ x. (map view_defuzzy_line x.0.items, x.1.now)) result (defuzzy_lines_at tokens.now) }
 {
     let mut more = Vec::new(alloc);

@@ -92,7 +92,10 @@ pub enum Meaning {
 /// The words that have a meaning of their own. Case does not count.
 pub const MEANINGS: [(&[u8], Meaning); 42] = [
     (b"FUNCTION_BLOCK", Meaning::Keyword(Keyword::FunctionBlock)),
-    (b"END_FUNCTION_BLOCK", Meaning::Keyword(Keyword::EndFunctionBlock)),
+    (
+        b"END_FUNCTION_BLOCK",
+        Meaning::Keyword(Keyword::EndFunctionBlock),
+    ),
     (b"VAR_INPUT", Meaning::Keyword(Keyword::VarInput)),
     (b"VAR_OUTPUT", Meaning::Keyword(Keyword::VarOutput)),
     (b"END_VAR", Meaning::Keyword(Keyword::EndVar)),

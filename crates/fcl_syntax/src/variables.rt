@@ -7,7 +7,9 @@ ghost use Rattle.fcl_syntax.specs.Reading.{comma_name_at, names_at, type_at, dec
 ghost use Rattle.fcl_syntax.specs.View.{view_decl, view_vars, view_section};
 
 use crate::fault::{Kind, ParseError};
-use crate::single::{direction, expect, fault, is_keyword, is_name, is_next, is_other_type, keyword, name, word};
+use crate::single::{
+    direction, expect, fault, is_keyword, is_name, is_next, is_other_type, keyword, name, word,
+};
 use crate::token::{Keyword, Token, Word};
 use crate::tree::{Decl, Name, Vars};
 use std::alloc::Global;

@@ -20,9 +20,6 @@ All-slice_get P xs i x h e = subst P (get_or_from_slice_get xs i x x e) (h i x (
 pub IsSomeAnd-some : {X : Type 0} (P : X → Type 0) (o : Option X) (x : X) → o ≡ Some x → IsSomeAnd o P → P x
 IsSomeAnd-some P o x e h = subst (λ y. IsSomeAnd y P) e h
 
-pub IfSome-some : {X : Type 0} (P : X → Type 0) (o : Option X) (x : X) → o ≡ Some x → IfSome o P → P x
-IfSome-some P o x e h = subst (λ y. IfSome y P) e h
-
 -- a place that has an element lies within the list
 pub IsSomeAnd-within : {X : Type 0} (P : X → Type 0) (xs : List X) (i : ℕ) → IsSomeAnd (slice_get xs i) P → i < length xs
 IsSomeAnd-within P [] i h = absurd h

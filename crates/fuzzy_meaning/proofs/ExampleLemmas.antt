@@ -58,7 +58,7 @@ one_conclusion b o t h = All-cons (λ (c : ℕ × ℕ). HasSingleton b c.0 c.1) 
 size_of_two : (r s : Rule) → rule_size r ≤ 10 → rule_size s ≤ 10 → sum_by rule_size (r ∷ s ∷ []) ≤ 1048576
 size_of_two r s h k = omega arith
 
-heater_valid : IsValid heater
+pub heater_valid : IsValid heater
 heater_valid =
     let cold_rule : Rule = record { cond = Is 1 1; weight = None; concl = (1, 1) ∷ [] } in
     let hot_rule : Rule = record { cond = Is 1 2; weight = None; concl = (1, 2) ∷ [] } in
@@ -76,7 +76,7 @@ heater_valid =
       size = size_of_two cold_rule hot_rule (let n = ap nodes (condition_of-Is 1 1) in omega (arith, n)) (let n = ap nodes (condition_of-Is 1 2) in omega (arith, n));
     }
 
-latch_valid : (p : Box (Unit {0})) → IsValid (latch p)
+pub latch_valid : (p : Box (Unit {0})) → IsValid (latch p)
 latch_valid p =
     let b = latch p in
     let on_rule : Rule = record { cond = Not' p (Is 1 1); weight = None; concl = (1, 2) ∷ [] } in

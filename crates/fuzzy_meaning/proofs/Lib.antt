@@ -2,3 +2,4 @@ pub mod BlockLemmas
 pub mod ConditionLemmas
 pub mod ShareLemmas
 pub mod ExampleLemmas
+pub mod DegreeLemmas

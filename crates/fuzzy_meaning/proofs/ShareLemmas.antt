@@ -8,6 +8,7 @@ use Rattle.std.specs.Option.{option_map_or}
 use Rattle.std.proofs.lemmas.List.Sums.{fold-append}
 use Rattle.fz_num.specs.declared.dec.Dec.{Dec}
 use Rattle.fz_num.specs.declared.frac.Frac.{Frac}
+use Rattle.fz_num.specs.Fractions.{Fraction}
 use Rattle.fz_num.specs.Fracs.{Quotient, IsValueOf}
 use Rattle.fuzzy_meaning.specs.declared.block.Block.{Block}
 use Rattle.fuzzy_meaning.specs.declared.block.Output.{Output}
@@ -95,14 +96,14 @@ heavy_shares-yes s ss h = let e : has_mass s ≡ true = grind (arith, nat_tests)
 pub heavy_shares-no : (s : Share) (ss : List Share) → s.mass.num ≡ 0 → heavy_shares (s ∷ ss) ≡ heavy_shares ss
 heavy_shares-no s ss h = let e : has_mass s ≡ false = grind (arith, nat_tests) in ap (λ t. cond t (s ∷ heavy_shares ss) (heavy_shares ss)) e
 
--- the shares from the term before number k + 1 on
-pub shares_from-drop : (b : Block) (xs : List Dec) (o : ℕ) (us : List Dec) (k : ℕ) (d : Dec) → 0 < k → k ≤ length us → shares_from b xs o (k - 1 + 1) (drop (k - 1) us) ≡ record { at = (get_or us (k - 1) d).0; mass = mass b xs o (k - 1 + 1) } ∷ shares_from b xs o (k + 1) (drop k us)
-shares_from-drop b xs o us k d some few =
+-- the shares from the term before number k + 1 on, with that term's mass as m
+pub shares_from-drop : (b : Block) (xs : List Dec) (o : ℕ) (us : List Dec) (k : ℕ) (d : Dec) (m : Fraction) → m ≡ mass b xs o (k - 1 + 1) → 0 < k → k ≤ length us → shares_from b xs o (k - 1 + 1) (drop (k - 1) us) ≡ record { at = (get_or us (k - 1) d).0; mass = m } ∷ shares_from b xs o (k + 1) (drop k us)
+shares_from-drop b xs o us k d m same some few =
     let in_us : k - 1 < length us = omega arith in
     let back : k - 1 + 1 ≡ k = omega arith in
     let back' : suc (k - 1) ≡ k = omega arith in
     ap (shares_from b xs o (k - 1 + 1)) (drop-cons us (k - 1) d in_us ∙ ap (λ j. get_or us (k - 1) d ∷ drop j us) back')
-    ∙ ap (λ j. record { at = (get_or us (k - 1) d).0; mass = mass b xs o (k - 1 + 1) } ∷ shares_from b xs o (j + 1) (drop k us)) back
+    ∙ ap₂ (λ n j. record { at = (get_or us (k - 1) d).0; mass = n } ∷ shares_from b xs o (j + 1) (drop k us)) (sym same) back
 
 -- the centre of all is that of those that have a mass
 crossed : (w v : ℤ) (k t : ℕ) → w ≡ pos k *ℤ v → v *ℤ pos (k * t * 10000) ≡ w *ℤ pos (t * 10000)

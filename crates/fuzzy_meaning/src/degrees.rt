@@ -2,7 +2,7 @@
 ghost use Rattle.std.specs.Prelude.{◌≡◌, IfSome, ◌≤ℤ◌};
 ghost use Rattle.fz_num.specs.Fracs.{fraction_of, IsTruth};
 ghost use Rattle.fuzzy_meaning.specs.Blocks.{IsTrapezoid, IsInScale};
-ghost use Rattle.fuzzy_meaning.specs.Degrees.{degree as degree_of, rise as rise_of, fall as fall_of};
+ghost use Rattle.fuzzy_meaning.specs.Degrees.{degree as degree_of, rise as rise_of, fall as fall_of, IsByPlace};
 
 use crate::block::Trapezoid;
 use fz_num::{Dec, Frac};
@@ -18,6 +18,7 @@ pub fn degree(term: &Trapezoid, x: Dec) -> Frac
     requires term { IsTrapezoid term.now }
     requires x { IsInScale x.0 }
     ensures value { fraction_of result ≡ degree_of term.now x }
+    ensures by_place { IsByPlace term.now x (fraction_of result) }
     ensures truth { IsTruth 4000000000 result }
 {
     rise(term.a, term.b, x).min(fall(term.c, term.d, x))

@@ -3,7 +3,7 @@
 //! exact answer (IEC 61131-7:2000: linear terms, MIN, MAX, NOT, WITH, COGS).
 //!
 //! Each call on a block asks for a valid one and gives the value of its definition, which knows
-//! nothing of bytes, tables or machines. No call takes memory.
+//! nothing of bytes, tables or machines. No call takes memory but [`heater`], an example for tests.
 #![tactic(auto)]
 
 mod answers;
@@ -16,6 +16,9 @@ mod truths;
 pub use answers::exact;
 pub use block::{Block, Cond, Input, Output, Rule, Trapezoid};
 pub use degrees::degree;
-pub use examples::examples_are_valid;
+pub use examples::{examples_are_valid, heater};
 pub use masses::{mass, strength};
 pub use truths::truth;
+
+#[cfg(test)]
+mod tests;

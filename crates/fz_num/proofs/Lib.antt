@@ -1,1 +1,3 @@
 pub mod Gaps
+pub mod Order
+pub mod Nearness

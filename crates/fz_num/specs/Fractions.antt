@@ -16,6 +16,9 @@ one = over 1 1
 abbrev pub none : Fraction
 none = over 0 1
 
+pub record IsProper (f : Fraction) : Type 0 where
+  pub pos : 0 < f.den
+
 -- f is at most g
 pub record AtMost (f g : Fraction) : Type 0 where
   pub cross : f.num * g.den ≤ g.num * f.den

@@ -18,9 +18,10 @@ pub enum DecFault {
     Large,
 }
 
-/// The greatest magnitude, in 1/10000, and one more, at which counting stops.
+/// The greatest magnitude, in 1/10000.
 const GREATEST: u64 = 1_000_000_000;
 
+/// Where counting stops.
 const TOO_LARGE: u64 = GREATEST + 1;
 
 impl Dec {

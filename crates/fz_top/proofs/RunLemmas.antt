@@ -1,8 +1,8 @@
 -- A run from its parts.
-use Rattle.std.proofs.Common.{◌≡◌, ◌≢◌, ◌⊎◌, ◌<◌, inl, inr, ⊎_elim, ℕ, List, [], ◌∷◌, ◌++◌, length, refl, sym, ◌∙◌, ap, subst, arith}
+use Rattle.std.proofs.Common.{◌≡◌, ◌⊎◌, ◌<◌, inl, inr, ⊎_elim, ℕ, List, [], ◌∷◌, ◌++◌, length, refl, sym, ◌∙◌, ap, subst, arith}
 use Rattle.std.specs.Prelude.{Option, Some, None, Result, Ok, Err}
 use Rattle.fz_shelf.specs.Faults.{Rose}
-use Rattle.fz_shelf.specs.Told.{Taken, gained, GainedPart, HasRoom}
+use Rattle.fz_shelf.specs.Told.{Taken, HasRoom}
 use Rattle.fz_shelf.specs.Files.{File, IsThere, IsLong, Holds, Names, known as known_file}
 use Rattle.fz_shelf.specs.Log.{Log}
 use Rattle.fz_shelf.specs.Reading.{Counts}
@@ -12,7 +12,7 @@ use Rattle.fz_top.specs.Texts.{Text, word_at, bytes_of}
 use Rattle.fz_top.specs.Commands.{command_in, inputs_of}
 use Rattle.fz_top.specs.Reads.{ReadsWhole, AreHeld, AreThere, names_at, StopsBy}
 use Rattle.fz_top.specs.Works.{Deed, IsFaultOf, Makes}
-use Rattle.fz_top.specs.Runs.{Faulted, IsMade, Untouched, IsReadFault, IsTooLong, IsWriteFault, Settles, status_of, IsReady, AreKnown, RoomFor, FileFits, World, world, Worked, Delivered, WriteFailed, PutFailed, ChangesOnly, IsWritten, Runs}
+use Rattle.fz_top.specs.Runs.{Faulted, IsMade, Untouched, IsReadFault, IsTooLong, IsWriteFault, Settles, status_of, IsReady, AreKnown, FileFits, World, world, Worked, Delivered, WriteFailed, PutFailed, ChangesOnly, IsWritten, Runs}
 use Rattle.fz_top.specs.declared.command.Command.{Command}
 use Rattle.fz_top.specs.declared.reading.Stop.TheVariants as stop
 use Rattle.fz_top.specs.declared.status.Status.{Status}
@@ -90,8 +90,10 @@ stopped words f0 f1 k0 k1 a0 a1 t0 e0 command places contents slice s is files a
   where
     counts : k1 ≡ k0
     counts = whole.counts
+
     untouched : Untouched (world f0 k0 a0 t0 e0) (world f1 k1 a1 t0 e0)
     untouched = record { files = files; writes = ap (λ (k : Counts). k.writes) whole.counts; told = refl; faults = refl }
+
     faulted : (t : Status) → Makes command (bytes_of slice) (Err t) → Faulted words (world f0 k0 a0 t0 e0) (world f1 k1 a1 t0 e0) t
     faulted t makes =
         let all : ReadsWhole words (inputs_of command) f0 k0 k1 a0 a1 (bytes_of contents) = subst (λ (ps : List ℕ). ReadsWhole words ps f0 k0 k1 a0 a1 (bytes_of contents)) at whole in
@@ -107,6 +109,7 @@ stopped words f0 f1 k0 k1 a0 a1 t0 e0 command places contents slice s is files a
           counts = counts;
           untouched = untouched;
         }
+
     go : (t : Status) → IsFaultOf (Makes command (bytes_of slice)) t → Runs words (world f0 k0 a0 t0 e0) (world f1 k1 a1 t0 e0) t
     go status.Ok fault = absurd fault
     go status.Usage fault = absurd fault

@@ -1,5 +1,5 @@
 -- When the words are of no command.
-use Rattle.std.proofs.Common.{◌≡◌, ◌⊎◌, inl, inr, List, refl, sym, ◌∙◌, ap}
+use Rattle.std.proofs.Common.{◌≡◌, inl, inr, List, refl, sym, ◌∙◌, ap}
 use Rattle.std.specs.Prelude.{Option, Some, None, option_and_then}
 use Rattle.fz_words.specs.App.{IsRefused}
 use Rattle.fz_words.specs.Table.{name_in}

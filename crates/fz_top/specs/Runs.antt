@@ -2,7 +2,7 @@
 use Rattle.std.specs.Prelude.{◌≡◌, ◌≢◌, ◌⊎◌, ◌<◌, ◌≤◌, ℕ, List, [], ◌∷◌, ◌++◌, length, Option, Some, None, is_some, true, Result, Ok, Err}
 use Rattle.fz_shelf.specs.Faults.{Rose}
 use Rattle.fz_shelf.specs.Told.{Taken, gained, GainedPart, HasRoom}
-use Rattle.fz_shelf.specs.Files.{File, Names, Written, Fits, known}
+use Rattle.fz_shelf.specs.Files.{Names, Written, Fits, known}
 use Rattle.fz_shelf.specs.Log.{Log}
 use Rattle.fz_shelf.specs.Reading.{Counts}
 use Rattle.fz_top.specs.Texts.{Text, word_at}

@@ -8,7 +8,6 @@ use Rattle.fz_top.specs.declared.command.Command.TheVariants.{Run}
 use Rattle.fz_top.specs.declared.stand_in.SyntaxFault.TheVariants as syntax
 use Rattle.fz_top.specs.declared.stand_in.LoadFault.TheVariants as load
 use Rattle.fz_top.specs.declared.stand_in.LayoutFault.TheVariants as layout
-use Rattle.fz_top.specs.declared.status.FclFault.{FclFault}
 use Rattle.fz_top.specs.declared.status.FclFault.TheVariants as fcl
 use Rattle.fz_top.specs.declared.status.Status.{Status}
 use Rattle.fz_top.specs.declared.status.Status.TheVariants as status

@@ -79,7 +79,14 @@ fn put_syntax<F: Sink>(err: &mut F, fault: &SyntaxFault) -> Result<(), Failed>
         SyntaxFault::Number(at, _) => put_number(err, b"fcl: at ", *at, b": number"),
         SyntaxFault::Expected(at) => put_number(err, b"fcl: at ", *at, b": expected"),
         SyntaxFault::Unsupported(at, code) => {
-            put_two(err, b"fcl: at ", *at, b": unsupported ", u32::from(*code), b"")
+            put_two(
+                err,
+                b"fcl: at ",
+                *at,
+                b": unsupported ",
+                u32::from(*code),
+                b"",
+            )
         }
         SyntaxFault::Deep(at) => put_number(err, b"fcl: at ", *at, b": too deep"),
         SyntaxFault::Memory => put_text(err, b"memory"),

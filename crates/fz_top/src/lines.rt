@@ -49,11 +49,7 @@ fn line_of_sample(alloc: Global, k: usize, row: &Row) -> Result<String, AllocErr
 }
 
 /// The lines of `run`: the bound on instructions, and then each sample.
-pub(crate) fn run_lines(
-    alloc: Global,
-    bound: u32,
-    rows: &[Row],
-) -> Result<Vec<String>, AllocError>
+pub(crate) fn run_lines(alloc: Global, bound: u32, rows: &[Row]) -> Result<Vec<String>, AllocError>
     ensures { IfOk result (λ lines. text_of lines.items ≡ lines_of bound (map answered rows.now)) }
 {
     let mut lines = Vec::new(alloc);

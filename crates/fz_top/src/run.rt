@@ -12,12 +12,7 @@ use std::alloc::Global;
 use trace_io::TraceFault;
 
 /// Compiles the text, reads the trace, runs its samples and writes down what came of them.
-pub(crate) fn run(
-    alloc: Global,
-    fcl: &[u8],
-    trace: &[u8],
-    flags: u8,
-) -> Result<Work, Status>
+pub(crate) fn run(alloc: Global, fcl: &[u8], trace: &[u8], flags: u8) -> Result<Work, Status>
     requires fcl_small { length fcl.now ≤ 1048576 }
     requires trace_small { length trace.now ≤ 1048576 }
     ensures ok { IfOk result (λ w. RunMakes flags fcl.now trace.now (Ok (deed_of w))) }

@@ -19,11 +19,7 @@ pub(crate) struct Work {
 
 /// What the command makes of its files' contents.
 #[tactic(auto, unfolding(crate::specs::Commands::inputs_of, crate::specs::Works::Makes))]
-pub(crate) fn do_work(
-    alloc: Global,
-    command: Command,
-    contents: &[Vec<u8>],
-) -> Result<Work, Status>
+pub(crate) fn do_work(alloc: Global, command: Command, contents: &[Vec<u8>]) -> Result<Work, Status>
     requires each { length contents.now ≡ length (inputs_of command) }
     requires small { All (λ c. length c.items ≤ 1048576) contents.now }
     ensures ok { IfOk result (λ w. Makes command (bytes_of contents.now) (Ok (deed_of w))) }

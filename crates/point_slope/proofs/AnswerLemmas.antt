@@ -1,21 +1,17 @@
 -- The answer over bytes is a byte.
-use Rattle.std.proofs.Common.{◌≡◌, ℕ, suc, ◌+◌, ◌*◌, ◌/◌, ◌≤◌, Bool, true, false, List, [], ◌∷◌, Option, Some, None, slice_get, refl, subst, arith, mul-le-mul_right}
+use Rattle.std.proofs.Common.{◌≡◌, ℕ, suc, ◌+◌, ◌*◌, ◌/◌, ◌≤◌, Bool, true, false, List, [], ◌∷◌, Option, Some, None, refl, arith, mul-le-mul_right}
 use Rattle.std.specs.Prelude.{All, IfSome, ◌<ℤ◌, if◌then◌else◌, ◌==◌}
 use Rattle.std.specs.Option.{option_map_or}
 use Rattle.std.proofs.Math.Nat.{div-le_of_le-mul}
 use Rattle.std.proofs.lemmas.List.Sums.{sum_by-cons}
-use Rattle.std.proofs.lemmas.Option.{slice_get_within, get_or_from_slice_get}
 use Rattle.fz_num.specs.declared.dec.Dec.{Dec}
 use Rattle.fuzzy_meaning.specs.declared.block.Block.{Block}
 use Rattle.fuzzy_meaning.specs.declared.block.Output.{Output}
 use Rattle.fuzzy_meaning.specs.Blocks.{IsValidOutput, IsWithin, output_at}
+use Rattle.fuzzy_meaning.proofs.BlockLemmas.{All-slice_get}
 use Rattle.byte_scaling.specs.Cells.{nearest_byte}
 use Rattle.byte_scaling.proofs.CellLemmas.{nearest_byte-le}
 use Rattle.point_slope.specs.Bytes.{ByteShare, byte_mass, byte_shares_from, byte_shares, total_mass, weighted_sum, centre, resting_byte, ByteAnswerIsByte}
-
--- what holds of each element holds of the one at a place
-All-slice_get : {X : Type 0} (P : X → Type 0) (xs : List X) (i : ℕ) (x : X) → All P xs → slice_get xs i ≡ Some x → P x
-All-slice_get P xs i x h e = subst P (get_or_from_slice_get xs i x x e) (h i x (slice_get_within xs i x e))
 
 -- weighted bytes sum to at most 255 times the masses
 weighted_sum-le : (b : Block) (bytes : List ℕ) (o : ℕ) (x : Output) (t : ℕ) (us : List Dec) → x.lo.0 <ℤ x.hi.0 → All (IsWithin x.lo x.hi) us → weighted_sum (byte_shares_from b bytes o x t us) ≤ 255 * total_mass (byte_shares_from b bytes o x t us)

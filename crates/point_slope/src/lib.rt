@@ -12,3 +12,6 @@ mod rows;
 pub use answers::byte_answer_is_byte;
 pub use grades::grade;
 pub use rows::{Memory, row, slope, table};
+
+#[cfg(test)]
+mod tests;

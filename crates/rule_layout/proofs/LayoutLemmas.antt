@@ -1,5 +1,5 @@
 -- The layout of a valid block.
-use Rattle.std.proofs.Common.{◌≡◌, ℕ, ◌+◌, ◌*◌, ◌<◌, ◌≤◌, Bool, List, [], ◌∷◌, ◌++◌, length, map, filter, get_or, refl, sym, ap, ap₂, ◌∙◌, subst, arith}
+use Rattle.std.proofs.Common.{◌≡◌, ℕ, ◌+◌, ◌*◌, ◌<◌, ◌≤◌, Bool, List, [], ◌∷◌, ◌++◌, length, map, filter, get_or, refl, sym, ap, ap₂, ◌∙◌, arith}
 use Rattle.std.specs.Prelude.{All, flat_map, sum_by, IfSome, Ok, nat_le, true, false}
 use Rattle.std.proofs.lemmas.List.{length-map, length-append}
 use Rattle.std.proofs.lemmas.List.FromFn.{length-range_with_len}
@@ -20,7 +20,8 @@ use Rattle.rule_layout.specs.Lists.{marked}
 use Rattle.rule_layout.specs.Slots.{terms_from, term_count, singleton_count, input_terms, output_terms, term_slot, complement_slot, out_slot, is_complemented, slots_of, literal_number, conclusion_number}
 use Rattle.rule_layout.specs.Tables.{IsInTable, IsNumbering, table_number, table_literal}
 use Rattle.rule_layout.specs.Sizes.{IsCountable, rule_entries, entry_count, IsSizeOfRules}
-use Rattle.rule_layout.specs.Layouts.{conjunction_count, rule_spread, conjunction_of, rule_conjunctions, conjunctions_of, table_conjunction, table_conjunctions, IsBelow, IsSpreadable, IsLaidOut, element_width, form_by, form_of, rule_weights, weights_of, flat_of, list_size}
+use Rattle.rule_layout.specs.Layouts.{rule_spread, conjunction_of, rule_conjunctions, conjunctions_of, IsBelow, element_width, form_by, form_of, rule_weights, weights_of, flat_of, list_size}
+use Rattle.rule_layout.specs.Steps.{table_conjunction, table_conjunctions, IsSpreadable}
 use Rattle.rule_layout.proofs.BlockLemmas.{input_terms_in_grid, output_terms_in_table, few_terms, few_singletons, rule_fits}
 use Rattle.rule_layout.proofs.ListLemmas.{mark, marked-cons}
 use Rattle.rule_layout.proofs.RuleLemmas.{entry_count_le}
@@ -155,10 +156,6 @@ rules_spreadable b v = λ k d lt.
 pub rules_weighed : (b : Block) → IsValid b → All (λ r. IfSome r.weight IsWeight) b.rules
 rules_weighed b v = λ k d lt. (v.rules k d lt).weight
 
--- no rule has more conjunctions than all together
-pub rules_few : (rules : List Rule) → conjunction_count rules ≤ 512 → All (λ r. length (rule_spread r) ≤ 512) rules
-rules_few rules few = λ k d lt. omega (arith, few, get_or-le-sum_by (λ (r : Rule). length (rule_spread r)) rules k d lt)
-
 width_le : (f : Form) → element_width f ≤ 2
 width_le Rev = omega arith
 width_le Revw = omega arith
@@ -191,18 +188,12 @@ flat_made b f slots conjunctions weights form =
         ◌≡◌ {A = Flat} (record { slots = ss; conjunctions = cs; weights = ws; form = g }) (record { slots = slots_of b; conjunctions = conjunctions_of b; weights = weights_of b; form = form_of b })
     joined ss cs ws g p q r s = cc
 
-form_by_rev : (n : ℕ) (rules : List Rule) → form_by n rules ≡ Rev → n ≤ 254
+pub form_by_rev : (n : ℕ) (rules : List Rule) → form_by n rules ≡ Rev → n ≤ 254
 form_by_rev n rules e = by_test (nat_le n 254) refl
   where
     by_test : (t : Bool) → nat_le n 254 ≡ t → n ≤ 254
     by_test true h = grind (arith, nat_tests)
     by_test false h = let never : Revw ≡ Rev = rw h at e in cc
-
-pub laid_out_made : (b : Block) (f : Flat) → IsValid b → f ≡ flat_of b → IsLaidOut f
-unfolding flat_of form_of
-laid_out_made b f v same =
-    let made : IsLaidOut (flat_of b) = record { few_slots = few_slots b v; few_for_rev = λ e. form_by_rev (length (slots_of b)) b.rules e; in_range = numbers_in_range b v } in
-    subst IsLaidOut (sym same) made
 
 pub weights_made : (b : Block) (rules : List Rule) → rules ≡ b.rules → flat_map rule_weights rules ≡ weights_of b
 unfolding weights_of

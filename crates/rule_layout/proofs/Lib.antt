@@ -11,3 +11,7 @@ pub mod RuleLemmas
 pub mod MemberLemmas
 pub mod LayoutLemmas
 pub mod TruthLemmas
+pub mod MassLemmas
+pub mod LaidOutLemmas
+pub mod ExampleLemmas
+pub mod PlaceLemmas

@@ -13,7 +13,8 @@ use Rattle.rule_layout.specs.Sizes.{IsCountable, rule_entries, entry_count, IsSi
 use Rattle.rule_layout.specs.declared.flat.Conjunction.{Conjunction}
 use Rattle.rule_layout.specs.Slots.{out_slot}
 use Rattle.rule_layout.specs.Tables.{table_number, table_literal, table_literals}
-use Rattle.rule_layout.specs.Layouts.{rule_spread, conjunction_count, IsFirstTooMany, table_conjunction, table_conjunctions, with_conclusions}
+use Rattle.rule_layout.specs.Layouts.{rule_spread, conjunction_count, IsFirstTooMany}
+use Rattle.rule_layout.specs.Steps.{table_conjunction, table_conjunctions, with_conclusions}
 use Rattle.rule_layout.proofs.SpreadLemmas.{entries_le}
 
 entries_bound : (e m n k : ℕ) → e ≤ m * n → n + k ≤ 1048576 → e + m * (k + 2) ≤ m * 2097152

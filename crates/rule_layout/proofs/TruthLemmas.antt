@@ -1,8 +1,8 @@
 -- Spreading keeps the truth of a condition.
-use Rattle.std.proofs.Common.{◌≡◌, ℕ, ◌-◌, ◌≤◌, min, max, Bool, true, false, not, List, [], ◌∷◌, ◌++◌, map, refl, sym, ap, ap₂, ◌∙◌, arith}
+use Rattle.std.proofs.Common.{◌≡◌, ℕ, ◌-◌, ◌≤◌, min, max, true, false, List, [], ◌∷◌, ◌++◌, map, refl, arith}
 use Rattle.fuzzy_meaning.specs.Conditions.{Condition, is, negation, all, any, Conditions, end, also, level, least_level, greatest_level}
-use Rattle.rule_layout.specs.Spreading.{Literal, literal, choices, spread_of, one_after_another, each_choice}
-use Rattle.rule_layout.specs.Truths.{literal_value, least_literal, greatest_conjunction, SpreadingLaw}
+use Rattle.rule_layout.specs.Spreading.{Literal, choices, spread_of, one_after_another, each_choice}
+use Rattle.rule_layout.specs.Truths.{least_literal, greatest_conjunction, SpreadingLaw}
 
 module _ (n : ℕ) (v : ℕ → ℕ → ℕ) (within : (i t : ℕ) → v i t ≤ n) where
   mutual

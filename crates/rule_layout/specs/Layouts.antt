@@ -1,9 +1,10 @@
 -- What a block's rules are laid out as, and when they are too many.
-use Rattle.std.specs.Prelude.{◌≡◌, ℕ, ◌-◌, ◌*◌, ◌<◌, ◌≤◌, Bool, false, not, ◌&&◌, nat_le, List, map, length, take, sum_by, flat_map, All, Option, Some, None, pos, int_lt, if◌then◌else◌}
+use Rattle.std.specs.Prelude.{◌≡◌, ℕ, ◌-◌, ◌*◌, ◌<◌, ◌≤◌, Bool, false, not, ◌&&◌, nat_le, List, map, length, get_or, take, sum_by, flat_map, All, Option, Some, None, pos, int_lt, if◌then◌else◌}
 use Rattle.std.specs.List.{list_any}
 use Rattle.fz_num.specs.declared.dec.Dec.{Dec}
 use Rattle.fuzzy_meaning.specs.declared.block.Block.{Block}
 use Rattle.fuzzy_meaning.specs.declared.block.Rule.{Rule}
+use Rattle.fuzzy_meaning.specs.Blocks.{IsValid}
 use Rattle.fuzzy_meaning.specs.Conditions.{condition_of}
 use Rattle.rule_layout.specs.declared.flat.Slot.{Slot}
 use Rattle.rule_layout.specs.declared.flat.Conjunction.{Conjunction}
@@ -13,9 +14,7 @@ use Rattle.rule_layout.specs.declared.flat.Flat.{Flat}
 use Rattle.rule_layout.specs.declared.flat.LayoutFault.{LayoutFault}
 use Rattle.rule_layout.specs.declared.flat.LayoutFault.TheVariants.{TooManyRules, ListTooLong, Memory}
 use Rattle.rule_layout.specs.Spreading.{Literal, spread_of}
-use Rattle.rule_layout.specs.Grid.{FitsGrid}
-use Rattle.rule_layout.specs.Slots.{slots_of, literal_number, conclusion_number, out_slot}
-use Rattle.rule_layout.specs.Tables.{table_literal, table_number, IsInTable}
+use Rattle.rule_layout.specs.Slots.{slots_of, number_in, literal_number, conclusion_number}
 use Rattle.rule_layout.specs.Lists.{marked}
 use Rattle.byte_scaling.specs.Weights.{weight_byte_of}
 
@@ -84,26 +83,17 @@ pub record IsBelow (n : ℕ) (c : Conjunction) : Type 0 where
   pub literals : All (λ k. k < n) c.literals
   pub conclusions : All (λ k. k < n) c.conclusions
 
--- what a list of rules in bytes or words needs: its marks are no slots
+-- a layout: the slots are apart, so that a slot's place is its number; each number is a slot's, so
+-- that no mark of a list is one; each conjunction has a weight byte, which for REV scales nothing
 pub record IsLaidOut (f : Flat) : Type 0 where
   pub few_slots : length f.slots ≤ 300
   pub few_for_rev : f.form ≡ Rev → length f.slots ≤ 254
+  pub apart : (k : ℕ) (s : Slot) → k < length f.slots → number_in f.slots (get_or f.slots k s) ≡ k
   pub in_range : All (IsBelow (length f.slots)) f.conjunctions
-
--- a conjunction of a rule, by a table of the slots' numbers
-abbrev pub table_conjunction : List ℕ → Rule → List Literal → Conjunction
-table_conjunction table r ls = record { literals = map (table_literal table) ls; conclusions = map (λ p. table_number table (out_slot p)) r.concl }
-
-abbrev pub table_conjunctions : List ℕ → Rule → List Conjunction
-table_conjunctions table r = map (table_conjunction table r) (rule_spread r)
-
--- a rule that can be spread by a table
-pub record IsSpreadable (r : Rule) : Type 0 where
-  pub fits : FitsGrid (condition_of r.cond)
-  pub conclusions : All (λ p. IsInTable (out_slot p)) r.concl
-
-abbrev pub with_conclusions : List ℕ → List ℕ → Conjunction
-with_conclusions concl ls = record { literals = ls; conclusions = concl }
+  pub some_conjunction : 1 ≤ length f.conjunctions
+  pub weighed : length f.weights ≡ length f.conjunctions
+  pub weight_bytes : All (λ w. w ≤ 255) f.weights
+  pub unscaled : f.form ≡ Rev → All (λ w. w ≡ 255) f.weights
 
 -- the list is too long by its number of bytes, and the conjunctions are not too many
 pub record IsTooLong (b : Block) (n : ℕ) : Type 0 where
@@ -116,3 +106,7 @@ abbrev pub IsFaultOf : Block → LayoutFault → Type 0
 IsFaultOf b (TooManyRules n) = IsFirstTooMany b.rules n
 IsFaultOf b (ListTooLong n) = IsTooLong b n
 IsFaultOf b Memory = Unit {0}
+
+-- a valid block's layout is one, also where it is over its limits
+abbrev pub LayoutLaw : Type 0
+LayoutLaw = (b : Block) → IsValid b → IsLaidOut (flat_of b)

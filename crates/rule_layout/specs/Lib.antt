@@ -6,3 +6,7 @@ pub mod Grid
 pub mod Sizes
 pub mod Tables
 pub mod Truths
+pub mod Masses
+pub mod Examples
+pub mod Steps
+pub mod Numbers

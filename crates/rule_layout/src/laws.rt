@@ -1,4 +1,7 @@
 //! Laws of the layout, each the contract of a function that does nothing.
+ghost use Rattle.rule_layout.specs.Layouts.{LayoutLaw};
+ghost use Rattle.rule_layout.specs.Masses.{MassLaw};
+ghost use Rattle.rule_layout.specs.Numbers.{TermNumberLaw, OutNumberLaw};
 ghost use Rattle.rule_layout.specs.Truths.{SpreadingLaw};
 
 /// Spreading keeps the truth: where each input term has a whole number from 0 to n, a complement
@@ -6,5 +9,27 @@ ghost use Rattle.rule_layout.specs.Truths.{SpreadingLaw};
 /// conjunctions that a condition spreads into is the truth of the condition.
 pub fn spreading_law()
     ensures { SpreadingLaw }
-{
-}
+{}
+
+/// The rule list computes the masses: where the slots of a valid block hold the grades of its
+/// input terms, their complements and 0, and each conjunction that concludes a slot raises it to
+/// the least of its literals scaled by its weight byte, the slot of an output's term comes to that
+/// term's byte mass. With a weight byte of 255, as REV has for each conjunction, nothing is scaled.
+pub fn mass_law()
+    ensures { MassLaw }
+{}
+
+/// Where the slots of a term stand, counted from 0: before the slot of an input's term stand the
+/// terms of the inputs before it and the terms before it, and before that of an output's term all
+/// input terms, the complements, and the output terms before it.
+pub fn slot_number_laws()
+    ensures input_term { TermNumberLaw }
+    ensures output_term { OutNumberLaw }
+{}
+
+/// The layout of a valid block has what its lists and the machine need: slots that are apart and
+/// numbered by their places, numbers that are slots and no marks, at least one conjunction, and
+/// for each a weight byte, which for REV is 255.
+pub fn layout_law()
+    ensures { LayoutLaw }
+{}

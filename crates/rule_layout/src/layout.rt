@@ -6,7 +6,8 @@ ghost use Rattle.rule_layout.specs.declared.flat.LayoutFault.TheVariants.{Memory
 ghost use Rattle.rule_layout.specs.Slots.{out_slot};
 ghost use Rattle.rule_layout.specs.Tables.{IsInTable, table_number};
 ghost use Rattle.rule_layout.specs.Sizes.{IsCountable, IsSizeOfRule, IsSizeOfRules};
-ghost use Rattle.rule_layout.specs.Layouts.{flat_of, IsWithinLimits, IsFaultOf, IsLaidOut, rule_spread, rule_weights, table_conjunctions, IsSpreadable, is_below_one, form_by, element_width, with_conclusions};
+ghost use Rattle.rule_layout.specs.Layouts.{flat_of, IsWithinLimits, IsFaultOf, IsLaidOut, rule_spread, rule_weights, is_below_one, form_by, element_width};
+ghost use Rattle.rule_layout.specs.Steps.{table_conjunctions, IsSpreadable, with_conclusions};
 
 use crate::flat::{Conjunction, Flat, Form, LayoutFault, Slot};
 use crate::sizes::{Size, size_of};
@@ -53,8 +54,7 @@ pub fn spread(alloc: Global, block: &Block) -> Result<Flat, LayoutFault>
         return Err(LayoutFault::ListTooLong(bytes));
     }
     let numbers = SlotNumbers::new(&slots);
-    let conjunctions = conjunctions_of(alloc, &numbers, rules)?;
-    let weights = weights_of(alloc, rules)?;
+    let (conjunctions, weights) = spread_rules(alloc, &numbers, rules)?;
     Ok(Flat {
         slots: List::new(slots),
         conjunctions: List::new(conjunctions),
@@ -97,7 +97,7 @@ fn size_of_rule(rule: &Rule) -> Option<Size>
     })
 }
 
-fn form_of(slots: usize, rules: &[Rule]) -> Form
+pub(crate) fn form_of(slots: usize, rules: &[Rule]) -> Form
     ensures { result ≡ form_by slots rules.now }
 {
     if slots <= MOST_BYTE_SLOTS && !is_weighted(rules) {
@@ -133,23 +133,27 @@ fn element_width(form: Form) -> u32
     }
 }
 
-/// The conjunctions of some rules, in order.
-fn conjunctions_of(
+/// The conjunctions of some rules, in order, and the weight byte of each.
+fn spread_rules(
     alloc: Global,
     numbers: &SlotNumbers,
     rules: &[Rule],
-) -> Result<Vec<Conjunction>, AllocError>
-    requires { All IsSpreadable rules.now }
-    ensures { IfOk result
-        (λ v. v.items ≡ flat_map (table_conjunctions numbers.now.table) rules.now) }
+) -> Result<(Vec<Conjunction>, Vec<u8>), AllocError>
+    requires spreadable { All IsSpreadable rules.now }
+    requires weights { All (λ r. IfSome r.weight IsWeight) rules.now }
+    ensures conjunctions { IfOk result
+        (λ p. p.0.items ≡ flat_map (table_conjunctions numbers.now.table) rules.now) }
+    ensures weights { IfOk result (λ p. p.1.items ≡ flat_map rule_weights rules.now) }
 {
     let mut all = Vec::new(alloc);
+    let mut weights = Vec::new(alloc);
     for rule in rules {
         let conclusions = conclusions_of(alloc, numbers, rule.concl.as_slice())?;
         let spread = conjunctions(alloc, numbers, &rule.cond, false)?;
+        push_times(&mut weights, weight_byte(rule.weight), spread.len())?;
         push_conjunctions(alloc, &mut all, spread, &conclusions)?;
     }
-    Ok(all)
+    Ok((all, weights))
 }
 
 /// The slots that a rule's conclusions raise.
@@ -189,24 +193,8 @@ fn push_conjunctions(
     Ok(())
 }
 
-/// The weight bytes, one for each conjunction.
-fn weights_of(alloc: Global, rules: &[Rule]) -> Result<Vec<u8>, AllocError>
-    requires countable { All IsCountable rules.now }
-    requires few { All (λ r. length (rule_spread r) ≤ 512) rules.now }
-    requires weights { All (λ r. IfSome r.weight IsWeight) rules.now }
-    ensures { IfOk result (λ v. v.items ≡ flat_map rule_weights rules.now) }
-{
-    let mut weights = Vec::new(alloc);
-    for rule in rules {
-        if let Some(size) = size_of(&rule.cond, false) {
-            push_times(&mut weights, weight_byte(rule.weight), size.conjunctions)?;
-        }
-    }
-    Ok(weights)
-}
-
 /// Puts a byte behind the others a number of times.
-fn push_times(bytes: &mut Vec<u8>, byte: u8, times: u32) -> Result<(), AllocError>
+fn push_times(bytes: &mut Vec<u8>, byte: u8, times: usize) -> Result<(), AllocError>
     ensures { OnOk result (bytes.new.items ≡ bytes.old.items ++ replicate times byte) }
 {
     for _time in 0..times {

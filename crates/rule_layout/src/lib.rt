@@ -5,8 +5,9 @@
 //! [`Flat::words`] give it as the list that REV or REVW evaluates.
 //!
 //! `spread` answers exactly the layout of its definition, or refuses exactly where the
-//! conjunctions are more than 512 or else the list would have more than 9984 bytes. For any
-//! values of the input terms the greatest of a rule's conjunctions is the truth of its condition.
+//! conjunctions are more than 512 or else the list would have more than 9984 bytes. Spreading
+//! keeps the truth of each condition ([`spreading_law`]), and so the list leaves each output term
+//! its byte mass ([`mass_law`]).
 #![tactic(auto)]
 
 mod flat;
@@ -18,5 +19,8 @@ mod slots;
 mod spreading;
 
 pub use flat::{Conjunction, Flat, Form, LayoutFault, Slot};
-pub use laws::spreading_law;
+pub use laws::{layout_law, mass_law, slot_number_laws, spreading_law};
 pub use layout::spread;
+
+#[cfg(test)]
+mod tests;

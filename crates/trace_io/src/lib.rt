@@ -1,10 +1,13 @@
 //! Traces: the samples that a run answers, read from text.
 //!
 //! A trace is comma-separated text with one row per sample and one decimal per input. A
-//! [`Sample`] has its values and the byte of each in its input's range; a text that is no trace
-//! has a [`TraceFault`], with the first row that fails.
+//! [`Sample`] has its values and the byte of each in its input's range. [`read_trace`] answers
+//! exactly the samples that the first rows spell, or the fault of the first row that fails.
 #![tactic(auto)]
 
+mod rows;
 mod sample;
+mod trace;
 
 pub use sample::{Sample, TraceFault};
+pub use trace::read_trace;

@@ -68,8 +68,7 @@ returns-in_err-held-clause-terms c =
     let k = c.loop-k.k in
     let rest = shares_from b xs o (k + 1) (drop k us) in
     let s : Share = record { at = (get_or us (k - 1) zero_dec).0; mass = fraction_of c.mass.result } in
-    let step = shares_from-drop b xs o us k zero_dec c.loop-k-test.true c.loop-k.auto.k in
-    let here : shares_from b xs o (k - 1 + 1) (drop (k - 1) us) ≡ s ∷ rest = step ∙ ap (λ m. record { at = (get_or us (k - 1) zero_dec).0; mass = m } ∷ rest) (sym c.mass.ensures.value) in
+    let here = shares_from-drop b xs o us k zero_dec (fraction_of c.mass.result) c.mass.ensures.value c.loop-k-test.true c.loop-k.auto.k in
     let yes : heavy_shares (s ∷ rest) ≡ s ∷ heavy_shares rest = heavy_shares-yes s rest (omega (arith, ints, c.if-term-gt0.true)) in
     let h = c.loop-k.invariant in
     let two : length (shares_of c.loop-k.held) ≡ 2 = c.in_err-held.ensures.terms in
@@ -89,8 +88,7 @@ loop-k-preserved-then-term-gt0 c =
     let k = c.loop-k.k in
     let rest = shares_from b xs o (k + 1) (drop k us) in
     let s : Share = record { at = (get_or us (k - 1) zero_dec).0; mass = fraction_of c.mass.result } in
-    let step = shares_from-drop b xs o us k zero_dec c.loop-k-test.true c.loop-k.auto.k in
-    let here : shares_from b xs o (k - 1 + 1) (drop (k - 1) us) ≡ s ∷ rest = step ∙ ap (λ m. record { at = (get_or us (k - 1) zero_dec).0; mass = m } ∷ rest) (sym c.mass.ensures.value) in
+    let here = shares_from-drop b xs o us k zero_dec (fraction_of c.mass.result) c.mass.ensures.value c.loop-k-test.true c.loop-k.auto.k in
     let yes : heavy_shares (s ∷ rest) ≡ s ∷ heavy_shares rest = heavy_shares-yes s rest (omega (arith, ints, c.if-term-gt0.true)) in
     let now : shares_of c.in_ok-held.held ≡ s ∷ shares_of c.loop-k.held = c.in_ok-held.ensures.terms in
     let h = c.loop-k.invariant in
@@ -107,8 +105,7 @@ loop-k-preserved c =
     let k = c.loop-k.k in
     let rest = shares_from b xs o (k + 1) (drop k us) in
     let s : Share = record { at = (get_or us (k - 1) zero_dec).0; mass = fraction_of c.mass.result } in
-    let step = shares_from-drop b xs o us k zero_dec c.loop-k-test.true c.loop-k.auto.k in
-    let here : shares_from b xs o (k - 1 + 1) (drop (k - 1) us) ≡ s ∷ rest = step ∙ ap (λ m. record { at = (get_or us (k - 1) zero_dec).0; mass = m } ∷ rest) (sym c.mass.ensures.value) in
+    let here = shares_from-drop b xs o us k zero_dec (fraction_of c.mass.result) c.mass.ensures.value c.loop-k-test.true c.loop-k.auto.k in
     let truth = c.mass.ensures.truth in
     let massless : unsigned_abs c.mass.result.num ≡ 0 = omega (arith, ints, c.if-term-gt0.false, truth.num_from) in
     let some : 0 < unsigned_abs c.mass.result.den = omega (arith, ints, truth.den_from) in

@@ -1,4 +1,4 @@
-use Rattle.std.proofs.Common.{◌≡◌, ◌++◌, ◌+◌, take}
+use Rattle.std.proofs.Common.{◌≡◌, ◌++◌, take}
 use Rattle.std.specs.Prelude.{codes, map}
 use Rattle.fz_shelf.specs.Lines.{text_of}
 use Rattle.fz_top.specs.Lines.{answered, line, sample_lines}

@@ -1,6 +1,4 @@
-use Rattle.std.proofs.Common.{◌≡◌, ◌++◌, ◌∷◌, [], refl, ◌∙◌, sym, subst, rules, map, length}
-use Rattle.fz_shelf.specs.Files.{IsThere, Names}
-use Rattle.fz_top.specs.Texts.{texts_of, word_at, bytes_of}
+use Rattle.std.proofs.Common.{◌∙◌}
 use Rattle.fz_top.proofs.ReadLemmas.{read_more, stops_later, there_later, held_many, held_small}
 use Rattle.fz_top.proofs.reading.read_all.Goals as goal
 

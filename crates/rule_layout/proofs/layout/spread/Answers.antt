@@ -4,8 +4,9 @@ use Rattle.fuzzy_meaning.specs.declared.block.Rule.{Rule}
 use Rattle.rule_layout.specs.declared.flat.Slot.{Slot}
 use Rattle.rule_layout.specs.Tables.{IsInTable, IsNumbering}
 use Rattle.rule_layout.specs.Sizes.{IsCountable, IsSizeOfRules}
-use Rattle.rule_layout.specs.Layouts.{IsSpreadable, table_conjunctions}
-use Rattle.rule_layout.proofs.LayoutLemmas.{slots_in_table, few_slots, rules_countable, rules_spreadable, entries_fit, bytes_fit, form_made, list_size_made, flat_made, conjunctions_by_table, laid_out_made, weights_made}
+use Rattle.rule_layout.specs.Steps.{IsSpreadable, table_conjunctions}
+use Rattle.rule_layout.proofs.LayoutLemmas.{slots_in_table, few_slots, rules_countable, rules_spreadable, entries_fit, bytes_fit, form_made, list_size_made, flat_made, conjunctions_by_table, weights_made}
+use Rattle.rule_layout.proofs.LaidOutLemmas.{laid_out_made}
 use Rattle.rule_layout.proofs.layout.spread.Goals as goal
 
 pub size_of_rules-requires-clause-countable : goal.size_of_rules-requires-clause-countable
@@ -17,11 +18,8 @@ new-numbers-requires-clause-known c = subst (All IsInTable) (sym (c.deref.ensure
 pub new-numbers-requires-clause-few : goal.new-numbers-requires-clause-few
 new-numbers-requires-clause-few c = subst (λ (w : List Slot). length w ≤ 300) (sym (c.deref.ensures.value ∙ c.in_ok-slots.ensures)) (few_slots c.args.block.now c.requires)
 
-pub conjunctions_of-requires : goal.conjunctions_of-requires
-conjunctions_of-requires c = subst (All IsSpreadable) (sym c.as_slice-rules.ensures) (rules_spreadable c.args.block.now c.requires)
-
-pub weights_of-requires-clause-countable : goal.weights_of-requires-clause-countable
-weights_of-requires-clause-countable c = subst (All IsCountable) (sym c.as_slice-rules.ensures) (rules_countable c.args.block.now c.requires)
+pub spread_rules-requires-clause-spreadable : goal.spread_rules-requires-clause-spreadable
+spread_rules-requires-clause-spreadable c = subst (All IsSpreadable) (sym c.as_slice-rules.ensures) (rules_spreadable c.args.block.now c.requires)
 
 pub overflow_mul-bytes : goal.overflow_mul-bytes
 overflow_mul-bytes c =
@@ -45,8 +43,8 @@ returns-clause-value c =
     let b = c.args.block.now in
     let form = c.form_of-form.ensures ∙ form_made b c.len.result c.in_ok-slots.slots.items c.as_slice-rules.result.now (c.len.ensures ∙ c.in_ok-slots.slots.ok.0) c.in_ok-slots.ensures c.as_slice-rules.ensures in
     let numbering = subst (λ (w : List Slot). IsNumbering w c.new-numbers.result.table) (c.deref.ensures.value ∙ c.in_ok-slots.ensures) c.new-numbers.ensures in
-    let conjunctions = c.in_ok-conjunctions.ensures ∙ (ap (λ (w : List Rule). flat_map (table_conjunctions c.new-numbers.result.table) w) c.as_slice-rules.ensures ∙ conjunctions_by_table b c.new-numbers.result.table numbering c.requires) in
-    let weights = c.in_ok-weights.ensures ∙ weights_made b c.as_slice-rules.result.now c.as_slice-rules.ensures in
+    let conjunctions = c.in_ok-conjunctions.ensures.conjunctions ∙ (ap (λ (w : List Rule). flat_map (table_conjunctions c.new-numbers.result.table) w) c.as_slice-rules.ensures ∙ conjunctions_by_table b c.new-numbers.result.table numbering c.requires) in
+    let weights = c.in_ok-conjunctions.ensures.weights ∙ weights_made b c.as_slice-rules.result.now c.as_slice-rules.ensures in
     flat_made b _ (c.new.ensures ∙ c.in_ok-slots.ensures) (c.new-2.ensures ∙ conjunctions) (c.new-3.ensures ∙ weights) form
 
 pub returns-clause-limits : goal.returns-clause-limits

@@ -33,7 +33,7 @@ by_choice-conjunctions-requires t c =
 pub in_turn-loop-part-preserved : goal.in_turn-loop-part-preserved
 in_turn-loop-part-preserved t c =
     let at = part_of c.args.parts.now c.loop-part.part-index c.part-item.result c.loop-part-test.true c.part-item.is in
-    c.in_ok-append.ensures.items ∙ in_turn_numbers_more at c.args.odd c.args.numbers.now.table _ _ c.loop-part.invariant c.in_ok-more.ensures
+    rw c.in_ok-append.ensures.items (in_turn_numbers_more at c.args.odd c.args.numbers.now.table c.loop-part.all.items c.in_ok-more.more.items c.loop-part.invariant c.in_ok-more.ensures)
 
 pub by_choice-loop-part-preserved : goal.by_choice-loop-part-preserved
 by_choice-loop-part-preserved t c =

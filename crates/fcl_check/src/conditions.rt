@@ -1,0 +1,148 @@
+//! Conditions of a block from those of a tree.
+
+ghost use Rattle.std.specs.Prelude.{◌≡◌, ◌+◌, ◌*◌, IfOk, IfSome};
+ghost use Rattle.fcl_check.specs.Building.{HasTermIn, FitsInputs};
+
+use crate::fault::LoadFault;
+use crate::names::Names;
+use fcl_syntax::{And, Direction, Not, Operand, Or, Tree};
+use fuzzy_meaning::{Cond, Input};
+use std::alloc::Global;
+
+/// How many "(" and NOT may be open at once.
+pub const ROOM: u8 = 64;
+
+/// What conditions are built from.
+#[derive(Clone, Copy)]
+pub struct Source<'a, 'n, 'i> {
+    pub alloc: Global,
+    pub tree: &'a Tree,
+    pub names: &'n Names<'a>,
+    pub inputs: &'i [Input],
+}
+
+// The numbers of an input and of a term of it, where they are there.
+fn place(inputs: &[Input], input: u32, term: u32) -> Option<(u8, u8)>
+    ensures { IfSome result (λ p. HasTermIn inputs.now p.0 p.1) }
+{
+    if input == 0 || term == 0 || input > 255 || term > 255 {
+        return None;
+    }
+    let index = input as usize - 1;
+    if index < inputs.len() && term as usize <= inputs[index].terms.len() {
+        return Some((input as u8, term as u8));
+    }
+    None
+}
+
+fn found(source: &Source<'_, '_, '_>, operand: &Operand) -> Result<(u8, u8), LoadFault>
+    ensures { IfOk result (λ p. HasTermIn source.now.inputs.now p.0 p.1) }
+{
+    let letters = source.tree.letters(operand.variable);
+    let Some(variable) = source.names.variable(letters) else {
+        return Err(LoadFault::Unknown(operand.variable.at));
+    };
+    let name = source.tree.letters(operand.term);
+    let Some(term) = source.names.term(Direction::Input, letters, name) else {
+        return Err(LoadFault::Unknown(operand.term.at));
+    };
+    match place(source.inputs, variable.number, term) {
+        Some(place) => Ok(place),
+        None => Err(LoadFault::WrongSide(operand.variable.at)),
+    }
+}
+
+fn literal(source: &Source<'_, '_, '_>, operand: &Operand) -> Result<(Cond, u32), LoadFault>
+    ensures { IfOk result (λ r. FitsInputs source.now.inputs.now 2 r.1 r.0) }
+{
+    let (input, term) = found(source, operand)?;
+    let is = Cond::Is(input, term);
+    if operand.not_at.is_none() {
+        return Ok((is, 1));
+    }
+    let is = Box::new(source.alloc, is)?;
+    Ok((Cond::Not(is), 2))
+}
+
+// One less may be open. A tree that was read has never more open.
+fn less(room: u8) -> Result<u8, LoadFault>
+    ensures { IfOk result (λ n. n + 1 ≡ room) }
+{
+    if room == 0 {
+        return Err(LoadFault::Memory);
+    }
+    Ok(room - 1)
+}
+
+/// The sum of two sizes.
+pub fn sum(a: u32, b: u32) -> Result<u32, LoadFault>
+    ensures { IfOk result (λ n. n ≡ a + b) }
+{
+    match a.checked_add(b) {
+        Some(n) => Ok(n),
+        None => Err(LoadFault::Memory),
+    }
+}
+
+// A condition, and how many conditions it has in it.
+#[cycle(condition)]
+fn not(source: &Source<'_, '_, '_>, not: &Not, room: u8) -> Result<(Cond, u32), LoadFault>
+    ensures { IfOk result (λ r. FitsInputs source.now.inputs.now (2 * room + 2) r.1 r.0) }
+{
+    match not {
+        Not::Is(operand) => literal(source, operand),
+        Not::Not(_, part) => negated(source, part, less(room)?),
+        Not::Group(_, group) => or(source, group, less(room)?),
+    }
+}
+
+#[cycle(condition)]
+fn negated(source: &Source<'_, '_, '_>, part: &Not, room: u8) -> Result<(Cond, u32), LoadFault>
+    ensures { IfOk result (λ r. FitsInputs source.now.inputs.now (2 * room + 3) r.1 r.0) }
+{
+    let (part, size) = not(source, part, room)?;
+    let size = sum(size, 1)?;
+    let part = Box::new(source.alloc, part)?;
+    Ok((Cond::Not(part), size))
+}
+
+#[cycle(condition)]
+fn and(source: &Source<'_, '_, '_>, and: &And, room: u8) -> Result<(Cond, u32), LoadFault>
+    ensures { IfOk result (λ r. FitsInputs source.now.inputs.now (2 * room + 3) r.1 r.0) }
+{
+    let (first, size) = not(source, &and.first, room)?;
+    if and.more.is_empty() {
+        return Ok((first, size));
+    }
+    let mut parts = Vec::new(source.alloc);
+    parts.push(first)?;
+    let mut total = size;
+    'each: for conjunct in &and.more {
+        let (part, size) = not(source, &conjunct.not, room)?;
+        total = sum(total, size)?;
+        parts.push(part)?;
+    }
+    let total = sum(total, 1)?;
+    Ok((Cond::And(parts), total))
+}
+
+/// A condition, and how many conditions it has in it.
+#[cycle(condition)]
+pub fn or(source: &Source<'_, '_, '_>, or: &Or, room: u8) -> Result<(Cond, u32), LoadFault>
+    ensures { IfOk result (λ r. FitsInputs source.now.inputs.now (2 * room + 4) r.1 r.0) }
+{
+    let (first, size) = and(source, &or.first, room)?;
+    if or.more.is_empty() {
+        return Ok((first, size));
+    }
+    let mut parts = Vec::new(source.alloc);
+    parts.push(first)?;
+    let mut total = size;
+    'each: for alternative in &or.more {
+        let (part, size) = and(source, &alternative.and, room)?;
+        total = sum(total, size)?;
+        parts.push(part)?;
+    }
+    let total = sum(total, 1)?;
+    Ok((Cond::Or(parts), total))
+}

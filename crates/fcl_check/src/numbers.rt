@@ -1,0 +1,106 @@
+//! The numbers of a tree.
+
+ghost use Rattle.std.specs.Prelude.{◌↔◌, IsTrue, pos, ◌≤ℤ◌};
+ghost use Rattle.fuzzy_meaning.specs.Blocks.{IsInScale, IsWithin};
+
+use fcl_syntax::{Amount, Degree, Num, Number, Range};
+use fz_num::Dec;
+
+/// The greatest magnitude of a number, in 1/10000. A tree that was read has none above it.
+const GREATEST: i64 = 1_000_000_000;
+
+const ONE: i64 = 10_000;
+
+fn magnitude(number: Number) -> i64 {
+    match number.amount {
+        Amount::Zero => 0,
+        Amount::One => ONE,
+        Amount::Other(value) => value.0,
+    }
+}
+
+/// A number, in 1/10000.
+pub fn value(num: Num) -> Dec
+    ensures { IsInScale result.0 }
+{
+    let value = match num {
+        Num::Plus(number) | Num::Bare(number) => magnitude(number),
+        Num::Minus(number) => 0_i64.saturating_sub(magnitude(number)),
+    };
+    Dec(value.max(-GREATEST).min(GREATEST))
+}
+
+/// Whether a degree is 1 rather than 0.
+pub fn is_one(degree: Degree) -> bool {
+    match degree {
+        Degree::Plus(number) | Degree::Bare(number) => number.is_one,
+        Degree::Minus(_) => false,
+    }
+}
+
+/// From `lo` to `hi`.
+#[derive(Clone, Copy)]
+pub struct Span {
+    pub lo: Dec,
+    pub hi: Dec,
+}
+
+impl Span {
+    pub fn of(range: Range) -> Span {
+        Span {
+            lo: value(range.low),
+            hi: value(range.high),
+        }
+    }
+
+    /// The span of one number.
+    pub fn at(x: Dec) -> Span {
+        Span { lo: x, hi: x }
+    }
+
+    pub fn is_empty(self) -> bool
+        ensures { IsTrue result ↔ (self.hi.0 ≤ℤ self.lo.0) }
+    {
+        self.hi.0 <= self.lo.0
+    }
+
+    pub fn holds(self, x: Dec) -> bool
+        ensures { IsTrue result → IsWithin self.lo self.hi x }
+    {
+        self.lo.0 <= x.0 && x.0 <= self.hi.0
+    }
+
+    /// What reaches to `x` too.
+    pub fn with(self, x: Dec) -> Span {
+        Span {
+            lo: Dec(self.lo.0.min(x.0)),
+            hi: Dec(self.hi.0.max(x.0)),
+        }
+    }
+
+    /// The same span, with its ends in the scale of numbers.
+    pub fn in_scale(self) -> Span
+        ensures lo { IsInScale result.lo.0 }
+        ensures hi { IsInScale result.hi.0 }
+    {
+        Span {
+            lo: Dec(self.lo.0.max(-GREATEST).min(GREATEST)),
+            hi: Dec(self.hi.0.max(-GREATEST).min(GREATEST)),
+        }
+    }
+
+    /// The same span, and from p to p + 1 where it is the one number p.
+    pub fn widened(self) -> Span
+        ensures lo { IsInScale result.lo.0 }
+        ensures hi { result.hi.0 ≤ℤ pos 1000010000 }
+    {
+        let span = self.in_scale();
+        if span.lo.0 == span.hi.0 {
+            return Span {
+                lo: span.lo,
+                hi: Dec(span.hi.0 + ONE),
+            };
+        }
+        span
+    }
+}

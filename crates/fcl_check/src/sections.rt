@@ -1,0 +1,260 @@
+//! What is wrong with the terms, ranges and singletons of sections.
+
+use crate::names::Names;
+use crate::numbers::{Span, is_one, value};
+use fcl_syntax::{
+    Defuzzify, DefuzzyLine, Direction, FallbackValue, Fuzzify, FuzzyLine, Part, Point, Range, Term,
+    Tree,
+};
+use fz_num::Dec;
+
+/// How many terms a variable may have.
+pub const TERMS: usize = 15;
+
+/// The RANGE of a section of an input.
+pub fn fuzzy_range(section: &Fuzzify) -> Option<Range> {
+    for line in &section.lines {
+        if let FuzzyLine::Range(range) = line {
+            return Some(*range);
+        }
+    }
+    None
+}
+
+/// The RANGE of a section of an output.
+pub fn defuzzy_range(section: &Defuzzify) -> Option<Range> {
+    for line in &section.lines {
+        if let DefuzzyLine::Range(range) = line {
+            return Some(*range);
+        }
+    }
+    None
+}
+
+fn is_term(line: &FuzzyLine) -> bool {
+    matches!(line, FuzzyLine::Term(_))
+}
+
+fn is_singleton(line: &DefuzzyLine) -> bool {
+    matches!(line, DefuzzyLine::Singleton(_))
+}
+
+/// The END word of a section without TERM.
+pub fn without_terms(part: &Part) -> Option<u32> {
+    let (has_terms, end) = match part {
+        Part::Fuzzify(section) => (section.lines.iter().any(is_term), section.end),
+        Part::Defuzzify(section) => (section.lines.iter().any(is_singleton), section.end),
+    };
+    if has_terms { None } else { Some(end) }
+}
+
+/// The name of the first term over the limit.
+pub fn term_over_limit(part: &Part) -> Option<u32> {
+    match part {
+        Part::Fuzzify(section) => fuzzy_term_over_limit(section),
+        Part::Defuzzify(section) => singleton_over_limit(section),
+    }
+}
+
+fn fuzzy_term_over_limit(section: &Fuzzify) -> Option<u32> {
+    let mut room = TERMS;
+    for line in &section.lines {
+        if let FuzzyLine::Term(term) = line {
+            if room == 0 {
+                return Some(term.name.at);
+            }
+            room -= 1;
+        }
+    }
+    None
+}
+
+fn singleton_over_limit(section: &Defuzzify) -> Option<u32> {
+    let mut room = TERMS;
+    for line in &section.lines {
+        if let DefuzzyLine::Singleton(singleton) = line {
+            if room == 0 {
+                return Some(singleton.name.at);
+            }
+            room -= 1;
+        }
+    }
+    None
+}
+
+// The parenthesis of the first point that lies below the one before it.
+fn falling_point(term: &Term) -> Option<u32> {
+    let mut before = value(term.first.x);
+    for point in &term.more {
+        let x = value(point.x);
+        if x.0 < before.0 {
+            return Some(point.open_at);
+        }
+        before = x;
+    }
+    None
+}
+
+// The parenthesis of the first point outside a span.
+fn point_outside(term: &Term, span: Span) -> Option<u32> {
+    if !span.holds(value(term.first.x)) {
+        return Some(term.first.open_at);
+    }
+    for point in &term.more {
+        if !span.holds(value(point.x)) {
+            return Some(point.open_at);
+        }
+    }
+    None
+}
+
+// Where the degrees of a term have come to.
+#[derive(Clone, Copy)]
+enum Course {
+    Rising,
+    Top,
+    Falling,
+    Broken,
+}
+
+fn step(course: Course, point: &Point) -> Course {
+    match (course, is_one(point.degree)) {
+        (Course::Rising, false) => Course::Rising,
+        (Course::Rising | Course::Top, true) => Course::Top,
+        (Course::Top | Course::Falling, false) => Course::Falling,
+        (Course::Falling, true) | (Course::Broken, _) => Course::Broken,
+    }
+}
+
+// Whether the degrees are zeros, then at least one 1, then zeros.
+fn has_shape(term: &Term) -> bool {
+    let mut course = step(Course::Rising, &term.first);
+    for point in &term.more {
+        course = step(course, point);
+    }
+    matches!(course, Course::Top | Course::Falling)
+}
+
+/// The first point of an input's section that lies below the one before it.
+pub fn falling_points(part: &Part) -> Option<u32> {
+    let Part::Fuzzify(section) = part else {
+        return None;
+    };
+    for line in &section.lines {
+        if let FuzzyLine::Term(term) = line
+            && let Some(at) = falling_point(term)
+        {
+            return Some(at);
+        }
+    }
+    None
+}
+
+/// The first term of an input's section whose degrees have not the shape of a trapezoid.
+pub fn shapeless_term(part: &Part) -> Option<u32> {
+    let Part::Fuzzify(section) = part else {
+        return None;
+    };
+    for line in &section.lines {
+        if let FuzzyLine::Term(term) = line
+            && !has_shape(term)
+        {
+            return Some(term.at);
+        }
+    }
+    None
+}
+
+/// The first point outside the given RANGE of an input's section.
+pub fn points_outside(part: &Part) -> Option<u32> {
+    let Part::Fuzzify(section) = part else {
+        return None;
+    };
+    let span = Span::of(fuzzy_range(section)?);
+    for line in &section.lines {
+        if let FuzzyLine::Term(term) = line
+            && let Some(at) = point_outside(term, span)
+        {
+            return Some(at);
+        }
+    }
+    None
+}
+
+fn with_points(hull: Option<Span>, term: &Term) -> Span {
+    let first = value(term.first.x);
+    let mut span = match hull {
+        Some(span) => span.with(first),
+        None => Span::at(first),
+    };
+    for point in &term.more {
+        span = span.with(value(point.x));
+    }
+    span
+}
+
+/// From the least to the greatest of all points of a section; none where it has no term.
+pub fn hull(section: &Fuzzify) -> Option<Span> {
+    let mut hull = None;
+    for line in &section.lines {
+        if let FuzzyLine::Term(term) = line {
+            hull = Some(with_points(hull, term));
+        }
+    }
+    hull
+}
+
+/// A RANGE that is empty, or the name of an input's section whose points are all one.
+pub fn bad_range(names: &Names<'_>, tree: &Tree, part: &Part) -> Option<u32> {
+    match part {
+        Part::Fuzzify(section) => match fuzzy_range(section) {
+            Some(range) => empty_range(range),
+            None => {
+                let variable = names.variable(tree.letters(section.name))?;
+                let is_input = variable.direction == Direction::Input;
+                if is_input && hull(section)?.is_empty() {
+                    Some(section.name.at)
+                } else {
+                    None
+                }
+            }
+        },
+        Part::Defuzzify(section) => empty_range(defuzzy_range(section)?),
+    }
+}
+
+fn empty_range(range: Range) -> Option<u32> {
+    if Span::of(range).is_empty() {
+        Some(range.at)
+    } else {
+        None
+    }
+}
+
+// The number of a line of an output's section and the place where it is refused.
+fn singleton_of(line: &DefuzzyLine) -> Option<(Dec, u32)> {
+    match line {
+        DefuzzyLine::Singleton(singleton) => Some((value(singleton.value), singleton.at)),
+        DefuzzyLine::Default(fallback) => match fallback.value {
+            FallbackValue::Number(num) => Some((value(num), fallback.at)),
+            FallbackValue::Nc(_) => None,
+        },
+        _ => None,
+    }
+}
+
+/// The first singleton or DEFAULT outside the given RANGE of an output's section.
+pub fn singleton_outside(part: &Part) -> Option<u32> {
+    let Part::Defuzzify(section) = part else {
+        return None;
+    };
+    let span = Span::of(defuzzy_range(section)?);
+    for line in &section.lines {
+        if let Some((x, at)) = singleton_of(line)
+            && !span.holds(x)
+        {
+            return Some(at);
+        }
+    }
+    None
+}

@@ -1,0 +1,211 @@
+-- Where whole instructions answer all samples, so do the rows under every good plan.
+use Rattle.std.proofs.Common.{◌≡◌, ◌==◌, ◌&&◌, ℕ, zero, suc, ◌+◌, ◌-◌, ◌%◌, ◌^◌, ◌<◌, ◌≤◌, Bool, true, false, List, [], ◌∷◌, ◌++◌, length, get_or, refl, ap, ap₂, sym, ◌∙◌, subst, arith, inl, inr, ◌⊎◌}
+use Rattle.std.proofs.Math.ListN.{set}
+use Rattle.std.proofs.lemmas.Bool.Decides.{nat_tests}
+use Rattle.fuzzy_meaning.specs.declared.block.Block.{Block}
+use Rattle.point_slope.specs.Bytes.{byte_answer}
+use Rattle.cpu12_isa.specs.declared.instr.Instr.TheVariants.{Rev, Revw, Wav}
+use Rattle.cpu12_isa.specs.Act.{write_all}
+use Rattle.cpu12_isa.specs.Code.{six_from}
+use Rattle.cpu12_isa.specs.Memory.{plus, from, placed, bytes_at}
+use Rattle.cpu12_parts.specs.State.{State}
+use Rattle.cpu12_emul.specs.Image.{image_memory}
+use Rattle.interrupt_plan.specs.declared.Request.{Request}
+use Rattle.interrupt_plan.specs.Plans.{IsGood}
+use Rattle.codegen.specs.declared.firmware.Firmware.{Firmware}
+use Rattle.codegen.specs.Layouts.{main_layout}
+use Rattle.codegen.specs.Bounds.{instruction_bound, step_bound}
+use Rattle.codegen.specs.Ways as ways
+use Rattle.codegen.specs.Ways.{IsCalm, IsCalmInstruction, IsCalmStep}
+use Rattle.codegen.specs.Answers as answers
+use Rattle.codegen.specs.Answers.{IsAnswered, AreAnswered}
+use Rattle.fz_run.specs.declared.board.Board.{Board}
+use Rattle.fz_run.specs.Rows.{board_of, is_idle, given, answers_in, requests_of, with_writes, RowSeen, rows_from, firmware_rows}
+use Rattle.fz_run.specs.Calm.{calm, counted}
+use Rattle.fz_run.specs.Undisturbed.{is_hidden, Calmed, Before}
+use Rattle.fz_run.specs.CalmRows.{is_free, Sampled, AllSampled, AllWithin, expected_row, expected_rows, IsLow, GoesCalmly}
+use Rattle.fz_run.specs.Stretches.{Stretch, Way, all_steps, Went, Kept, Calmly}
+use Rattle.fz_run.specs.Answering.{IsRowOf, AreRowsOf, AreShort, IsFirmwareOf, AnswersUnder, AnswersUnderPlans}
+use Rattle.fz_run.proofs.Boards.{write_last}
+use Rattle.fz_run.proofs.Decoding.{page_of, average_byte}
+use Rattle.fz_run.proofs.PlainSteps.{plain_step}
+use Rattle.fz_run.proofs.Stretching.{way_went, before_weaker}
+use Rattle.fz_run.proofs.WholeSteps.{rev_step, revw_step, average_step}
+use Rattle.fz_run.proofs.WriteHandlers.{runs_calmly}
+
+-- the board of a firmware that stands alone
+abbrev board : ℕ → Board
+board n = record { loop_at = 49160; ready = 4096; inputs = 4097; outputs = 4112; output_count = n }
+
+On : ℕ → State → Type 0
+On n u = is_idle (board n) u ≡ false
+
+off_loop : (n : ℕ) (v : State) → (v.regs.pc ≡ 49160 → ⊥) → On n v
+unfolding On
+off_loop n v h = let t : (v.regs.pc == 49160) ≡ false = grind (arith, nat_tests) in rw t refl
+
+-- what each state of the way keeps, in the words of runs
+calmly : (image : List ℕ) (s : State) → IsCalm image s → Calmly is_free s
+calmly image s c = record {
+  temps = c.temps;
+  size = c.size;
+  bytes = c.bytes;
+  fits = c.fits;
+  low = low c.stack;
+  high = high c.stack;
+  unmasked = c.unmasked;
+  code = c.code;
+}
+  where
+    low : (s.regs.sp ≡ 8190) ⊎ (s.regs.sp ≡ 8192) → 8175 ≤ s.regs.sp
+    low (inl e) = omega arith
+    low (inr e) = omega arith
+
+    high : (s.regs.sp ≡ 8190) ⊎ (s.regs.sp ≡ 8192) → s.regs.sp ≤ 8192
+    high (inl e) = omega arith
+    high (inr e) = omega arith
+
+-- REV, REVW and WAV do not stand where the code waits
+not_there : (image : List ℕ) (s : State) (at byte : ℕ) → IsCalm image s → get_or image 49160 0 ≡ 182 → get_or s.mem at 0 ≡ byte → (byte ≡ 182 → ⊥) → at ≡ 49160 → ⊥
+not_there image s at byte c w e n z =
+    let same : get_or s.mem 49160 0 ≡ get_or image 49160 0 = c.same 49160 (omega arith) in
+    n (sym e ∙ ap (λ (k : ℕ). get_or s.mem k 0) z ∙ same ∙ w)
+
+step_stretch : (n : ℕ) (image : List ℕ) (flags d : ℕ) (s t : State) → flags < 2 ^ 8 → get_or image 49160 0 ≡ 182 → IsCalmStep main_layout image flags d s t → Stretch (Kept is_free flags (On n)) flags d s t
+unfolding On
+step_stretch n image flags d s t hf w h = by h.instruction
+  where
+    c : Calmly is_free s
+    c = calmly image s h.calm
+
+    stays : (v : State) → (s.regs.pc ≡ 49160 → ⊥) → v.regs.pc ≡ s.regs.pc → is_idle (board n) v ≡ false
+    stays v ne e = off_loop n v (λ z. ne (sym e ∙ z))
+
+    by : IsCalmInstruction flags d s t → Stretch (Kept is_free flags (On n)) flags d s t
+    by (inl p) = subst (λ (k : ℕ). Stretch (Kept is_free flags (On n)) flags k s t) (sym p.1.1) (plain_step is_free flags (On n) p.0 s t c p.1.0.step p.1.0.reads p.1.0.uncovers h.busy)
+    by (inr (inl p)) =
+        let at = page_of (bytes_at s.mem (six_from s.regs.pc)) Rev refl p.2.step.decoded in
+        let ne = not_there image s s.regs.pc 24 h.calm w at.0 (λ e. omega arith) in
+        rev_step is_free flags (On n) d p.0 p.1 s t hf c p.2.step p.2.reads p.2.itself (λ v e. stays v ne e)
+    by (inr (inr (inl p))) =
+        let at = page_of (bytes_at s.mem (six_from s.regs.pc)) Revw refl p.2.step.decoded in
+        let ne = not_there image s s.regs.pc 24 h.calm w at.0 (λ e. omega arith) in
+        revw_step is_free flags (On n) d p.0 p.1 s t hf c p.2.step p.2.reads p.2.itself (λ v e. stays v ne e)
+    by (inr (inr (inr p))) =
+        let ne = not_there image s (plus s.regs.pc 1) 60 h.calm w (average_byte (bytes_at s.mem (six_from s.regs.pc)) p.step.decoded) (λ e. omega arith) in
+        average_step is_free flags (On n) d s t hf c p.step p.reads h.busy (λ v e. off_loop n v (λ z. ne (sym e ∙ z)))
+
+way_stretch : (n : ℕ) (image : List ℕ) (flags : ℕ) (ds : List ℕ) (s t : State) → flags < 2 ^ 8 → get_or image 49160 0 ≡ 182 → ways.Way (IsCalmStep main_layout image flags) ds s t → Way (Stretch (Kept is_free flags (On n)) flags) ds s t
+way_stretch n image flags [] s t hf w h = h
+way_stretch n image flags (d ∷ ds) s t hf w h = (h.0, (step_stretch n image flags d s h.0 hf w h.1.0, way_stretch n image flags ds h.0 t hf w h.1.1))
+
+same_steps : (ds : List ℕ) → ways.all_steps ds ≡ all_steps ds
+same_steps [] = refl
+same_steps (d ∷ ds) = ap (λ (k : ℕ). suc d + k) (same_steps ds)
+
+-- a sample is given alike
+same_put : (at : ℕ) (bytes m : List ℕ) → at + length bytes ≤ 65535 → write_all (placed at bytes) m ≡ answers.put m at bytes
+same_put at [] m l = refl
+same_put at (v ∷ bytes) m l =
+    let e : plus at 1 ≡ at + 1 = omega arith in
+    ap (λ (k : ℕ). write_all (placed k bytes) (set m at v)) e ∙ same_put (at + 1) bytes (set m at v) (omega arith)
+
+same_given : (n : ℕ) (bytes : List ℕ) (s : State) → length bytes ≤ 8 → given (board n) bytes s ≡ answers.given main_layout bytes s
+same_given n bytes s l =
+    ap (λ (m : List ℕ). by m) (write_last (placed 4097 bytes) 4096 1 s.mem ∙ ap (λ (m : List ℕ). set m 4096 1) (same_put 4097 bytes s.mem (omega arith)))
+  where
+    by : List ℕ → State
+    by m = record { regs = s.regs; temps = s.temps; mem = m }
+
+-- the numbers of steps of the samples
+numbers : (b : Block) (image : List ℕ) (flags : ℕ) (before : ℕ → ℕ) (samples : List (List ℕ)) (s : State) → AreAnswered main_layout b image flags before samples s → List ℕ
+numbers b image flags before [] s w = []
+numbers b image flags before (bytes ∷ samples) s w = all_steps w.1.0.ds ∷ numbers b image flags (λ o. byte_answer b o bytes (before o)) samples w.0 w.1.1
+
+within : (b : Block) (image : List ℕ) (flags : ℕ) (before : ℕ → ℕ) (samples : List (List ℕ)) (s : State) (w : AreAnswered main_layout b image flags before samples s) → AllWithin (step_bound b) (numbers b image flags before samples s w)
+unfolding numbers
+within b image flags before [] s w = tt
+within b image flags before (bytes ∷ samples) s w = (subst (λ (k : ℕ). k ≤ step_bound b) (same_steps w.1.0.ds) w.1.0.steps, within b image flags (λ o. byte_answer b o bytes (before o)) samples w.0 w.1.1)
+
+went : (n : ℕ) (b : Block) (image : List ℕ) (flags : ℕ) (before : ℕ → ℕ) (bytes : List ℕ) (s t : State) → flags < 2 ^ 8 → get_or image 49160 0 ≡ 182 → length bytes ≤ 8 → (a : IsAnswered main_layout b image flags before bytes s t)
+    → Went (Kept is_free flags (On n)) flags a.ds (given (board n) bytes s) t
+went n b image flags before bytes s t hf w l a =
+    subst (λ (u : State). Went (Kept is_free flags (On n)) flags a.ds u t) (sym (same_given n bytes s l)) (way_went (Kept is_free flags (On n)) flags a.ds (answers.given main_layout bytes s) t (way_stretch n image flags a.ds (answers.given main_layout bytes s) t hf w a.way))
+
+sampled : (n : ℕ) (b : Block) (image : List ℕ) (flags : ℕ) (before : ℕ → ℕ) (bytes : List ℕ) (s t : State) → flags < 2 ^ 8 → get_or image 49160 0 ≡ 182 → length bytes ≤ 8 → (a : IsAnswered main_layout b image flags before bytes s t)
+    → Sampled (Calmed is_free flags) (with_writes flags (board n)) (all_steps a.ds) (given (board n) bytes s)
+unfolding On
+sampled n b image flags before bytes s t hf w l a =
+    let g = went n b image flags before bytes s t hf w l a in
+    record {
+      holds = before_weaker (Kept is_free flags (On n)) (Calmed is_free flags) flags (λ u k. k.0) (all_steps a.ds) (given (board n) bytes s) g.each;
+      on = before_weaker (Kept is_free flags (On n)) (λ u. is_idle (board n) u ≡ false) flags (λ u k. k.1) (all_steps a.ds) (given (board n) bytes s) g.each;
+      stopped = ap (is_idle (board n)) g.goes ∙ a.idle;
+    }
+
+all_sampled : (n : ℕ) (b : Block) (image : List ℕ) (flags : ℕ) (before : ℕ → ℕ) (samples : List (List ℕ)) (s : State) → flags < 2 ^ 8 → get_or image 49160 0 ≡ 182 → AreShort samples → (w : AreAnswered main_layout b image flags before samples s)
+    → AllSampled (Calmed is_free flags) (with_writes flags (board n)) (board n) (numbers b image flags before samples s w) samples s
+unfolding numbers
+all_sampled n b image flags before [] s hf k l w = tt
+all_sampled n b image flags before (bytes ∷ samples) s hf k l w =
+    let g = went n b image flags before bytes s w.0 hf k l.0 w.1.0 in
+    let later : ℕ → ℕ = λ o. byte_answer b o bytes (before o) in (
+      sampled n b image flags before bytes s w.0 hf k l.0 w.1.0,
+      subst (λ (u : State). AllSampled (Calmed is_free flags) (with_writes flags (board n)) (board n) (numbers b image flags later samples w.0 w.1.1) samples u) (sym g.goes) (all_sampled n b image flags later samples w.0 hf k l.1 w.1.1),
+    )
+
+-- the answers' bytes, one by one
+byte_of : (m : List ℕ) (at n k : ℕ) → at + n ≤ 65535 → k < n → get_or (bytes_at m (from at n)) k 0 ≡ get_or m (at + k) 0
+byte_of m at zero k l h = absurd (omega arith)
+byte_of m at (suc n) zero l h = let e : at + 0 ≡ at = omega arith in ap (λ (j : ℕ). get_or m j 0) (sym e)
+byte_of m at (suc n) (suc k) l h =
+    let e : plus at 1 + k ≡ at + suc k = omega arith in
+    byte_of m (plus at 1) n k (omega arith) (omega arith) ∙ ap (λ (j : ℕ). get_or m j 0) e
+
+row_answers : (b : Block) (image : List ℕ) (flags : ℕ) (before : ℕ → ℕ) (bytes : List ℕ) (qs : List Request) (s t : State) → flags < 2 ^ 8 → get_or image 49160 0 ≡ 182 → length bytes ≤ 8 → length b.outputs ≤ 4
+    → (a : IsAnswered main_layout b image flags before bytes s t) → IsRowOf b before bytes (expected_row flags (board (length b.outputs)) qs (all_steps a.ds) bytes (given (board (length b.outputs)) bytes s))
+row_answers b image flags before bytes qs s t hf w l few a =
+    let n = length b.outputs in
+    let g = went n b image flags before bytes s t hf w l a in
+    let same : answers_in (board n) (calm flags (all_steps a.ds) (given (board n) bytes s)) ≡ bytes_at t.mem (from 4112 n) = ap (answers_in (board n)) g.goes in
+    record {
+      bytes_are = refl;
+      answers = λ o lo hi. ap (λ (l : List ℕ). get_or l (o - 1) 0) same ∙ byte_of t.mem 4112 n (o - 1) (omega arith) (omega arith) ∙ a.answers o lo hi;
+      instructions = subst (λ (k : ℕ). k ≤ instruction_bound b) (sym g.counts) a.instructions;
+      steps = subst (λ (k : ℕ). k ≤ step_bound b) (same_steps a.ds) a.steps;
+    }
+
+all_answers : (b : Block) (image : List ℕ) (flags : ℕ) (before : ℕ → ℕ) (plan : List Request) (k : ℕ) (samples : List (List ℕ)) (s : State) → flags < 2 ^ 8 → get_or image 49160 0 ≡ 182 → AreShort samples → length b.outputs ≤ 4
+    → (w : AreAnswered main_layout b image flags before samples s) → AreRowsOf b before samples (expected_rows flags (board (length b.outputs)) plan k (numbers b image flags before samples s w) samples s)
+unfolding numbers
+all_answers b image flags before plan k [] s hf c l few w = tt
+all_answers b image flags before plan k (bytes ∷ samples) s hf c l few w =
+    let n = length b.outputs in
+    let g = went n b image flags before bytes s w.0 hf c l.0 w.1.0 in
+    let later : ℕ → ℕ = λ o. byte_answer b o bytes (before o) in (
+      row_answers b image flags before bytes (requests_of k plan) s w.0 hf c l.0 few w.1.0,
+      subst (λ (u : State). AreRowsOf b later samples (expected_rows flags (board n) plan (suc k) (numbers b image flags later samples w.0 w.1.1) samples u)) (sym g.goes)
+          (all_answers b image flags later plan (suc k) samples w.0 hf c l.1 few w.1.1),
+    )
+
+pub answers_under_plans : AnswersUnderPlans
+answers_under_plans f b flags samples plan s hf h short good w =
+    let image = image_memory f.image.bytes in
+    let n = length b.outputs in
+    let ns = numbers b image flags (λ o. 0) samples s w in
+    let few = h.few in
+    let same : board_of f ≡ board n = ap₂ (λ (l k : ℕ). by l k) h.loop_at h.outputs in
+    let low : IsLow (board n) = record { ready = omega arith; outputs = omega arith } in
+    let runs : GoesCalmly flags (board n) f.step_bound plan ns samples s =
+    runs_calmly flags (board n) f.step_bound plan ns samples s low good (subst (λ (m : ℕ). AllWithin m ns) (sym h.bound) (within b image flags (λ o. 0) samples s w)) (all_sampled n b image flags (λ o. 0) samples s hf h.waits short w) in
+    let all : AreRowsOf b (λ o. 0) samples (expected_rows flags (board n) plan 1 ns samples s) = all_answers b image flags (λ o. 0) plan 1 samples s hf h.waits short few w in
+    let rows : AreRowsOf b (λ o. 0) samples (rows_from (with_writes flags (board n)) (board n) f.step_bound plan 1 samples s).rows = subst (λ (rs : List RowSeen). AreRowsOf b (λ o. 0) samples rs) (sym runs.rows_are) all in
+    record {
+      ns = ns;
+      calmly = subst (λ (d : Board). GoesCalmly flags d f.step_bound plan ns samples s) (sym same) runs;
+      rows = subst (λ (u : State). AreRowsOf b (λ o. 0) samples (rows_from (with_writes flags (board_of f)) (board_of f) f.step_bound plan 1 samples u).rows) (sym h.first)
+          (subst (λ (d : Board). AreRowsOf b (λ o. 0) samples (rows_from (with_writes flags d) d f.step_bound plan 1 samples s).rows) (sym same) rows);
+    }
+  where
+    by : ℕ → ℕ → Board
+    by l k = record { loop_at = l; ready = 4096; inputs = 4097; outputs = 4112; output_count = k }

@@ -1,0 +1,84 @@
+-- The rows of a list of samples by the first of them.
+use Rattle.std.proofs.Common.{◌≡◌, ◌≤◌, ◌<◌, ◌+◌, ℕ, suc, true, false, List, [], ◌∷◌, ◌++◌, length, map, get_or, drop, drop-cons, refl, ap, sym, ◌∙◌, arith, append_assoc, append-nil}
+use Rattle.cpu12_parts.specs.State.{State}
+use Rattle.interrupt_plan.specs.declared.Request.{Request}
+use Rattle.trace_io.specs.declared.sample.Sample.{Sample}
+use Rattle.fz_run.specs.declared.board.Board.{Board}
+use Rattle.fz_run.specs.Runs.{Setting, Ran, run_from}
+use Rattle.fz_run.specs.Rows.{input_bytes, given, requests_of, RowSeen, row_of, Rows, put_row, rows_from}
+use Rattle.fz_run.specs.Slices.{requests_first}
+use Rattle.fz_run.proofs.PlanSlices.{Follow, first_are, later_are}
+
+-- plans that have the same requests for the samples that are left
+rows_plan : (g : Setting Request) (b : Board) (most : ℕ) (p q : List Request) (k : ℕ) (samples : List (List ℕ)) (s : State) → ((j : ℕ) → k ≤ j → requests_of j p ≡ requests_of j q)
+    → rows_from g b most p k samples s ≡ rows_from g b most q k samples s
+unfolding rows_from
+rows_plan g b most p q k [] s h = refl
+rows_plan g b most p q k (bytes ∷ rest) s h =
+    let r : Ran = run_from g most 0 false (requests_of k q) (given b bytes s) in
+    ap (λ (qs : List Request). with_requests qs) (h k (omega arith))
+    ∙ ap (λ (rs : Rows). put_row (row_of b bytes r) r rs) (rows_plan g b most p q (suc k) rest r.state (λ j l. h j (omega arith)))
+  where
+    with_requests : List Request → Rows
+    with_requests qs =
+        let r = run_from g most 0 false qs (given b bytes s) in
+        put_row (row_of b bytes r) r (rows_from g b most p (suc k) rest r.state)
+
+pub no_row : (g : Setting Request) (b : Board) (most : ℕ) (plan : List Request) (k : ℕ) (s : State) → rows_from g b most plan k [] s ≡ record { rows = []; states = []; arrived = true; state = s }
+unfolding rows_from
+no_row g b most plan k s = refl
+
+-- the first row, and those of the plan that is left
+one_row : (g : Setting Request) (b : Board) (most : ℕ) (plan : List Request) (k : ℕ) (bytes : List ℕ) (rest : List (List ℕ)) (s : State) (r : Ran) → Follow k plan
+    → r ≡ run_from g most 0 false (requests_first k plan) (given b bytes s)
+    → rows_from g b most plan k (bytes ∷ rest) s ≡ put_row (row_of b bytes r) r (rows_from g b most (drop (length (requests_first k plan)) plan) (k + 1) rest r.state)
+unfolding rows_from
+one_row g b most plan k bytes rest s r h e =
+    let n : suc k ≡ k + 1 = omega arith in
+    ap (λ (qs : List Request). with_ran (run_from g most 0 false qs (given b bytes s))) (first_are k plan h)
+    ∙ ap (λ (t : Ran). with_ran t) (sym e)
+    ∙ ap (λ (rs : Rows). put_row (row_of b bytes r) r rs)
+    (ap (λ (j : ℕ). rows_from g b most plan j rest r.state) n
+    ∙ rows_plan g b most plan (drop (length (requests_first k plan)) plan) (k + 1) rest r.state (λ j l. later_are k j plan (omega arith)))
+  where
+    with_ran : Ran → Rows
+    with_ran t = put_row (row_of b bytes t) t (rows_from g b most plan (suc k) rest t.state)
+
+-- what is found after one row more
+pub record Found (g : Setting Request) (b : Board) (most : ℕ) (plan : List Request) (k : ℕ) (rest : List (List ℕ)) (s : State) (rows : List RowSeen) (all : Rows) : Type 0 where
+  pub rows_are : rows ++ (rows_from g b most plan k rest s).rows ≡ all.rows
+  pub state_is : (rows_from g b most plan k rest s).state ≡ all.state
+
+pub found_more : (g : Setting Request) (b : Board) (most : ℕ) (plan plan2 : List Request) (k : ℕ) (samples : List (List ℕ)) (bytes : List ℕ) (rest : List (List ℕ)) (s t : State) (rows rows2 : List RowSeen) (row : RowSeen) (all : Rows) (requests : List Request)
+    → Found g b most plan k samples s rows all → Follow k plan → samples ≡ bytes ∷ rest → requests ≡ requests_first k plan → plan2 ≡ drop (length (requests_first k plan)) plan
+    → row ≡ row_of b bytes (run_from g most 0 false requests (given b bytes s)) → t ≡ (run_from g most 0 false requests (given b bytes s)).state → rows2 ≡ rows ++ row ∷ []
+    → Found g b most plan2 (k + 1) rest t rows2 all
+found_more g b most plan plan2 k samples bytes rest s t rows rows2 row all requests f h es eq ep er et e2 =
+    let r : Ran = run_from g most 0 false requests (given b bytes s) in
+    let one : rows_from g b most plan k samples s ≡ put_row (row_of b bytes r) r (rows_from g b most (drop (length (requests_first k plan)) plan) (k + 1) rest r.state) =
+    ap (λ (l : List (List ℕ)). rows_from g b most plan k l s) es ∙ one_row g b most plan k bytes rest s r h (ap (λ (qs : List Request). run_from g most 0 false qs (given b bytes s)) eq) in
+    let there : rows_from g b most (drop (length (requests_first k plan)) plan) (k + 1) rest r.state ≡ rows_from g b most plan2 (k + 1) rest t =
+    ap (λ (p : List Request). rows_from g b most p (k + 1) rest r.state) (sym ep) ∙ ap (λ (u : State). rows_from g b most plan2 (k + 1) rest u) (sym et) in
+    let all2 : rows_from g b most plan k samples s ≡ put_row row r (rows_from g b most plan2 (k + 1) rest t) =
+    one ∙ ap (λ (rs : Rows). put_row (row_of b bytes r) r rs) there ∙ ap (λ (x : RowSeen). put_row x r (rows_from g b most plan2 (k + 1) rest t)) (sym er) in
+    record {
+      rows_are = ap (λ (l : List RowSeen). l ++ (rows_from g b most plan2 (k + 1) rest t).rows) e2
+          ∙ append_assoc rows (row ∷ []) (rows_from g b most plan2 (k + 1) rest t).rows
+          ∙ ap (λ (rs : Rows). rows ++ rs.rows) (sym all2) ∙ f.rows_are;
+      state_is = ap (λ (rs : Rows). rs.state) (sym all2) ∙ f.state_is;
+    }
+
+pub found_all : (g : Setting Request) (b : Board) (most : ℕ) (plan : List Request) (k : ℕ) (samples : List (List ℕ)) (s : State) (rows : List RowSeen) (all : Rows) → Found g b most plan k samples s rows all → samples ≡ []
+    → (rows ≡ all.rows) × (s ≡ all.state)
+found_all g b most plan k samples s rows all f e =
+    let none = ap (λ (l : List (List ℕ)). rows_from g b most plan k l s) e ∙ no_row g b most plan k s in
+    (sym (append-nil rows) ∙ ap (λ (rs : Rows). rows ++ rs.rows) (sym none) ∙ f.rows_are, ap (λ (rs : Rows). rs.state) (sym none) ∙ f.state_is)
+
+-- the sample that is next, and those that are left
+pub samples_here : (samples : List Sample) (i : ℕ) (d : Sample) → i < length samples → d ≡ get_or samples i d → map input_bytes (drop i samples) ≡ input_bytes d ∷ map input_bytes (drop (i + 1) samples)
+samples_here samples i d h e =
+    let n : suc i ≡ i + 1 = omega arith in
+    ap (map input_bytes) (drop-cons samples i d h) ∙ ap (λ (s : Sample). input_bytes s ∷ map input_bytes (drop (suc i) samples)) (sym e) ∙ ap (λ (j : ℕ). input_bytes d ∷ map input_bytes (drop j samples)) n
+
+pub found_start : (g : Setting Request) (b : Board) (most : ℕ) (plan : List Request) (k : ℕ) (samples : List (List ℕ)) (s : State) (rows : List RowSeen) → rows ≡ [] → Found g b most plan k samples s rows (rows_from g b most plan k samples s)
+found_start g b most plan k samples s rows e = record { rows_are = ap (λ (l : List RowSeen). l ++ (rows_from g b most plan k samples s).rows) e; state_is = refl }

@@ -1,0 +1,76 @@
+-- Stretches of steps, put together.
+use Rattle.std.proofs.Common.{◌≡◌, ℕ, zero, suc, ◌+◌, Bool, not, Result, Ok, List, [], ◌∷◌, length, get_or, refl, ap, ap₂, sym, ◌∙◌, subst, arith}
+use Rattle.cpu12_isa.specs.Act.{Act, read_by, get_all}
+use Rattle.cpu12_isa.specs.Agreement.{AllShown}
+use Rattle.cpu12_isa.specs.Memory.{bytes_at}
+use Rattle.cpu12_parts.specs.State.{State}
+use Rattle.cpu12_emul.specs.declared.ends.Stepped.{Stepped}
+use Rattle.cpu12_emul.specs.declared.ends.Stepped.TheVariants.{Plain, Part, LastPart}
+use Rattle.cpu12_emul.specs.Step.{Next, next_of}
+use Rattle.fz_run.specs.Runs.{is_part, one_if}
+use Rattle.fz_run.specs.Calm.{stepped, kind_at, state_by, kind_by, calm, counted}
+use Rattle.fz_run.specs.Undisturbed.{Before}
+use Rattle.fz_run.specs.Stretches.{Stretch, Way, all_steps, Went}
+
+calm_add : (flags m n : ℕ) (s : State) → calm flags (m + n) s ≡ calm flags n (calm flags m s)
+calm_add flags zero n s = let e : 0 + n ≡ n = omega arith in ap (λ (k : ℕ). calm flags k s) e
+calm_add flags (suc m) n s = let e : suc m + n ≡ suc (m + n) = omega arith in ap (λ (k : ℕ). calm flags k s) e ∙ calm_add flags m n (stepped flags s)
+
+counted_add : (flags m n : ℕ) (s : State) → counted flags (m + n) s ≡ counted flags m s + counted flags n (calm flags m s)
+counted_add flags zero n s = let e : 0 + n ≡ n = omega arith in ap (λ (k : ℕ). counted flags k s) e ∙ omega arith
+counted_add flags (suc m) n s =
+    let e : suc m + n ≡ suc (m + n) = omega arith in
+    let r = counted_add flags m n (stepped flags s) in
+    ap (λ (k : ℕ). counted flags k s) e ∙ omega (arith, r)
+
+before_add : (P : State → Type 0) (flags m n : ℕ) (s : State) → Before P flags m s → Before P flags n (calm flags m s) → Before P flags (m + n) s
+before_add P flags zero n s a b = let e : n ≡ 0 + n = omega arith in subst (λ (k : ℕ). Before P flags k s) e b
+before_add P flags (suc m) n s a b = let e : suc (m + n) ≡ suc m + n = omega arith in subst (λ (k : ℕ). Before P flags k s) e (a.0, before_add P flags m n (stepped flags s) a.1 b)
+
+pub way_went : (P : State → Type 0) (flags : ℕ) (ds : List ℕ) (s t : State) → Way (Stretch P flags) ds s t → Went P flags ds s t
+way_went P flags [] s t e = record { goes = e; counts = refl; each = tt }
+way_went P flags (d ∷ ds) s t w =
+    let u = w.0 in
+    let a = w.1.0 in
+    let r = way_went P flags ds u t w.1.1 in
+    record {
+      goes = calm_add flags (suc d) (all_steps ds) s ∙ ap (calm flags (all_steps ds)) a.goes ∙ r.goes;
+      counts = (let c = counted_add flags (suc d) (all_steps ds) s in let c2 = ap (counted flags (all_steps ds)) a.goes in omega (arith, c, c2, a.counts, r.counts));
+      each = before_add P flags (suc d) (all_steps ds) s a.each (subst (λ (v : State). Before P flags (all_steps ds) v) (sym a.goes) r.each);
+    }
+
+pub before_weaker : (P Q : State → Type 0) (flags : ℕ) → ((s : State) → P s → Q s) → (n : ℕ) (s : State) → Before P flags n s → Before Q flags n s
+before_weaker P Q flags h zero s b = tt
+before_weaker P Q flags h (suc n) s b = (h s b.0, before_weaker P Q flags h n (stepped flags s) b.1)
+
+-- a plain instruction is one step
+pub plain_stretch : (P : State → Type 0) (flags : ℕ) (s t : State) → P s → next_of flags s ≡ Ok (record { state = t; kind = Plain }) → Stretch P flags 0 s t
+plain_stretch P flags s t p e = record {
+  goes = ap (state_by s) e;
+  counts = ap (λ (o : Result Next ℕ). one_if (not (is_part (kind_by o))) + 0) e;
+  each = (p, tt);
+}
+
+-- so is a last part
+pub last_stretch : (P : State → Type 0) (flags : ℕ) (s t : State) → P s → next_of flags s ≡ Ok (record { state = t; kind = LastPart }) → Stretch P flags 0 s t
+last_stretch P flags s t p e = record {
+  goes = ap (state_by s) e;
+  counts = ap (λ (o : Result Next ℕ). one_if (not (is_part (kind_by o))) + 0) e;
+  each = (p, tt);
+}
+
+-- a part before the rest
+pub part_stretch : (P : State → Type 0) (flags d : ℕ) (s u t : State) → P s → next_of flags s ≡ Ok (record { state = u; kind = Part }) → Stretch P flags d u t → Stretch P flags (suc d) s t
+part_stretch P flags d s u t p e r =
+    let at : stepped flags s ≡ u = ap (state_by s) e in
+    let kind : kind_at flags s ≡ Part = ap kind_by e in
+    record {
+      goes = ap (calm flags (suc d)) at ∙ r.goes;
+      counts = ap₂ (λ (k : Stepped) (n : ℕ). one_if (not (is_part k)) + n) kind (ap (counted flags (suc d)) at ∙ r.counts);
+      each = (p, subst (λ (v : State). Before P flags (suc d) v) (sym at) r.each);
+    }
+
+-- bytes that are read one after the other
+pub shown_all : {B : Type 0} (h : ℕ → Bool) (m : List ℕ) (ats : List ℕ) (next : List ℕ → Act B) → AllShown h ats → AllShown h (read_by (next (bytes_at m ats)) m) → AllShown h (read_by (get_all ats next) m)
+shown_all h m [] next s g = g
+shown_all h m (at ∷ ats) next s g = (s.0, shown_all h m ats (λ vs. next (get_or m at 0 ∷ vs)) s.1 g)

@@ -1,0 +1,80 @@
+-- The run of a sample without interrupts, and what is expected of its run under requests.
+use Rattle.std.specs.Prelude.{ℕ, zero, suc, ◌+◌, ◌==◌, ◌&&◌, ◌||◌, not, nat_lt, Bool, true, false, if◌then◌else◌, Result, Ok, Err, Option, Some, None, List, [], ◌∷◌, ◌++◌}
+use Rattle.cpu12_isa.specs.Memory.{plus}
+use Rattle.cpu12_isa.specs.Registers.{frame_bytes}
+use Rattle.cpu12_parts.specs.declared.temps.Temps.{Temps}
+use Rattle.cpu12_parts.specs.declared.temps.Temps.TheVariants.{Free, Running, OnStack}
+use Rattle.cpu12_parts.specs.State.{State}
+use Rattle.cpu12_parts.specs.Sums.{sum_bytes}
+use Rattle.cpu12_emul.specs.declared.ends.Stepped.{Stepped}
+use Rattle.cpu12_emul.specs.declared.ends.Stepped.TheVariants.{Plain}
+use Rattle.cpu12_emul.specs.Step.{Next, next_of}
+use Rattle.cpu12_emul.specs.Take.{FrameSeen}
+use Rattle.fz_run.specs.Runs.{is_part, one_if}
+
+-- the state after a step, which stays where none is defined, and the step's kind
+abbrev pub state_by : State → Result Next ℕ → State
+state_by s (Ok next) = next.state
+state_by s (Err byte) = s
+
+abbrev pub kind_by : Result Next ℕ → Stepped
+kind_by (Ok next) = next.kind
+kind_by (Err byte) = Plain
+
+abbrev pub stepped : ℕ → State → State
+stepped flags s = state_by s (next_of flags s)
+
+abbrev pub kind_at : ℕ → State → Stepped
+kind_at flags s = kind_by (next_of flags s)
+
+-- the state at boundary m
+abbrev pub calm : ℕ → ℕ → State → State
+calm flags zero s = s
+calm flags (suc m) s = calm flags m (stepped flags s)
+
+-- how many of the first n steps are plain or last parts
+abbrev pub counted : ℕ → ℕ → State → ℕ
+counted flags zero s = 0
+counted flags (suc n) s = one_if (not (is_part (kind_at flags s))) + counted flags n (stepped flags s)
+
+-- whether the step that led to boundary m was a part and not the last
+abbrev pub is_inside : ℕ → State → ℕ → Bool
+is_inside flags s zero = false
+is_inside flags s (suc j) = is_part (kind_at flags (calm flags j s))
+
+-- a request has this moment
+abbrev pub has_moment : {A : Type 0} → (A → ℕ) → ℕ → List A → Bool
+has_moment moment m [] = false
+has_moment moment m (q ∷ qs) = (moment q == m) || has_moment moment m qs
+
+-- the requests with a moment below n
+abbrev pub taken_before : {A : Type 0} → (A → ℕ) → ℕ → List A → List A
+taken_before moment n [] = []
+taken_before moment n (q ∷ qs) = if nat_lt (moment q) n then q ∷ taken_before moment n qs else taken_before moment n qs
+
+-- how many moments below n are inside REV, REVW or WAV and are the moment of a request
+abbrev pub resumed_of : {A : Type 0} → ℕ → (A → ℕ) → State → List A → ℕ → ℕ
+resumed_of flags moment s qs zero = 0
+resumed_of flags moment s qs (suc n) = resumed_of flags moment s qs n + one_if (is_inside flags s n && has_moment moment n qs)
+
+-- the frame that is expected in a state, read off its registers and sums: the first at a boundary has the sums' bytes
+abbrev pub frame_on : Bool → State → Temps → FrameSeen
+frame_on first s (Running p w) = record { pc = s.regs.pc; sp = plus s.regs.sp 65521; bytes = if first then frame_bytes s.regs ++ sum_bytes p w else frame_bytes s.regs }
+frame_on first s Free = record { pc = s.regs.pc; sp = plus s.regs.sp 65527; bytes = frame_bytes s.regs }
+frame_on first s OnStack = record { pc = s.regs.pc; sp = plus s.regs.sp 65527; bytes = frame_bytes s.regs }
+
+abbrev pub expected_frame : Bool → State → FrameSeen
+expected_frame first s = frame_on first s s.temps
+
+-- whether a moment is not the one before
+abbrev pub is_new : Option ℕ → ℕ → Bool
+is_new None m = true
+is_new (Some k) m = not (k == m)
+
+-- the frames of these requests, after one with that moment
+abbrev pub frames_after : {A : Type 0} → ℕ → (A → ℕ) → State → Option ℕ → List A → List (ℕ × FrameSeen)
+frames_after flags moment s before [] = []
+frames_after flags moment s before (q ∷ qs) = (moment q, expected_frame (is_new before (moment q)) (calm flags (moment q) s)) ∷ frames_after flags moment s (Some (moment q)) qs
+
+abbrev pub frames_of : {A : Type 0} → ℕ → (A → ℕ) → State → List A → ℕ → List (ℕ × FrameSeen)
+frames_of flags moment s qs n = frames_after flags moment s None (taken_before moment n qs)

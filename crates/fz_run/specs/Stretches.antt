@@ -1,0 +1,47 @@
+-- Whole instructions as stretches of steps.
+use Rattle.std.specs.Prelude.{◌≡◌, ℕ, suc, ◌+◌, ◌≤◌, Bool, false, List, [], ◌∷◌, length}
+use Rattle.cpu12_isa.specs.Agreement.{AllShown}
+use Rattle.cpu12_isa.specs.Code.{six_from}
+use Rattle.cpu12_isa.specs.Fits.{FitsRegs, AreBytes}
+use Rattle.cpu12_isa.specs.Flags.{interrupts_masked, has}
+use Rattle.cpu12_parts.specs.declared.temps.Temps.TheVariants.{Free}
+use Rattle.cpu12_parts.specs.State.{State}
+use Rattle.fz_run.specs.Calm.{calm, counted}
+use Rattle.fz_run.specs.Undisturbed.{is_hidden, Calmed, Before}
+
+-- One whole instruction leads from s to t by d steps more than one: they are parts but for the last, and P holds at each state before t.
+pub record Stretch (P : State → Type 0) (flags d : ℕ) (s t : State) : Type 0 where
+  pub goes : calm flags (suc d) s ≡ t
+  pub counts : counted flags (suc d) s ≡ 1
+  pub each : Before P flags (suc d) s
+
+-- whole instructions one after the other, with the numbers of their further steps
+abbrev pub Way : (ℕ → State → State → Type 0) → List ℕ → State → State → Type 0
+Way W [] s t = s ≡ t
+Way W (d ∷ ds) s t = (u : State) × (W d s u × Way W ds u t)
+
+-- how many steps they are
+abbrev pub all_steps : List ℕ → ℕ
+all_steps [] = 0
+all_steps (d ∷ ds) = suc d + all_steps ds
+
+-- the steps of a way of whole instructions: as many count as there are instructions
+pub record Went (P : State → Type 0) (flags : ℕ) (ds : List ℕ) (s t : State) : Type 0 where
+  pub goes : calm flags (all_steps ds) s ≡ t
+  pub counts : counted flags (all_steps ds) s ≡ length ds
+  pub each : Before P flags (all_steps ds) s
+
+-- what a state keeps, and a fact beside
+abbrev pub Kept : (ℕ → Bool) → ℕ → (State → Type 0) → State → Type 0
+Kept open_to flags Q s = Calmed open_to flags s × Q s
+
+-- what the state before an instruction keeps, whichever it is
+pub record Calmly (open_to : ℕ → Bool) (s : State) : Type 0 where
+  pub temps : s.temps ≡ Free
+  pub size : length s.mem ≡ 65536
+  pub bytes : AreBytes s.mem
+  pub fits : FitsRegs s.regs
+  pub low : 8175 ≤ s.regs.sp
+  pub high : s.regs.sp ≤ 8192
+  pub unmasked : has s.regs.ccr interrupts_masked ≡ false
+  pub code : AllShown (is_hidden open_to s.regs.sp) (six_from s.regs.pc)

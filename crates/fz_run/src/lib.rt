@@ -1,0 +1,21 @@
+//! Runs of a firmware over a trace, under a plan of interrupts.
+//!
+//! [`run_on`] resets the machine, brings the firmware to its wait loop and gives it one
+//! [`Sample`](trace_io::Sample) after the other; a request of the plan is taken at the first
+//! boundary between two steps, at or after its moment, where interrupts are allowed. It answers a
+//! [`Row`] for each sample and the memory of the last state; [`run`] answers the rows alone.
+//!
+//! The rows and the memory are exactly those of the run's definition over the machine's steps and
+//! interrupts, for every firmware, every list of samples and every good plan: a run that meets a
+//! byte that is no instruction, or that spends its bound on steps, ends where it stands. All memory
+//! is taken before the first step. [`sample::run_sample`] is generic in what an interrupt does, its
+//! [`handler::Handler`].
+#![tactic(auto)]
+
+pub mod board;
+pub mod handler;
+pub mod laws;
+mod rows;
+pub mod sample;
+
+pub use rows::{Row, run, run_on};

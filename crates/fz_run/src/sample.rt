@@ -1,0 +1,201 @@
+//! One sample under its requests.
+ghost use Rattle.std.specs.Prelude.{ℕ, ◌≡◌, ◌≤◌, ◌<◌, ◌+◌, ◌-◌, ◌^◌, ◌&&◌, suc, Bool, true, false, length, vec_len, vec_capacity, drop, nat_lt, []};
+ghost use Rattle.cpu12_parts.specs.State.{State};
+ghost use Rattle.fz_run.specs.Runs.{takes, is_part, one_if, run_from};
+ghost use Rattle.fz_run.specs.Rows.{frames_seen, is_idle, setting_of};
+ghost use Rattle.fz_run.specs.Rest.{is_due, with_frames, brief, rest_at, counted_at};
+
+use crate::board::Board;
+use crate::handler::Handler;
+use cpu12_emul::ends::{Frame, Stepped};
+use cpu12_emul::machine::Machine;
+use cpu12_isa::mem::Mem;
+
+/// What was counted of a sample's run.
+#[derive(Drop)]
+pub struct Tally {
+    /// Whether the board was idle at the end.
+    pub arrived: bool,
+    /// How many steps were done.
+    pub moment: u32,
+    /// Whether the last of them was a part of an instruction that goes on.
+    pub inside: bool,
+    /// How many requests were taken.
+    pub next: usize,
+    /// How many steps were plain or last parts.
+    pub instrs: u32,
+    /// At how many boundaries inside an instruction an interrupt was taken.
+    pub resumed: u32,
+    /// What each interrupt pushed, with its boundary.
+    pub frames: Vec<(u32, Frame)>,
+}
+
+fn is_part(kind: Stepped) -> bool
+    ensures { result ≡ is_part kind }
+{
+    match kind {
+        Stepped::Part => true,
+        Stepped::Plain | Stepped::LastPart => false,
+    }
+}
+
+fn one_if(b: bool) -> u32
+    ensures one { result ≡ one_if b }
+    ensures most { result ≤ 1 }
+{
+    if b { 1 } else { 0 }
+}
+
+fn both(a: bool, b: bool) -> bool
+    ensures { result ≡ (a && b) }
+{
+    a && b
+}
+
+fn less(a: usize, b: usize) -> bool
+    ensures { result ≡ nat_lt a b }
+{
+    a < b
+}
+
+#[tactic(auto, using(crate::proofs::Takings::length_seen))]
+fn count(frames: &Vec<(u32, Frame)>) -> usize
+    ensures { result ≡ length (frames_seen frames.now.items) }
+{
+    frames.len()
+}
+
+/// Whether the next request is due, and may be taken.
+fn is_due<M: Mem, R, H: Handler<R>>(m: &Machine<M>, h: &H, requests: &[R], t: &Tally) -> bool
+    ensures { result ≡ is_due (H.moment h.now) t.now.moment (drop t.now.next requests.now) m.now.state }
+{
+    if t.next < requests.len() {
+        if m.may_interrupt() {
+            h.moment(&requests[t.next]) <= t.moment
+        } else {
+            false
+        }
+    } else {
+        false
+    }
+}
+
+/// Takes the next request.
+fn take_next<M: Mem, R, H: Handler<R>>(
+    m: &mut Machine<M>,
+    h: &H,
+    b: &Board,
+    requests: &[R],
+    t: &mut Tally,
+)
+    requires due { is_due (H.moment h.now) t.old.moment (drop t.old.next requests.now) m.old.state ≡ true }
+    requires room { vec_len t.old.frames < vec_capacity t.old.frames }
+    ensures takes { with_frames (frames_seen t.old.frames.items) (takes (setting_of m.old.flags b.now (H.moment h.now) (H.take h.now)) t.old.moment (drop t.old.next requests.now) m.old.state)
+        ≡ with_frames (frames_seen t.new.frames.items) (takes (setting_of m.old.flags b.now (H.moment h.now) (H.take h.now)) t.old.moment (drop t.new.next requests.now) m.new.state) }
+    ensures next { t.new.next ≡ t.old.next + 1 }
+    ensures len { vec_len t.new.frames ≡ vec_len t.old.frames + 1 }
+    ensures capacity { vec_capacity t.old.frames ≤ vec_capacity t.new.frames }
+    ensures rest { t.new ≡ record t.old { next = t.new.next; frames = t.new.frames } }
+    ensures flags { m.new.flags ≡ m.old.flags }
+{
+    let frame = h.take(m, &requests[t.next]);
+    t.frames.push((t.moment, frame)).unwrap();
+    t.next += 1;
+}
+
+/// Takes all requests that are due.
+fn take_due<M: Mem, R, H: Handler<R>>(
+    m: &mut Machine<M>,
+    h: &H,
+    b: &Board,
+    requests: &[R],
+    t: &mut Tally,
+)
+    requires room { vec_len t.old.frames + (length requests.now - t.old.next) ≤ vec_capacity t.old.frames }
+    ensures takes { with_frames (frames_seen t.old.frames.items) (takes (setting_of m.old.flags b.now (H.moment h.now) (H.take h.now)) t.old.moment (drop t.old.next requests.now) m.old.state)
+        ≡ record { state = m.new.state; frames = frames_seen t.new.frames.items; left = drop t.new.next requests.now } }
+    ensures room { vec_len t.new.frames + (length requests.now - t.new.next) ≤ vec_capacity t.new.frames }
+    ensures rest { t.new ≡ record t.old { next = t.new.next; frames = t.new.frames } }
+    ensures flags { m.new.flags ≡ m.old.flags }
+{
+    while is_due(m, h, requests, t) {
+        take_next(m, h, b, requests, t);
+    }
+}
+
+/// Takes what is due, and does a step. Answers whether one was defined.
+fn advance<M: Mem, R, H: Handler<R>>(
+    m: &mut Machine<M>,
+    h: &H,
+    b: &Board,
+    requests: &[R],
+    t: &mut Tally,
+) -> bool
+    requires on { is_idle b.now m.old.state ≡ false }
+    requires room { vec_len t.old.frames + (length requests.now - t.old.next) ≤ vec_capacity t.old.frames }
+    requires moment { t.old.moment + 1 < 2 ^ 32 }
+    requires counts { (t.old.instrs ≤ t.old.moment) × (t.old.resumed ≤ t.old.moment) }
+    ensures goes { result ≡ true → (n : ℕ) → rest_at (setting_of m.old.flags b.now (H.moment h.now) (H.take h.now)) (suc n) requests.now t.old m.old.state
+        ≡ rest_at (setting_of m.old.flags b.now (H.moment h.now) (H.take h.now)) n requests.now t.new m.new.state }
+    ensures stuck { result ≡ false → t.old.arrived ≡ false → (n : ℕ) → rest_at (setting_of m.old.flags b.now (H.moment h.now) (H.take h.now)) (suc n) requests.now t.old m.old.state
+        ≡ counted_at t.new m.new.state }
+    ensures arrived { t.new.arrived ≡ t.old.arrived }
+    ensures room { vec_len t.new.frames + (length requests.now - t.new.next) ≤ vec_capacity t.new.frames }
+    ensures counts { result ≡ true → (t.new.moment ≡ t.old.moment + 1) × (t.new.instrs ≤ t.new.moment) × (t.new.resumed ≤ t.new.moment) }
+    ensures flags { m.new.flags ≡ m.old.flags }
+{
+    let before = count(&t.frames);
+    take_due(m, h, b, requests, t);
+    let taken = less(before, count(&t.frames));
+    t.resumed += one_if(both(t.inside, taken));
+    match m.step() {
+        Ok(kind) => {
+            t.inside = is_part(kind);
+            t.instrs += one_if(!t.inside);
+            t.moment += 1;
+            true
+        }
+        Err(_) => false,
+    }
+}
+
+/// Runs a sample that was given, from its boundary 0 until the board is idle, and answers what was
+/// counted. The run ends where it stands where no step is defined, or after `budget` steps. `frames`
+/// is empty, with room for a frame of each request; no memory is taken.
+pub fn run_sample<M: Mem, R, H: Handler<R>>(
+    m: &mut Machine<M>,
+    h: &H,
+    b: &Board,
+    requests: &[R],
+    budget: u32,
+    frames: Vec<(u32, Frame)>,
+) -> Tally
+    requires room { length requests.now ≤ vec_capacity frames }
+    requires none { frames.items ≡ [] }
+    ensures run { brief (run_from (setting_of m.old.flags b.now (H.moment h.now) (H.take h.now)) budget 0 false requests.now m.old.state)
+        ≡ counted_at result m.new.state }
+    ensures flags { m.new.flags ≡ m.old.flags }
+{
+    let mut t = Tally {
+        arrived: false,
+        moment: 0,
+        inside: false,
+        next: 0,
+        instrs: 0,
+        resumed: 0,
+        frames,
+    };
+    let mut left = budget;
+    while left > 0 {
+        if b.is_idle(m) {
+            t.arrived = true;
+            return t;
+        }
+        if !advance(m, h, b, requests, &mut t) {
+            return t;
+        }
+        left -= 1;
+    }
+    t.arrived = b.is_idle(m);
+    t
+}

@@ -1,0 +1,166 @@
+-- The rule list computes the masses of the output terms.
+use Rattle.std.proofs.Common.{◌≡◌, ℕ, ◌+◌, ◌-◌, ◌<◌, ◌≤◌, ◌||◌, min, max, Bool, true, false, List, [], ◌∷◌, ◌++◌, length, map, get_or, refl, sym, ap, ap₂, ◌∙◌, arith, add-one, Option, Some, None}
+use Rattle.std.specs.Prelude.{◌==◌, ◌&&◌, All, flat_map, if◌then◌else◌, slice_get, slice_index, nat_le, nat_lt}
+use Rattle.std.specs.Option.{option_map_or}
+use Rattle.std.specs.List.{list_any}
+use Rattle.std.proofs.lemmas.List.{length-map, get_or-map}
+use Rattle.std.proofs.lemmas.List.Elements.{All-head, All-tail}
+use Rattle.std.proofs.lemmas.Bool.Decides.{nat_tests}
+use Rattle.std.proofs.Math.Nat.{mul-le-mul_right}
+use Rattle.fuzzy_meaning.specs.declared.block.Block.{Block}
+use Rattle.fuzzy_meaning.specs.declared.block.Rule.{Rule}
+use Rattle.fuzzy_meaning.specs.Blocks.{IsValid, HasSingleton, input_at}
+use Rattle.fuzzy_meaning.specs.Conditions.{condition_of}
+use Rattle.fuzzy_meaning.specs.Rules.{concludes}
+use Rattle.byte_scaling.specs.Weights.{weight_byte_of}
+use Rattle.point_slope.specs.Tables.{row_of, grade_of, grade_under, side}
+use Rattle.point_slope.specs.Bytes.{literal_grade, byte_strength, byte_mass_among}
+use Rattle.rule_layout.specs.declared.flat.Slot.{Slot}
+use Rattle.rule_layout.specs.declared.flat.Slot.TheVariants.{Term, Out}
+use Rattle.rule_layout.specs.declared.flat.Conjunction.{Conjunction}
+use Rattle.rule_layout.specs.Spreading.{Literal}
+use Rattle.rule_layout.specs.Truths.{literal_value, least_literal, greatest_conjunction}
+use Rattle.rule_layout.specs.Slots.{slots_of, is_same_slot, number_in, literal_slot, literal_number, conclusion_number, out_slot}
+use Rattle.rule_layout.specs.Layouts.{rule_spread, conjunction_of, rule_conjunctions, rule_weights, conjunctions_of, weights_of, flat_of}
+use Rattle.rule_layout.specs.Masses.{slot_byte, slot_bytes, least_byte, scaled, left_in, MassLaw}
+use Rattle.rule_layout.proofs.NumberLemmas.{slot_from_same}
+use Rattle.rule_layout.proofs.MemberLemmas.{HasSlot, LiteralHasSlot, RuleHasSlots, rules_have_slots, number_in-lt, out_in_slots}
+use Rattle.rule_layout.proofs.TruthLemmas.{spreading_law_lem}
+
+-- the slot of a number is that slot
+slot_at_number : (ss : List Slot) (s d : Slot) → number_in ss s < length ss → get_or ss (number_in ss s) d ≡ s
+slot_at_number [] s d lt = absurd (omega arith)
+slot_at_number (x ∷ xs) s d lt = by_test (is_same_slot s x) refl (slot_at_number xs s d)
+  where
+    by_test : (t : Bool) → is_same_slot s x ≡ t → (number_in xs s < length xs → get_or xs (number_in xs s) d ≡ s) → get_or (x ∷ xs) (number_in (x ∷ xs) s) d ≡ s
+    by_test true e ind = rw e (sym (slot_from_same s x e))
+    by_test false e ind =
+        let later : number_in xs s < length xs = omega (arith, rw e at lt) in
+        rw (e, add-one) (ind later)
+
+byte_at_number : (g : ℕ → ℕ → ℕ) (ss : List Slot) (s : Slot) → number_in ss s < length ss → get_or (slot_bytes g ss) (number_in ss s) 0 ≡ slot_byte g s
+byte_at_number g ss s lt = get_or-map (slot_byte g) ss (number_in ss s) (Term 0 0) 0 lt ∙ ap (slot_byte g) (slot_at_number ss s (Term 0 0) lt)
+
+slot_byte-literal : (g : ℕ → ℕ → ℕ) (l : Literal) → slot_byte g (literal_slot l) ≡ literal_value 255 g l
+slot_byte-literal g l = by_sort l.complement refl
+  where
+    by_sort : (t : Bool) → l.complement ≡ t → slot_byte g (literal_slot l) ≡ literal_value 255 g l
+    by_sort true e = rw e refl
+    by_sort false e = rw e refl
+
+scaled_max : (w a c : ℕ) → scaled w (max a c) ≡ max (scaled w a) (scaled w c)
+scaled_max w a c = by_order (nat_le a c) refl
+  where
+    by_order : (t : Bool) → nat_le a c ≡ t → scaled w (max a c) ≡ max (scaled w a) (scaled w c)
+    by_order true e =
+        let le : a ≤ c = grind (arith, nat_tests) in
+        let top : max a c ≡ c = omega arith in
+        let wide = mul-le-mul_right (w + 1) le in
+        rw top (omega (arith, wide))
+    by_order false e =
+        let le : c ≤ a = grind (arith, nat_tests) in
+        let top : max a c ≡ a = omega arith in
+        let wide = mul-le-mul_right (w + 1) le in
+        rw top (omega (arith, wide))
+
+module _ (b : Block) (g : ℕ → ℕ → ℕ) where
+  abbrev bytes : List ℕ
+  bytes = slot_bytes g (slots_of b)
+
+  least_byte-literals : (ls : List Literal) → All (LiteralHasSlot b) ls → least_byte bytes (map (literal_number (slots_of b)) ls) ≡ least_literal 255 g ls
+  least_byte-literals [] h = refl
+  least_byte-literals (l ∷ ls) h =
+      let here = byte_at_number g (slots_of b) (literal_slot l) (All-head (LiteralHasSlot b) l ls h).found ∙ slot_byte-literal g l in
+      ap₂ (λ (m n : ℕ). min m n) here (least_byte-literals ls (All-tail (LiteralHasSlot b) l ls h))
+
+  -- a rule's conjunctions raise a slot to the rule's strength, if the rule concludes it
+  left_in-rule : (w n : ℕ) (r : Rule) (raised : Bool) (cs : List (List Literal)) → list_any (λ e. e == n) (map (conclusion_number (slots_of b)) r.concl) ≡ raised → All (All (LiteralHasSlot b)) cs →
+      left_in bytes (map (λ _. w) cs) (map (conjunction_of (slots_of b) r) cs) n ≡ (if raised then scaled w (greatest_conjunction 255 g cs) else 0)
+  left_in-rule w n r true [] e h = omega arith
+  left_in-rule w n r false [] e h = refl
+  left_in-rule w n r true (c ∷ cs) e h =
+      let here = least_byte-literals c (All-head (All (LiteralHasSlot b)) c cs h) in
+      let later = left_in-rule w n r true cs e (All-tail (All (LiteralHasSlot b)) c cs h) in
+      rw (e, here, later) (sym (scaled_max w (least_literal 255 g c) (greatest_conjunction 255 g cs)))
+  left_in-rule w n r false (c ∷ cs) e h =
+      let later = left_in-rule w n r false cs e (All-tail (All (LiteralHasSlot b)) c cs h) in
+      rw (e, later) refl
+
+left_in-append : (bytes us ws : List ℕ) (cs ds : List Conjunction) (n : ℕ) → length us ≡ length cs → left_in bytes (us ++ ws) (cs ++ ds) n ≡ max (left_in bytes us cs n) (left_in bytes ws ds n)
+left_in-append bytes [] ws [] ds n e = omega arith
+left_in-append bytes [] ws (c ∷ cs) ds n e = absurd (omega arith)
+left_in-append bytes (u ∷ us) ws [] ds n e = absurd (omega arith)
+left_in-append bytes (u ∷ us) ws (c ∷ cs) ds n e = omega (arith, left_in-append bytes us ws cs ds n (omega arith))
+
+grade_le : (row : List ℕ) (v : ℕ) → grade_of row v ≤ 255
+grade_le row v = under (slice_index row 0) (slice_index row 1) (slice_index row 2) (slice_index row 3)
+  where
+    under : (p q r s : ℕ) → grade_under p q r s v ≤ 255
+    under p q r s = by_test (nat_lt v p || nat_lt q v) (min (side (v - p) r) (side (q - v) s))
+      where
+        by_test : (t : Bool) (m : ℕ) → (if t then 0 else min 255 m) ≤ 255
+        by_test true m = omega arith
+        by_test false m = omega arith
+
+map_or_le : {X : Type 0} (f : X → ℕ) (o : Option X) → ((x : X) → f x ≤ 255) → option_map_or f o 0 ≤ 255
+map_or_le f None h = omega arith
+map_or_le f (Some x) h = h x
+
+literal_grade_le : (b : Block) (bytes : List ℕ) (i t : ℕ) → literal_grade b bytes i t ≤ 255
+literal_grade_le b bytes i t =
+    map_or_le _ (input_at b i) (λ x. map_or_le _ (slice_get x.terms (t - 1)) (λ term. grade_le (row_of x term) (slice_index bytes (i - 1))))
+
+same_test : (a c : Bool) → (a ≡ true → c ≡ true) → (c ≡ true → a ≡ true) → a ≡ c
+same_test true true f g = refl
+same_test true false f g = sym (f refl)
+same_test false true f g = g refl
+same_test false false f g = refl
+
+module _ (b : Block) (v : IsValid b) (o t : ℕ) (given : HasSingleton b o t) where
+  abbrev place : ℕ
+  place = number_in (slots_of b) (Out o t)
+
+  place_found : number_in (slots_of b) (Out o t) < length (slots_of b)
+  place_found = number_in-lt (slots_of b) (Out o t) (out_in_slots b v o t given)
+
+  -- two conclusions have one number only where they are the same
+  same_number : (p : ℕ × ℕ) → HasSlot b (out_slot p) → (conclusion_number (slots_of b) p == place) ≡ (p.0 == o && p.1 == t)
+  same_number p h = same_test _ _
+      (λ e.
+      let numbers : conclusion_number (slots_of b) p ≡ place = grind (arith, nat_tests) in
+      let slots : Out p.0 p.1 ≡ Out o t = sym (slot_at_number (slots_of b) (out_slot p) (Term 0 0) h.found) ∙ (ap (λ (n : ℕ). get_or (slots_of b) n (Term 0 0)) numbers ∙ slot_at_number (slots_of b) (Out o t) (Term 0 0) place_found) in
+      let first : p.0 ≡ o = cc in
+      let second : p.1 ≡ t = cc in
+      grind (arith, nat_tests))
+      (λ e.
+      let first : p.0 ≡ o = grind (arith, nat_tests) in
+      let second : p.1 ≡ t = grind (arith, nat_tests) in
+      let numbers : conclusion_number (slots_of b) p ≡ place = ap₂ (λ (j u : ℕ). number_in (slots_of b) (Out j u)) first second in
+      grind (arith, nat_tests))
+
+  raised_as_concluded : (ps : List (ℕ × ℕ)) → All (λ p. HasSlot b (out_slot p)) ps →
+      list_any (λ e. e == place) (map (conclusion_number (slots_of b)) ps) ≡ list_any (λ c. (c.0 == o) && (c.1 == t)) ps
+  raised_as_concluded [] h = refl
+  raised_as_concluded (p ∷ ps) h =
+      ap₂ (λ (a c : Bool). a || c) (same_number p (All-head (λ q. HasSlot b (out_slot q)) p ps h)) (raised_as_concluded ps (All-tail (λ q. HasSlot b (out_slot q)) p ps h))
+
+  rules_left : (bytes : List ℕ) (rules : List Rule) → All (RuleHasSlots b) rules →
+      left_in (slot_bytes (literal_grade b bytes) (slots_of b)) (flat_map rule_weights rules) (flat_map (rule_conjunctions (slots_of b)) rules) place ≡ byte_mass_among b bytes o t rules
+  rules_left bytes [] h = refl
+  rules_left bytes (r ∷ rs) h =
+      let g = literal_grade b bytes in
+      let here = All-head (RuleHasSlots b) r rs h in
+      let whole = left_in-append (slot_bytes g (slots_of b)) (rule_weights r) (flat_map rule_weights rs) (rule_conjunctions (slots_of b) r) (flat_map (rule_conjunctions (slots_of b)) rs) place
+      (length-map (rule_spread r) (λ (_ : List Literal). weight_byte_of r.weight) ∙ sym (length-map (rule_spread r) (conjunction_of (slots_of b) r))) in
+      let rule = left_in-rule b g (weight_byte_of r.weight) place r (concludes r o t) (rule_spread r) (raised_as_concluded r.concl here.conclusions) here.literals in
+      let truth = spreading_law_lem 255 g (condition_of r.cond) (omega arith) (literal_grade_le b bytes) in
+      let later = rules_left bytes rs (All-tail (RuleHasSlots b) r rs h) in
+      whole ∙ (ap₂ (λ (m n : ℕ). max m n) (rule ∙ ap (λ (m : ℕ). if concludes r o t then scaled (weight_byte_of r.weight) m else 0) truth) later ∙ by_test (concludes r o t) (byte_strength b bytes r) (byte_mass_among b bytes o t rs))
+    where
+      by_test : (c : Bool) (m n : ℕ) → max (if c then m else 0) n ≡ (if c then max m n else n)
+      by_test true m n = refl
+      by_test false m n = omega arith
+
+pub mass_law_lem : MassLaw
+unfolding flat_of weights_of conjunctions_of
+mass_law_lem b bytes o t v given = rules_left b v o t given bytes b.rules (rules_have_slots b v)

@@ -1,7 +1,0 @@
-use Rattle.std.proofs.Common.{◌≡◌, take}
-use Rattle.std.specs.Prelude.{flat_map}
-use Rattle.rule_layout.specs.Layouts.{table_conjunctions}
-use Rattle.rule_layout.proofs.layout.conjunctions_of.Given as goal
-
-abbrev pub invariant-loop-rule : goal.invariant-loop-rule
-invariant-loop-rule l = l.all.items ≡ flat_map (table_conjunctions l.numbers.table) (take l.rule-index l.rules)

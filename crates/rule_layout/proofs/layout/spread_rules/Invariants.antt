@@ -1,0 +1,9 @@
+use Rattle.std.proofs.Common.{◌≡◌, take}
+use Rattle.std.specs.Prelude.{flat_map}
+use Rattle.rule_layout.specs.Layouts.{rule_weights}
+use Rattle.rule_layout.specs.Steps.{table_conjunctions}
+use Rattle.rule_layout.proofs.layout.spread_rules.Given as goal
+
+abbrev pub invariant-loop-rule : goal.invariant-loop-rule
+invariant-loop-rule l =
+    (l.all.items ≡ flat_map (table_conjunctions l.numbers.table) (take l.rule-index l.rules)) × (l.weights.items ≡ flat_map rule_weights (take l.rule-index l.rules))

@@ -1,7 +1,0 @@
-use Rattle.std.proofs.Common.{◌≡◌, take}
-use Rattle.std.specs.Prelude.{flat_map}
-use Rattle.rule_layout.specs.Layouts.{rule_weights}
-use Rattle.rule_layout.proofs.layout.weights_of.Given as goal
-
-abbrev pub invariant-loop-rule : goal.invariant-loop-rule
-invariant-loop-rule l = l.weights.items ≡ flat_map rule_weights (take l.rule-index l.rules)

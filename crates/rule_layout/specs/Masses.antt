@@ -1,0 +1,43 @@
+-- What the rule list leaves in the slots of the output terms.
+use Rattle.std.specs.Prelude.{◌≡◌, ℕ, ◌+◌, ◌*◌, ◌/◌, ◌-◌, min, max, ◌==◌, Bool, List, [], ◌∷◌, map, get_or, if◌then◌else◌}
+use Rattle.std.specs.List.{list_any}
+use Rattle.fuzzy_meaning.specs.declared.block.Block.{Block}
+use Rattle.fuzzy_meaning.specs.Blocks.{IsValid, HasSingleton}
+use Rattle.point_slope.specs.Bytes.{literal_grade, byte_mass}
+use Rattle.rule_layout.specs.declared.flat.Slot.{Slot}
+use Rattle.rule_layout.specs.declared.flat.Slot.TheVariants.{Term, Complement, Out}
+use Rattle.rule_layout.specs.declared.flat.Conjunction.{Conjunction}
+use Rattle.rule_layout.specs.Slots.{slots_of, conclusion_number}
+use Rattle.rule_layout.specs.Layouts.{flat_of}
+
+-- what a slot holds before the rules, by the grades of the input terms
+abbrev pub slot_byte : (ℕ → ℕ → ℕ) → Slot → ℕ
+slot_byte g (Term i t) = g i t
+slot_byte g (Complement i t) = 255 - g i t
+slot_byte g (Out o t) = 0
+
+abbrev pub slot_bytes : (ℕ → ℕ → ℕ) → List Slot → List ℕ
+slot_bytes g ss = map (slot_byte g) ss
+
+-- the least byte of the slots with these numbers
+abbrev pub least_byte : List ℕ → List ℕ → ℕ
+least_byte bytes [] = 255
+least_byte bytes (n ∷ ns) = min (get_or bytes n 0) (least_byte bytes ns)
+
+abbrev pub scaled : ℕ → ℕ → ℕ
+scaled w t = t * (w + 1) / 256
+
+abbrev pub raises : Conjunction → ℕ → Bool
+raises c n = list_any (λ e. e == n) c.conclusions
+
+-- what a slot of 0 comes to: the greatest, over the conjunctions that conclude it, of the least
+-- literal scaled by the weight byte
+abbrev pub left_in : List ℕ → List ℕ → List Conjunction → ℕ → ℕ
+left_in bytes ws [] n = 0
+left_in bytes [] (c ∷ cs) n = 0
+left_in bytes (w ∷ ws) (c ∷ cs) n = max (if raises c n then scaled w (least_byte bytes c.literals) else 0) (left_in bytes ws cs n)
+
+-- the list of a valid block leaves in the slot of an output's term its mass
+abbrev pub MassLaw : Type 0
+MassLaw = (b : Block) (bytes : List ℕ) (o t : ℕ) → IsValid b → HasSingleton b o t →
+    left_in (slot_bytes (literal_grade b bytes) (slots_of b)) ((flat_of b).weights) ((flat_of b).conjunctions) (conclusion_number (slots_of b) (o, t)) ≡ byte_mass b bytes o t

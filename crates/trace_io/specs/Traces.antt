@@ -1,0 +1,102 @@
+-- What a trace spells, and its first fault.
+use Rattle.std.specs.Prelude.{◌≡◌, ◌≢◌, ◌⊎◌, ◌<◌, ◌+◌, ℕ, List, [], ◌∷◌, ◌++◌, length, Option, Some, None, option_map, Result, Ok, Err}
+use Rattle.csv.specs.Machine.{next_record}
+use Rattle.csv.specs.Reading.{Reached, default_config, strip_bom}
+use Rattle.csv.specs.declared.parser.State.{State}
+use Rattle.csv.specs.declared.parser.State.TheVariants as st
+use Rattle.fz_num.specs.declared.dec.Dec.{Dec}
+use Rattle.fz_num.specs.Decimals.{decimal}
+use Rattle.fuzzy_meaning.specs.Blocks.{IsWithin}
+use Rattle.fuzzy_meaning.specs.declared.block.Input.{Input}
+use Rattle.byte_scaling.specs.Cells.{byte_of}
+use Rattle.trace_io.specs.declared.sample.Sample.{Sample}
+use Rattle.trace_io.specs.declared.sample.TraceFault.{TraceFault}
+use Rattle.trace_io.specs.declared.sample.TraceFault.TheVariants.{TooMany, BadRow, OutOfRange}
+
+-- the fields of a row
+abbrev pub Fields : Type 0
+Fields = List (List ℕ)
+
+-- the first rows that csv cuts a text into by its defaults: all of them, or 10001 of more
+pub record AreFirstRows (text : List ℕ) (rows : List Fields) : Type 0 where
+  pub state : State
+  pub rest : List ℕ
+  pub cut : Reached default_config st.StartRecord (strip_bom text) rows state rest
+  pub enough : (next_record default_config state [] [] rest ≡ None) ⊎ (length rows ≡ 10001)
+
+-- the decimals that fields spell, where each spells one
+abbrev pub with_decimal : {E : Type 0} → Result Dec E → Option (List Dec) → Option (List Dec)
+with_decimal (Ok d) ds = option_map (λ xs. d ∷ xs) ds
+with_decimal (Err e) ds = None
+
+abbrev pub decimals : Fields → Option (List Dec)
+decimals [] = Some []
+decimals (f ∷ fs) = with_decimal (decimal f) (decimals fs)
+
+-- each value is within the range of its input
+abbrev pub AreWithin : List Input → List Dec → Type 0
+AreWithin [] [] = Unit {0}
+AreWithin [] (d ∷ ds) = ⊥
+AreWithin (i ∷ is) [] = ⊥
+AreWithin (i ∷ is) (d ∷ ds) = IsWithin i.lo i.hi d × AreWithin is ds
+
+-- the byte of each value in the range of its input
+abbrev pub bytes_of : List Input → List Dec → List ℕ
+bytes_of [] ds = []
+bytes_of (i ∷ is) [] = []
+bytes_of (i ∷ is) (d ∷ ds) = byte_of i d ∷ bytes_of is ds
+
+-- the fields spell the sample: one decimal per input, each within its range
+pub record SpellsSample (inputs : List Input) (fields : Fields) (s : Sample) : Type 0 where
+  pub count : length fields ≡ length inputs
+  pub values : decimals fields ≡ Some s.values
+  pub within : AreWithin inputs s.values
+  pub bytes : s.bytes.items ≡ bytes_of inputs s.values
+
+-- the first value that is outside its input's range is that of input number n
+pub record IsFirstOutside (inputs : List Input) (values : List Dec) (n : ℕ) : Type 0 where
+  pub inputs_before : List Input
+  pub input : Input
+  pub inputs_after : List Input
+  pub inputs_are : inputs ≡ inputs_before ++ input ∷ inputs_after
+  pub values_before : List Dec
+  pub value : Dec
+  pub values_after : List Dec
+  pub values_are : values ≡ values_before ++ value ∷ values_after
+  pub within : AreWithin inputs_before values_before
+  pub outside : IsWithin input.lo input.hi value → ⊥
+  pub number : n ≡ length inputs_before + 1
+
+-- row number n fails, by its fields
+pub data RowFails (inputs : List Input) (n : ℕ) (fields : Fields) : TraceFault → Type 0 where
+  miscounted : length fields ≢ length inputs → RowFails inputs n fields (BadRow n)
+  unread : length fields ≡ length inputs → decimals fields ≡ None → RowFails inputs n fields (BadRow n)
+  outside : (values : List Dec) (i : ℕ) → length fields ≡ length inputs → decimals fields ≡ Some values → IsFirstOutside inputs values i → RowFails inputs n fields (OutOfRange n i)
+
+-- the rows spell these samples
+abbrev pub SpellSamples : List Input → List Fields → List Sample → Type 0
+SpellSamples inputs [] [] = Unit {0}
+SpellSamples inputs [] (s ∷ ss) = ⊥
+SpellSamples inputs (r ∷ rs) [] = ⊥
+SpellSamples inputs (r ∷ rs) (s ∷ ss) = SpellsSample inputs r s × SpellSamples inputs rs ss
+
+-- the first fault of rows: that of the first row that fails, where it is among the first 10000,
+-- and else that there are more
+pub data FirstFault (inputs : List Input) (rows : List Fields) : TraceFault → Type 0 where
+  at_row : (before : List Fields) (row : Fields) (after : List Fields) (samples : List Sample) (fault : TraceFault) → rows ≡ before ++ row ∷ after → length before < 10000
+      → SpellSamples inputs before samples → RowFails inputs (length before + 1) row fault → FirstFault inputs rows fault
+  more : (before : List Fields) (row : Fields) (after : List Fields) (samples : List Sample) → rows ≡ before ++ row ∷ after → length before ≡ 10000
+      → SpellSamples inputs before samples → FirstFault inputs rows TooMany
+
+-- the text spells these samples
+pub record Spells (inputs : List Input) (text : List ℕ) (samples : List Sample) : Type 0 where
+  pub rows : List Fields
+  pub first : AreFirstRows text rows
+  pub few : length rows < 10001
+  pub spelled : SpellSamples inputs rows samples
+
+-- the text has this fault first
+pub record HasFault (inputs : List Input) (text : List ℕ) (fault : TraceFault) : Type 0 where
+  pub rows : List Fields
+  pub first : AreFirstRows text rows
+  pub fault_is : FirstFault inputs rows fault

@@ -1,0 +1,31 @@
+//! Rows of comma-separated text.
+ghost use Rattle.std.specs.Prelude.{◌≡◌, IfOk, map};
+ghost use Rattle.csv.specs.Records.{fields_of};
+ghost use Rattle.trace_io.specs.Traces.{AreFirstRows};
+
+use csv::{ByteRecord, ReaderBuilder};
+use std::alloc::{AllocError, Global};
+
+/// One row more than a trace may have.
+const MOST: usize = 10001;
+
+/// The rows of a text without a header row, at most 10001 of them.
+pub(crate) fn first_rows(alloc: Global, text: &[u8]) -> Result<Vec<ByteRecord>, AllocError>
+    ensures { IfOk result (λ rows. AreFirstRows text.now (map fields_of rows.items)) }
+{
+    let reader = ReaderBuilder::new()
+        .has_headers(false)
+        .flexible(true)
+        .from_reader(alloc, text);
+    let mut rows = Vec::new(alloc);
+    for row in reader.into_byte_records() {
+        match row {
+            Ok(row) => rows.push(row)?,
+            Err(_) => return Err(AllocError),
+        }
+        if rows.len() == MOST {
+            return Ok(rows);
+        }
+    }
+    Ok(rows)
+}
