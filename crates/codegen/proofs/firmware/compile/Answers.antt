@@ -6,7 +6,7 @@ use Rattle.codegen.specs.Layouts.{main_layout}
 use Rattle.codegen.specs.Images.{firmware_items}
 use Rattle.codegen.proofs.Joins.{slots-flat_of}
 use Rattle.codegen.proofs.Placement.{HasSizes, main_rises, length-main_items, element_count-le}
-use Rattle.codegen.proofs.Law.{answers_from}
+use Rattle.codegen.proofs.runs.Law.{answers_from}
 use Rattle.codegen.proofs.firmware.compile.Goals as goal
 
 pub assemble_items-requires : goal.assemble_items-requires

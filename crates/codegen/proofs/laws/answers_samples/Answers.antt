@@ -1,4 +1,4 @@
-use Rattle.codegen.proofs.Law.{answers_samples}
+use Rattle.codegen.proofs.runs.Law.{answers_samples}
 use Rattle.codegen.proofs.laws.answers_samples.Goals as goal
 
 pub returns : goal.returns

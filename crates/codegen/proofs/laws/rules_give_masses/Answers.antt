@@ -1,4 +1,4 @@
-use Rattle.codegen.proofs.BlockMasses.{rules_give_masses}
+use Rattle.codegen.proofs.masses.BlockMasses.{rules_give_masses}
 use Rattle.codegen.proofs.laws.rules_give_masses.Goals as goal
 
 pub returns : goal.returns

@@ -1,14 +1,13 @@
 -- EVAL answers the byte answer over any layout whose regions are apart.
-use Rattle.std.proofs.Common.{◌≡◌, ◌⊎◌, inl, inr, ℕ, zero, suc, ◌+◌, ◌-◌, ◌*◌, ◌^◌, ◌<◌, ◌≤◌, List, [], ◌∷◌, ◌++◌, length, All, get_or, refl, sym, ap, ap₂, ◌∙◌, subst, arith}
+use Rattle.std.proofs.Common.{◌≡◌, ◌⊎◌, inl, inr, ℕ, zero, suc, ◌+◌, ◌-◌, ◌<◌, ◌≤◌, List, [], ◌∷◌, length, get_or, refl, sym, ap, ◌∙◌, subst, arith}
 use Rattle.fuzzy_meaning.specs.declared.block.Block.{Block}
 use Rattle.fuzzy_meaning.specs.Blocks.{IsValid}
 use Rattle.point_slope.specs.Bytes.{byte_answer}
-use Rattle.rule_layout.specs.Slots.{slots_of, output_terms}
+use Rattle.rule_layout.specs.Slots.{slots_of}
 use Rattle.rule_layout.specs.Layouts.{form_of, IsWithinLimits}
 use Rattle.rule_layout.proofs.LayoutLemmas.{few_slots}
 use Rattle.cpu12_parts.specs.State.{State}
 use Rattle.cpu12_parts.specs.Whole.{IsWholeStep}
-use Rattle.codegen.specs.declared.layout.Layout.{Layout}
 use Rattle.codegen.specs.Code.{eval_code}
 use Rattle.codegen.specs.Images.{IsApart}
 use Rattle.codegen.specs.Firing.{AreInputBytes, slots_after}
@@ -17,15 +16,15 @@ use Rattle.codegen.specs.Ways.{all_steps, IsCalm, IsCalmInstruction}
 use Rattle.codegen.specs.Evaluation.{HasBytes, HasEval, IsCalled, IsEvaluated, EvalAnswers}
 use Rattle.codegen.proofs.Joins.{sum_by-term_count}
 use Rattle.codegen.proofs.Sizes.{code_size-eval}
-use Rattle.codegen.proofs.Memory.{has_put, at_put_out, byte_in, length-put}
-use Rattle.codegen.proofs.Stepping.{Ctx, Live}
-use Rattle.codegen.proofs.Quotients.{output_bytes, length-output_bytes}
-use Rattle.codegen.proofs.Evaluating.{HasRom, Evals, Returns, masses, evaluated, eval_most, eval_parts, eval_run, length-after}
-use Rattle.codegen.proofs.Answering.{answers_are}
-use Rattle.codegen.proofs.BlockMasses.{rules_give_masses}
-use Rattle.codegen.proofs.Decoding.{stands_of}
-use Rattle.codegen.proofs.Founding.{used_eval, sizes_is}
-use Rattle.codegen.proofs.Sampling.{count_bound, steps_fit}
+use Rattle.codegen.proofs.steps.Memory.{has_put, at_put_out, byte_in, length-put}
+use Rattle.codegen.proofs.steps.Stepping.{Ctx, Live}
+use Rattle.codegen.proofs.phases.Quotients.{output_bytes, length-output_bytes}
+use Rattle.codegen.proofs.phases.Evaluating.{HasRom, Evals, Returns, masses, evaluated, eval_most, eval_parts, eval_run, length-after}
+use Rattle.codegen.proofs.masses.Answering.{answers_are}
+use Rattle.codegen.proofs.masses.BlockMasses.{rules_give_masses}
+use Rattle.codegen.proofs.steps.Decoding.{stands_of}
+use Rattle.codegen.proofs.runs.Founding.{used_eval, sizes_is}
+use Rattle.codegen.proofs.runs.Sampling.{count_bound, steps_fit}
 
 -- a calm instruction is a whole one
 pub calm_is_whole : (flags d : ℕ) (s t : State) → IsCalmInstruction flags d s t → IsWholeStep flags d s t
@@ -93,10 +92,10 @@ evaluates c b back bytes bs before s h live same r =
       answers = λ o from to.
           (let k : 1 + (o - 1) ≡ o = omega arith in
           byte_in r.t.mem l.outputs qs (o - 1) outs (omega arith)
-              ∙ ap (λ vs. get_or (output_bytes b.outputs vs bs) (o - 1) 0) (rules_give_masses b bytes h.valid h.input)
-              ∙ answers_are b bytes bs h.count (o - 1) (omega arith)
-              ∙ ap (byte_answer b (1 + (o - 1)) bytes) (same (o - 1) (omega arith))
-              ∙ ap (λ n. byte_answer b n bytes (before n)) k);
+          ∙ ap (λ vs. get_or (output_bytes b.outputs vs bs) (o - 1) 0) (rules_give_masses b bytes h.valid h.input)
+          ∙ answers_are b bytes bs h.count (o - 1) (omega arith)
+          ∙ ap (byte_answer b (1 + (o - 1)) bytes) (same (o - 1) (omega arith))
+          ∙ ap (λ n. byte_answer b n bytes (before n)) k);
       elsewhere = λ at x y. ap (λ m. get_or m at 0) r.mem_is ∙ at_put_out m1 l.outputs qs at (outside l.outputs (length b.outputs) at (length qs) lq x) ∙ at_put_out s.mem l.slots (slots_after b bytes) at (outside l.slots (length (slots_of b)) at (length (slots_after b bytes)) la y);
       instructions = omega (arith, r.goes.count, count_bound b);
       steps = steps_fit b h.valid (all_steps r.goes.ds + 5) (omega (arith, r.goes.parts));

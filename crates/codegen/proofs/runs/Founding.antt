@@ -1,7 +1,7 @@
 -- A firmware's code and data stand in its memory.
-use Rattle.std.proofs.Common.{◌≡◌, ℕ, zero, suc, ◌+◌, ◌-◌, ◌*◌, ◌/◌, ◌%◌, ◌^◌, ◌<◌, ◌≤◌, List, [], ◌∷◌, ◌++◌, map, flat_map, length, replicate, sum_by, All, get_or, Option, Some, None, option_map, refl, sym, ap, ap₂, ◌∙◌, subst, subst₂, arith, length-append, append_assoc, append-nil}
+use Rattle.std.proofs.Common.{◌≡◌, ℕ, zero, suc, ◌+◌, ◌^◌, ◌<◌, ◌≤◌, List, [], ◌∷◌, ◌++◌, map, length, replicate, sum_by, All, Option, Some, None, option_map, refl, sym, ap, ◌∙◌, subst, arith, length-append, append_assoc, append-nil}
 use Rattle.std.specs.Prelude.{IfSome}
-use Rattle.std.proofs.lemmas.List.{length-map, length-replicate, map-append}
+use Rattle.std.proofs.lemmas.List.{length-map, length-replicate}
 use Rattle.std.proofs.lemmas.List.Sums.{sum_by-cons}
 use Rattle.std.proofs.lemmas.Grind.{flat_map-append}
 use Rattle.fz_num.specs.declared.dec.Dec.{Dec}
@@ -15,32 +15,29 @@ use Rattle.rule_layout.specs.declared.flat.Slot.{Slot}
 use Rattle.rule_layout.specs.declared.flat.Slot.TheVariants.{Term, Complement, Out}
 use Rattle.rule_layout.specs.declared.flat.Form.{Form}
 use Rattle.rule_layout.specs.declared.flat.Form.TheVariants as form
-use Rattle.rule_layout.specs.Slots.{slots_of, term_count, singleton_count, input_terms, term_slot}
-use Rattle.rule_layout.specs.Layouts.{form_of, IsWithinLimits}
+use Rattle.rule_layout.specs.Slots.{slots_of, singleton_count, input_terms, term_slot}
+use Rattle.rule_layout.specs.Layouts.{form_of}
 use Rattle.rule_layout.proofs.LayoutLemmas.{few_slots}
 use Rattle.cpu12_isa.specs.declared.instr.Instr.{Instr}
-use Rattle.cpu12_isa.specs.declared.instr.Instr.TheVariants.{LdaaExtended, LdxImmediate, LdyImmediate, LdsImmediate, ClrExtended, Beq, Bra, JsrExtended, Rts, Andcc, Rti, Mem}
+use Rattle.cpu12_isa.specs.declared.instr.Instr.TheVariants.{LdaaExtended, LdsImmediate, ClrExtended, Beq, Bra, JsrExtended, Andcc, Rti, Mem}
 use Rattle.cpu12_isa.specs.Code.{encode_of, decode_at}
-use Rattle.cpu12_asm.specs.declared.items.Item.{Item}
-use Rattle.cpu12_asm.specs.declared.items.Item.TheVariants.{Place, Byte, Op}
 use Rattle.cpu12_asm.specs.Items.{given_by, IsRising}
 use Rattle.codegen.specs.declared.layout.Layout.{Layout}
-use Rattle.codegen.specs.Bounds.{input_term_count}
 use Rattle.codegen.specs.Code.{frame_code, fuzzify_code, slots_code, rules_code, quotient_code, output_code, outputs_code, input_slots, eval_code}
 use Rattle.codegen.specs.Data.{table_bytes, singleton_bytes, weight_bytes, rule_bytes, bytes_of_word}
-use Rattle.codegen.specs.Images.{code_at, bytes_at, vector_items, firmware_items, IsApart}
+use Rattle.codegen.specs.Images.{code_at, bytes_at, firmware_items, IsApart}
 use Rattle.codegen.specs.Answers.{HasGiven}
 use Rattle.codegen.proofs.Joins.{sum_by-term_count}
-use Rattle.codegen.proofs.Sizes.{code_size, code_size-append, code_size-eval}
-use Rattle.codegen.proofs.Memory.{HasBytes, bytes_front, bytes_back}
-use Rattle.codegen.proofs.Stepping.{Ctx, Stands, sizes}
-use Rattle.codegen.proofs.Fuzzify.{grades, length-grades}
-use Rattle.codegen.proofs.Filling.{AllCanFill}
-use Rattle.codegen.proofs.SlotValues.{further_slots, slots_are, further_fill, length-slots, length-input_terms}
-use Rattle.codegen.proofs.Evaluating.{HasRom, slots_code_is, outputs_few}
-use Rattle.codegen.proofs.Framing.{HasFrame}
-use Rattle.codegen.proofs.Decoding.{UsedCode, used_append, code_bytes, stands_of, decode_here}
-use Rattle.codegen.proofs.Standing.{bytes_stand, code_stands}
+use Rattle.codegen.proofs.Sizes.{code_size, code_size-eval}
+use Rattle.codegen.proofs.steps.Memory.{HasBytes, bytes_front, bytes_back}
+use Rattle.codegen.proofs.steps.Stepping.{Ctx, Stands, sizes}
+use Rattle.codegen.proofs.phases.Fuzzify.{grades, length-grades}
+use Rattle.codegen.proofs.phases.Filling.{AllCanFill}
+use Rattle.codegen.proofs.phases.SlotValues.{further_slots, slots_are, further_fill, length-slots, length-input_terms}
+use Rattle.codegen.proofs.phases.Evaluating.{HasRom, slots_code_is, outputs_few}
+use Rattle.codegen.proofs.runs.Framing.{HasFrame}
+use Rattle.codegen.proofs.steps.Decoding.{UsedCode, used_append, code_bytes, stands_of, decode_here}
+use Rattle.codegen.proofs.runs.Standing.{bytes_stand, code_stands}
 
 -- the operands of the code fit
 used_mems : (n : ℕ) → UsedCode (replicate n Mem)
@@ -72,8 +69,8 @@ used_outputs sx sy at (o ∷ os) v hx hy h =
     let vo = v 0 o (omega arith) in
     let few = vo.few_terms in
     used_append (output_code sx sy at o) (outputs_code (sx + length o.singletons) (sy + length o.singletons) (at + 1) os)
-        (tt, omega arith, (tt, omega arith, (tt, omega arith, (tt, tt, used_quotient at o o.default (omega arith) vo vo.default_in))))
-        (used_outputs (sx + length o.singletons) (sy + length o.singletons) (at + 1) os (λ k d lt. v (suc k) d (omega arith)) (omega arith) (omega arith) (omega arith))
+    (tt, omega arith, (tt, omega arith, (tt, omega arith, (tt, tt, used_quotient at o o.default (omega arith) vo vo.default_in))))
+    (used_outputs (sx + length o.singletons) (sy + length o.singletons) (at + 1) os (λ k d lt. v (suc k) d (omega arith)) (omega arith) (omega arith) (omega arith))
 
 pub used_eval : (l : Layout) (b : Block) → IsApart l → IsValid b → UsedCode (eval_code l b)
 used_eval l b a v =
@@ -92,12 +89,18 @@ used_eval l b a v =
     let s = a.slots in
     let singles = outputs_few b v in
     let fill : UsedCode (slots_code l.slots b.inputs l.slots (slots_of b)) = subst UsedCode (sym (slots_code_is l b)) (used_slots b zs b.inputs gs l.slots (l.slots + length (input_terms b)) (further_slots b) (further_fill b zs lz) (omega arith) (omega arith)) in
-    let outs : UsedCode (outputs_code l.singletons (l.slots + input_slots (slots_of b) b.outputs) l.outputs b.outputs) = used_outputs l.singletons (l.slots + input_slots (slots_of b) b.outputs) l.outputs b.outputs v.outputs (omega (arith, a.singletons_end)) (omega arith) (omega (arith, v.few_outputs)) in
-    (tt, omega (arith, a.tables_end), (tt, omega arith,
-      used_append (fuzzify_code l.inputs b.inputs) _ (used_fuzzify l.inputs b.inputs (omega (arith, v.few_inputs)))
-      (used_append (slots_code l.slots b.inputs l.slots (slots_of b)) _ fill
-      (used_append (rules_code l (form_of b)) _ (used_rules l (form_of b) a)
-      (used_append (outputs_code l.singletons (l.slots + input_slots (slots_of b) b.outputs) l.outputs b.outputs) _ outs (tt, tt, tt))))))
+    let outs : UsedCode (outputs_code l.singletons (l.slots + input_slots (slots_of b) b.outputs) l.outputs b.outputs) = used_outputs l.singletons (l.slots + input_slots (slots_of b) b.outputs) l.outputs b.outputs v.outputs (omega (arith, a.singletons_end)) (omega arith) (omega (arith, v.few_outputs)) in (
+      tt,
+      omega (arith, a.tables_end),
+      (
+        tt,
+        omega arith,
+        used_append (fuzzify_code l.inputs b.inputs) _ (used_fuzzify l.inputs b.inputs (omega (arith, v.few_inputs)))
+            (used_append (slots_code l.slots b.inputs l.slots (slots_of b)) _ fill
+            (used_append (rules_code l (form_of b)) _ (used_rules l (form_of b) a)
+            (used_append (outputs_code l.singletons (l.slots + input_slots (slots_of b) b.outputs) l.outputs b.outputs) _ outs (tt, tt, tt)))),
+      ),
+    )
 
 pub sizes_is : (is : List Instr) → sizes is ≡ code_size is
 sizes_is [] = refl

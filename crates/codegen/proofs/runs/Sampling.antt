@@ -1,26 +1,26 @@
 -- A list of samples is answered.
-use Rattle.std.proofs.Common.{◌≡◌, ℕ, zero, suc, ◌+◌, ◌-◌, ◌*◌, ◌^◌, ◌<◌, ◌≤◌, List, [], ◌∷◌, ◌++◌, map, length, drop, sum_by, All, get_or, refl, sym, ap, ap₂, ◌∙◌, subst, arith, length-drop}
+use Rattle.std.proofs.Common.{◌≡◌, ℕ, suc, ◌+◌, ◌-◌, ◌<◌, ◌≤◌, List, [], ◌∷◌, length, sum_by, All, get_or, refl, sym, ap, ◌∙◌, subst, arith}
 use Rattle.std.proofs.lemmas.List.Sums.{sum_by-cons}
 use Rattle.fuzzy_meaning.specs.declared.block.Block.{Block}
 use Rattle.fuzzy_meaning.specs.declared.block.Output.{Output}
 use Rattle.fuzzy_meaning.specs.Blocks.{IsValid, IsValidOutput}
 use Rattle.point_slope.specs.Bytes.{byte_answer}
 use Rattle.rule_layout.specs.declared.flat.Conjunction.{Conjunction}
-use Rattle.rule_layout.specs.Slots.{singleton_count, slots_of, output_terms}
-use Rattle.rule_layout.specs.Layouts.{IsWithinLimits, form_of, conjunctions_of}
+use Rattle.rule_layout.specs.Slots.{singleton_count}
+use Rattle.rule_layout.specs.Layouts.{IsWithinLimits, conjunctions_of}
 use Rattle.cpu12_parts.specs.State.{State}
-use Rattle.codegen.specs.Bounds.{output_term_count, element_count, entry_count, instruction_bound, step_bound, output_bound, form_bound}
+use Rattle.codegen.specs.Bounds.{element_count, entry_count, instruction_bound, step_bound}
 use Rattle.codegen.specs.Images.{IsApart}
 use Rattle.codegen.specs.Firing.{AreInputBytes, RulesGiveMasses}
 use Rattle.codegen.specs.Answers.{given, IsAnswered, AreAnswered}
 use Rattle.codegen.specs.Ways.{all_steps}
-use Rattle.codegen.proofs.Memory.{HasBytes, byte_in}
-use Rattle.codegen.proofs.Stepping.{Ctx, calm_of}
-use Rattle.codegen.proofs.Quotients.{output_bytes, length-output_bytes, output_parts}
-use Rattle.codegen.proofs.RuleFacts.{HasRules, has_rules}
-use Rattle.codegen.proofs.Evaluating.{HasRom, Evals, masses, eval_most, eval_parts}
-use Rattle.codegen.proofs.Answering.{mass_of, answers_are}
-use Rattle.codegen.proofs.Framing.{HasFrame, Home, Sampled, sample_run, waits}
+use Rattle.codegen.proofs.steps.Memory.{byte_in}
+use Rattle.codegen.proofs.steps.Stepping.{Ctx, calm_of}
+use Rattle.codegen.proofs.phases.Quotients.{output_bytes, length-output_bytes, output_parts}
+use Rattle.codegen.proofs.phases.RuleFacts.{HasRules, has_rules}
+use Rattle.codegen.proofs.phases.Evaluating.{HasRom, Evals, masses, eval_most, eval_parts}
+use Rattle.codegen.proofs.masses.Answering.{answers_are}
+use Rattle.codegen.proofs.runs.Framing.{HasFrame, Home, Sampled, sample_run, waits}
 
 -- the bounds are those of the parts
 pub count_bound : (b : Block) → 5 + eval_most b ≡ instruction_bound b
@@ -74,8 +74,8 @@ answered c b bytes bs before s h i e same r =
       answers = λ o from to.
           (let k : 1 + (o - 1) ≡ o = omega arith in
           byte_in r.t.mem c.layout.outputs (output_bytes b.outputs (masses b bytes) bs) (o - 1) r.home.outs (omega arith)
-              ∙ byte_after c b bytes bs before h i e same (o - 1) (omega arith)
-              ∙ ap (λ n. byte_answer b n bytes (before n)) k);
+          ∙ byte_after c b bytes bs before h i e same (o - 1) (omega arith)
+          ∙ ap (λ n. byte_answer b n bytes (before n)) k);
       instructions = omega (arith, r.goes.count, count_bound b);
       steps = steps_fit b h.valid (all_steps r.goes.ds) r.goes.parts;
     }

@@ -1,9 +1,8 @@
 -- The conjunctions of a valid block and their weights.
-use Rattle.std.proofs.Common.{◌≡◌, ℕ, zero, suc, ◌+◌, ◌-◌, ◌*◌, ◌/◌, ◌<◌, ◌≤◌, ◌⊎◌, inl, inr, Bool, true, false, not, ◌&&◌, List, [], ◌∷◌, ◌++◌, map, flat_map, length, sum_by, All, get_or, Option, Some, None, refl, sym, ap, ap₂, ◌∙◌, subst, arith, length-append}
+use Rattle.std.proofs.Common.{◌≡◌, ℕ, suc, ◌*◌, ◌<◌, ◌≤◌, Bool, true, false, not, ◌&&◌, List, [], ◌∷◌, ◌++◌, map, flat_map, length, All, Option, Some, None, refl, arith, length-append}
 use Rattle.std.specs.Prelude.{ℤ, pos, negsuc, ◌≤ℤ◌, unsigned_abs, int_lt, nat_le, if◌then◌else◌, IfSome}
 use Rattle.std.specs.List.{list_any}
 use Rattle.std.proofs.lemmas.List.{length-map}
-use Rattle.std.proofs.lemmas.List.Sums.{sum_by-cons}
 use Rattle.std.proofs.lemmas.Bool.{or_parts}
 use Rattle.std.proofs.lemmas.Bool.Decides.{nat_tests}
 use Rattle.std.proofs.lemmas.Int.{ints}
@@ -19,11 +18,11 @@ use Rattle.rule_layout.specs.declared.flat.Form.{Form}
 use Rattle.rule_layout.specs.declared.flat.Form.TheVariants.{Rev, Revw}
 use Rattle.rule_layout.specs.Spreading.{spread_of, one_after_another, each_choice}
 use Rattle.rule_layout.specs.Slots.{slots_of}
-use Rattle.rule_layout.specs.Layouts.{rule_spread, rule_conjunctions, conjunction_of, rule_weights, conjunctions_of, weights_of, is_below_one, form_by, form_of, IsBelow}
+use Rattle.rule_layout.specs.Layouts.{rule_spread, rule_conjunctions, conjunction_of, rule_weights, conjunctions_of, weights_of, is_below_one, form_of, IsBelow}
 use Rattle.rule_layout.proofs.ChoicesLemmas.{length-choices}
 use Rattle.rule_layout.proofs.LayoutLemmas.{numbers_in_range}
-use Rattle.codegen.proofs.RuleMemory.{Below, AllBelow, below_all}
-use Rattle.codegen.proofs.Ruling.{AreFull}
+use Rattle.codegen.proofs.phases.RuleMemory.{Below, AllBelow, below_all, below_append}
+use Rattle.codegen.proofs.phases.Ruling.{AreFull}
 
 product_some : (m n : ℕ) → 1 ≤ m → 1 ≤ n → 1 ≤ m * n
 product_some m n a b = grind arith
@@ -101,10 +100,6 @@ weight_fits (Some w) h = let s = weight_small w.0 h.low h.high in omega arith
 copies_below : {X : Type 0} (n w : ℕ) (xs : List X) → w < n → Below n (map (λ _. w) xs)
 copies_below n w [] lt = tt
 copies_below n w (x ∷ xs) lt = (lt, copies_below n w xs lt)
-
-below_append : (n : ℕ) (xs ys : List ℕ) → Below n xs → Below n ys → Below n (xs ++ ys)
-below_append n [] ys a b = b
-below_append n (x ∷ xs) ys a b = (a.0, below_append n xs ys a.1 b)
 
 weights_below_by : (b : Block) (rules : List Rule) → All (IsValidRule b) rules → Below 256 (flat_map rule_weights rules)
 weights_below_by b [] v = tt

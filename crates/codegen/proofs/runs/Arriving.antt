@@ -1,18 +1,16 @@
 -- From reset to where the code waits.
-use Rattle.std.proofs.Common.{◌≡◌, ◌≢◌, ◌⊎◌, inl, inr, ℕ, zero, suc, ◌+◌, ◌-◌, ◌*◌, ◌/◌, ◌%◌, ◌^◌, ◌<◌, ◌≤◌, true, false, Ok, List, [], ◌∷◌, ◌++◌, map, length, set, get_or, refl, sym, ap, ap₂, ◌∙◌, subst, arith, length-set, get_or-set_same}
+use Rattle.std.proofs.Common.{◌≡◌, inl, inr, ℕ, zero, suc, ◌+◌, ◌*◌, ◌/◌, ◌%◌, ◌^◌, ◌<◌, ◌≤◌, Ok, List, [], ◌∷◌, ◌++◌, map, length, set, get_or, refl, sym, ap, ap₂, ◌∙◌, subst, arith, length-set, get_or-set_same}
 use Rattle.std.proofs.lemmas.List.{length-map}
 use Rattle.fuzzy_meaning.specs.declared.block.Block.{Block}
 use Rattle.fuzzy_meaning.specs.declared.block.Output.{Output}
-use Rattle.cpu12_isa.specs.declared.instr.Instr.{Instr}
 use Rattle.cpu12_isa.specs.declared.instr.Instr.TheVariants.{LdsImmediate, ClrExtended, Andcc}
 use Rattle.cpu12_isa.specs.Code.{decode_at}
 use Rattle.cpu12_isa.specs.Fits.{FitsRegs, AreBytes}
-use Rattle.cpu12_isa.specs.Memory.{plus}
 use Rattle.cpu12_isa.proofs.Fitting.{stays_fit}
 use Rattle.cpu12_asm.specs.declared.items.Item.TheVariants.{Op}
 use Rattle.cpu12_asm.specs.Items.{given_by, IsRising}
 use Rattle.cpu12_parts.specs.State.{State}
-use Rattle.cpu12_parts.specs.Whole.{after_plain, IsWholeStep}
+use Rattle.cpu12_parts.specs.Whole.{after_plain}
 use Rattle.cpu12_emul.specs.Image.{byte_or_zero}
 use Rattle.cpu12_emul.specs.Step.{reset_with}
 use Rattle.codegen.specs.declared.layout.Layout.{Layout}
@@ -20,14 +18,13 @@ use Rattle.codegen.specs.Code.{frame_code, eval_code}
 use Rattle.codegen.specs.Data.{table_bytes, singleton_bytes, weight_bytes, rule_bytes}
 use Rattle.codegen.specs.Images.{bytes_at, vector_items, firmware_items, IsApart}
 use Rattle.codegen.specs.Answers.{HasGiven, IsArrived}
-use Rattle.codegen.specs.Ways.{Way}
-use Rattle.codegen.proofs.Flags.{unmasked}
-use Rattle.codegen.proofs.Memory.{HasBytes, SameHigh, high_set, bytes_set_out, bytes_after_set}
-use Rattle.codegen.proofs.Stepping.{Ctx, Live, decode_same, calm_of}
-use Rattle.codegen.proofs.Framing.{Home, waits}
-use Rattle.codegen.proofs.Decoding.{decode_here}
-use Rattle.codegen.proofs.Standing.{none_below}
-use Rattle.codegen.proofs.Founding.{IsFramed, Stood, FrameBytes, start_code}
+use Rattle.codegen.proofs.steps.Flags.{unmasked}
+use Rattle.codegen.proofs.steps.Memory.{HasBytes, SameHigh, high_set, bytes_set_out, bytes_after_set}
+use Rattle.codegen.proofs.steps.Stepping.{Ctx, Live, decode_same, calm_of}
+use Rattle.codegen.proofs.runs.Framing.{Home, waits}
+use Rattle.codegen.proofs.steps.Decoding.{decode_here}
+use Rattle.codegen.proofs.runs.Standing.{none_below}
+use Rattle.codegen.proofs.runs.Founding.{IsFramed, Stood, FrameBytes}
 
 -- memory below the code is 0
 pub zero_below : (image : List ℕ) (l : Layout) (b : Block) → HasGiven image (given_by (firmware_items l b)) → IsRising (firmware_items l b) → (q : ℕ) → q < l.code → q < 65536 → get_or image q 0 ≡ 0

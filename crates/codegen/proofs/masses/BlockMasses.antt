@@ -1,42 +1,38 @@
 -- The masses of a block's output terms, by its conjunctions.
-use Rattle.std.proofs.Common.{◌≡◌, ◌≢◌, ◌⊎◌, inl, inr, ⊎_elim, ℕ, zero, suc, ◌+◌, ◌-◌, ◌*◌, ◌/◌, ◌^◌, ◌<◌, ◌≤◌, min, max, Bool, true, false, ◌&&◌, ◌||◌, List, [], ◌∷◌, ◌++◌, map, flat_map, length, take, drop, sum_by, All, get_or, Option, Some, None, slice_get, refl, sym, ap, ap₂, ◌∙◌, subst, arith, length-append, length-drop, append_assoc, get_or-drop, ext_get_or, true≢false, take_at}
+use Rattle.std.proofs.Common.{◌≡◌, ◌≢◌, ◌⊎◌, inl, inr, ℕ, zero, suc, ◌+◌, ◌-◌, ◌<◌, ◌≤◌, min, max, Bool, true, false, ◌&&◌, ◌||◌, List, [], ◌∷◌, ◌++◌, map, flat_map, length, take, drop, sum_by, All, get_or, Option, Some, None, slice_get, refl, sym, ap, ap₂, ◌∙◌, subst, arith, length-append, length-drop, append_assoc, get_or-drop, ext_get_or}
 use Rattle.std.specs.Prelude.{◌==◌, if◌then◌else◌, nat_lt}
-use Rattle.std.specs.List.{list_any, range_with_len}
+use Rattle.std.specs.List.{list_any}
 use Rattle.std.specs.Option.{option_map_or}
 use Rattle.std.proofs.lemmas.Bool.{cases_eq}
 use Rattle.std.proofs.lemmas.Bool.Decides.{nat_tests}
 use Rattle.std.proofs.lemmas.List.{length-map, get_or-map, get_or-append-add, map-append}
-use Rattle.std.proofs.lemmas.List.FromFn.{length-range_with_len}
-use Rattle.std.proofs.lemmas.List.Sums.{sum_by-cons, sum_by-append}
 use Rattle.fuzzy_meaning.specs.declared.block.Block.{Block}
 use Rattle.fuzzy_meaning.specs.declared.block.Input.{Input}
-use Rattle.fuzzy_meaning.specs.declared.block.Output.{Output}
 use Rattle.fuzzy_meaning.specs.declared.block.Rule.{Rule}
 use Rattle.fuzzy_meaning.specs.declared.block.Trapezoid.{Trapezoid}
 use Rattle.fuzzy_meaning.specs.Blocks.{IsValid, input_at}
-use Rattle.fuzzy_meaning.specs.Conditions.{level, condition_of}
+use Rattle.fuzzy_meaning.specs.Conditions.{condition_of}
 use Rattle.fuzzy_meaning.specs.Rules.{concludes}
 use Rattle.byte_scaling.specs.Weights.{weight_byte_of}
 use Rattle.point_slope.specs.Tables.{row_of, side, grade_under, grade_of}
-use Rattle.point_slope.specs.Bytes.{literal_grade, byte_truth, byte_strength, byte_mass_among, byte_mass}
+use Rattle.point_slope.specs.Bytes.{literal_grade, byte_strength, byte_mass_among, byte_mass}
 use Rattle.rule_layout.specs.declared.flat.Slot.{Slot}
 use Rattle.rule_layout.specs.declared.flat.Slot.TheVariants.{Term, Complement, Out}
 use Rattle.rule_layout.specs.declared.flat.Conjunction.{Conjunction}
-use Rattle.rule_layout.specs.Spreading.{Literal, spread_of}
+use Rattle.rule_layout.specs.Spreading.{Literal}
 use Rattle.rule_layout.specs.Truths.{literal_value, least_literal, greatest_conjunction}
-use Rattle.rule_layout.specs.Slots.{terms_from, singleton_count, input_terms, output_terms, term_slot, complement_slot, out_slot, is_same_slot, number_in, slots_of, literal_slot, literal_number, conclusion_number}
+use Rattle.rule_layout.specs.Slots.{singleton_count, input_terms, output_terms, term_slot, complement_slot, out_slot, is_same_slot, number_in, slots_of, literal_slot, literal_number, conclusion_number}
 use Rattle.rule_layout.specs.Layouts.{rule_spread, conjunction_of, rule_conjunctions, rule_weights, conjunctions_of, weights_of}
 use Rattle.rule_layout.proofs.NumberLemmas.{slot_from_same}
 use Rattle.rule_layout.proofs.MemberLemmas.{HasSlot, LiteralHasSlot, RuleHasSlots, rules_have_slots}
 use Rattle.rule_layout.proofs.TruthLemmas.{spreading_law_lem}
 use Rattle.cpu12_parts.specs.Parts.{weighted}
-use Rattle.codegen.specs.Bounds.{output_term_count}
 use Rattle.codegen.specs.Code.{input_slots}
-use Rattle.codegen.specs.Firing.{AreInputBytes, slot_before, slots_before, least_of, fired, slots_after, RulesGiveMasses}
-use Rattle.codegen.proofs.RuleMemory.{Below, length-fired}
-use Rattle.codegen.proofs.RuleFacts.{HasRules, has_rules}
-use Rattle.codegen.proofs.SlotValues.{complements_of, further_slots, slots_are, length-slots, length-input_terms, length-output_terms}
-use Rattle.codegen.proofs.Masses.{hit, degree, Between, AllSplit, fired_at, hit_max, hit_zero, weighted_max}
+use Rattle.codegen.specs.Firing.{slot_before, slots_before, least_of, slots_after, RulesGiveMasses}
+use Rattle.codegen.proofs.phases.RuleMemory.{Below, length-fired}
+use Rattle.codegen.proofs.phases.RuleFacts.{has_rules}
+use Rattle.codegen.proofs.phases.SlotValues.{complements_of, further_slots, slots_are, length-slots, length-output_terms, place_in, Counted, counted_from}
+use Rattle.codegen.proofs.masses.Masses.{hit, degree, Between, AllSplit, fired_at, hit_max, hit_zero, weighted_max}
 
 -- a slot that has a number stands there
 number_step : (f : Slot → ℕ) (x s : Slot) (xs : List Slot) → (number_in xs s < length xs → get_or (map f xs) (number_in xs s) 0 ≡ f s) → number_in (x ∷ xs) s < length (x ∷ xs) → get_or (map f (x ∷ xs)) (number_in (x ∷ xs) s) 0 ≡ f s
@@ -96,9 +92,9 @@ length-front b = omega (arith, ap length (slots_split b), length-append (front_o
 out_number : (b : Block) (o t : ℕ) → number_in (slots_of b) (Out o t) ≡ input_slots (slots_of b) b.outputs + number_in (map out_slot (output_terms b)) (Out o t)
 out_number b o t =
     ap (λ ss. number_in ss (Out o t)) (slots_are b)
-        ∙ out_behind_terms o t (input_terms b) (further_slots b)
-        ∙ ap (λ n. length (input_terms b) + n) (out_behind_complements o t (complements_of b) (map out_slot (output_terms b)))
-        ∙ omega (arith, length-front b, length-append (map term_slot (input_terms b)) (map complement_slot (complements_of b)), length-map (input_terms b) term_slot, length-map (complements_of b) complement_slot)
+    ∙ out_behind_terms o t (input_terms b) (further_slots b)
+    ∙ ap (λ n. length (input_terms b) + n) (out_behind_complements o t (complements_of b) (map out_slot (output_terms b)))
+    ∙ omega (arith, length-front b, length-append (map term_slot (input_terms b)) (map complement_slot (complements_of b)), length-map (input_terms b) term_slot, length-map (complements_of b) complement_slot)
 
 literal_is : (c : Bool) (i t : ℕ) → IsLiteral (if c then Complement i t else Term i t)
 literal_is true i t = tt
@@ -125,8 +121,8 @@ least_from b bytes t [] le h = omega arith
 least_from b bytes t (l ∷ ls) le h =
     let v = literal_at b bytes l (h 0 l (omega arith)) in
     ap (λ k. least_of (slots_before b bytes) (min t k) (map (literal_number (slots_of b)) ls)) v
-        ∙ least_from b bytes (min t (literal_value 255 (literal_grade b bytes) l)) ls (omega arith) (λ k d lt. h (suc k) d (omega arith))
-        ∙ omega arith
+    ∙ least_from b bytes (min t (literal_value 255 (literal_grade b bytes) l)) ls (omega arith) (λ k d lt. h (suc k) d (omega arith))
+    ∙ omega arith
 
 least_le : (g : ℕ → ℕ → ℕ) (ls : List Literal) → least_literal 255 g ls ≤ 255
 least_le g [] = omega arith
@@ -225,7 +221,7 @@ hit_is : (b : Block) (cs : List (ℕ × ℕ)) (o t k s : ℕ) → All (λ p. Has
 hit_is b [] o t k s h e lt = refl
 hit_is b (c ∷ cs) o t k s h e lt =
     ap₂ max (ap (λ (v : Bool). if v then s else 0) (same_number b c o t k (h 0 c (omega arith)) e lt)) (hit_is b cs o t k s (λ j d l. h (suc j) d (omega arith)) e lt)
-        ∙ or_choice ((c.0 == o) && (c.1 == t)) (list_any (λ c. (c.0 == o) && (c.1 == t)) cs) s
+    ∙ or_choice ((c.0 == o) && (c.1 == t)) (list_any (λ c. (c.0 == o) && (c.1 == t)) cs) s
 
 mass_choice : (x : Bool) (s m : ℕ) → max (if x then s else 0) m ≡ (if x then max s m else m)
 mass_choice true s m = refl
@@ -241,8 +237,8 @@ degree_is b bytes o t k (r ∷ rs) h e lt =
     let s = byte_strength b bytes r in
     let rest = degree_is b bytes o t k rs (λ j d l. h (suc j) d (omega arith)) e lt in
     rule_degree b bytes r k (rule_spread r) (flat_map (rule_conjunctions (slots_of b)) rs) (flat_map rule_weights rs) hr.literals
-        ∙ ap₂ max (ap (λ v. hit k v es) (strength_is b bytes r) ∙ hit_is b r.concl o t k s hr.conclusions e lt) rest
-        ∙ mass_choice (concludes r o t) s (byte_mass_among b bytes o t rs)
+    ∙ ap₂ max (ap (λ v. hit k v es) (strength_is b bytes r) ∙ hit_is b r.concl o t k s hr.conclusions e lt) rest
+    ∙ mass_choice (concludes r o t) s (byte_mass_among b bytes o t rs)
 
 -- conjunctions read literals and raise outputs' terms
 literals_below : (b : Block) (ls : List Literal) → All (LiteralHasSlot b) ls → Below (input_slots (slots_of b) b.outputs) (map (literal_number (slots_of b)) ls)
@@ -268,32 +264,6 @@ split_rules b (r ∷ rs) h =
     split_append (input_slots (slots_of b) b.outputs) (length (slots_of b)) (rule_conjunctions (slots_of b) r) (flat_map (rule_conjunctions (slots_of b)) rs) (split_rule b r (rule_spread r) hr.literals hr.conclusions) (split_rules b rs (λ k d lt. h (suc k) d (omega arith)))
 
 -- the outputs' terms are numbered in their order
-abbrev Counted : (ℕ × ℕ → ℕ) → ℕ → List (ℕ × ℕ) → Type 0
-Counted f at [] = Unit {0}
-Counted f at (p ∷ ps) = (f p ≡ at) × Counted f (at + 1) ps
-
-counted_append : (f : ℕ × ℕ → ℕ) (at : ℕ) (ps qs : List (ℕ × ℕ)) → Counted f at ps → Counted f (at + length ps) qs → Counted f at (ps ++ qs)
-counted_append f at [] qs a b = let e : at + 0 ≡ at = omega arith in subst (λ k. Counted f k qs) e b
-counted_append f at (p ∷ ps) qs a b = let e : at + suc (length ps) ≡ at + 1 + length ps = omega arith in (a.0, counted_append f (at + 1) ps qs a.1 (subst (λ k. Counted f k qs) e b))
-
-abbrev place_in : List Output → ℕ × ℕ → ℕ
-place_in os p = sum_by singleton_count (take (p.0 - 1) os) + (p.1 - 1)
-
-counted_range : (os : List Output) (i s n at : ℕ) → sum_by singleton_count (take (i - 1) os) + s ≡ at → Counted (place_in os) at (map (λ t. (i, t)) (range_with_len (s + 1) n))
-counted_range os i s zero at e = tt
-counted_range os i s (suc n) at e = (omega arith, counted_range os i (s + 1) n (at + 1) (omega arith))
-
-counted_from : (outputs front xs : List Output) (i at : ℕ) → outputs ≡ front ++ xs → i ≡ length front + 1 → at ≡ sum_by singleton_count front → Counted (place_in outputs) at (terms_from i (map singleton_count xs))
-counted_from outputs front [] i at e en ea = tt
-counted_from outputs front (x ∷ xs) i at e en ea =
-    let k : i - 1 ≡ length front = omega arith in
-    let cut : take (i - 1) outputs ≡ front = ap₂ (λ (n : ℕ) (l : List Output). take n l) k e ∙ take_at front (x ∷ xs) (length front) refl in
-    let before : sum_by singleton_count (take (i - 1) outputs) ≡ sum_by singleton_count front = ap (sum_by singleton_count) cut in
-    let here = counted_range outputs i 0 (length x.singletons) at (omega arith) in
-    let of_term : ℕ → ℕ × ℕ = λ t. (i, t) in
-    let sums : sum_by singleton_count (front ++ x ∷ []) ≡ sum_by singleton_count front + length x.singletons = sum_by-append singleton_count front (x ∷ []) ∙ omega (arith, sum_by-cons singleton_count x []) in
-    counted_append (place_in outputs) at (map (λ t. (i, t)) (range_with_len 1 (length x.singletons))) (terms_from (i + 1) (map singleton_count xs)) here (counted_from outputs (front ++ x ∷ []) xs (i + 1) _ (e ∙ sym (append_assoc front (x ∷ []) xs)) (omega (arith, length-append front (x ∷ []))) (omega (arith, sums, ea, length-map (range_with_len 1 (length x.singletons)) of_term, length-range_with_len 1 (length x.singletons))))
-
 counted_at : (f : ℕ × ℕ → ℕ) (at : ℕ) (ps : List (ℕ × ℕ)) (j : ℕ) (d : ℕ × ℕ) → Counted f at ps → j < length ps → f (get_or ps j d) ≡ at + j
 counted_at f at [] j d h lt = absurd (omega arith)
 counted_at f at (p ∷ ps) zero d h lt = h.0 ∙ omega arith
@@ -319,7 +289,7 @@ number_of f g fg at (p ∷ ps) (suc j) d h lt = by_test (is_same_slot (out_slot 
     by_test false e go = ap (λ (t : Bool). if t then 0 else number_in (map out_slot ps) (out_slot (get_or ps j d)) + 1) e ∙ omega (arith, go)
 
 number_here : (b : Block) (j : ℕ) (d : ℕ × ℕ) → j < length (output_terms b) → number_in (map out_slot (output_terms b)) (out_slot (get_or (output_terms b) j d)) ≡ j
-number_here b j d lt = number_of (place_in b.outputs) (λ i t. sum_by singleton_count (take (i - 1) b.outputs) + (t - 1)) (λ p. refl) 0 (output_terms b) j d (counted_from b.outputs [] b.outputs 1 0 refl refl refl) lt
+number_here b j d lt = number_of (place_in singleton_count b.outputs) (λ i t. sum_by singleton_count (take (i - 1) b.outputs) + (t - 1)) (λ p. refl) 0 (output_terms b) j d (counted_from singleton_count b.outputs [] b.outputs 1 0 refl refl refl) lt
 
 -- before the rules the slots of outputs' terms are 0
 zeros_of_outs : (b : Block) (bytes : List ℕ) (os : List (ℕ × ℕ)) (j : ℕ) → get_or (map (slot_before b bytes) (map out_slot os)) j 0 ≡ 0

@@ -1,18 +1,12 @@
 -- The slots of the outputs' terms hold their masses after the rules.
-use Rattle.std.proofs.Common.{◌≡◌, ◌≢◌, ◌⊎◌, inl, inr, ⊎_elim, ℕ, zero, suc, ◌+◌, ◌-◌, ◌*◌, ◌/◌, ◌^◌, ◌<◌, ◌≤◌, min, max, Bool, true, false, ◌&&◌, ◌||◌, List, [], ◌∷◌, ◌++◌, map, flat_map, filter, length, take, drop, sum_by, All, get_or, set, Option, Some, None, slice_get, refl, sym, ap, ap₂, ◌∙◌, subst, arith, length-append, length-set, length-drop, append_assoc, get_or-drop, get_or-set_same, get_or-set_other, ext_get_or, div-lt_iff_lt-mul, true≢false}
-use Rattle.std.specs.Prelude.{◌==◌, if◌then◌else◌, nat_lt}
-use Rattle.std.specs.List.{list_any, range_with_len}
-use Rattle.std.specs.Option.{option_map_or}
+use Rattle.std.proofs.Common.{◌≡◌, ⊎_elim, ℕ, ◌+◌, ◌*◌, ◌<◌, ◌≤◌, min, max, true, false, List, [], ◌∷◌, length, get_or, set, refl, sym, ap, ◌∙◌, subst, arith, length-set, get_or-set_same, get_or-set_other}
+use Rattle.std.specs.Prelude.{◌==◌, if◌then◌else◌}
 use Rattle.std.proofs.lemmas.Bool.{cases_lt, cases_eq}
 use Rattle.std.proofs.lemmas.Bool.Decides.{nat_tests}
-use Rattle.std.proofs.lemmas.List.{length-map}
-use Rattle.std.proofs.lemmas.List.Sums.{sum_by-cons}
-use Rattle.fuzzy_meaning.specs.declared.block.Block.{Block}
-use Rattle.fuzzy_meaning.specs.declared.block.Rule.{Rule}
 use Rattle.rule_layout.specs.declared.flat.Conjunction.{Conjunction}
 use Rattle.cpu12_parts.specs.Parts.{weighted}
 use Rattle.codegen.specs.Firing.{least_of, raised_to, fired}
-use Rattle.codegen.proofs.RuleMemory.{Below, length-raised_to}
+use Rattle.codegen.proofs.phases.RuleMemory.{Below, length-raised_to}
 
 -- t where k is concluded, and else 0
 abbrev pub hit : ℕ → ℕ → List ℕ → ℕ
@@ -42,14 +36,14 @@ raised_at t ss (e ∷ es) l k h =
     let ls = length-set ss e v in
     let r = raised_at t (set ss e v) es l k (subst (λ n. Between l n es) (sym ls) h.2) in
     r ∙ ⊎_elim
-      (λ q. let a : (e == k) ≡ true = grind (arith, nat_tests) in
-            let g : get_or (set ss e v) k 0 ≡ v = ap (λ j. get_or (set ss e v) j 0) (sym q) ∙ get_or-set_same ss e v 0 le in
-            let g2 : get_or ss e 0 ≡ get_or ss k 0 = ap (λ j. get_or ss j 0) q in
-            rw a (omega arith))
-      (λ q. let a : (e == k) ≡ false = grind (arith, nat_tests) in
-            let g : get_or (set ss e v) k 0 ≡ get_or ss k 0 = get_or-set_other ss e k v 0 (λ x. q (sym x)) in
-            rw a (omega arith))
-      (cases_eq e k)
+    (λ q. let a : (e == k) ≡ true = grind (arith, nat_tests) in
+    let g : get_or (set ss e v) k 0 ≡ v = ap (λ j. get_or (set ss e v) j 0) (sym q) ∙ get_or-set_same ss e v 0 le in
+    let g2 : get_or ss e 0 ≡ get_or ss k 0 = ap (λ j. get_or ss j 0) q in
+    rw a (omega arith))
+    (λ q. let a : (e == k) ≡ false = grind (arith, nat_tests) in
+    let g : get_or (set ss e v) k 0 ≡ get_or ss k 0 = get_or-set_other ss e k v 0 (λ x. q (sym x)) in
+    rw a (omega arith))
+    (cases_eq e k)
 
 least_same : (l : ℕ) (ss ls : List ℕ) (t : ℕ) (es : List ℕ) → ((e : ℕ) → e < l → get_or ss e 0 ≡ get_or ls e 0) → Below l es → least_of ss t es ≡ least_of ls t es
 least_same l ss ls t [] g h = refl
@@ -102,6 +96,6 @@ weighted_mono w a b h = let p = times_mono a b (w + 1) h in omega (arith, p)
 
 pub weighted_max : (w a b : ℕ) → weighted (max a b) w ≡ max (weighted a w) (weighted b w)
 weighted_max w a b = ⊎_elim
-  (λ l. let e : max a b ≡ b = omega arith in let m = weighted_mono w a b (omega arith) in ap (λ v. weighted v w) e ∙ omega (arith, m))
-  (λ l. let e : max a b ≡ a = omega arith in let m = weighted_mono w b a l in ap (λ v. weighted v w) e ∙ omega (arith, m))
-  (cases_lt a b)
+    (λ l. let e : max a b ≡ b = omega arith in let m = weighted_mono w a b (omega arith) in ap (λ v. weighted v w) e ∙ omega (arith, m))
+    (λ l. let e : max a b ≡ a = omega arith in let m = weighted_mono w b a l in ap (λ v. weighted v w) e ∙ omega (arith, m))
+    (cases_lt a b)

@@ -1,5 +1,5 @@
 -- What a firmware gives are bytes.
-use Rattle.std.proofs.Common.{◌≡◌, ℕ, zero, suc, ◌+◌, ◌-◌, ◌*◌, ◌/◌, ◌%◌, ◌^◌, ◌<◌, ◌≤◌, ◌⊎◌, inl, inr, min, Bool, true, false, cond, List, [], ◌∷◌, ◌++◌, map, flat_map, length, All, get_or, Option, Some, None, refl, sym, ap, ◌∙◌, subst, arith, div-lt_iff_lt-mul, nat_cmp}
+use Rattle.std.proofs.Common.{◌≡◌, ℕ, zero, suc, ◌+◌, ◌-◌, ◌*◌, ◌/◌, ◌<◌, ◌≤◌, inl, inr, Bool, true, false, cond, List, [], ◌∷◌, ◌++◌, map, flat_map, length, All, get_or, Option, Some, None, refl, sym, subst, arith, div-lt_iff_lt-mul, nat_cmp}
 use Rattle.std.specs.Prelude.{◌==◌, if◌then◌else◌}
 use Rattle.std.specs.BTreeMap.{is_at}
 use Rattle.std.proofs.lemmas.Bool.{cases_lt}
@@ -27,18 +27,18 @@ use Rattle.cpu12_isa.specs.declared.instr.Instr.TheVariants.{LdaaImmediate, Ldaa
 use Rattle.cpu12_isa.specs.Code.{encode_of, FitsOperands}
 use Rattle.cpu12_isa.specs.Fits.{AreBytes}
 use Rattle.cpu12_asm.specs.declared.items.Item.{Item}
-use Rattle.cpu12_asm.specs.declared.items.Item.TheVariants.{Place, Byte, Op}
+use Rattle.cpu12_asm.specs.declared.items.Item.TheVariants.{Byte, Op}
 use Rattle.cpu12_asm.specs.Bytes.{byte_at, placed}
 use Rattle.cpu12_asm.specs.Items.{item_bytes, place_after, given_from, given_by}
 use Rattle.cpu12_emul.specs.Image.{byte_or_zero}
 use Rattle.codegen.specs.Code.{frame_code, eval_code}
 use Rattle.codegen.specs.Data.{table_bytes, singleton_bytes, singleton_bytes_of, weight_bytes, weight_bytes_by, rule_bytes, rule_bytes_by, bytes_of_word}
-use Rattle.codegen.specs.Images.{bytes_at, vector_items, firmware_items, IsApart}
+use Rattle.codegen.specs.Images.{firmware_items, IsApart}
 use Rattle.codegen.specs.Layouts.{main_layout}
-use Rattle.codegen.proofs.RuleMemory.{Below, below_all}
-use Rattle.codegen.proofs.RuleFacts.{weights_below, rev_is_plain}
-use Rattle.codegen.proofs.Decoding.{IsUsed, UsedCode}
-use Rattle.codegen.proofs.Founding.{used_eval}
+use Rattle.codegen.proofs.phases.RuleMemory.{Below, below_all, below_append}
+use Rattle.codegen.proofs.phases.RuleFacts.{weights_below, rev_is_plain}
+use Rattle.codegen.proofs.steps.Decoding.{IsUsed, UsedCode}
+use Rattle.codegen.proofs.runs.Founding.{used_eval}
 
 -- items that give bytes
 abbrev ItemsFit : List Item → Type 0
@@ -52,10 +52,6 @@ fit_append (x ∷ xs) ys a b = (a.0, fit_append xs ys a.1 b)
 fit_bytes : (bs : List ℕ) → Below 256 bs → ItemsFit (map Byte bs)
 fit_bytes [] h = tt
 fit_bytes (b ∷ bs) h = ((h.0, tt), fit_bytes bs h.1)
-
-below_append : (n : ℕ) (xs ys : List ℕ) → Below n xs → Below n ys → Below n (xs ++ ys)
-below_append n [] ys a b = b
-below_append n (x ∷ xs) ys a b = (a.0, below_append n xs ys a.1 b)
 
 encoded_fits : (i : Instr) → IsUsed i → FitsOperands i → Below 256 (encode_of i)
 encoded_fits (LdaaImmediate v) u h = (omega arith, (h, tt))
@@ -171,13 +167,23 @@ items_fit b v a =
     let frame : ItemsFit (map Op (frame_code main_layout)) = ((omega arith, (omega arith, (omega arith, tt))), ((omega arith, (omega arith, (omega arith, tt))), ((omega arith, (omega arith, tt)), ((omega arith, (omega arith, (omega arith, tt))), ((omega arith, (omega arith, tt)), ((omega arith, (omega arith, (omega arith, tt))), ((omega arith, (omega arith, (omega arith, tt))), ((omega arith, (omega arith, tt)), ((omega arith, tt), tt))))))))) in
     let few = few_slots b v in
     let small : form_of b ≡ form.Rev → length (slots_of b) ≤ 254 = λ e. (rev_is_plain b v e).0 in
-    let code : ItemsFit (map Op (frame_code main_layout ++ eval_code main_layout b)) = fit_append (map Op (frame_code main_layout)) (map Op (eval_code main_layout b)) frame (fit_code (eval_code main_layout b) (used_eval main_layout b a v)) in
-    (tt, fit_append (map Op (frame_code main_layout ++ eval_code main_layout b)) _ code
-      (tt, fit_append (map Byte (table_bytes b)) _ (fit_bytes (table_bytes b) (tables_fit b.inputs))
-      (tt, fit_append (map Byte (singleton_bytes b)) _ (fit_bytes (singleton_bytes b) (singletons_fit b.outputs v.outputs))
-      (tt, fit_append (map Byte (weight_bytes b)) _ (fit_bytes (weight_bytes b) (weights_fit (form_of b) (weights_of b) (weights_below b v)))
-      (tt, fit_append (map Byte (rule_bytes main_layout.slots b)) _ (fit_bytes (rule_bytes main_layout.slots b) (rules_fit main_layout.slots (length (slots_of b)) (form_of b) (conjunctions_of b) small (omega arith) (numbers_in_range b v)))
-      (tt, ((omega arith, tt), ((omega arith, tt), (tt, ((omega arith, tt), ((omega arith, tt), tt)))))))))))
+    let code : ItemsFit (map Op (frame_code main_layout ++ eval_code main_layout b)) = fit_append (map Op (frame_code main_layout)) (map Op (eval_code main_layout b)) frame (fit_code (eval_code main_layout b) (used_eval main_layout b a v)) in (
+      tt,
+      fit_append (map Op (frame_code main_layout ++ eval_code main_layout b)) _ code (
+        tt,
+        fit_append (map Byte (table_bytes b)) _ (fit_bytes (table_bytes b) (tables_fit b.inputs)) (
+          tt,
+          fit_append (map Byte (singleton_bytes b)) _ (fit_bytes (singleton_bytes b) (singletons_fit b.outputs v.outputs)) (
+            tt,
+            fit_append (map Byte (weight_bytes b)) _ (fit_bytes (weight_bytes b) (weights_fit (form_of b) (weights_of b) (weights_below b v))) (
+              tt,
+              fit_append (map Byte (rule_bytes main_layout.slots b)) _ (fit_bytes (rule_bytes main_layout.slots b) (rules_fit main_layout.slots (length (slots_of b)) (form_of b) (conjunctions_of b) small (omega arith) (numbers_in_range b v)))
+                  (tt, ((omega arith, tt), ((omega arith, tt), (tt, ((omega arith, tt), ((omega arith, tt), tt)))))),
+            ),
+          ),
+        ),
+      ),
+    )
 
 -- pairs whose second is a byte
 abbrev PairsFit : List (ℕ × ℕ) → Type 0

@@ -1,5 +1,5 @@
 -- The parts of a firmware stand in its memory.
-use Rattle.std.proofs.Common.{◌≡◌, ℕ, zero, suc, ◌+◌, ◌-◌, ◌*◌, ◌^◌, ◌<◌, ◌≤◌, true, false, cond, List, [], ◌∷◌, ◌++◌, map, flat_map, length, get_or, Option, Some, None, refl, sym, ap, ap₂, ◌∙◌, subst, arith, length-append, append_assoc, append-nil, nat_cmp}
+use Rattle.std.proofs.Common.{◌≡◌, ℕ, zero, suc, ◌+◌, ◌<◌, ◌≤◌, true, false, cond, List, [], ◌∷◌, ◌++◌, map, length, get_or, Some, None, refl, sym, ap, ◌∙◌, subst, arith, length-append, append_assoc, nat_cmp}
 use Rattle.std.specs.BTreeMap.{is_at}
 use Rattle.std.proofs.lemmas.Bool.Decides.{nat_tests}
 use Rattle.cpu12_isa.specs.declared.instr.Instr.{Instr}
@@ -12,8 +12,8 @@ use Rattle.cpu12_asm.proofs.Placing.{or_else, byte_at-append, byte_at-placed}
 use Rattle.cpu12_asm.proofs.Rising.{rising_head, rising_end, rising_parts}
 use Rattle.cpu12_emul.specs.Image.{byte_or_zero}
 use Rattle.codegen.specs.Answers.{HasGiven}
-use Rattle.codegen.proofs.Memory.{HasBytes, bytes_by}
-use Rattle.codegen.proofs.Decoding.{code_bytes}
+use Rattle.codegen.proofs.steps.Memory.{HasBytes, bytes_by}
+use Rattle.codegen.proofs.steps.Decoding.{code_bytes}
 
 placed_append : (at : ℕ) (a b : List ℕ) → placed at (a ++ b) ≡ placed at a ++ placed (at + length a) b
 placed_append at [] b = let e : at ≡ at + 0 = omega arith in ap (λ k. placed k b) e
@@ -35,8 +35,8 @@ given_code at (i ∷ is) rest =
     let la = length-append (encode_of i) (code_bytes is) in
     let e : at + n + length (code_bytes is) ≡ at + length (encode_of i ++ code_bytes is) = omega arith in
     ap (λ l. placed at (encode_of i) ++ l) (given_code (at + n) is rest ∙ ap (λ k. placed (at + n) (code_bytes is) ++ given_from k rest) e)
-        ∙ sym (append_assoc (placed at (encode_of i)) (placed (at + n) (code_bytes is)) (given_from (at + length (encode_of i ++ code_bytes is)) rest))
-        ∙ ap (λ l. l ++ given_from (at + length (encode_of i ++ code_bytes is)) rest) (sym (placed_append at (encode_of i) (code_bytes is)))
+    ∙ sym (append_assoc (placed at (encode_of i)) (placed (at + n) (code_bytes is)) (given_from (at + length (encode_of i ++ code_bytes is)) rest))
+    ∙ ap (λ l. l ++ given_from (at + length (encode_of i ++ code_bytes is)) rest) (sym (placed_append at (encode_of i) (code_bytes is)))
 
 given_append : (at : ℕ) (xs ys : List Item) → given_from at (xs ++ ys) ≡ given_from at xs ++ given_from (place_behind at xs) ys
 given_append at [] ys = refl
@@ -58,8 +58,8 @@ none_behind at q (x ∷ xs) ys h low =
     let rest : byte_at (given_from (place_after at x) xs) q ≡ None = none_behind (place_after at x) q xs ys head.1 low in
     let up = end_up (place_after at x) xs ys head.1 in
     byte_at-append q (placed at (item_bytes x)) (given_from (place_after at x) xs)
-        ∙ ap (λ o. or_else o (byte_at (given_from (place_after at x) xs) q)) (byte_at-placed at q (item_bytes x) (omega (arith, head.0, up)))
-        ∙ rest
+    ∙ ap (λ o. or_else o (byte_at (given_from (place_after at x) xs) q)) (byte_at-placed at q (item_bytes x) (omega (arith, head.0, up)))
+    ∙ rest
 
 -- nor below their start
 other_below : (at q : ℕ) → q < at → is_at (nat_cmp q) at ≡ false
@@ -74,8 +74,8 @@ none_below at q [] h low = refl
 none_below at q (x ∷ xs) h low =
     let head = rising_head at x xs h in
     byte_at-append q (placed at (item_bytes x)) (given_from (place_after at x) xs)
-        ∙ ap (λ o. or_else o (byte_at (given_from (place_after at x) xs) q)) (none_placed_below at q (item_bytes x) low)
-        ∙ none_below (place_after at x) q xs head.1 (omega (arith, head.0))
+    ∙ ap (λ o. or_else o (byte_at (given_from (place_after at x) xs) q)) (none_placed_below at q (item_bytes x) low)
+    ∙ none_below (place_after at x) q xs head.1 (omega (arith, head.0))
 
 -- a byte of those that are placed
 same_here : (p : ℕ) → is_at (nat_cmp p) p ≡ true
@@ -102,15 +102,15 @@ part_stands mem items front part rest p bs h rise e eg ep =
     let behind = rising_parts p part rest here.1 in
     let top = rising_end (place_behind p part) rest behind in
     bytes_by mem p bs (λ j lt.
-      (let g : given_by items ≡ given_from 0 front ++ (placed p bs ++ given_from (p + length bs) rest) = ap given_by e ∙ given_append 0 front (Place p ∷ (part ++ rest)) ∙ ap (λ l. given_from 0 front ++ l) eg in
-      let n : byte_at (given_from 0 front) (p + j) ≡ None = none_behind 0 (p + j) front (Place p ∷ (part ++ rest)) whole (omega (arith, here.0)) in
-      let f : byte_at (given_by items) (p + j) ≡ Some (get_or bs j 0) =
-          ap (λ l. byte_at l (p + j)) g
-              ∙ byte_at-append (p + j) (given_from 0 front) (placed p bs ++ given_from (p + length bs) rest)
-              ∙ ap (λ o. or_else o (byte_at (placed p bs ++ given_from (p + length bs) rest) (p + j))) n
-              ∙ byte_at-append (p + j) (placed p bs) (given_from (p + length bs) rest)
-              ∙ ap (λ o. or_else o (byte_at (given_from (p + length bs) rest) (p + j))) (found_placed p j bs lt) in
-      h.bytes (p + j) (omega (arith, top.0, top.1)) ∙ ap byte_or_zero f))
+    (let g : given_by items ≡ given_from 0 front ++ (placed p bs ++ given_from (p + length bs) rest) = ap given_by e ∙ given_append 0 front (Place p ∷ (part ++ rest)) ∙ ap (λ l. given_from 0 front ++ l) eg in
+    let n : byte_at (given_from 0 front) (p + j) ≡ None = none_behind 0 (p + j) front (Place p ∷ (part ++ rest)) whole (omega (arith, here.0)) in
+    let f : byte_at (given_by items) (p + j) ≡ Some (get_or bs j 0) =
+    ap (λ l. byte_at l (p + j)) g
+    ∙ byte_at-append (p + j) (given_from 0 front) (placed p bs ++ given_from (p + length bs) rest)
+    ∙ ap (λ o. or_else o (byte_at (placed p bs ++ given_from (p + length bs) rest) (p + j))) n
+    ∙ byte_at-append (p + j) (placed p bs) (given_from (p + length bs) rest)
+    ∙ ap (λ o. or_else o (byte_at (given_from (p + length bs) rest) (p + j))) (found_placed p j bs lt) in
+    h.bytes (p + j) (omega (arith, top.0, top.1)) ∙ ap byte_or_zero f))
 
 behind_bytes : (at : ℕ) (bs : List ℕ) → place_behind at (map Byte bs) ≡ at + length bs
 behind_bytes at [] = omega arith

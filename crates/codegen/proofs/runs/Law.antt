@@ -1,5 +1,5 @@
 -- The firmware of a block answers every list of samples by the byte answer.
-use Rattle.std.proofs.Common.{◌≡◌, ℕ, ◌+◌, ◌^◌, ◌<◌, ◌≤◌, List, [], ◌∷◌, length, All, get_or, refl, sym, ap, ◌∙◌, arith}
+use Rattle.std.proofs.Common.{ℕ, ◌^◌, ◌<◌, List, All, refl, ap, ◌∙◌, arith}
 use Rattle.fuzzy_meaning.specs.declared.block.Block.{Block}
 use Rattle.fuzzy_meaning.specs.Blocks.{IsValid}
 use Rattle.rule_layout.specs.Layouts.{IsWithinLimits}
@@ -14,12 +14,12 @@ use Rattle.codegen.specs.Images.{firmware_items, IsApart}
 use Rattle.codegen.specs.Firing.{AreInputBytes, RulesGiveMasses}
 use Rattle.codegen.specs.Answers.{HasGiven, IsArrived, AreAnswered, AnswersSamples, AnswersFrom}
 use Rattle.codegen.proofs.Placement.{HasSizes, main_rises}
-use Rattle.codegen.proofs.Stepping.{Ctx}
-use Rattle.codegen.proofs.Founding.{IsFramed, Stood, FrameBytes, stood, frame_bytes, has_frame, has_rom}
-use Rattle.codegen.proofs.Arriving.{Arrived, arrive, zero_below, zeros_of, length-zeros_of, zeros_at}
-use Rattle.codegen.proofs.Sampling.{Runs, are_answered}
-use Rattle.codegen.proofs.BlockMasses.{rules_give_masses}
-use Rattle.codegen.proofs.GivenBytes.{memory_fits}
+use Rattle.codegen.proofs.steps.Stepping.{Ctx}
+use Rattle.codegen.proofs.runs.Founding.{IsFramed, Stood, stood, frame_bytes, has_frame, has_rom}
+use Rattle.codegen.proofs.runs.Arriving.{Arrived, arrive, zero_below, zeros_of, length-zeros_of, zeros_at}
+use Rattle.codegen.proofs.runs.Sampling.{Runs, are_answered}
+use Rattle.codegen.proofs.masses.BlockMasses.{rules_give_masses}
+use Rattle.codegen.proofs.runs.GivenBytes.{memory_fits}
 
 main_apart : IsApart main_layout
 main_apart = record {
@@ -53,7 +53,7 @@ with_parts b image flags samples fits give v w g rise all h =
     let c : Ctx = record { layout = main_layout; image = image; flags = flags; fits = fits } in
     let fb = frame_bytes image main_layout b h in
     from_arrival c b samples (record { apart = main_apart; valid = v; limits = w; rom = has_rom c b main_framed main_apart v h; frame = has_frame c b main_framed main_apart fb; give = give }) all
-        (arrive c b main_framed main_apart v.few_outputs h fb g (memory_fits b image v main_apart g.size g.bytes) (λ q lt. zero_below image main_layout b g rise q lt (omega arith)))
+    (arrive c b main_framed main_apart v.few_outputs h fb g (memory_fits b image v main_apart g.size g.bytes) (λ q lt. zero_below image main_layout b g rise q lt (omega arith)))
 
 pub answers_samples : AnswersSamples
 answers_samples b image flags samples v w g fits all =

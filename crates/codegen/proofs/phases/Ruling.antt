@@ -1,5 +1,5 @@
 -- The rules, by REV and by REVW.
-use Rattle.std.proofs.Common.{◌≡◌, ◌⊎◌, inl, inr, ℕ, zero, suc, ◌+◌, ◌-◌, ◌*◌, ◌/◌, ◌%◌, ◌^◌, ◌<◌, ◌≤◌, Bool, true, false, Ok, List, [], ◌∷◌, ◌++◌, map, flat_map, length, sum_by, get_or, refl, sym, ap, ap₂, ◌∙◌, subst, arith, length-append}
+use Rattle.std.proofs.Common.{◌≡◌, inl, inr, ℕ, suc, ◌+◌, ◌-◌, ◌*◌, ◌^◌, ◌<◌, ◌≤◌, true, false, Ok, List, [], ◌∷◌, map, flat_map, length, sum_by, get_or, refl, sym, ap, ap₂, ◌∙◌, subst, arith}
 use Rattle.std.proofs.lemmas.List.Sums.{sum_by-cons}
 use Rattle.rule_layout.specs.declared.flat.Conjunction.{Conjunction}
 use Rattle.rule_layout.specs.declared.flat.Form.TheVariants as form
@@ -21,11 +21,11 @@ use Rattle.codegen.specs.Data.{bytes_of_word}
 use Rattle.codegen.specs.Firing.{fired}
 use Rattle.codegen.specs.Answers.{put}
 use Rattle.codegen.specs.Ways.{is_hidden, IsCalmRules}
-use Rattle.codegen.proofs.Flags.{masked_put, masked_open_hnzc, masked_open_hnz, overflow_off, overflow_or, carry_or}
-use Rattle.codegen.proofs.Memory.{HasBytes, same_bytes}
-use Rattle.codegen.proofs.Stepping.{Ctx, Live, Stands, Goes, goes_one, goes_on, goes_part, sizes, Reaches, reaches_at, sp_high, calm_of, decode_same, not_at}
-use Rattle.codegen.proofs.Instructions.{ldaa_byte, ldx, ldy, andcc_v, orcc_c}
-use Rattle.codegen.proofs.RuleMemory.{NamesSlots, renamed, rule_by, rules_by, Below, AllBelow, From, shown_below, shown_from, apart_by, rules_are, rules_named_low, rules_target_low, span, element_bytes_high, weight_bytes_high, behind_fits, behind_weights_fits, elements_are, length-renamed, length-rules_by, all_is, LightRules, light_by, last_strength_lt, all_keep}
+use Rattle.codegen.proofs.steps.Flags.{masked_put, masked_open_hnzc, masked_open_hnz, overflow_off, overflow_or, carry_or}
+use Rattle.codegen.proofs.steps.Memory.{HasBytes, same_bytes}
+use Rattle.codegen.proofs.steps.Stepping.{Ctx, Live, Stands, Goes, goes_one, goes_on, goes_part, sizes, Reaches, reaches_at, sp_high, calm_of, decode_same, not_at}
+use Rattle.codegen.proofs.steps.Instructions.{ldaa_byte, ldx, ldy, andcc_v, orcc_c}
+use Rattle.codegen.proofs.phases.RuleMemory.{NamesSlots, renamed, rule_by, rules_by, Below, AllBelow, From, shown_below, shown_from, apart_by, rules_are, rules_named_low, rules_target_low, span, element_bytes_high, weight_bytes_high, behind_fits, behind_weights_fits, elements_are, length-renamed, length-rules_by, all_is, LightRules, light_by, last_strength_lt, all_keep}
 
 six_high : (p : ℕ) → 0x2000 ≤ p → p + 6 < 65536 → From 0x2000 (six_from p)
 six_high p lo hi =

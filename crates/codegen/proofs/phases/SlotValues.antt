@@ -1,27 +1,26 @@
 -- What the slots hold before the rules, slot by slot.
-use Rattle.std.proofs.Common.{◌≡◌, ℕ, zero, suc, ◌+◌, ◌-◌, ◌*◌, ◌<◌, ◌≤◌, Bool, true, false, List, [], ◌∷◌, ◌++◌, map, filter, length, take, sum_by, get_or, Option, Some, None, slice_get, refl, sym, ap, ap₂, ◌∙◌, subst, arith, length-append, append_assoc, append-nil, take_at}
-use Rattle.std.specs.Prelude.{if◌then◌else◌, slice_index}
+use Rattle.std.proofs.Common.{◌≡◌, ℕ, zero, suc, ◌+◌, ◌-◌, ◌*◌, ◌<◌, Bool, true, false, List, [], ◌∷◌, ◌++◌, map, filter, length, take, sum_by, get_or, Option, Some, slice_get, refl, sym, ap, ap₂, ◌∙◌, subst, arith, length-append, append_assoc, take_at}
+use Rattle.std.specs.Prelude.{if◌then◌else◌}
 use Rattle.std.specs.List.{range_with_len}
 use Rattle.std.specs.Option.{option_map_or}
-use Rattle.std.proofs.lemmas.List.{length-map, get_or-append-add, map-append}
+use Rattle.std.proofs.lemmas.List.{length-map, map-append}
 use Rattle.std.proofs.lemmas.List.FromFn.{length-range_with_len}
 use Rattle.std.proofs.lemmas.List.Sums.{sum_by-cons, sum_by-append}
 use Rattle.fuzzy_meaning.specs.declared.block.Block.{Block}
 use Rattle.fuzzy_meaning.specs.declared.block.Input.{Input}
-use Rattle.fuzzy_meaning.specs.declared.block.Output.{Output}
 use Rattle.fuzzy_meaning.specs.declared.block.Trapezoid.{Trapezoid}
 use Rattle.point_slope.specs.Tables.{row_of, grade_of}
 use Rattle.point_slope.specs.Bytes.{literal_grade}
 use Rattle.rule_layout.specs.declared.flat.Slot.{Slot}
 use Rattle.rule_layout.specs.Slots.{terms_from, term_count, singleton_count, input_terms, output_terms, is_complemented, term_slot, complement_slot, out_slot, slots_of}
 use Rattle.codegen.specs.Bounds.{input_term_count, output_term_count, complement_count}
-use Rattle.codegen.specs.Code.{terms_before, input_slots}
+use Rattle.codegen.specs.Code.{terms_before}
 use Rattle.codegen.specs.Firing.{slot_before, slots_before}
-use Rattle.codegen.proofs.Fuzzify.{grades, length-grades}
-use Rattle.codegen.proofs.Filling.{AllCanFill, fill_count}
+use Rattle.codegen.proofs.phases.Fuzzify.{grades}
+use Rattle.codegen.proofs.phases.Filling.{AllCanFill, fill_count}
 
 -- the element behind a list's front
-slice_get_behind : {X : Type 0} (front : List X) (x : X) (rest : List X) → slice_get (front ++ x ∷ rest) (length front) ≡ Some x
+pub slice_get_behind : {X : Type 0} (front : List X) (x : X) (rest : List X) → slice_get (front ++ x ∷ rest) (length front) ≡ Some x
 slice_get_behind [] x rest = refl
 slice_get_behind (y ∷ front) x rest = slice_get_behind front x rest
 
@@ -60,8 +59,8 @@ input_values b bytes vfront vs front x xs v i ei ev el en =
     let gv : get_or bytes (i - 1) 0 ≡ v = ap₂ (λ (l : List ℕ) (n : ℕ). get_or l n 0) ev j ∙ index_behind vfront v vs in
     let of_term : ℕ → ℕ × ℕ = λ t. (i, t) in
     by_number (λ t. grade_of (row_of x t) v) [] x.terms x.terms 0 refl refl
-        ∙ sym (ap₂ (λ (o : Option Input) (w : ℕ). map (λ t. option_map_or (λ (y : Input). option_map_or (λ (term : Trapezoid). grade_of (row_of y term) w) (slice_get y.terms (t - 1)) 0) o 0) (range_with_len 1 (length x.terms))) gx gv)
-        ∙ sym (map_map (term_value b bytes) of_term (range_with_len 1 (length x.terms)))
+    ∙ sym (ap₂ (λ (o : Option Input) (w : ℕ). map (λ t. option_map_or (λ (y : Input). option_map_or (λ (term : Trapezoid). grade_of (row_of y term) w) (slice_get y.terms (t - 1)) 0) o 0) (range_with_len 1 (length x.terms))) gx gv)
+    ∙ sym (map_map (term_value b bytes) of_term (range_with_len 1 (length x.terms)))
 
 grades_from : (b : Block) (bytes vfront vs : List ℕ) (front xs : List Input) (i : ℕ) → b.inputs ≡ front ++ xs → bytes ≡ vfront ++ vs → length vfront ≡ length front → i ≡ length front + 1 → length vs ≡ length xs → grades vs xs ≡ map (term_value b bytes) (terms_from i (map term_count xs))
 grades_from b bytes vfront vs front [] i ei ev el en em = refl
@@ -75,36 +74,40 @@ grades_from b bytes vfront (v ∷ vs) front (x ∷ xs) i ei ev el en em =
 pub grades_are : (b : Block) (bytes : List ℕ) → length bytes ≡ length b.inputs → grades bytes b.inputs ≡ map (term_value b bytes) (input_terms b)
 grades_are b bytes h = grades_from b bytes [] bytes [] b.inputs 1 refl refl refl refl h
 
--- terms whose numbers count up from a place
-abbrev Placed : List Input → ℕ → List (ℕ × ℕ) → Type 0
-Placed inputs at [] = Unit {0}
-Placed inputs at (p ∷ ps) = (terms_before inputs p.0 + (p.1 - 1) ≡ at) × Placed inputs (at + 1) ps
+-- the place of a term among those of variables that have so many each
+abbrev pub place_in : {X : Type 0} → (X → ℕ) → List X → ℕ × ℕ → ℕ
+place_in count xs p = sum_by count (take (p.0 - 1) xs) + (p.1 - 1)
 
-placed_append : (inputs : List Input) (at : ℕ) (ps qs : List (ℕ × ℕ)) → Placed inputs at ps → Placed inputs (at + length ps) qs → Placed inputs at (ps ++ qs)
-placed_append inputs at [] qs a b = let e : at + 0 ≡ at = omega arith in subst (λ k. Placed inputs k qs) e b
-placed_append inputs at (p ∷ ps) qs a b = let e : at + suc (length ps) ≡ at + 1 + length ps = omega arith in (a.0, placed_append inputs (at + 1) ps qs a.1 (subst (λ k. Placed inputs k qs) e b))
+-- terms whose places count up from one
+abbrev pub Counted : (ℕ × ℕ → ℕ) → ℕ → List (ℕ × ℕ) → Type 0
+Counted place at [] = Unit {0}
+Counted place at (p ∷ ps) = (place p ≡ at) × Counted place (at + 1) ps
 
-placed_range : (inputs : List Input) (i s n at : ℕ) → terms_before inputs i + s ≡ at → Placed inputs at (map (λ t. (i, t)) (range_with_len (s + 1) n))
-placed_range inputs i s zero at e = tt
-placed_range inputs i s (suc n) at e = (omega arith, placed_range inputs i (s + 1) n (at + 1) (omega arith))
+counted_append : (place : ℕ × ℕ → ℕ) (at : ℕ) (ps qs : List (ℕ × ℕ)) → Counted place at ps → Counted place (at + length ps) qs → Counted place at (ps ++ qs)
+counted_append place at [] qs a b = let e : at + 0 ≡ at = omega arith in subst (λ k. Counted place k qs) e b
+counted_append place at (p ∷ ps) qs a b = let e : at + suc (length ps) ≡ at + 1 + length ps = omega arith in (a.0, counted_append place (at + 1) ps qs a.1 (subst (λ k. Counted place k qs) e b))
 
-placed_from : (inputs front xs : List Input) (i at : ℕ) → inputs ≡ front ++ xs → i ≡ length front + 1 → at ≡ sum_by term_count front → Placed inputs at (terms_from i (map term_count xs))
-placed_from inputs front [] i at e en ea = tt
-placed_from inputs front (x ∷ xs) i at e en ea =
+counted_range : {X : Type 0} (count : X → ℕ) (xs : List X) (i s n at : ℕ) → sum_by count (take (i - 1) xs) + s ≡ at → Counted (place_in count xs) at (map (λ t. (i, t)) (range_with_len (s + 1) n))
+counted_range count xs i s zero at e = tt
+counted_range count xs i s (suc n) at e = (omega arith, counted_range count xs i (s + 1) n (at + 1) (omega arith))
+
+pub counted_from : {X : Type 0} (count : X → ℕ) (all front xs : List X) (i at : ℕ) → all ≡ front ++ xs → i ≡ length front + 1 → at ≡ sum_by count front → Counted (place_in count all) at (terms_from i (map count xs))
+counted_from count all front [] i at e en ea = tt
+counted_from count all front (x ∷ xs) i at e en ea =
     let k : i - 1 ≡ length front = omega arith in
-    let cut : take (i - 1) inputs ≡ front = ap₂ (λ (n : ℕ) (l : List Input). take n l) k e ∙ take_at front (x ∷ xs) (length front) refl in
-    let before : terms_before inputs i ≡ sum_by term_count front = ap (sum_by term_count) cut in
-    let here = placed_range inputs i 0 (length x.terms) at (omega arith) in
+    let cut : take (i - 1) all ≡ front = ap₂ (λ (n : ℕ) (l : List _). take n l) k e ∙ take_at front (x ∷ xs) (length front) refl in
+    let before : sum_by count (take (i - 1) all) ≡ sum_by count front = ap (sum_by count) cut in
+    let here = counted_range count all i 0 (count x) at (omega arith) in
     let of_term : ℕ → ℕ × ℕ = λ t. (i, t) in
-    let sums : sum_by term_count (front ++ x ∷ []) ≡ sum_by term_count front + length x.terms = sum_by-append term_count front (x ∷ []) ∙ omega (arith, sum_by-cons term_count x []) in
-    placed_append inputs at (map (λ t. (i, t)) (range_with_len 1 (length x.terms))) (terms_from (i + 1) (map term_count xs)) here (placed_from inputs (front ++ x ∷ []) xs (i + 1) _ (e ∙ sym (push_front front x xs)) (omega (arith, length-push front x)) (omega (arith, sums, ea, length-map (range_with_len 1 (length x.terms)) of_term, length-range_with_len 1 (length x.terms))))
+    let sums : sum_by count (front ++ x ∷ []) ≡ sum_by count front + count x = sum_by-append count front (x ∷ []) ∙ omega (arith, sum_by-cons count x []) in
+    counted_append (place_in count all) at (map (λ t. (i, t)) (range_with_len 1 (count x))) (terms_from (i + 1) (map count xs)) here (counted_from count all (front ++ x ∷ []) xs (i + 1) _ (e ∙ sym (push_front front x xs)) (omega (arith, length-push front x)) (omega (arith, sums, ea, length-map (range_with_len 1 (count x)) of_term, length-range_with_len 1 (count x))))
 
 -- terms whose values stand among the grades
 abbrev AllKnown : Block → List ℕ → List Input → List ℕ → List (ℕ × ℕ) → Type 0
 AllKnown b bytes inputs gs [] = Unit {0}
 AllKnown b bytes inputs gs (p ∷ ps) = ((terms_before inputs p.0 + (p.1 - 1) < length gs) × (get_or gs (terms_before inputs p.0 + (p.1 - 1)) 0 ≡ literal_grade b bytes p.0 p.1)) × AllKnown b bytes inputs gs ps
 
-known_from : (b : Block) (bytes : List ℕ) (inputs : List Input) (gs front : List ℕ) (at : ℕ) (ps : List (ℕ × ℕ)) → gs ≡ front ++ map (term_value b bytes) ps → length front ≡ at → Placed inputs at ps → AllKnown b bytes inputs gs ps
+known_from : (b : Block) (bytes : List ℕ) (inputs : List Input) (gs front : List ℕ) (at : ℕ) (ps : List (ℕ × ℕ)) → gs ≡ front ++ map (term_value b bytes) ps → length front ≡ at → Counted (place_in term_count inputs) at ps → AllKnown b bytes inputs gs ps
 known_from b bytes inputs gs front at [] e l h = tt
 known_from b bytes inputs gs front at (p ∷ ps) e l h =
     let v = term_value b bytes p in
@@ -143,15 +146,15 @@ fill_slots b bytes inputs gs (p ∷ ps) os h = (h.0, fill_slots b bytes inputs g
 
 pub further_fill : (b : Block) (bytes : List ℕ) → length bytes ≡ length b.inputs → AllCanFill b bytes b.inputs (grades bytes b.inputs) (further_slots b)
 further_fill b bytes h =
-    let known = known_from b bytes b.inputs (grades bytes b.inputs) [] 0 (input_terms b) (grades_are b bytes h) refl (placed_from b.inputs [] b.inputs 1 0 refl refl refl) in
+    let known = known_from b bytes b.inputs (grades bytes b.inputs) [] 0 (input_terms b) (grades_are b bytes h) refl (counted_from term_count b.inputs [] b.inputs 1 0 refl refl refl) in
     fill_slots b bytes b.inputs (grades bytes b.inputs) (complements_of b) (output_terms b) (known_filter b bytes b.inputs (grades bytes b.inputs) (λ p. is_complemented b.rules p.0 p.1) (input_terms b) known)
 
 -- all values are the grades and then those of the further slots
 pub before_are : (b : Block) (bytes : List ℕ) → length bytes ≡ length b.inputs → slots_before b bytes ≡ grades bytes b.inputs ++ map (slot_before b bytes) (further_slots b)
 before_are b bytes h =
     ap (map (slot_before b bytes)) (slots_are b)
-        ∙ map-append (slot_before b bytes) (map term_slot (input_terms b)) (further_slots b)
-        ∙ ap (λ l. l ++ map (slot_before b bytes) (further_slots b)) (map_map (slot_before b bytes) term_slot (input_terms b) ∙ sym (grades_are b bytes h))
+    ∙ map-append (slot_before b bytes) (map term_slot (input_terms b)) (further_slots b)
+    ∙ ap (λ l. l ++ map (slot_before b bytes) (further_slots b)) (map_map (slot_before b bytes) term_slot (input_terms b) ∙ sym (grades_are b bytes h))
 
 -- counts
 length-terms : (i : ℕ) (ns : List ℕ) → length (terms_from i ns) ≡ sum_by (λ n. n) ns
@@ -173,7 +176,7 @@ length-output_terms b = length-terms 1 (map singleton_count b.outputs) ∙ sum_b
 pub length-slots : (b : Block) → length (slots_of b) ≡ input_term_count b + length (complements_of b) + output_term_count b
 length-slots b =
     ap length (slots_are b)
-        ∙ omega (arith, length-append (map term_slot (input_terms b)) (further_slots b), length-append (map complement_slot (complements_of b)) (map out_slot (output_terms b)), length-map (input_terms b) term_slot, length-map (complements_of b) complement_slot, length-map (output_terms b) out_slot, length-input_terms b, length-output_terms b)
+    ∙ omega (arith, length-append (map term_slot (input_terms b)) (further_slots b), length-append (map complement_slot (complements_of b)) (map out_slot (output_terms b)), length-map (input_terms b) term_slot, length-map (complements_of b) complement_slot, length-map (output_terms b) out_slot, length-input_terms b, length-output_terms b)
 
 count_outs : (os : List (ℕ × ℕ)) → fill_count (map out_slot os) ≡ length os
 count_outs [] = refl

@@ -1,5 +1,5 @@
 -- The complements, and the cleared slots of the outputs' terms.
-use Rattle.std.proofs.Common.{◌≡◌, ℕ, zero, suc, ◌+◌, ◌-◌, ◌*◌, ◌<◌, ◌≤◌, List, [], ◌∷◌, ◌++◌, map, length, get_or, set, refl, sym, ap, ap₂, ◌∙◌, subst, arith, length-append, append_assoc, append-nil}
+use Rattle.std.proofs.Common.{◌≡◌, ℕ, ◌+◌, ◌-◌, ◌<◌, ◌≤◌, List, [], ◌∷◌, ◌++◌, map, length, get_or, set, refl, sym, ap, ap₂, ◌∙◌, arith, length-append, append_assoc, append-nil}
 use Rattle.std.proofs.lemmas.List.{get_or_append_left}
 use Rattle.fuzzy_meaning.specs.declared.block.Block.{Block}
 use Rattle.fuzzy_meaning.specs.declared.block.Input.{Input}
@@ -12,9 +12,9 @@ use Rattle.cpu12_parts.specs.Whole.{after_plain}
 use Rattle.codegen.specs.Code.{terms_before, slots_code}
 use Rattle.codegen.specs.Firing.{slot_before}
 use Rattle.codegen.specs.Answers.{put}
-use Rattle.codegen.proofs.Memory.{at_put_in, put_end}
-use Rattle.codegen.proofs.Stepping.{Ctx, Live, Stands, Next, Goes, goes_none, goes_one, goes_on, sizes, Reaches, reaches_none, reaches_after, reaches_at}
-use Rattle.codegen.proofs.Instructions.{ldaa, staa, clr, coma}
+use Rattle.codegen.proofs.steps.Memory.{at_put_in, put_end}
+use Rattle.codegen.proofs.steps.Stepping.{Ctx, Live, Stands, goes_one, goes_on, sizes, Reaches, reaches_none, reaches_after, reaches_at}
+use Rattle.codegen.proofs.steps.Instructions.{ldaa, staa, clr, coma}
 
 -- a slot that can be filled from the grades: a complement's term has its grade there
 abbrev pub CanFill : Block → List ℕ → List Input → List ℕ → Slot → Type 0

@@ -1,7 +1,7 @@
 -- EVAL, from its first instruction back to its caller.
-use Rattle.std.proofs.Common.{◌≡◌, ◌⊎◌, inl, inr, ℕ, zero, suc, ◌+◌, ◌-◌, ◌*◌, ◌/◌, ◌%◌, ◌^◌, ◌<◌, ◌≤◌, Bool, true, false, ◌&&◌, ◌||◌, nat_lt, nat_le, List, [], ◌∷◌, ◌++◌, map, flat_map, length, take, drop, sum_by, All, get_or, refl, sym, ap, ap₂, ◌∙◌, subst, subst₂, arith, length-append, length-drop, length-take, take-append-drop, append-nil}
+use Rattle.std.proofs.Common.{◌≡◌, inl, inr, ℕ, suc, ◌+◌, ◌-◌, ◌*◌, ◌^◌, ◌<◌, ◌≤◌, false, ◌&&◌, nat_lt, nat_le, List, [], ◌∷◌, ◌++◌, map, length, take, drop, sum_by, get_or, refl, sym, ap, ap₂, ◌∙◌, subst, subst₂, arith, length-append, length-drop, length-take, take-append-drop, append-nil}
 use Rattle.std.proofs.lemmas.List.{length-map}
-use Rattle.std.proofs.lemmas.List.Sums.{sum_by-cons, sum_by-le}
+use Rattle.std.proofs.lemmas.List.Sums.{sum_by-le}
 use Rattle.std.proofs.lemmas.Bool.{or_parts}
 use Rattle.std.proofs.lemmas.Bool.Decides.{nat_tests}
 use Rattle.fuzzy_meaning.specs.declared.block.Block.{Block}
@@ -11,21 +11,20 @@ use Rattle.rule_layout.specs.declared.flat.Slot.{Slot}
 use Rattle.rule_layout.specs.declared.flat.Conjunction.{Conjunction}
 use Rattle.rule_layout.specs.declared.flat.Form.{Form}
 use Rattle.rule_layout.specs.declared.flat.Form.TheVariants as form
-use Rattle.rule_layout.specs.Lists.{marked, list_bytes, list_words}
-use Rattle.rule_layout.specs.Slots.{term_count, singleton_count, slots_of, input_terms, term_slot}
-use Rattle.rule_layout.specs.Layouts.{conjunctions_of, weights_of, form_of, list_size, element_width, conjunction_count, IsWithinLimits}
+use Rattle.rule_layout.specs.Lists.{marked, list_words}
+use Rattle.rule_layout.specs.Slots.{singleton_count, slots_of, input_terms, term_slot}
+use Rattle.rule_layout.specs.Layouts.{conjunctions_of, weights_of, form_of, list_size, element_width, IsWithinLimits}
 use Rattle.rule_layout.proofs.LayoutLemmas.{few_slots}
-use Rattle.rule_layout.proofs.BlockLemmas.{few_terms, few_singletons}
+use Rattle.rule_layout.proofs.BlockLemmas.{few_singletons}
 use Rattle.cpu12_isa.specs.declared.instr.Instr.{Instr}
 use Rattle.cpu12_isa.specs.declared.instr.Instr.TheVariants.{LdxImmediate, LdyImmediate, Rts}
-use Rattle.cpu12_isa.specs.Agreement.{AllShown}
 use Rattle.cpu12_isa.specs.Memory.{plus}
 use Rattle.cpu12_parts.specs.State.{State}
 use Rattle.cpu12_parts.specs.Whole.{after_plain}
 use Rattle.codegen.specs.declared.layout.Layout.{Layout}
 use Rattle.codegen.specs.Bounds.{input_term_count, output_term_count, complement_count, entry_count, element_count, output_bound, form_bound}
 use Rattle.codegen.specs.Code.{fuzzify_code, slots_code, rules_code, outputs_code, input_slots, eval_code}
-use Rattle.codegen.specs.Data.{table_bytes, singleton_bytes, weight_bytes, weight_bytes_by, rule_bytes, rule_bytes_by, bytes_of_word}
+use Rattle.codegen.specs.Data.{table_bytes, singleton_bytes, weight_bytes, weight_bytes_by, rule_bytes, rule_bytes_by}
 use Rattle.codegen.specs.Images.{IsApart}
 use Rattle.codegen.specs.Firing.{AreInputBytes, slot_before, slots_before, fired, slots_after}
 use Rattle.codegen.specs.Answers.{put}
@@ -33,16 +32,16 @@ use Rattle.codegen.specs.Ways.{is_free, is_hidden}
 use Rattle.codegen.proofs.Joins.{sum_by-term_count}
 use Rattle.codegen.proofs.Lists.{length-marked}
 use Rattle.codegen.proofs.Placement.{length-weights_of}
-use Rattle.codegen.proofs.Memory.{HasBytes, length-put, has_put, bytes_back, bytes_put_out, at_put_out}
-use Rattle.codegen.proofs.Stepping.{Ctx, Here, Live, Stands, Next, plain_next, Goes, goes_one, goes_on, goes_most, sizes, sizes_append, stands_front, stands_back, stands_at, Reaches, reaches_after, reaches_at, high_shown, not_at}
-use Rattle.codegen.proofs.Instructions.{ldx, ldy}
-use Rattle.codegen.proofs.Fuzzify.{Graded, fuzzify_run, grades, length-grades, input_rows}
-use Rattle.codegen.proofs.Filling.{fill_count, slots_run}
-use Rattle.codegen.proofs.Quotients.{output_bytes, length-output_bytes, output_parts, outputs_run}
-use Rattle.codegen.proofs.RuleMemory.{renamed, Below, AllBelow, length-fired, length-renamed}
-use Rattle.codegen.proofs.Ruling.{AreFull, AtRules, address, rev_run, revw_run}
-use Rattle.codegen.proofs.RuleFacts.{HasRules, has_rules, all_below, weights_below, rev_is_plain}
-use Rattle.codegen.proofs.SlotValues.{further_slots, slots_are, further_fill, before_are, count_further, length-slots, length-input_terms}
+use Rattle.codegen.proofs.steps.Memory.{HasBytes, has_put, bytes_back, bytes_put_out, at_put_out}
+use Rattle.codegen.proofs.steps.Stepping.{Ctx, Here, Live, Stands, Next, plain_next, Goes, goes_one, goes_on, goes_most, sizes, stands_front, stands_back, Reaches, reaches_at, high_shown, not_at}
+use Rattle.codegen.proofs.steps.Instructions.{ldx, ldy}
+use Rattle.codegen.proofs.phases.Fuzzify.{fuzzify_run, grades, length-grades}
+use Rattle.codegen.proofs.phases.Filling.{fill_count, slots_run}
+use Rattle.codegen.proofs.phases.Quotients.{output_bytes, length-output_bytes, output_parts, outputs_run}
+use Rattle.codegen.proofs.phases.RuleMemory.{Below, AllBelow, length-fired, length-renamed}
+use Rattle.codegen.proofs.phases.Ruling.{AreFull, AtRules, address, rev_run, revw_run}
+use Rattle.codegen.proofs.phases.RuleFacts.{HasRules, has_rules, all_below, weights_below, rev_is_plain}
+use Rattle.codegen.proofs.phases.SlotValues.{further_slots, slots_are, further_fill, before_are, count_further, length-slots, length-input_terms}
 
 -- what stands in the image for EVAL
 pub record HasRom (c : Ctx) (l : Layout) (b : Block) : Type 0 where

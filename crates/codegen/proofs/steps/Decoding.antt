@@ -1,11 +1,11 @@
 -- The instructions of the code, from their bytes.
-use Rattle.std.proofs.Common.{◌≡◌, ◌≢◌, ℕ, zero, suc, ◌+◌, ◌*◌, ◌/◌, ◌%◌, ◌^◌, ◌<◌, ◌≤◌, Ok, Err, List, [], ◌∷◌, ◌++◌, flat_map, length, get_or, refl, sym, ap, ap₂, ◌∙◌, subst, arith, length-append}
+use Rattle.std.proofs.Common.{◌≡◌, ℕ, ◌+◌, ◌*◌, ◌/◌, ◌%◌, ◌^◌, ◌<◌, ◌≤◌, Ok, List, [], ◌∷◌, ◌++◌, flat_map, length, get_or, ap, ◌∙◌, arith}
 use Rattle.cpu12_isa.specs.declared.instr.Instr.{Instr}
 use Rattle.cpu12_isa.specs.declared.instr.Instr.TheVariants.{LdaaImmediate, LdaaExtended, LdabImmediate, LdxImmediate, LdyImmediate, LdsImmediate, StaaExtended, StabExtended, ClrExtended, Coma, CpxImmediate, Beq, Bra, JsrExtended, Rts, Andcc, Orcc, TransferYD, Ediv, Mem, Rev, Revw, Wav}
 use Rattle.cpu12_isa.specs.Code.{encode_of, decode_of, decode_at, FitsOperands}
 use Rattle.cpu12_isa.specs.Memory.{plus}
-use Rattle.codegen.proofs.Memory.{HasBytes, bytes_front, bytes_back}
-use Rattle.codegen.proofs.Stepping.{Ctx, Here, Stands, sizes}
+use Rattle.codegen.proofs.steps.Memory.{HasBytes, bytes_front, bytes_back}
+use Rattle.codegen.proofs.steps.Stepping.{Ctx, Stands, sizes}
 
 -- the instructions that the code is made of
 abbrev pub IsUsed : Instr → Type 0
@@ -92,11 +92,13 @@ code_bytes is = flat_map encode_of is
 -- code that stands in the image above where it waits
 pub stands_of : (c : Ctx) (p : ℕ) (is : List Instr) → UsedCode is → HasBytes c.image p (code_bytes is) → 0x2000 ≤ p → c.layout.wait < p → p + sizes is + 6 < 65536 → Stands c p is
 stands_of c p [] u h lo w hi = tt
-stands_of c p (i ∷ is) u h lo w hi =
-    (record {
-      low = lo;
-      high = omega arith;
-      off = λ e. omega arith;
-      fits = u.1;
-      decoded = decode_here c.image p i u.0 (omega arith) (bytes_front c.image p (encode_of i) (code_bytes is) h);
-    }, stands_of c (p + length (encode_of i)) is u.2 (bytes_back c.image p (encode_of i) (code_bytes is) h) (omega arith) (omega arith) (omega arith))
+stands_of c p (i ∷ is) u h lo w hi = (
+  record {
+    low = lo;
+    high = omega arith;
+    off = λ e. omega arith;
+    fits = u.1;
+    decoded = decode_here c.image p i u.0 (omega arith) (bytes_front c.image p (encode_of i) (code_bytes is) h);
+  },
+  stands_of c (p + length (encode_of i)) is u.2 (bytes_back c.image p (encode_of i) (code_bytes is) h) (omega arith) (omega arith) (omega arith),
+)

@@ -1,21 +1,21 @@
 -- WAV over an output's singletons and masses.
-use Rattle.std.proofs.Common.{◌≡◌, ◌⊎◌, inl, inr, ℕ, zero, suc, ◌+◌, ◌-◌, ◌*◌, ◌/◌, ◌%◌, ◌^◌, ◌<◌, ◌≤◌, true, false, Ok, List, [], ◌∷◌, ◌++◌, length, get_or, refl, sym, ap, ap₂, ◌∙◌, subst, arith}
+use Rattle.std.proofs.Common.{◌≡◌, inl, inr, ℕ, zero, suc, ◌+◌, ◌-◌, ◌*◌, ◌/◌, ◌%◌, ◌^◌, ◌<◌, ◌≤◌, true, Ok, List, [], ◌∷◌, length, refl, sym, ap, ap₂, ◌∙◌, subst, arith}
 use Rattle.cpu12_isa.specs.declared.instr.Instr.TheVariants.{Wav}
 use Rattle.cpu12_isa.specs.declared.instr.Regs.{Regs}
 use Rattle.cpu12_isa.specs.Agreement.{AllShown}
 use Rattle.cpu12_isa.specs.Code.{decode_at}
 use Rattle.cpu12_isa.specs.Fits.{FitsRegs, AreBytes}
-use Rattle.cpu12_isa.specs.Flags.{has, put, opened}
+use Rattle.cpu12_isa.specs.Flags.{opened}
 use Rattle.cpu12_isa.specs.Memory.{plus, from, bytes_at}
 use Rattle.cpu12_isa.proofs.Bits.{fits_put, fits_opened}
 use Rattle.cpu12_isa.proofs.Agreements.{shown_append}
 use Rattle.cpu12_parts.specs.State.{State}
 use Rattle.cpu12_parts.specs.Parts.{wav_end}
-use Rattle.cpu12_parts.specs.Averages.{dot, total, wav_whole, wav_read}
+use Rattle.cpu12_parts.specs.Averages.{dot, total, wav_whole}
 use Rattle.codegen.specs.Ways.{is_hidden}
-use Rattle.codegen.proofs.Flags.{masked_put, masked_open_hnvc}
-use Rattle.codegen.proofs.Memory.{HasBytes, same_bytes}
-use Rattle.codegen.proofs.Stepping.{Ctx, Here, Live, Goes, goes_part, sp_high, low_shown, high_shown, calm_of, decode_same, not_at}
+use Rattle.codegen.proofs.steps.Flags.{masked_put, masked_open_hnvc}
+use Rattle.codegen.proofs.steps.Memory.{HasBytes, same_bytes}
+use Rattle.codegen.proofs.steps.Stepping.{Ctx, Here, Live, Goes, goes_part, sp_high, low_shown, high_shown, calm_of, decode_same, not_at}
 
 bytes_from : (m : List ℕ) (p : ℕ) (bs : List ℕ) → p + length bs < 65536 → HasBytes m p bs → bytes_at m (from p (length bs)) ≡ bs
 bytes_from m p [] lt h = refl

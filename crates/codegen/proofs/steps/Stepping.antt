@@ -1,10 +1,10 @@
 -- One instruction of the generated code, and where it leads.
-use Rattle.std.proofs.Common.{◌≡◌, ◌≢◌, ◌⊎◌, inl, inr, ⊎_elim, ℕ, zero, suc, ◌+◌, ◌^◌, ◌<◌, ◌≤◌, min, nat_lt, nat_le, ◌&&◌, ◌||◌, Bool, true, false, Ok, List, [], ◌∷◌, ◌++◌, length, get_or, set, refl, sym, ap, ap₂, ◌∙◌, subst, arith, get_or-set_other, length-set}
+use Rattle.std.proofs.Common.{◌≡◌, ◌≢◌, ◌⊎◌, inl, inr, ⊎_elim, ℕ, ◌+◌, ◌^◌, ◌<◌, ◌≤◌, min, nat_lt, nat_le, ◌&&◌, true, false, Ok, List, [], ◌∷◌, ◌++◌, length, get_or, set, refl, sym, ap, ◌∙◌, subst, arith, get_or-set_other, length-set}
 use Rattle.std.specs.Prelude.{◌==◌}
 use Rattle.std.proofs.lemmas.Bool.Decides.{nat_tests}
 use Rattle.cpu12_isa.specs.declared.instr.Instr.{Instr}
-use Rattle.cpu12_isa.specs.Act.{outcome, read_by, write_all}
-use Rattle.cpu12_isa.specs.Agreement.{AllShown, Uncovers, IsWritten}
+use Rattle.cpu12_isa.specs.Act.{read_by, write_all}
+use Rattle.cpu12_isa.specs.Agreement.{AllShown, Uncovers}
 use Rattle.cpu12_isa.specs.Code.{encode_of, decode_of, decode_at, six_from, FitsOperands}
 use Rattle.cpu12_isa.specs.Fits.{FitsRegs, FitsWrites, AreBytes}
 use Rattle.cpu12_isa.specs.Flags.{has}
@@ -15,10 +15,10 @@ use Rattle.cpu12_isa.proofs.Agreements.{length_writes}
 use Rattle.cpu12_parts.specs.declared.temps.Temps.TheVariants.{Free}
 use Rattle.cpu12_parts.specs.State.{State}
 use Rattle.cpu12_parts.specs.Laws.{addresses}
-use Rattle.cpu12_parts.specs.Whole.{after_plain, IsPlainStep}
+use Rattle.cpu12_parts.specs.Whole.{after_plain}
 use Rattle.codegen.specs.declared.layout.Layout.{Layout}
-use Rattle.codegen.specs.Ways.{Way, all_steps, is_free, is_hidden, is_idle, IsCalm, IsCalmPlain, IsCalmStep}
-use Rattle.codegen.proofs.Memory.{SameHigh, bytes_after_set}
+use Rattle.codegen.specs.Ways.{Way, all_steps, is_free, is_hidden, is_idle, IsCalm, IsCalmStep}
+use Rattle.codegen.proofs.steps.Memory.{SameHigh, bytes_after_set}
 
 -- what a run is under: the layout, the image's memory and the open flags
 pub record Ctx : Type 0 where

@@ -1,6 +1,5 @@
 -- The outputs' bytes are the byte answers.
-use Rattle.std.proofs.Common.{◌≡◌, ℕ, zero, suc, ◌+◌, ◌-◌, ◌*◌, ◌/◌, ◌<◌, ◌≤◌, Bool, true, false, List, [], ◌∷◌, ◌++◌, map, length, take, drop, sum_by, get_or, Option, Some, None, option_map, slice_get, refl, sym, ap, ap₂, ◌∙◌, subst, arith, length-append, append_assoc, take_at, drop_at}
-use Rattle.std.specs.Prelude.{if◌then◌else◌, ◌==◌}
+use Rattle.std.proofs.Common.{◌≡◌, ℕ, zero, suc, ◌+◌, ◌-◌, ◌*◌, ◌<◌, List, [], ◌∷◌, ◌++◌, map, length, take, drop, get_or, Option, Some, None, option_map, slice_get, refl, sym, ap, ap₂, ◌∙◌, arith, length-append, append_assoc, take_at, drop_at}
 use Rattle.std.specs.List.{range_with_len}
 use Rattle.std.specs.Option.{option_map_or}
 use Rattle.std.proofs.lemmas.List.{length-map, map-append}
@@ -14,7 +13,8 @@ use Rattle.point_slope.specs.Bytes.{ByteShare, byte_mass, byte_shares_from, byte
 use Rattle.rule_layout.specs.Slots.{terms_from, singleton_count, output_terms}
 use Rattle.cpu12_parts.specs.Averages.{dot, total}
 use Rattle.codegen.specs.Data.{singleton_bytes_of}
-use Rattle.codegen.proofs.Quotients.{or_before, quotient_of, output_byte, output_bytes}
+use Rattle.codegen.proofs.phases.SlotValues.{slice_get_behind}
+use Rattle.codegen.proofs.phases.Quotients.{or_before, quotient_of, output_byte, output_bytes}
 
 -- the sums over an output's terms
 sums_total : (b : Block) (bytes : List ℕ) (i : ℕ) (x : Output) (t : ℕ) (us : List Dec) → total (map (λ k. byte_mass b bytes i k) (range_with_len t (length us))) ≡ total_mass (byte_shares_from b bytes i x t us)
@@ -42,11 +42,7 @@ byte_is b bytes i x before =
     let et = sums_total b bytes i x 1 x.singletons in
     let ed = sums_dot b bytes i x 1 x.singletons in
     ap (λ (n : ℕ). quotient_of (total (own_masses b bytes i x)) (dot (singleton_bytes_of x) (own_masses b bytes i x)) n) (default_is x x.default before)
-        ∙ ap₂ (λ (w n : ℕ). quotient_of w n (resting_byte x before)) et ed
-
-slice_get_behind : {X : Type 0} (front : List X) (x : X) (rest : List X) → slice_get (front ++ x ∷ rest) (length front) ≡ Some x
-slice_get_behind [] x rest = refl
-slice_get_behind (y ∷ front) x rest = slice_get_behind front x rest
+    ∙ ap₂ (λ (w n : ℕ). quotient_of w n (resting_byte x before)) et ed
 
 map_pairs : (f : ℕ × ℕ → ℕ) (i : ℕ) (ts : List ℕ) → map f (map (λ t. (i, t)) ts) ≡ map (λ t. f (i, t)) ts
 map_pairs f i [] = refl
@@ -71,7 +67,7 @@ bytes_from b bytes (v ∷ bs) front (x ∷ os) i e en el k lt = by_place k lt (�
     cut : map (mass_of b bytes) (terms_from i (map singleton_count (x ∷ os))) ≡ own_masses b bytes i x ++ map (mass_of b bytes) (terms_from (i + 1) (map singleton_count os))
     cut =
         map-append (mass_of b bytes) (map (λ t. (i, t)) (range_with_len 1 (length x.singletons))) (terms_from (i + 1) (map singleton_count os))
-            ∙ ap (λ l. l ++ map (mass_of b bytes) (terms_from (i + 1) (map singleton_count os))) (map_pairs (mass_of b bytes) i (range_with_len 1 (length x.singletons)))
+        ∙ ap (λ l. l ++ map (mass_of b bytes) (terms_from (i + 1) (map singleton_count os))) (map_pairs (mass_of b bytes) i (range_with_len 1 (length x.singletons)))
 
     size : length (own_masses b bytes i x) ≡ length x.singletons
     size = length-map (range_with_len 1 (length x.singletons)) (λ t. byte_mass b bytes i t) ∙ length-range_with_len 1 (length x.singletons)

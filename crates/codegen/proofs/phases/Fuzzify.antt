@@ -1,5 +1,5 @@
 -- The grades of the inputs' terms.
-use Rattle.std.proofs.Common.{◌≡◌, ℕ, zero, suc, ◌+◌, ◌-◌, ◌*◌, ◌<◌, ◌≤◌, ◌⊎◌, inl, inr, List, [], ◌∷◌, ◌++◌, map, flat_map, length, replicate, sum_by, get_or, set, refl, sym, ap, ap₂, ◌∙◌, subst, arith, length-append}
+use Rattle.std.proofs.Common.{◌≡◌, ℕ, zero, suc, ◌+◌, ◌*◌, ◌<◌, ◌≤◌, inl, List, [], ◌∷◌, ◌++◌, map, flat_map, length, replicate, sum_by, get_or, set, refl, sym, ap, ap₂, ◌∙◌, subst, arith, length-append}
 use Rattle.std.proofs.lemmas.List.{length-map}
 use Rattle.std.proofs.lemmas.List.Sums.{sum_by-cons}
 use Rattle.std.proofs.lemmas.Grind.{flat_map-append}
@@ -7,15 +7,14 @@ use Rattle.fuzzy_meaning.specs.declared.block.Input.{Input}
 use Rattle.fuzzy_meaning.specs.declared.block.Trapezoid.{Trapezoid}
 use Rattle.point_slope.specs.Tables.{row_of, rows_of, grade_of}
 use Rattle.rule_layout.specs.Slots.{term_count}
-use Rattle.cpu12_isa.specs.declared.instr.Instr.{Instr}
 use Rattle.cpu12_isa.specs.declared.instr.Instr.TheVariants.{LdaaExtended, Mem}
 use Rattle.cpu12_parts.specs.State.{State}
 use Rattle.cpu12_parts.specs.Whole.{after_plain}
 use Rattle.codegen.specs.Code.{fuzzify_code}
 use Rattle.codegen.specs.Answers.{put}
-use Rattle.codegen.proofs.Memory.{HasBytes, bytes_front, bytes_back, bytes_put_out, put_append}
-use Rattle.codegen.proofs.Stepping.{Ctx, Live, Stands, Next, Goes, goes_none, goes_one, goes_on, goes_most, sizes, sizes_append, stands_front, stands_back, stands_at}
-use Rattle.codegen.proofs.Instructions.{ldaa, mem, mem_grade}
+use Rattle.codegen.proofs.steps.Memory.{HasBytes, bytes_front, bytes_back, bytes_put_out, put_append}
+use Rattle.codegen.proofs.steps.Stepping.{Ctx, Live, Stands, Next, Goes, goes_none, goes_one, goes_on, goes_most, sizes, sizes_append, stands_front, stands_back, stands_at}
+use Rattle.codegen.proofs.steps.Instructions.{ldaa, mem, mem_grade}
 
 -- where at most n instructions lead, with X and Y
 pub record Graded (c : Ctx) (n : ℕ) (s : State) (pc x y : ℕ) (mem : List ℕ) : Type 0 where
@@ -101,7 +100,7 @@ fuzzify_run c (i ∷ is) (v ∷ vs) at s p x y l ep st ex ey el hv hb lo hi b0 b
   where
     then_rest : Next c s (after_plain c.flags (LdaaExtended at) s) (p + 3) → Graded c (length i.terms) (after_plain c.flags (LdaaExtended at) s) (p + 3 + length i.terms) (x + 4 * length i.terms) (y + length i.terms) (put s.mem y (map (λ t. grade_of (row_of i t) (get_or s.mem at 0)) i.terms))
         → ((u : State) → Live c u → u.regs.pc ≡ p + 3 + length i.terms → Stands c (p + 3 + length i.terms) (fuzzify_code (at + 1) is) → u.regs.x ≡ x + 4 * length i.terms → u.regs.y ≡ y + length i.terms → HasBytes u.mem (at + 1) vs → HasBytes c.image (x + 4 * length i.terms) (input_rows is)
-            → Graded c (length is + sum_by term_count is) u (p + 3 + length i.terms + sizes (fuzzify_code (at + 1) is)) (x + 4 * length i.terms + 4 * sum_by term_count is) (y + length i.terms + sum_by term_count is) (put u.mem (y + length i.terms) (grades vs is)))
+        → Graded c (length is + sum_by term_count is) u (p + 3 + length i.terms + sizes (fuzzify_code (at + 1) is)) (x + 4 * length i.terms + 4 * sum_by term_count is) (y + length i.terms + sum_by term_count is) (put u.mem (y + length i.terms) (grades vs is)))
         → Graded c (length (i ∷ is) + sum_by term_count (i ∷ is)) s (p + sizes (fuzzify_code at (i ∷ is))) (x + 4 * sum_by term_count (i ∷ is)) (y + sum_by term_count (i ∷ is)) (put s.mem y (grades (v ∷ vs) (i ∷ is)))
     then_rest n1 r go =
         let rest = fuzzify_code (at + 1) is in

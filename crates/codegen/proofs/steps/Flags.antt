@@ -1,8 +1,7 @@
 -- The flags that the code rests on: I, V, Z and C.
-use Rattle.std.proofs.Common.{◌≡◌, ℕ, zero, suc, ◌+◌, ◌-◌, ◌^◌, ◌<◌, ◌≤◌, Bool, true, false, bit_and, bit_or, refl, sym, ap, ◌∙◌, arith}
-use Rattle.std.proofs.lemmas.Bool.{cases_eq}
+use Rattle.std.proofs.Common.{◌≡◌, ℕ, zero, suc, ◌<◌, Bool, true, false, bit_and, bit_or, ◌∙◌, arith}
 use Rattle.cpu12_isa.specs.declared.instr.Ccr.{Ccr}
-use Rattle.cpu12_isa.specs.Flags.{has, put, opened, tested, tested_word, subtracted_word}
+use Rattle.cpu12_isa.specs.Flags.{has, put, opened}
 use Rattle.cpu12_isa.proofs.Bits.{bit_or_is, bit_and_is}
 
 -- another flag leaves I

@@ -1,7 +1,6 @@
 -- One output's answer, and all of them.
-use Rattle.std.proofs.Common.{◌≡◌, ◌≢◌, ◌⊎◌, inl, inr, ℕ, zero, suc, ◌+◌, ◌-◌, ◌*◌, ◌/◌, ◌%◌, ◌^◌, ◌<◌, ◌≤◌, Bool, true, false, List, [], ◌∷◌, ◌++◌, map, flat_map, length, take, drop, sum_by, All, get_or, set, Option, Some, None, option_map, refl, sym, ap, ap₂, ◌∙◌, subst, subst₂, arith, length-append, length-set, length-take, length-drop, take-append-drop, div-lt_iff_lt-mul, get_or-set_other}
+use Rattle.std.proofs.Common.{◌≡◌, ◌≢◌, inr, ℕ, zero, suc, ◌+◌, ◌-◌, ◌*◌, ◌/◌, ◌%◌, ◌^◌, ◌<◌, ◌≤◌, true, false, List, [], ◌∷◌, ◌++◌, flat_map, length, take, drop, sum_by, All, get_or, set, Option, Some, None, option_map, refl, sym, ap, ap₂, ◌∙◌, subst, arith, length-take, length-drop, take-append-drop, div-lt_iff_lt-mul}
 use Rattle.std.specs.Prelude.{◌==◌, if◌then◌else◌}
-use Rattle.std.specs.Option.{option_map_or}
 use Rattle.std.proofs.lemmas.List.{set-get_or, length-map}
 use Rattle.std.proofs.lemmas.List.Sums.{sum_by-cons}
 use Rattle.std.proofs.lemmas.Bool.Decides.{nat_tests}
@@ -9,10 +8,9 @@ use Rattle.fz_num.specs.declared.dec.Dec.{Dec}
 use Rattle.fuzzy_meaning.specs.declared.block.Output.{Output}
 use Rattle.fuzzy_meaning.specs.Blocks.{IsValidOutput}
 use Rattle.byte_scaling.specs.Cells.{nearest_byte}
-use Rattle.point_slope.specs.Bytes.{resting_byte}
 use Rattle.rule_layout.specs.Slots.{singleton_count}
 use Rattle.cpu12_isa.specs.declared.instr.Instr.{Instr}
-use Rattle.cpu12_isa.specs.declared.instr.Instr.TheVariants.{LdabImmediate, LdxImmediate, LdyImmediate, StabExtended, CpxImmediate, Beq, Bra, TransferYD, Ediv, Wav}
+use Rattle.cpu12_isa.specs.declared.instr.Instr.TheVariants.{LdabImmediate, LdxImmediate, LdyImmediate, StabExtended, CpxImmediate, Beq, Bra, TransferYD, Ediv}
 use Rattle.cpu12_isa.specs.Flags.{has}
 use Rattle.cpu12_parts.specs.State.{State}
 use Rattle.cpu12_parts.specs.Whole.{after_plain}
@@ -21,10 +19,10 @@ use Rattle.codegen.specs.Bounds.{output_bound}
 use Rattle.codegen.specs.Code.{quotient_code, output_code, outputs_code}
 use Rattle.codegen.specs.Data.{singleton_bytes_of}
 use Rattle.codegen.specs.Answers.{put}
-use Rattle.codegen.proofs.Memory.{HasBytes, bytes_front, bytes_back, bytes_set_out}
-use Rattle.codegen.proofs.Stepping.{Ctx, Live, Stands, Next, Goes, goes_none, goes_one, goes_on, sizes, sizes_append, stands_front, stands_back, stands_at, Reaches, reaches_none, reaches_after, reaches_at}
-use Rattle.codegen.proofs.Instructions.{ldab_byte, ldx, ldy, stab, cpx, cpx_zero, beq_on, beq_off, bra_on, tfr, ediv, ediv_y, ediv_sp}
-use Rattle.codegen.proofs.Averaging.{Averaged, wav_run}
+use Rattle.codegen.proofs.steps.Memory.{HasBytes, bytes_front, bytes_back, bytes_set_out}
+use Rattle.codegen.proofs.steps.Stepping.{Ctx, Live, Stands, Goes, goes_one, goes_on, sizes, sizes_append, stands_front, stands_back, stands_at, Reaches, reaches_none, reaches_after, reaches_at}
+use Rattle.codegen.proofs.steps.Instructions.{ldab_byte, ldx, ldy, stab, cpx, cpx_zero, beq_on, beq_off, bra_on, tfr, ediv, ediv_y, ediv_sp}
+use Rattle.codegen.proofs.phases.Averaging.{wav_run}
 
 abbrev pub or_before : Option ℕ → ℕ → ℕ
 or_before None before = before
@@ -131,7 +129,6 @@ default_of o = option_map (nearest_byte o) o.default
 abbrev pub output_byte : Output → List ℕ → ℕ → ℕ
 output_byte o vs before = quotient_of (total vs) (dot (singleton_bytes_of o) vs) (or_before (option_map (nearest_byte o) o.default) before)
 
-
 with_default_most : (o : Output) (d : Option Dec) → 4 + quotient_most (option_map (nearest_byte o) d) ≤ output_bound (record o { default = d })
 with_default_most o None = omega arith
 with_default_most o (Some d) = omega arith
@@ -191,7 +188,7 @@ outputs_run c (o ∷ os) sx sy at vs (b ∷ bs) s p l ep st valid hs hv ev hb eb
   where
     then_rest : Reaches c (output_bound o) (length o.singletons - 1) s (p + sizes (output_code sx sy at o)) (set s.mem at (output_byte o (take (length o.singletons) vs) (get_or s.mem at 0)))
         → ((u : State) (pu : ℕ) → Live c u → u.regs.pc ≡ pu → Stands c pu (outputs_code (sx + length o.singletons) (sy + length o.singletons) (at + 1) os) → HasBytes u.mem (sy + length o.singletons) (drop (length o.singletons) vs) → HasBytes u.mem (at + 1) bs → HasBytes c.image (sx + length o.singletons) (flat_map singleton_bytes_of os)
-            → Reaches c (sum_by output_bound os) (output_parts os) u (pu + sizes (outputs_code (sx + length o.singletons) (sy + length o.singletons) (at + 1) os)) (put u.mem (at + 1) (output_bytes os (drop (length o.singletons) vs) bs)))
+        → Reaches c (sum_by output_bound os) (output_parts os) u (pu + sizes (outputs_code (sx + length o.singletons) (sy + length o.singletons) (at + 1) os)) (put u.mem (at + 1) (output_bytes os (drop (length o.singletons) vs) bs)))
         → Reaches c (sum_by output_bound (o ∷ os)) (output_parts (o ∷ os)) s (p + sizes (outputs_code sx sy at (o ∷ os))) (put s.mem at (output_bytes (o ∷ os) vs (b ∷ bs)))
     then_rest r go =
         let n = length o.singletons in

@@ -1,17 +1,17 @@
 -- What each instruction of the generated code does, without a wrap.
-use Rattle.std.proofs.Common.{◌≡◌, ◌≢◌, ℕ, zero, suc, ◌+◌, ◌-◌, ◌*◌, ◌/◌, ◌%◌, ◌^◌, ◌<◌, ◌≤◌, min, nat_lt, nat_le, ◌||◌, Bool, true, false, List, [], ◌∷◌, get_or, refl, sym, ap, ap₂, ◌∙◌, subst, arith}
+use Rattle.std.proofs.Common.{◌≡◌, ◌≢◌, ℕ, ◌+◌, ◌-◌, ◌*◌, ◌/◌, ◌%◌, ◌^◌, ◌<◌, ◌≤◌, min, nat_lt, nat_le, ◌||◌, true, false, [], ◌∷◌, get_or, refl, ap, ap₂, ◌∙◌, arith}
 use Rattle.std.specs.Prelude.{◌==◌, if◌then◌else◌}
 use Rattle.std.proofs.lemmas.Bool.Decides.{nat_tests}
 use Rattle.cpu12_isa.specs.declared.instr.Regs.{Regs}
 use Rattle.cpu12_isa.specs.declared.instr.Instr.TheVariants.{LdaaImmediate, LdaaExtended, LdabImmediate, LdxImmediate, LdyImmediate, StaaExtended, StabExtended, ClrExtended, Coma, CpxImmediate, Beq, Bra, Andcc, Orcc, TransferYD, Ediv, Mem}
-use Rattle.cpu12_isa.specs.Flags.{has, put, opened, tested_word}
+use Rattle.cpu12_isa.specs.Flags.{has, put, tested_word}
 use Rattle.cpu12_isa.specs.Memory.{plus}
 use Rattle.cpu12_isa.specs.Registers.{grade, divided}
 use Rattle.cpu12_parts.specs.State.{State}
 use Rattle.cpu12_parts.specs.Whole.{after_plain}
-use Rattle.point_slope.specs.Tables.{side, grade_under, grade_of}
-use Rattle.codegen.proofs.Flags.{masked_tested, masked_four, zero_four, masked_open, masked_and, masked_or}
-use Rattle.codegen.proofs.Stepping.{Ctx, Here, Live, Next, next, low_shown, high_shown, sp_high}
+use Rattle.point_slope.specs.Tables.{grade_under, grade_of}
+use Rattle.codegen.proofs.steps.Flags.{masked_tested, masked_four, zero_four, masked_open, masked_and, masked_or}
+use Rattle.codegen.proofs.steps.Stepping.{Ctx, Here, Live, Next, next, low_shown, high_shown, sp_high}
 
 pub ldaa : (c : Ctx) (s : State) (p at : ℕ) → Live c s → s.regs.pc ≡ p → Here c p (LdaaExtended at) → at < 0x1800 → Next c s (after_plain c.flags (LdaaExtended at) s) (p + 3)
 ldaa c s p at l ep h lt = next c s p (p + 3) (LdaaExtended at) l ep h refl (omega arith) (low_shown s.regs.sp at lt, tt) tt refl (masked_tested s.regs.ccr _ _) (omega (arith, h.high))

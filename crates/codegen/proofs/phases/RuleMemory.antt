@@ -1,10 +1,9 @@
 -- What REV and REVW leave in the slots.
-use Rattle.std.proofs.Common.{◌≡◌, ◌≢◌, ℕ, zero, suc, ◌+◌, ◌-◌, ◌*◌, ◌/◌, ◌^◌, ◌<◌, ◌≤◌, min, max, Bool, true, false, List, [], ◌∷◌, ◌++◌, map, length, sum_by, get_or, set, All, refl, sym, ap, ap₂, ◌∙◌, subst, arith, length-set, length-append, append_assoc}
+use Rattle.std.proofs.Common.{◌≡◌, ℕ, zero, suc, ◌+◌, ◌*◌, ◌^◌, ◌<◌, ◌≤◌, min, max, Bool, true, false, List, [], ◌∷◌, ◌++◌, map, length, sum_by, get_or, set, All, refl, sym, ap, ◌∙◌, subst, arith, length-set}
 use Rattle.std.proofs.lemmas.List.{length-map}
 use Rattle.std.proofs.lemmas.List.Sums.{sum_by-cons}
 use Rattle.rule_layout.specs.declared.flat.Conjunction.{Conjunction}
 use Rattle.rule_layout.specs.Lists.{marked}
-use Rattle.cpu12_isa.specs.declared.instr.Ccr.{Ccr}
 use Rattle.cpu12_isa.specs.Agreement.{AllShown}
 use Rattle.cpu12_isa.specs.Fits.{AreBytes}
 use Rattle.cpu12_isa.specs.Memory.{plus, from}
@@ -14,9 +13,9 @@ use Rattle.codegen.specs.Bounds.{entry_count}
 use Rattle.codegen.specs.Firing.{least_of, raised_to, fired}
 use Rattle.codegen.specs.Ways.{is_hidden}
 use Rattle.codegen.specs.Answers.{put}
-use Rattle.codegen.proofs.Memory.{at_put_in, set_put_in, length-put, SameHigh, high_set, bytes_after_set}
+use Rattle.codegen.proofs.steps.Memory.{at_put_in, set_put_in, SameHigh, high_set, bytes_after_set}
 use Rattle.codegen.proofs.Lists.{length-marked}
-use Rattle.codegen.proofs.Stepping.{low_shown, high_shown}
+use Rattle.codegen.proofs.steps.Stepping.{low_shown, high_shown}
 
 -- a form names the slots from a base on
 pub record NamesSlots (f : Form) (base n : ℕ) (name : ℕ → ℕ) : Type 0 where
@@ -53,7 +52,7 @@ abbrev pub From : ℕ → List ℕ → Type 0
 From n [] = Unit {0}
 From n (k ∷ ks) = (n ≤ k) × From n ks
 
-below_append : (n : ℕ) (xs ys : List ℕ) → Below n xs → Below n ys → Below n (xs ++ ys)
+pub below_append : (n : ℕ) (xs ys : List ℕ) → Below n xs → Below n ys → Below n (xs ++ ys)
 below_append n [] ys a b = b
 below_append n (x ∷ xs) ys a b = (a.0, below_append n xs ys a.1 b)
 
@@ -176,9 +175,9 @@ raised_is f base n name m h lm t ss (k ∷ ks) e b =
     let p = h.place k b.0 in
     let a : get_or (put m base ss) (base + k) 0 ≡ get_or ss k 0 = at_put_in m base ss k (omega arith) (omega arith) in
     ap (λ j. raised f t (set (put m base ss) j (max (get_or (put m base ss) j 0) t)) (map name ks)) p
-        ∙ ap (λ x. raised f t (set (put m base ss) (base + k) (max x t)) (map name ks)) a
-        ∙ ap (λ x. raised f t x (map name ks)) (set_put_in m base ss k v (omega arith))
-        ∙ raised_is f base n name m h lm t (set ss k v) ks (length-set ss k v ∙ e) b.1
+    ∙ ap (λ x. raised f t (set (put m base ss) (base + k) (max x t)) (map name ks)) a
+    ∙ ap (λ x. raised f t x (map name ks)) (set_put_in m base ss k v (omega arith))
+    ∙ raised_is f base n name m h lm t (set ss k v) ks (length-set ss k v ∙ e) b.1
 
 concluded_is : (f : Form) (base n : ℕ) (name : ℕ → ℕ) (m : List ℕ) → NamesSlots f base n name → length m ≡ 65536 → (ss : List ℕ) (c : Conjunction) (w : ℕ) → length ss ≡ n → Below n c.literals → Below n c.conclusions
     → concluded f (put m base ss) (rule_by name c w) ≡ put m base (raised_to (weighted (least_of ss 255 c.literals) w) ss c.conclusions)
@@ -186,7 +185,7 @@ concluded_is f base n name m h lm ss c w e bl bc =
     let h' : NamesSlots f base (length ss) name = subst (λ k. NamesSlots f base k name) (sym e) h in
     let bl' : Below (length ss) c.literals = subst (λ k. Below k c.literals) (sym e) bl in
     ap (λ t. raised f (weighted t w) (put m base ss) (map name c.conclusions)) (least_is f base name m ss h' lm 255 c.literals bl')
-        ∙ raised_is f base n name m h lm (weighted (least_of ss 255 c.literals) w) ss c.conclusions e bc
+    ∙ raised_is f base n name m h lm (weighted (least_of ss 255 c.literals) w) ss c.conclusions e bc
 
 pub all_is : (f : Form) (base n : ℕ) (name : ℕ → ℕ) (m : List ℕ) → NamesSlots f base n name → length m ≡ 65536 → (ss : List ℕ) (c : Conjunction) (cs : List Conjunction) (w : ℕ) (ws : List ℕ) → length ss ≡ n → AllBelow n (c ∷ cs) → length ws ≡ length cs
     → all_concluded f (put m base ss) (rule_by name c w) (rules_by name cs ws) ≡ put m base (fired ss (c ∷ cs) (w ∷ ws))
@@ -195,7 +194,7 @@ all_is f base n name m h lm ss c (d ∷ cs) w [] e b el = absurd (omega arith)
 all_is f base n name m h lm ss c (d ∷ cs) w (v ∷ ws) e b el =
     let t = weighted (least_of ss 255 c.literals) w in
     ap (λ x. all_concluded f x (rule_by name d v) (rules_by name cs ws)) (concluded_is f base n name m h lm ss c w e b.0 b.1)
-        ∙ all_is f base n name m h lm (raised_to t ss c.conclusions) d cs v ws (length-raised_to t ss c.conclusions ∙ e) b.2 (omega arith)
+    ∙ all_is f base n name m h lm (raised_to t ss c.conclusions) d cs v ws (length-raised_to t ss c.conclusions ∙ e) b.2 (omega arith)
 
 pub length-fired : (ss : List ℕ) (cs : List Conjunction) (ws : List ℕ) → length (fired ss cs ws) ≡ length ss
 length-fired ss [] ws = refl

@@ -1,29 +1,26 @@
 -- A sample, from where the code waits back to there.
-use Rattle.std.proofs.Common.{◌≡◌, ◌≢◌, ◌⊎◌, inl, inr, ℕ, zero, suc, ◌+◌, ◌-◌, ◌*◌, ◌/◌, ◌%◌, ◌^◌, ◌<◌, ◌≤◌, min, Bool, true, false, ◌&&◌, ◌||◌, nat_lt, nat_le, Ok, List, [], ◌∷◌, ◌++◌, length, set, All, get_or, refl, sym, ap, ap₂, ◌∙◌, subst, arith, length-set, get_or-set_same, get_or-set_other}
-use Rattle.std.specs.Prelude.{◌==◌, if◌then◌else◌}
+use Rattle.std.proofs.Common.{◌≡◌, ◌⊎◌, inl, inr, ℕ, ◌+◌, ◌-◌, ◌*◌, ◌/◌, ◌%◌, ◌^◌, ◌<◌, ◌≤◌, min, Bool, true, false, ◌&&◌, nat_lt, nat_le, Ok, List, [], ◌∷◌, length, set, All, get_or, refl, sym, ap, ap₂, ◌∙◌, subst, arith, length-set, get_or-set_same, get_or-set_other}
+use Rattle.std.specs.Prelude.{◌==◌}
 use Rattle.std.proofs.lemmas.Bool.{cases_eq, or_parts}
 use Rattle.std.proofs.lemmas.Bool.Decides.{nat_tests}
 use Rattle.fuzzy_meaning.specs.declared.block.Block.{Block}
 use Rattle.cpu12_isa.specs.declared.instr.Instr.TheVariants.{LdaaExtended, ClrExtended, Beq, Bra, JsrExtended}
-use Rattle.cpu12_isa.specs.Agreement.{AllShown, Uncovers, IsWritten}
+use Rattle.cpu12_isa.specs.Agreement.{IsWritten}
 use Rattle.cpu12_isa.specs.Code.{decode_at}
 use Rattle.cpu12_isa.specs.Flags.{has}
-use Rattle.cpu12_isa.specs.Meaning.{effect}
 use Rattle.cpu12_isa.specs.Memory.{plus}
 use Rattle.cpu12_parts.specs.State.{State}
-use Rattle.cpu12_parts.specs.Laws.{addresses}
 use Rattle.cpu12_parts.specs.Whole.{after_plain}
 use Rattle.codegen.specs.declared.layout.Layout.{Layout}
-use Rattle.codegen.specs.Images.{IsApart}
 use Rattle.codegen.specs.Firing.{slots_after}
 use Rattle.codegen.specs.Answers.{put, given}
-use Rattle.codegen.specs.Ways.{is_free, is_hidden, is_idle, IsCalm}
-use Rattle.codegen.proofs.Flags.{masked_tested, zero_tested}
-use Rattle.codegen.proofs.Memory.{HasBytes, length-put, has_put, at_put_out, bytes_put_out, bytes_set_out, bytes_after_set, bytes_after_put, high_set, high_put}
-use Rattle.codegen.proofs.Stepping.{Ctx, Here, Live, Stands, Next, next, plain_next, Goes, goes_one, goes_on, goes_most, calm_of, low_shown, high_shown, not_at}
-use Rattle.codegen.proofs.Instructions.{clr, beq_on}
-use Rattle.codegen.proofs.Quotients.{output_bytes, length-output_bytes}
-use Rattle.codegen.proofs.Evaluating.{Evals, Returns, masses, evaluated, eval_most, eval_parts, eval_run, length-after}
+use Rattle.codegen.specs.Ways.{is_free, is_hidden, is_idle}
+use Rattle.codegen.proofs.steps.Flags.{masked_tested, zero_tested}
+use Rattle.codegen.proofs.steps.Memory.{HasBytes, length-put, has_put, bytes_put_out, bytes_set_out, bytes_after_set, bytes_after_put, high_set, high_put}
+use Rattle.codegen.proofs.steps.Stepping.{Ctx, Here, Live, Stands, Next, next, plain_next, Goes, goes_one, goes_on, goes_most, low_shown, high_shown, not_at}
+use Rattle.codegen.proofs.steps.Instructions.{clr, beq_on}
+use Rattle.codegen.proofs.phases.Quotients.{output_bytes, length-output_bytes}
+use Rattle.codegen.proofs.phases.Evaluating.{Evals, Returns, masses, evaluated, eval_most, eval_parts, eval_run}
 
 -- the code around EVAL
 pub record HasFrame (c : Ctx) : Type 0 where

@@ -1,0 +1,9 @@
+-- From an image to the answers of a list of samples.
+pub mod Framing
+pub mod Standing
+pub mod Founding
+pub mod GivenBytes
+pub mod Arriving
+pub mod Sampling
+pub mod Law
+pub mod EvalLaw
