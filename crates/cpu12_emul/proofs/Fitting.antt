@@ -79,7 +79,6 @@ act_fits flags r (Running p w) m ff f = part_left (wav_act flags r (Running p w)
 applied_fits : (o : Result Left ℕ) (m : List ℕ) (next : Next) → LeavesFit o → AreBytes m → applied o m ≡ Ok next → FitsState next.state
 applied_fits (Err byte) m next l b e = absurd cc
 applied_fits (Ok left) m next l b e =
-
     let here : Next = record { state = record { regs = left.regs; temps = left.temps; mem = write_all left.writes m }; kind = left.kind } in
     let same : here ≡ next = cc in
     subst (λ (n : Next). FitsState n.state) same (record { regs = l.regs; temps = l.temps; mem = bytes_stay left.writes m l.writes b })

@@ -270,7 +270,9 @@ fn block_is_read(rt: HostRuntime) -> Result<(), Fail> {
 }
 
 const RULES_HEAD: &[u8] = b"FUNCTION_BLOCK a RULEBLOCK r\n";
+
 const RULE: &[u8] = b"RULE 1 : IF t IS hot THEN power IS on;\n";
+
 const RULES_TAIL: &[u8] = b"END_RULEBLOCK END_FUNCTION_BLOCK";
 
 // The longest text that may be read: rules, and then blanks.

@@ -1,12 +1,16 @@
 -- Lines that are written number by number.
-use Rattle.std.proofs.Common.{◌≡◌, ◌<◌, ◌+◌, ℕ, List, [], ◌∷◌, ◌++◌, length, take, get_or, sym, ◌∙◌, ap, arith, append_assoc, add-one}
+use Rattle.std.proofs.Common.{refl, ◌≡◌, ◌<◌, ◌+◌, ℕ, List, [], ◌∷◌, ◌++◌, length, take, get_or, sym, ◌∙◌, ap, arith, append_assoc, add-one}
 use Rattle.std.specs.Prelude.{codes, decimal, map, String, string_bytes}
 use Rattle.std.specs.declared.alloc.Global.{Global}
 use Rattle.std.proofs.Math.Seq.{take-suc}
 use Rattle.std.proofs.lemmas.List.{append-nil, length-map, length-take-le, map-append}
 use Rattle.fz_shelf.specs.Lines.{text_of}
-use Rattle.fz_top.specs.Lines.{Answered, answered, newline, numbers, sample_line, sample_lines}
-use Rattle.fz_top.specs.declared.stand_in.Row.{Row}
+use Rattle.codegen.specs.declared.firmware.Firmware.{Firmware}
+use Rattle.interrupt_plan.specs.declared.Request.{Request}
+use Rattle.trace_io.specs.declared.sample.Sample.{Sample}
+use Rattle.fz_run.specs.Rows.{firmware_rows, input_bytes, row_seen}
+use Rattle.fz_top.specs.Lines.{Answered, answered, lines_of, newline, numbers, sample_line, sample_lines, shown}
+use Rattle.fz_run.specs.declared.rows.Row.{Row}
 
 pub numbers-snoc : (ns : List ℕ) (n : ℕ) → numbers (ns ++ n ∷ []) ≡ numbers ns ++ (codes " " ++ decimal n)
 numbers-snoc [] n = ap (λ (l : List ℕ). codes " " ++ l) (append-nil (decimal n))
@@ -57,3 +61,19 @@ sample_more head items next line rows i d lt so_far added is =
     ∙ append_assoc head (sample_lines 1 (map answered (take i rows))) (string_bytes line)
     ∙ ap (λ (t : List ℕ). head ++ t) (ap (λ (t : List ℕ). sample_lines 1 (map answered (take i rows)) ++ t) (is ∙ ap (λ (n : ℕ). sample_line n r) (sym size))
     ∙ sym (sample_lines-snoc 1 (map answered (take i rows)) r) ∙ ap (sample_lines 1) (sym all))
+
+-- ---- the rows of a run as they are shown
+
+map_answered : (rows : List Row) → map answered rows ≡ map shown (map row_seen rows)
+map_answered [] = refl
+map_answered (r ∷ rows) = ap (λ (l : List Answered). answered r ∷ l) (map_answered rows)
+
+pub run_text : (f : Firmware) (flags bound bound' : ℕ) (samples slice : List Sample) (plan : List Request) (rows shows : List Row) (text : List ℕ)
+    → text ≡ lines_of bound (map answered shows) → bound ≡ bound' → shows ≡ rows → map row_seen rows ≡ (firmware_rows f (map input_bytes slice) plan flags).rows → slice ≡ samples → plan ≡ []
+    → text ≡ lines_of bound' (map shown (firmware_rows f (map input_bytes samples) [] flags).rows)
+run_text f flags bound bound' samples slice plan rows shows text written bound_is shows_are seen slice_is plan_is =
+    written
+    ∙ ap (λ (b : ℕ). lines_of b (map answered shows)) bound_is
+    ∙ ap (λ (rs : List Row). lines_of bound' (map answered rs)) shows_are
+    ∙ ap (lines_of bound') (map_answered rows ∙ ap (map shown) (seen ∙ ap (λ (s : List Sample). (firmware_rows f (map input_bytes s) plan flags).rows) slice_is
+    ∙ ap (λ (p : List Request). (firmware_rows f (map input_bytes samples) p flags).rows) plan_is))

@@ -6,12 +6,12 @@ use Rattle.trace_io.specs.declared.sample.TraceFault.{TraceFault}
 use Rattle.trace_io.specs.declared.sample.TraceFault.TheVariants as trace
 use Rattle.fz_top.specs.Lines.{newline}
 use Rattle.fz_top.specs.Texts.{Text, word_at}
-use Rattle.fz_top.specs.declared.stand_in.SyntaxFault.{SyntaxFault}
-use Rattle.fz_top.specs.declared.stand_in.SyntaxFault.TheVariants as syntax
-use Rattle.fz_top.specs.declared.stand_in.LoadFault.{LoadFault}
-use Rattle.fz_top.specs.declared.stand_in.LoadFault.TheVariants as load
-use Rattle.fz_top.specs.declared.stand_in.LayoutFault.{LayoutFault}
-use Rattle.fz_top.specs.declared.stand_in.LayoutFault.TheVariants as layout
+use Rattle.fcl_syntax.specs.declared.text.SyntaxFault.{SyntaxFault}
+use Rattle.fcl_syntax.specs.declared.text.SyntaxFault.TheVariants as syntax
+use Rattle.fcl_check.specs.declared.fault.LoadFault.{LoadFault}
+use Rattle.fcl_check.specs.declared.fault.LoadFault.TheVariants as load
+use Rattle.rule_layout.specs.declared.flat.LayoutFault.{LayoutFault}
+use Rattle.rule_layout.specs.declared.flat.LayoutFault.TheVariants as layout
 use Rattle.fz_top.specs.declared.status.FclFault.{FclFault}
 use Rattle.fz_top.specs.declared.status.FclFault.TheVariants as fcl
 use Rattle.fz_top.specs.declared.status.Status.{Status}

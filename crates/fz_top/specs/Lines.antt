@@ -1,7 +1,8 @@
 -- The lines on out.
 use Rattle.std.specs.Prelude.{◌+◌, ℕ, List, [], ◌∷◌, ◌++◌, codes, decimal}
 use Rattle.fz_top.specs.Texts.{Text}
-use Rattle.fz_top.specs.declared.stand_in.Row.{Row}
+use Rattle.fz_run.specs.Rows.{RowSeen, row_seen}
+use Rattle.fz_run.specs.declared.rows.Row.{Row}
 
 abbrev pub newline : List ℕ
 newline = codes "\n"
@@ -21,8 +22,11 @@ pub record Answered : Type 0 where
   pub answers : List ℕ
   pub instructions : ℕ
 
+abbrev pub shown : RowSeen → Answered
+shown r = record { bytes = r.bytes; answers = r.answers; instructions = r.instrs }
+
 abbrev pub answered : Row → Answered
-answered r = record { bytes = r.bytes.items; answers = r.answers.items; instructions = r.instrs }
+answered r = shown (row_seen r)
 
 -- the line of the k-th sample
 abbrev pub sample_line : ℕ → Answered → List ℕ

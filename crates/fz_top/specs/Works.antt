@@ -1,13 +1,28 @@
 -- What the commands make of their files.
-use Rattle.std.specs.Prelude.{◌≡◌, ℕ, List, [], ◌∷◌, Option, None, option_map, Result, Ok, Err}
+use Rattle.std.specs.Prelude.{◌≡◌, ◌≢◌, ℕ, List, [], ◌∷◌, length, map, Option, None, option_map, Result, Ok, Err}
 use Rattle.fz_shelf.specs.Lines.{text_of}
+use Rattle.fuzzy_meaning.specs.Blocks.{IsValid}
+use Rattle.fuzzy_meaning.specs.declared.block.Block.{Block}
+use Rattle.rule_layout.specs.Layouts.{IsWithinLimits, IsFaultOf as IsLayoutFault}
+use Rattle.cpu12_asm.specs.Bytes.{Holds, start_of}
+use Rattle.cpu12_asm.specs.Items.{given_by}
+use Rattle.codegen.specs.Bounds.{instruction_bound, step_bound}
+use Rattle.codegen.specs.Images.{firmware_items}
+use Rattle.codegen.specs.Layouts.{main_layout}
+use Rattle.codegen.specs.declared.firmware.Firmware.{Firmware}
+use Rattle.trace_io.specs.Traces.{HasFault, Spells}
+use Rattle.trace_io.specs.declared.sample.Sample.{Sample}
+use Rattle.fz_run.specs.Rows.{firmware_rows, input_bytes}
+use Rattle.fcl_syntax.specs.Grammar.{TBlock}
+use Rattle.fcl_syntax.specs.Text.{IsFirstFault, SpellsTree}
+use Rattle.trace_io.specs.declared.sample.TraceFault.{TraceFault}
 use Rattle.trace_io.specs.declared.sample.TraceFault.TheVariants as trace
-use Rattle.fz_top.specs.Lines.{Answered, lines_of}
+use Rattle.fz_top.specs.Lines.{lines_of, shown}
 use Rattle.fz_top.specs.declared.command.Command.{Command}
 use Rattle.fz_top.specs.declared.command.Command.TheVariants.{Run}
-use Rattle.fz_top.specs.declared.stand_in.SyntaxFault.TheVariants as syntax
-use Rattle.fz_top.specs.declared.stand_in.LoadFault.TheVariants as load
-use Rattle.fz_top.specs.declared.stand_in.LayoutFault.TheVariants as layout
+use Rattle.fcl_check.specs.declared.fault.LoadFault.TheVariants as load
+use Rattle.rule_layout.specs.declared.flat.LayoutFault.TheVariants as layout
+use Rattle.fz_top.specs.declared.status.FclFault.{FclFault}
 use Rattle.fz_top.specs.declared.status.FclFault.TheVariants as fcl
 use Rattle.fz_top.specs.declared.status.Status.{Status}
 use Rattle.fz_top.specs.declared.status.Status.TheVariants as status
@@ -21,20 +36,44 @@ pub record Deed : Type 0 where
 abbrev pub deed_of : Work → Deed
 deed_of w = record { text = text_of w.lines.items; file = option_map (λ p. (p.0, p.1.items)) w.file }
 
--- a fault of contents carries no want of memory
-abbrev pub IsFault : Status → Type 0
-IsFault (status.Fcl (fcl.Syntax syntax.Memory)) = ⊥
-IsFault (status.Fcl (fcl.Load load.Memory)) = ⊥
-IsFault (status.Fcl (fcl.Layout layout.Memory)) = ⊥
-IsFault (status.Fcl f) = Unit {0}
-IsFault (status.Trace trace.Memory) = ⊥
-IsFault (status.Trace f) = Unit {0}
-IsFault _ = ⊥
+-- the firmware of a block
+pub record IsFirmwareOf (block : Block) (f : Firmware) : Type 0 where
+  pub image : Holds f.image.bytes (given_by (firmware_items main_layout block))
+  pub start : f.image.start ≡ start_of f.image.bytes
+  pub outputs : f.outputs ≡ length block.outputs
+  pub loop_at : f.loop_at ≡ 0xC008
+  pub steps : f.step_bound ≡ step_bound block
 
--- `run`: the lines of a bound and of rows, and no file
+-- what `run` gives: the text spells a tree and that a block, the trace its samples, and the lines
+-- are those of the bound and of the rows of the firmware's run without interrupts
+pub record RunGives (flags : ℕ) (text samples : List ℕ) (deed : Deed) : Type 0 where
+  pub tree : TBlock
+  pub spelled : SpellsTree text tree
+  pub block : Block
+  pub valid : IsValid block
+  pub limits : IsWithinLimits block
+  pub firmware : Firmware
+  pub compiled : IsFirmwareOf block firmware
+  pub values : List Sample
+  pub trace : Spells block.inputs samples values
+  pub deed_is : deed ≡ record { text = lines_of (instruction_bound block) (map shown (firmware_rows firmware (map input_bytes values) [] flags).rows); file = None }
+
+-- why a text gives no firmware; none is for want of memory
+abbrev pub FclRefuses : List ℕ → FclFault → Type 0
+FclRefuses text (fcl.Syntax f) = IsFirstFault text f
+FclRefuses text (fcl.Load f) = (f ≢ load.Memory) × (t : TBlock) × SpellsTree text t
+FclRefuses text (fcl.Layout f) = (f ≢ layout.Memory) × (t : TBlock) × SpellsTree text t × (block : Block) × IsValid block × IsLayoutFault block f
+
+-- why a trace is refused, the text giving firmware; none is for want of memory
+abbrev pub TraceRefuses : List ℕ → List ℕ → TraceFault → Type 0
+TraceRefuses text samples f = (f ≢ trace.Memory) × (t : TBlock) × SpellsTree text t × (block : Block) × IsValid block × IsWithinLimits block × HasFault block.inputs samples f
+
+-- what `run` makes of its files
 abbrev pub RunMakes : ℕ → List ℕ → List ℕ → Result Deed Status → Type 0
-RunMakes flags text samples (Ok deed) = (bound : ℕ) × (rows : List Answered) × (deed ≡ record { text = lines_of bound rows; file = None })
-RunMakes flags text samples (Err s) = IsFault s
+RunMakes flags text samples (Ok deed) = RunGives flags text samples deed
+RunMakes flags text samples (Err (status.Fcl f)) = FclRefuses text f
+RunMakes flags text samples (Err (status.Trace f)) = TraceRefuses text samples f
+RunMakes flags text samples (Err _) = ⊥
 
 -- what the command makes of the contents of its files
 unfoldable pub Makes : Command → List (List ℕ) → Result Deed Status → Type 0
@@ -47,3 +86,9 @@ IsFaultOf makes status.Memory = Unit {0}
 IsFaultOf makes (status.Fcl f) = makes (Err (status.Fcl f))
 IsFaultOf makes (status.Trace f) = makes (Err (status.Trace f))
 IsFaultOf makes _ = ⊥
+
+-- a fault of the text, or want of memory
+abbrev pub IsFclFault : (FclFault → Type 0) → Status → Type 0
+IsFclFault refuses status.Memory = Unit {0}
+IsFclFault refuses (status.Fcl f) = refuses f
+IsFclFault refuses _ = ⊥

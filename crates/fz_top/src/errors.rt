@@ -5,10 +5,12 @@ ghost use Rattle.fz_top.specs.Texts.{texts_of, word_at};
 ghost use Rattle.fz_top.specs.Lines.{newline};
 ghost use Rattle.fz_top.specs.Errors.{Puts, Complains, with_name, with_number, with_two, syntax_line, load_line, load_kind, layout_line, fcl_line, trace_line, error_line_of};
 
-use crate::stand_in::{LayoutFault, LoadFault, SyntaxFault};
 use crate::{FclFault, Status};
+use fcl_check::LoadFault;
+use fcl_syntax::SyntaxFault;
 use fz_shelf::{Failed, Sink, put_pieces};
 use itoa::Buffer;
+use rule_layout::LayoutFault;
 use trace_io::TraceFault;
 
 /// The word at this place, or nothing.

@@ -16,11 +16,9 @@ mod lines;
 mod program;
 mod reading;
 mod run;
-mod stand_in;
 mod status;
 mod work;
 
 pub use command::Command;
 pub use program::fuzz12;
-pub use stand_in::{LayoutFault, LoadFault, Row, SyntaxFault};
 pub use status::{FclFault, Status};

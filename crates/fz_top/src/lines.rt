@@ -3,7 +3,7 @@ ghost use Rattle.std.specs.Prelude.{◌≡◌, ◌++◌, IfOk, OnOk, codes, map,
 ghost use Rattle.fz_shelf.specs.Lines.{text_of};
 ghost use Rattle.fz_top.specs.Lines.{line, numbers, answered, sample_line, lines_of};
 
-use crate::Row;
+use fz_run::Row;
 use std::alloc::{AllocError, Global};
 use std::fmt::Write;
 
@@ -16,20 +16,12 @@ fn labelled(alloc: Global, label: &str, n: u32) -> Result<String, AllocError>
     Ok(text)
 }
 
-fn push_bytes(text: &mut String, bytes: &[u8]) -> Result<(), AllocError>
-    ensures { OnOk result (string_bytes text.new ≡ string_bytes text.old ++ numbers bytes.now) }
+/// Numbers, with a blank before each.
+fn push_numbers(text: &mut String, values: &[u8]) -> Result<(), AllocError>
+    ensures { OnOk result (string_bytes text.new ≡ string_bytes text.old ++ numbers values.now) }
 {
-    for byte in bytes {
-        write!(text, " {byte}")?;
-    }
-    Ok(())
-}
-
-fn push_answers(text: &mut String, answers: &[u16]) -> Result<(), AllocError>
-    ensures { OnOk result (string_bytes text.new ≡ string_bytes text.old ++ numbers answers.now) }
-{
-    for answer in answers {
-        write!(text, " {answer}")?;
+    for number in values {
+        write!(text, " {number}")?;
     }
     Ok(())
 }
@@ -40,9 +32,9 @@ fn line_of_sample(alloc: Global, k: usize, row: &Row) -> Result<String, AllocErr
 {
     let mut text = String::from_str(alloc, "sample ")?;
     write!(&mut text, "{k} bytes")?;
-    push_bytes(&mut text, row.bytes.as_slice())?;
+    push_numbers(&mut text, row.bytes.as_slice())?;
     text.push_str(" answers")?;
-    push_answers(&mut text, row.answers.as_slice())?;
+    push_numbers(&mut text, row.answers.as_slice())?;
     let instructions = row.instrs;
     write!(&mut text, " instructions {instructions}\n")?;
     Ok(text)

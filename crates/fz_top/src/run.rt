@@ -1,15 +1,20 @@
 //! The command `run`.
-ghost use Rattle.std.specs.Prelude.{◌≡◌, ◌<◌, ◌≤◌, length, IfOk, IfErr, Ok, Err};
+ghost use Rattle.std.specs.Prelude.{◌≡◌, ◌<◌, ◌≤◌, length, IfOk, IfErr, Ok};
 ghost use Rattle.std.specs.Option.{ForSome};
-ghost use Rattle.fz_top.specs.Works.{RunMakes, IsFault, IsFaultOf, deed_of};
-ghost use Rattle.fz_top.specs.declared.status.Status.TheVariants as status;
+ghost use Rattle.fcl_syntax.specs.Text.{SpellsTree};
+ghost use Rattle.fcl_syntax.specs.View.{view};
+ghost use Rattle.fz_top.specs.Works.{RunMakes, FclRefuses, IsFaultOf, IsFclFault, deed_of};
 
 use crate::lines::run_lines;
-use crate::stand_in::{self, Block, Firmware, LayoutFault, LoadFault, SyntaxFault};
 use crate::work::Work;
 use crate::{FclFault, Status};
+use codegen::compile;
+use fcl_check::{LoadFault, load};
+use fcl_syntax::{SyntaxFault, Tree, parse};
+use interrupt_plan::no_interrupts;
+use rule_layout::LayoutFault;
 use std::alloc::Global;
-use trace_io::TraceFault;
+use trace_io::{TraceFault, read_trace};
 
 /// Compiles the text, reads the trace, runs its samples and writes down what came of them.
 pub(crate) fn run(alloc: Global, fcl: &[u8], trace: &[u8], flags: u8) -> Result<Work, Status>
@@ -19,20 +24,27 @@ pub(crate) fn run(alloc: Global, fcl: &[u8], trace: &[u8], flags: u8) -> Result<
     ensures err { IfErr result (IsFaultOf (RunMakes flags fcl.now trace.now)) }
     ensures place { IfOk result (λ w. ForSome w.file (λ f. f.0 < 5)) }
 {
-    let block = match block_of(alloc, fcl) {
+    let tree = match tree_of(alloc, fcl) {
+        Ok(tree) => tree,
+        Err(status) => return Err(status),
+    };
+    let block = match load(alloc, &tree) {
         Ok(block) => block,
-        Err(fault) => return Err(fault),
+        Err(LoadFault::Memory) => return Err(Status::Memory),
+        Err(fault) => return Err(Status::Fcl(FclFault::Load(fault))),
     };
-    let firmware = match firmware_of(alloc, &block) {
+    let firmware = match compile(alloc, &block) {
         Ok(firmware) => firmware,
-        Err(fault) => return Err(fault),
+        Err(LayoutFault::Memory) => return Err(Status::Memory),
+        Err(fault) => return Err(Status::Fcl(FclFault::Layout(fault))),
     };
-    let samples = match stand_in::read_trace(alloc, trace, &block) {
+    let samples = match read_trace(alloc, trace, &block) {
         Ok(samples) => samples,
         Err(TraceFault::Memory) => return Err(Status::Memory),
         Err(fault) => return Err(Status::Trace(fault)),
     };
-    let rows = match stand_in::run(alloc, &firmware, &samples, flags) {
+    let plan = no_interrupts(alloc);
+    let rows = match fz_run::run(alloc, &firmware, &samples, &plan, flags) {
         Ok(rows) => rows,
         Err(_) => return Err(Status::Memory),
     };
@@ -42,27 +54,15 @@ pub(crate) fn run(alloc: Global, fcl: &[u8], trace: &[u8], flags: u8) -> Result<
     }
 }
 
-fn block_of(alloc: Global, text: &[u8]) -> Result<Block, Status>
-    ensures { IfErr result (IsFaultOf (λ r. IfErr r IsFault)) }
+/// The tree of the text.
+fn tree_of(alloc: Global, text: &[u8]) -> Result<Tree, Status>
+    requires { length text.now ≤ 1048576 }
+    ensures tree { IfOk result (λ tree. SpellsTree text.now (view tree.block)) }
+    ensures fault { IfErr result (IsFclFault (FclRefuses text.now)) }
 {
-    let tree = match stand_in::parse(alloc, text) {
-        Ok(tree) => tree,
-        Err(SyntaxFault::Memory) => return Err(Status::Memory),
-        Err(fault) => return Err(Status::Fcl(FclFault::Syntax(fault))),
-    };
-    match stand_in::load(alloc, &tree) {
-        Ok(block) => Ok(block),
-        Err(LoadFault::Memory) => Err(Status::Memory),
-        Err(fault) => Err(Status::Fcl(FclFault::Load(fault))),
-    }
-}
-
-fn firmware_of(alloc: Global, block: &Block) -> Result<Firmware, Status>
-    ensures { IfErr result (IsFaultOf (λ r. IfErr r IsFault)) }
-{
-    match stand_in::compile(alloc, block) {
-        Ok(firmware) => Ok(firmware),
-        Err(LayoutFault::Memory) => Err(Status::Memory),
-        Err(fault) => Err(Status::Fcl(FclFault::Layout(fault))),
+    match parse(alloc, text) {
+        Ok(tree) => Ok(tree),
+        Err(SyntaxFault::Memory) => Err(Status::Memory),
+        Err(fault) => Err(Status::Fcl(FclFault::Syntax(fault))),
     }
 }

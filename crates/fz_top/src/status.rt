@@ -1,11 +1,13 @@
 //! How a call of the program ends.
 ghost use Rattle.std.specs.Prelude.{◌≡◌};
 
-use crate::stand_in::{LayoutFault, LoadFault, SyntaxFault};
+use fcl_check::LoadFault;
+use fcl_syntax::SyntaxFault;
+use rule_layout::LayoutFault;
 use trace_io::TraceFault;
 
 /// How a call of the program ends. A word is told by its index, the program's name being 0.
-#[derive(Clone, Copy, Debug, PartialEq, Eq)]
+#[derive(Debug, Drop)]
 pub enum Status {
     /// All input was read and accepted, and all lines were put.
     Ok,
@@ -26,7 +28,7 @@ pub enum Status {
 }
 
 /// Why a text gives no firmware. It never carries want of memory.
-#[derive(Clone, Copy, Debug, PartialEq, Eq)]
+#[derive(Debug, Drop)]
 pub enum FclFault {
     /// The text is not of the grammar, or uses a part that is left out.
     Syntax(SyntaxFault),

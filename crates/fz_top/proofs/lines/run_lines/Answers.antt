@@ -1,7 +1,7 @@
 use Rattle.std.proofs.Common.{◌+◌, ◌∙◌, ap}
 use Rattle.std.specs.Prelude.{codes}
 use Rattle.fz_top.specs.Lines.{answered, line, sample_line}
-use Rattle.fz_top.specs.declared.stand_in.Row.{Row}
+use Rattle.fz_run.specs.declared.rows.Row.{Row}
 use Rattle.fz_top.proofs.LineLemmas.{sample_more}
 use Rattle.fz_top.proofs.lines.run_lines.Goals as goal
 

@@ -1,0 +1,175 @@
+//! The program's call over a shelf and sinks in memory.
+use fz_list::{List, Text};
+use fz_shelf::{MemFile, MemShelf, MemSink};
+use fz_top::fuzz12;
+use std::alloc::Global;
+use std::process::Abort;
+use std::test::Fail;
+
+const BLOCK: &str = "FUNCTION_BLOCK a
+VAR_INPUT t : REAL; END_VAR
+VAR_OUTPUT power : REAL; END_VAR
+FUZZIFY t TERM cold := (0, 1) (256, 0); TERM hot := (0, 0) (256, 1); END_FUZZIFY
+DEFUZZIFY power TERM off := 0; TERM on := 100; METHOD : COGS; DEFAULT := 0; END_DEFUZZIFY
+RULEBLOCK r
+RULE 1 : IF t IS cold THEN power IS off;
+RULE 2 : IF t IS hot THEN power IS on;
+END_RULEBLOCK
+END_FUNCTION_BLOCK
+";
+
+const FIRST: &str = "instructions 28\n";
+
+const LINES: &str = "instructions 28\nsample 1 bytes 64 answers 64 instructions 28\n";
+
+const USAGE: &str = "usage: fuzz12 compile, certify, check, run, asm, exec or gen\n";
+
+/// The numbers of the calls that fail, and how many bytes out takes at once.
+#[derive(Clone, Copy)]
+struct Faults<'a> {
+    reads: &'a [u32],
+    puts: &'a [u32],
+    err_puts: &'a [u32],
+    most: u64,
+}
+
+const NONE: Faults<'static> = Faults {
+    reads: &[],
+    puts: &[],
+    err_puts: &[],
+    most: 100,
+};
+
+fn file(alloc: Global, name: &str, bytes: Vec<u8>) -> Result<MemFile, Fail> {
+    Ok(MemFile {
+        name: Text::new(String::from_str(alloc, name)?),
+        bytes: List::new(bytes),
+        room: 0,
+    })
+}
+
+fn shelf(alloc: Global, failing: &[u32]) -> Result<MemShelf, Fail> {
+    let mut long = Vec::with_capacity(alloc, 1048577)?;
+    long.resize(1048577, b'0')?;
+    let files = vec![in alloc;
+        file(alloc, "a.fcl", BLOCK.as_bytes().to_vec(alloc)?)?,
+        file(alloc, "a.csv", b"64\n".to_vec(alloc)?)?,
+        file(alloc, "empty", Vec::new(alloc))?,
+        file(alloc, "over.csv", b"256.0001".to_vec(alloc)?)?,
+        file(alloc, "long", long)?,
+    ]?;
+    let failing = List::new(failing.to_vec(alloc)?);
+    Ok(MemShelf::new(alloc, List::new(files), failing, List::new(Vec::new(alloc)))?)
+}
+
+/// Words, the faults on the way, and then how many reads there are, the status, and what out and
+/// err hold.
+fn case(
+    rt: &impl Abort,
+    alloc: Global,
+    line: &[&str],
+    faults: &Faults,
+    reads: usize,
+    code: u8,
+    out_text: &str,
+    err_text: &str,
+) -> Result<(), Fail> {
+    let mut words = Vec::new(alloc);
+    for word in line {
+        words.push(String::from_str(alloc, word)?)?;
+    }
+    let mut shelf = shelf(alloc, faults.reads)?;
+    let out_puts = List::new(faults.puts.to_vec(alloc)?);
+    let err_puts = List::new(faults.err_puts.to_vec(alloc)?);
+    let mut out = MemSink::new(alloc, 100, out_puts, faults.most)?;
+    let mut err = MemSink::new(alloc, 100, err_puts, 100)?;
+    let status = fuzz12(alloc, words.as_slice(), &mut shelf, &mut out, &mut err);
+    assert_eq!(rt; err.bytes(), err_text.as_bytes());
+    assert_eq!(rt; out.bytes(), out_text.as_bytes());
+    assert_eq!(rt; status.code(), code);
+    assert_eq!(rt; shelf.asked().len(), reads);
+    Ok(())
+}
+
+#[test]
+fn words(rt: HostRuntime) -> Result<(), Fail> {
+    let alloc = rt.alloc();
+    for flags in ["00", "FF", "fF", "7e"] {
+        let line = ["fuzz12", "run", "a.fcl", "a.csv", flags];
+        case(&rt, alloc, &line, &NONE, 2, 0, LINES, "")?;
+    }
+    for flags in ["", "0", "000", "0g", "+1", "-1"] {
+        let line = ["fuzz12", "run", "a.fcl", "a.csv", flags];
+        case(&rt, alloc, &line, &NONE, 0, 1, "", USAGE)?;
+    }
+    case(&rt, alloc, &[], &NONE, 0, 1, "", USAGE)?;
+    for word in ["", "run", "help", "--help", "-h", "gen"] {
+        case(&rt, alloc, &["fuzz12", word], &NONE, 0, 1, "", USAGE)?;
+    }
+    let hyphen = ["fuzz12", "run", "-a", "a.csv", "00"];
+    case(&rt, alloc, &hyphen, &NONE, 0, 1, "", USAGE)?;
+    let more = ["fuzz12", "run", "a.fcl", "a.csv", "00", "00"];
+    case(&rt, alloc, &more, &NONE, 0, 1, "", USAGE)?;
+    Ok(())
+}
+
+#[test]
+fn files(rt: HostRuntime) -> Result<(), Fail> {
+    let alloc = rt.alloc();
+    for (fcl, csv, reads, code, text) in [
+        ("b.fcl", "a.csv", 1, 2, "read fault: b.fcl\n"),
+        ("a.fcl", "", 2, 2, "read fault: \n"),
+        ("long", "a.csv", 1, 10, "too long: long\n"),
+        ("a.fcl", "long", 2, 10, "too long: long\n"),
+        ("empty", "b.csv", 2, 2, "read fault: b.csv\n"),
+        ("empty", "a.csv", 2, 4, "fcl: at 0: expected\n"),
+        (
+            "a.fcl",
+            "over.csv",
+            2,
+            7,
+            "trace: row 1: input 1 out of range\n",
+        ),
+    ] {
+        let line = ["fuzz12", "run", fcl, csv, "00"];
+        case(&rt, alloc, &line, &NONE, reads, code, "", text)?;
+    }
+    Ok(())
+}
+
+#[test]
+fn failures(rt: HostRuntime) -> Result<(), Fail> {
+    let alloc = rt.alloc();
+    let line = ["fuzz12", "run", "a.fcl", "a.csv", "00"];
+    for (read, text) in [(1, "read fault: a.fcl\n"), (2, "read fault: a.csv\n")] {
+        let faults = Faults {
+            reads: &[read],
+            ..NONE
+        };
+        case(&rt, alloc, &line, &faults, read as usize, 2, "", text)?;
+    }
+    for (put, text) in [(1, ""), (2, FIRST)] {
+        let faults = Faults {
+            puts: &[put],
+            ..NONE
+        };
+        case(&rt, alloc, &line, &faults, 2, 3, text, "write fault\n")?;
+    }
+    let slow = Faults { most: 1, ..NONE };
+    case(&rt, alloc, &line, &slow, 2, 0, LINES, "")?;
+    let cut = Faults {
+        most: 1,
+        puts: &[4],
+        ..NONE
+    };
+    case(&rt, alloc, &line, &cut, 2, 3, "ins", "write fault\n")?;
+    for (put, text) in [(1, ""), (2, "read fault: ")] {
+        let faults = Faults {
+            reads: &[1],
+            err_puts: &[put],
+            ..NONE
+        };
+        case(&rt, alloc, &line, &faults, 1, 2, "", text)?;
+    }
+    Ok(())
+}
