@@ -18,3 +18,6 @@ mod layout;
 pub use firmware::{Firmware, compile};
 pub use items::firmware_items;
 pub use layout::Layout;
+
+#[cfg(test)]
+mod tests;
