@@ -22,3 +22,6 @@ mod work;
 pub use command::Command;
 pub use program::fuzz12;
 pub use status::{FclFault, Status};
+
+#[cfg(test)]
+mod tests;
