@@ -18,6 +18,123 @@ END_RULEBLOCK
 END_FUNCTION_BLOCK
 ";
 
+// The same block in parts: before its default, between its default and its rules, and after them.
+const FRONT: &str = "FUNCTION_BLOCK a
+VAR_INPUT t : REAL; END_VAR
+VAR_OUTPUT power : REAL; END_VAR
+FUZZIFY t TERM cold := (0, 1) (256, 0); TERM hot := (0, 0) (256, 1); END_FUZZIFY
+DEFUZZIFY power TERM off := 0; TERM on := 100; METHOD : COGS; DEFAULT := ";
+
+const MIDDLE: &str = "; END_DEFUZZIFY
+RULEBLOCK r
+RULE 1 : IF t IS cold THEN power IS off";
+
+const SECOND: &str = ";
+RULE 2 : IF t IS hot THEN power IS on";
+
+const BACK: &str = ";
+END_RULEBLOCK
+END_FUNCTION_BLOCK
+";
+
+// A block that keeps its answer where no rule fires.
+const LATCH: &str = "FUNCTION_BLOCK n
+VAR_INPUT t : REAL; END_VAR
+VAR_OUTPUT power : REAL; END_VAR
+FUZZIFY t
+  RANGE := (0 .. 256);
+  TERM mid := (64, 0) (64, 1);
+  TERM hot := (192, 0) (192, 1);
+END_FUZZIFY
+DEFUZZIFY power TERM off := 0; TERM on := 100; METHOD : COGS; DEFAULT := NC; END_DEFUZZIFY
+RULEBLOCK r
+RULE 1 : IF t IS NOT mid THEN power IS on;
+RULE 2 : IF t IS hot THEN power IS off;
+END_RULEBLOCK
+END_FUNCTION_BLOCK
+";
+
+// The parts of a text, a trace, and the lines of its run.
+const ANSWERS: [(&[&str], &str, &str); 9] = [
+    (
+        &[BLOCK],
+        "0\n256\n",
+        "instructions 28
+sample 1 bytes 0 answers 0 instructions 28
+sample 2 bytes 255 answers 255 instructions 28
+",
+    ),
+    (
+        &[BLOCK],
+        "127.9999\n64.9\n",
+        "instructions 28
+sample 1 bytes 127 answers 127 instructions 28
+sample 2 bytes 64 answers 64 instructions 28
+",
+    ),
+    (&[BLOCK], "", FIRST),
+    (
+        &[FRONT, "50", MIDDLE, BACK],
+        "256",
+        "instructions 28\nsample 1 bytes 255 answers 128 instructions 26\n",
+    ),
+    (
+        &[FRONT, "0", MIDDLE, " WITH 0.5", SECOND, BACK],
+        "64",
+        "instructions 29\nsample 1 bytes 64 answers 102 instructions 29\n",
+    ),
+    (
+        &[FRONT, "0", MIDDLE, " WITH 0", SECOND, BACK],
+        "64",
+        "instructions 29\nsample 1 bytes 64 answers 255 instructions 29\n",
+    ),
+    (
+        &[FRONT, "0", MIDDLE, " WITH 0", SECOND, BACK],
+        "0",
+        "instructions 29\nsample 1 bytes 0 answers 0 instructions 27\n",
+    ),
+    (
+        &[LATCH],
+        "0\n128\n200\n128\n",
+        "instructions 30
+sample 1 bytes 0 answers 255 instructions 30
+sample 2 bytes 128 answers 255 instructions 27
+sample 3 bytes 200 answers 0 instructions 30
+sample 4 bytes 128 answers 0 instructions 27
+",
+    ),
+    (
+        &[LATCH],
+        "128",
+        "instructions 30\nsample 1 bytes 128 answers 0 instructions 27\n",
+    ),
+];
+
+// The parts of a text that is refused, and the line on err.
+const REFUSED: [(&[&str], &str); 6] = [
+    (&[], "fcl: at 0: expected\n"),
+    (
+        &["FUNCTION_BLOCK a VAR_INPUT x : INT;"],
+        "fcl: at 31: unsupported 5\n",
+    ),
+    (
+        &["FUNCTION_BLOCK a RULEBLOCK r AND : PROD;"],
+        "fcl: at 35: unsupported 2\n",
+    ),
+    (&["(* x"], "fcl: at 0: open comment\n"),
+    (&["1e5"], "fcl: at 0: number\n"),
+    (
+        &[
+            FRONT,
+            "0",
+            MIDDLE,
+            ";\nRULE 2 : IF t IS warm THEN power IS on",
+            BACK,
+        ],
+        "fcl: at 319: load 2\n",
+    ),
+];
+
 const FIRST: &str = "instructions 28\n";
 
 const LINES: &str = "instructions 28\nsample 1 bytes 64 answers 64 instructions 28\n";
@@ -170,6 +287,55 @@ fn failures(rt: HostRuntime) -> Result<(), Fail> {
             ..NONE
         };
         case(&rt, alloc, &line, &faults, 1, 2, "", text)?;
+    }
+    Ok(())
+}
+
+/// A run of a text, given in parts, over a trace that are the only files.
+fn run_of(
+    rt: &impl Abort,
+    alloc: Global,
+    fcl: &[&str],
+    trace: &str,
+    code: u8,
+    out_text: &str,
+    err_text: &str,
+) -> Result<(), Fail> {
+    let mut text = Vec::new(alloc);
+    for part in fcl {
+        text.extend_from_slice(part.as_bytes())?;
+    }
+    let files = vec![in alloc;
+        file(alloc, "n.fcl", text)?,
+        file(alloc, "n.csv", trace.as_bytes().to_vec(alloc)?)?,
+    ]?;
+    let never = List::new(Vec::new(alloc));
+    let mut shelf = MemShelf::new(alloc, List::new(files), never, List::new(Vec::new(alloc)))?;
+    let mut words = Vec::new(alloc);
+    for word in ["fuzz12", "run", "n.fcl", "n.csv", "00"] {
+        words.push(String::from_str(alloc, word)?)?;
+    }
+    let mut out = MemSink::new(alloc, 1000, List::new(Vec::new(alloc)), 1000)?;
+    let mut err = MemSink::new(alloc, 1000, List::new(Vec::new(alloc)), 1000)?;
+    let status = fuzz12(alloc, words.as_slice(), &mut shelf, &mut out, &mut err);
+    assert_eq!(rt; err.bytes(), err_text.as_bytes());
+    assert_eq!(rt; out.bytes(), out_text.as_bytes());
+    assert_eq!(rt; status.code(), code);
+    Ok(())
+}
+
+#[test]
+fn answers(rt: HostRuntime) -> Result<(), Fail> {
+    for (fcl, trace, text) in ANSWERS {
+        run_of(&rt, rt.alloc(), fcl, trace, 0, text, "")?;
+    }
+    Ok(())
+}
+
+#[test]
+fn refused_texts(rt: HostRuntime) -> Result<(), Fail> {
+    for (fcl, text) in REFUSED {
+        run_of(&rt, rt.alloc(), fcl, "64", 4, "", text)?;
     }
     Ok(())
 }
