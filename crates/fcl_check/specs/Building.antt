@@ -5,8 +5,14 @@ use Rattle.fuzzy_meaning.specs.declared.block.Cond.{Cond}
 use Rattle.fuzzy_meaning.specs.declared.block.Input.{Input}
 use Rattle.fuzzy_meaning.specs.declared.block.Output.{Output}
 use Rattle.fuzzy_meaning.specs.declared.block.Rule.{Rule}
+use Rattle.fcl_check.specs.declared.numbers.Span.{Span}
+use Rattle.fcl_check.specs.Sections.{Ends}
 use Rattle.fuzzy_meaning.specs.Blocks.{HasTerm, HasSingleton, IsValidCondition, AllValidConditions, IsValidRule}
 use Rattle.fuzzy_meaning.specs.Conditions.{Conditions, conditions, condition_of, depth, greatest_depth, nodes, total_nodes}
+
+-- the low and the high end of a span
+abbrev pub ends_in : Span → Ends
+ends_in s = (s.lo.0, s.hi.0)
 
 abbrev pub block_of : List Input → List Output → List Rule → Block
 block_of inputs outputs rules = record { inputs = inputs; outputs = outputs; rules = rules }

@@ -1,1 +1,7 @@
 pub mod Building
+pub mod Places
+pub mod Names
+pub mod Sections
+pub mod Faults
+pub mod Loaded
+pub mod Known

@@ -2,6 +2,8 @@
 
 ghost use Rattle.std.specs.Prelude.{IfOk};
 ghost use Rattle.fuzzy_meaning.specs.Blocks.{IsValid};
+ghost use Rattle.fcl_check.specs.Faults.{Answers, first_fault};
+ghost use Rattle.fcl_check.specs.Loaded.{IsBlockOf};
 
 use crate::block::{RULES, block};
 use crate::fault::LoadFault;
@@ -137,8 +139,13 @@ fn check_parts(names: &Names<'_>, tree: &Tree) -> Result<(), LoadFault> {
 }
 
 /// The block that a tree spells, or its first load fault.
+///
+/// The kinds of faults are tried in the order of [`LoadFault`], each at its first place. A block
+/// is answered exactly where the tree has none; it is the tree's, and it is valid.
 pub fn load(alloc: Global, tree: &Tree) -> Result<Block, LoadFault>
-    ensures { IfOk result IsValid }
+    ensures fault { Answers result (first_fault tree.now.text.items tree.now.block) }
+    ensures block { IfOk result (IsBlockOf tree.now.text.items tree.now.block) }
+    ensures valid { IfOk result IsValid }
 {
     let names = Names::of(alloc, tree)?;
     let rules = operands(alloc, &tree.block.rules.rules)?;

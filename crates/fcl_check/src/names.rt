@@ -1,5 +1,12 @@
 //! Which names a tree declares, and what is given twice.
 
+ghost use Rattle.std.specs.Prelude.{◌≡◌, is_some, option_map, IfOk};
+ghost use Rattle.fcl_syntax.specs.declared.tree.Tree.{Tree};
+ghost use Rattle.fcl_check.specs.Faults.{Answers, twice};
+ghost use Rattle.fcl_check.specs.declared.fault.LoadFault.TheVariants as load;
+ghost use Rattle.fcl_check.specs.Known.{Knows, variable_of};
+ghost use Rattle.fcl_check.specs.Names.{section_name, section_of, term_number};
+
 use crate::fault::LoadFault;
 use fcl_syntax::{
     Defuzzify, DefuzzyLine, Direction, Fuzzify, FuzzyLine, Name, Part, RuleLine, Tree, Vars,
@@ -32,7 +39,10 @@ pub struct Names<'a> {
 
 impl<'a> Names<'a> {
     /// The names of a tree, or the first thing that is given twice.
-    pub fn of(alloc: Global, tree: &'a Tree) -> Result<Names<'a>, LoadFault> {
+    pub fn of(alloc: Global, tree: &'a Tree) -> Result<Names<'a>, LoadFault>
+        ensures names { IfOk result (Knows tree.now) }
+        ensures fault { Answers result (option_map load.Twice (twice tree.now.text.items tree.now.block)) }
+    {
         let declared = declared(alloc, &tree.block.vars)?;
         let variables = variables(alloc, tree, &declared)?;
         let sections = sections(alloc, tree)?;
@@ -44,13 +54,25 @@ impl<'a> Names<'a> {
         })
     }
 
-    pub fn variable(&self, letters: &[u8]) -> Option<Variable> {
+    /// A declared variable, by its letters.
+    pub fn variable(&self, letters: &[u8]) -> Option<Variable>
+        ensures { (tree : Tree) → Knows tree self.now → result ≡ variable_of tree.text.items tree.block letters.now }
+    {
         self.variables.get(letters).copied()
+    }
+
+    /// Whether a variable of these letters has a section.
+    pub fn has_section(&self, letters: &[u8]) -> bool
+        ensures { (tree : Tree) → Knows tree self.now → result ≡ is_some (section_of tree.text.items tree.block letters.now) }
+    {
+        self.sections.contains_key(letters)
     }
 
     /// The number of a term, looked for in the section of its variable that a variable of this
     /// direction has.
-    pub fn term(&self, direction: Direction, variable: &[u8], term: &[u8]) -> Option<u32> {
+    pub fn term(&self, direction: Direction, variable: &[u8], term: &[u8]) -> Option<u32>
+        ensures { (tree : Tree) → Knows tree self.now → result ≡ term_number tree.text.items tree.block direction variable.now term.now }
+    {
         let section = self.sections.get(variable)?;
         match (direction, section.part) {
             (Direction::Input, Part::Fuzzify(_)) | (Direction::Output, Part::Defuzzify(_)) => {
@@ -62,7 +84,9 @@ impl<'a> Names<'a> {
 }
 
 /// The name of the variable that a section is of.
-pub fn section_name(part: &Part) -> Name {
+pub fn section_name(part: &Part) -> Name
+    ensures { result ≡ section_name part.now }
+{
     match part {
         Part::Fuzzify(section) => section.name,
         Part::Defuzzify(section) => section.name,

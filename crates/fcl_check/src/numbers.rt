@@ -1,7 +1,10 @@
 //! The numbers of a tree.
 
-ghost use Rattle.std.specs.Prelude.{◌↔◌, IsTrue, pos, ◌≤ℤ◌};
+ghost use Rattle.std.specs.Prelude.{◌≡◌, ◌↔◌, IsTrue, pos, ◌≤ℤ◌};
+ghost use Rattle.std.specs.Int.{int_min, int_max};
 ghost use Rattle.fuzzy_meaning.specs.Blocks.{IsInScale, IsWithin};
+ghost use Rattle.fcl_check.specs.Building.{ends_in};
+ghost use Rattle.fcl_check.specs.Sections.{magnitude, value, is_one, ends_of, lies_in, is_empty_range};
 
 use fcl_syntax::{Amount, Degree, Num, Number, Range};
 use fz_num::Dec;
@@ -11,7 +14,9 @@ const GREATEST: i64 = 1_000_000_000;
 
 const ONE: i64 = 10_000;
 
-fn magnitude(number: Number) -> i64 {
+fn magnitude(number: Number) -> i64
+    ensures { result ≡ magnitude number.amount }
+{
     match number.amount {
         Amount::Zero => 0,
         Amount::One => ONE,
@@ -21,7 +26,8 @@ fn magnitude(number: Number) -> i64 {
 
 /// A number, in 1/10000.
 pub fn value(num: Num) -> Dec
-    ensures { IsInScale result.0 }
+    ensures value { result.0 ≡ value num }
+    ensures scale { IsInScale result.0 }
 {
     let value = match num {
         Num::Plus(number) | Num::Bare(number) => magnitude(number),
@@ -31,7 +37,9 @@ pub fn value(num: Num) -> Dec
 }
 
 /// Whether a degree is 1 rather than 0.
-pub fn is_one(degree: Degree) -> bool {
+pub fn is_one(degree: Degree) -> bool
+    ensures { result ≡ is_one degree }
+{
     match degree {
         Degree::Plus(number) | Degree::Bare(number) => number.is_one,
         Degree::Minus(_) => false,
@@ -46,7 +54,9 @@ pub struct Span {
 }
 
 impl Span {
-    pub fn of(range: Range) -> Span {
+    pub fn of(range: Range) -> Span
+        ensures { ends_in result ≡ ends_of range }
+    {
         Span {
             lo: value(range.low),
             hi: value(range.high),
@@ -54,24 +64,30 @@ impl Span {
     }
 
     /// The span of one number.
-    pub fn at(x: Dec) -> Span {
+    pub fn at(x: Dec) -> Span
+        ensures { ends_in result ≡ (x.0, x.0) }
+    {
         Span { lo: x, hi: x }
     }
 
     pub fn is_empty(self) -> bool
-        ensures { IsTrue result ↔ (self.hi.0 ≤ℤ self.lo.0) }
+        ensures empty { result ≡ is_empty_range (ends_in self) }
+        ensures order { IsTrue result ↔ (self.hi.0 ≤ℤ self.lo.0) }
     {
         self.hi.0 <= self.lo.0
     }
 
     pub fn holds(self, x: Dec) -> bool
-        ensures { IsTrue result → IsWithin self.lo self.hi x }
+        ensures holds { result ≡ lies_in (ends_in self) x.0 }
+        ensures within { IsTrue result → IsWithin self.lo self.hi x }
     {
         self.lo.0 <= x.0 && x.0 <= self.hi.0
     }
 
     /// What reaches to `x` too.
-    pub fn with(self, x: Dec) -> Span {
+    pub fn with(self, x: Dec) -> Span
+        ensures { ends_in result ≡ (int_min self.lo.0 x.0, int_max self.hi.0 x.0) }
+    {
         Span {
             lo: Dec(self.lo.0.min(x.0)),
             hi: Dec(self.hi.0.max(x.0)),

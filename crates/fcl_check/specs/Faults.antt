@@ -1,0 +1,232 @@
+-- The faults of a tree: each kind at its first place in the text's order, and the first kind.
+use Rattle.std.specs.Prelude.{ℕ, Bool, true, false, not, ◌&&◌, ◌||◌, nat_le, ◌≡◌, ◌≢◌, List, [], ◌∷◌, ◌++◌, length, Result, Ok, Err, Option, Some, None, option_map, option_and_then, is_none, slice_get, int_lt, pos}
+use Rattle.std.specs.Option.{option_or}
+use Rattle.std.specs.List.{filter, list_any}
+use Rattle.fcl_syntax.specs.Grammar.{TNot, neg, group, is, lone, TNots, no_nots, more_nots, TAnd, and_of, TAnds, no_ands, more_ands, TOr, or_of}
+use Rattle.fcl_syntax.specs.View.{view_or}
+use Rattle.fcl_syntax.specs.declared.tree.Conclusion.{Conclusion}
+use Rattle.fcl_syntax.specs.declared.tree.DefuzzyLine.{DefuzzyLine}
+use Rattle.fcl_syntax.specs.declared.tree.DefuzzyLine.TheVariants as defuzzy
+use Rattle.fcl_syntax.specs.declared.tree.Direction.{Direction}
+use Rattle.fcl_syntax.specs.declared.tree.Direction.TheVariants.{Input, Output}
+use Rattle.fcl_syntax.specs.declared.tree.FunctionBlock.{FunctionBlock}
+use Rattle.fcl_syntax.specs.declared.tree.FuzzyLine.{FuzzyLine}
+use Rattle.fcl_syntax.specs.declared.tree.FuzzyLine.TheVariants as fuzzy
+use Rattle.fcl_syntax.specs.declared.tree.Name.{Name}
+use Rattle.fcl_syntax.specs.declared.tree.Part.{Part}
+use Rattle.fcl_syntax.specs.declared.tree.Part.TheVariants as part
+use Rattle.fcl_syntax.specs.declared.tree.Rule.{Rule}
+use Rattle.fcl_syntax.specs.declared.tree.RuleLine.{RuleLine}
+use Rattle.fcl_syntax.specs.declared.tree.RuleLine.TheVariants as line
+use Rattle.fcl_syntax.specs.declared.tree.Weight.{Weight}
+use Rattle.fcl_check.specs.declared.fault.LoadFault.{LoadFault}
+use Rattle.fcl_check.specs.declared.fault.LoadFault.TheVariants as load
+use Rattle.fcl_check.specs.Names.{Declared, is_direction, section_name, declared_in, direction_of, section_of, term_number, letters, is_named}
+use Rattle.fcl_check.specs.Places.{at_if, first_of, first_after}
+use Rattle.fcl_check.specs.Sections.{without_terms, term_over_limit, falling_points, shapeless_term, points_outside, bad_range, singleton_outside, incomplete, value}
+
+-- ---- names in conditions and conclusions
+
+-- a variable and a term of it
+pub record Pair : Type 0 where
+  pub variable : Name
+  pub term : Name
+
+-- those of a condition in the text's order
+abbrev mutual
+  pub not_pairs : TNot → List Pair
+  not_pairs (neg at t) = not_pairs t
+  not_pairs (group at o) = or_pairs o
+  not_pairs (is v i b t) = (record { variable = v; term = t }) ∷ []
+  not_pairs (lone v f) = []
+
+  pub nots_pairs : TNots → List Pair
+  nots_pairs no_nots = []
+  nots_pairs (more_nots at t ts) = not_pairs t ++ nots_pairs ts
+
+  pub and_pairs : TAnd → List Pair
+  and_pairs (and_of t ts) = not_pairs t ++ nots_pairs ts
+
+  pub ands_pairs : TAnds → List Pair
+  ands_pairs no_ands = []
+  ands_pairs (more_ands at a items) = and_pairs a ++ ands_pairs items
+
+  pub or_pairs : TOr → List Pair
+  or_pairs (or_of a items) = and_pairs a ++ ands_pairs items
+
+abbrev pub condition_pairs : Rule → List Pair
+condition_pairs r = or_pairs (view_or r.condition)
+
+abbrev pub conclusions_of : Rule → List Conclusion
+conclusions_of r = r.first ∷ r.more.items
+
+-- ---- lines that may stand once in their section
+
+abbrev pub line_at : FuzzyLine → ℕ
+line_at (fuzzy.Term t) = t.name.at
+line_at (fuzzy.Range r) = r.at
+
+abbrev pub output_line_at : DefuzzyLine → ℕ
+output_line_at (defuzzy.Singleton t) = t.name.at
+output_line_at (defuzzy.Accu s) = s.at
+output_line_at (defuzzy.Method s) = s.at
+output_line_at (defuzzy.Default d) = d.at
+output_line_at (defuzzy.Range r) = r.at
+
+abbrev pub rule_line_at : RuleLine → ℕ
+rule_line_at (line.And s) = s.at
+rule_line_at (line.Or s) = s.at
+rule_line_at (line.Act a) = a.at
+rule_line_at (line.Accu s) = s.at
+
+abbrev pub same_rule_line : RuleLine → RuleLine → Bool
+same_rule_line (line.And s) (line.And t) = true
+same_rule_line (line.Or s) (line.Or t) = true
+same_rule_line (line.Act a) (line.Act b) = true
+same_rule_line (line.Accu s) (line.Accu t) = true
+same_rule_line _ _ = false
+
+-- the first item that is the same as one before it
+abbrev pub repeated : {A : Type 0} → (A → A → Bool) → (A → ℕ) → List A → Option ℕ
+repeated {A} same at items = first_after (λ (before : List A) (x : A). at_if (list_any (same x) before) (at x)) [] items
+
+abbrev pub is_some_direction : Direction → Option Direction → Bool
+is_some_direction side None = false
+is_some_direction side (Some d) = is_direction side d
+
+-- ---- limits
+
+-- how many inputs and outputs a block may have
+abbrev pub most_of : Direction → ℕ
+most_of Input = 8
+most_of Output = 4
+
+-- a declared name behind as many of its direction as there may be
+abbrev pub is_over : List Declared → Declared → Bool
+is_over before d = nat_le (most_of d.0) (length (filter (λ (e : Declared). is_direction d.0 e.0) before))
+
+module _ (text : List ℕ) (b : FunctionBlock) where
+  abbrev pub same_name : Name → Name → Bool
+  same_name m n = is_named text (letters text m) n
+
+  -- ---- Twice
+
+  abbrev pub same_declared : Declared → Declared → Bool
+  same_declared d e = same_name d.1 e.1
+
+  abbrev pub same_line : FuzzyLine → FuzzyLine → Bool
+  same_line (fuzzy.Term s) (fuzzy.Term t) = same_name s.name t.name
+  same_line (fuzzy.Range q) (fuzzy.Range r) = true
+  same_line _ _ = false
+
+  abbrev pub same_output_line : DefuzzyLine → DefuzzyLine → Bool
+  same_output_line (defuzzy.Singleton s) (defuzzy.Singleton t) = same_name s.name t.name
+  same_output_line (defuzzy.Accu s) (defuzzy.Accu t) = true
+  same_output_line (defuzzy.Method s) (defuzzy.Method t) = true
+  same_output_line (defuzzy.Default s) (defuzzy.Default t) = true
+  same_output_line (defuzzy.Range q) (defuzzy.Range r) = true
+  same_output_line _ _ = false
+
+  abbrev pub repeated_line : Part → Option ℕ
+  repeated_line (part.Fuzzify s) = repeated same_line line_at s.lines.items
+  repeated_line (part.Defuzzify s) = repeated same_output_line output_line_at s.lines.items
+
+  abbrev pub same_section : Part → Part → Bool
+  same_section p q = same_name (section_name p) (section_name q)
+
+  -- a section of a name that an earlier one has, or a line that is given twice in it
+  abbrev pub repeated_section : List Part → Part → Option ℕ
+  repeated_section before p = option_or (at_if (list_any (same_section p) before) (section_name p).at) (repeated_line p)
+
+  abbrev pub twice : Option ℕ
+  twice = option_or (repeated same_declared (λ (d : Declared). d.1.at) (declared_in b))
+    (option_or (first_after repeated_section [] b.parts.items)
+    (repeated same_rule_line rule_line_at b.rules.lines.items))
+
+  -- ---- Unknown
+
+  abbrev pub direction : Name → Option Direction
+  direction n = direction_of text b (letters text n)
+
+  abbrev pub is_declared_as : Direction → Name → Bool
+  is_declared_as side n = is_some_direction side (direction n)
+
+  -- a variable that is not declared, or a term that it does not have where it stands on its side
+  abbrev pub unknown_pair : Direction → Name → Name → Option ℕ
+  unknown_pair side v t = option_or (at_if (is_none (direction v)) v.at) (at_if (is_declared_as side v && is_none (term_number text b side (letters text v) (letters text t))) t.at)
+
+  abbrev pub unknown_in : Rule → Option ℕ
+  unknown_in r = option_or (first_of (λ (p : Pair). unknown_pair Input p.variable p.term) (condition_pairs r))
+    (first_of (λ (c : Conclusion). unknown_pair Output c.variable c.term) (conclusions_of r))
+
+  abbrev pub unknown_section : Part → Option ℕ
+  unknown_section p = at_if (is_none (direction (section_name p))) (section_name p).at
+
+  abbrev pub unknown : Option ℕ
+  unknown = option_or (first_of unknown_section b.parts.items) (first_of unknown_in b.rules.rules.items)
+
+  -- ---- TooMany: the 9th input, the 5th output, the 16th term, the 257th rule
+
+  abbrev pub too_many : Option ℕ
+  too_many = option_or (first_after (λ (before : List Declared) (d : Declared). at_if (is_over before d) d.1.at) [] (declared_in b))
+    (option_or (first_of term_over_limit b.parts.items)
+    (option_map (λ (r : Rule). r.at) (slice_get b.rules.rules.items 256)))
+
+  -- ---- WeightOutside: a weight below 0 or above 1, at WITH
+
+  abbrev pub weight_outside : Rule → Option ℕ
+  weight_outside r = option_and_then (λ (w : Weight). at_if (int_lt (value w.num) (pos 0) || int_lt (pos 10000) (value w.num)) w.at) r.weight
+
+  -- ---- WrongSide: a name that is declared, but in the other direction
+
+  abbrev pub mistaken : Direction → Name → Option ℕ
+  mistaken side n = option_and_then (λ (d : Direction). at_if (not (is_direction side d)) n.at) (direction n)
+
+  abbrev pub mistaken_section : Part → Option ℕ
+  mistaken_section (part.Fuzzify s) = mistaken Input s.name
+  mistaken_section (part.Defuzzify s) = mistaken Output s.name
+
+  abbrev pub mistaken_in : Rule → Option ℕ
+  mistaken_in r = option_or (first_of (λ (p : Pair). mistaken Input p.variable) (condition_pairs r))
+    (first_of (λ (c : Conclusion). mistaken Output c.variable) (conclusions_of r))
+
+  abbrev pub wrong_side : Option ℕ
+  wrong_side = option_or (first_of mistaken_section b.parts.items) (first_of mistaken_in b.rules.rules.items)
+
+  -- ---- MissingPart: a variable without its section, at its declared name; METHOD or DEFAULT; an
+  -- input, an output or a rule, at END_FUNCTION_BLOCK
+
+  abbrev pub without_section : Declared → Option ℕ
+  without_section d = at_if (is_none (section_of text b (letters text d.1))) d.1.at
+
+  abbrev pub has_direction : Direction → Bool
+  has_direction side = list_any (λ (d : Declared). is_direction side d.0) (declared_in b)
+
+  abbrev pub is_whole : Bool
+  is_whole = has_direction Input && has_direction Output && not (is_none (slice_get b.rules.rules.items 0))
+
+  abbrev pub missing_part : Option ℕ
+  missing_part = option_or (first_of without_section (declared_in b))
+    (option_or (first_of incomplete b.parts.items)
+    (at_if (not is_whole) b.end))
+
+  -- ---- the first kind that occurs, at its first place
+
+  abbrev pub first_fault : Option LoadFault
+  first_fault = option_or (option_map load.Twice twice)
+    (option_or (option_map load.Unknown unknown)
+    (option_or (option_map load.NoTerms (first_of without_terms b.parts.items))
+    (option_or (option_map load.TooMany too_many)
+    (option_or (option_map load.PointsNotAscending (first_of falling_points b.parts.items))
+    (option_or (option_map load.TermShape (first_of shapeless_term b.parts.items))
+    (option_or (option_map load.TermOutside (first_of points_outside b.parts.items))
+    (option_or (option_map load.BadRange (first_of (bad_range (is_declared_as Input)) b.parts.items))
+    (option_or (option_map load.SingletonOutside (first_of singleton_outside b.parts.items))
+    (option_or (option_map load.WeightOutside (first_of weight_outside b.rules.rules.items))
+    (option_or (option_map load.WrongSide wrong_side)
+    (option_map load.MissingPart missing_part)))))))))))
+
+-- the answer is this fault, and no fault where there is none; want of memory is free
+abbrev pub Answers : {A : Type 0} → Result A LoadFault → Option LoadFault → Type 0
+Answers (Ok a) fault = fault ≡ None
+Answers (Err e) fault = e ≢ load.Memory → fault ≡ Some e
