@@ -52,7 +52,7 @@ fn told(alloc: Global, front: &[u8], back: &[u8]) -> Result<Option<(u32, Want)>,
 }
 
 // Each front ends where the fault is.
-const ROWS: [(&[u8], &[u8], Want); 45] = [
+const ROWS: [(&[u8], &[u8], Want); 48] = [
     (b"", b"", Want::Expected),
     (b"", b"x", Want::Expected),
     (b"FUNCTION_BLOCK", b"", Want::Expected),
@@ -220,6 +220,17 @@ const ROWS: [(&[u8], &[u8], Want); 45] = [
         b"1.0 : IF",
         Want::Expected,
     ),
+    (
+        b"FUNCTION_BLOCK a\r\n(* \x00\xFF // (* $ *)\r\n// \x80 *) (*\r ( \nvar_Input ",
+        b"END_FUZZIFY",
+        Want::Expected,
+    ),
+    (
+        b"function_Block a\r\nVAR_INPUT\r\nx,\r\nY : Real ;\r\nEnd_Var\r\n",
+        b"END_VAR",
+        Want::Expected,
+    ),
+    (b"(* (* *) ", b"*)", Want::BadByte),
     (b"", b"(* x", Want::OpenComment),
     (b"", b"(*)", Want::OpenComment),
     (b"FUNCTION_BLOCK ", b"1e5", Want::Number(DecFault::Shape)),
