@@ -36,7 +36,7 @@ magnitude amount.Zero = pos 0
 magnitude amount.One = pos 10000
 magnitude (amount.Other d) = d.0
 
--- no number is beyond 100000; a text has none that is
+-- a number beyond 100000 counts as 100000; no text has one (law `numbers_in_scale` of fcl_syntax)
 abbrev pub to_scale : ℤ → ℤ
 to_scale z = int_min (int_max z (neg_ℤ (pos 1000000000))) (pos 1000000000)
 

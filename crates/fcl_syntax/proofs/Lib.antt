@@ -18,3 +18,4 @@ pub mod RuleForms
 pub mod Rooms
 pub mod Theorem
 pub mod Cutting
+pub mod Scale

@@ -7,3 +7,4 @@ pub mod Reading
 pub mod Meanings
 pub mod Lexing
 pub mod Text
+pub mod Scale

@@ -11,6 +11,7 @@ mod fault;
 mod lexer;
 mod rules;
 mod single;
+pub mod sizes;
 mod terms;
 mod text;
 mod token;
