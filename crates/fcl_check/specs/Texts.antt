@@ -1,0 +1,25 @@
+-- The block of a text, or the load fault that it has instead.
+use Rattle.std.specs.Prelude.{◌≡◌, ℕ, List, Some, None}
+use Rattle.std.specs.Str.{str_to_ascii_lowercase}
+use Rattle.fuzzy_meaning.specs.Blocks.{IsValid}
+use Rattle.fuzzy_meaning.specs.declared.block.Block.{Block}
+use Rattle.fcl_syntax.specs.Text.{SpellsTree}
+use Rattle.fcl_syntax.specs.View.{view}
+use Rattle.fcl_syntax.specs.declared.tree.FunctionBlock.{FunctionBlock}
+use Rattle.fcl_check.specs.Faults.{first_fault}
+use Rattle.fcl_check.specs.Loaded.{IsBlockOf}
+use Rattle.fcl_check.specs.declared.fault.LoadFault.{LoadFault}
+
+-- the text spells a tree without a load fault, and this is the tree's block
+pub record SpellsBlock (text : List ℕ) (block : Block) : Type 0 where
+  pub tree : FunctionBlock
+  pub spelled : SpellsTree text (view tree)
+  pub sound : first_fault (str_to_ascii_lowercase text) tree ≡ None
+  pub loaded : IsBlockOf (str_to_ascii_lowercase text) tree block
+  pub valid : IsValid block
+
+-- the text spells a tree, and this is the tree's first load fault
+pub record HasLoadFault (text : List ℕ) (fault : LoadFault) : Type 0 where
+  pub tree : FunctionBlock
+  pub spelled : SpellsTree text (view tree)
+  pub first : first_fault (str_to_ascii_lowercase text) tree ≡ Some fault
