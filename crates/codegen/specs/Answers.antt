@@ -1,5 +1,5 @@
 -- What a firmware answers without an interrupt.
-use Rattle.std.specs.Prelude.{◌≡◌, ◌≢◌, ℕ, ◌+◌, ◌-◌, ◌^◌, ◌<◌, ◌≤◌, true, List, [], ◌∷◌, length, All, slice_index, slice_set}
+use Rattle.std.specs.Prelude.{◌≡◌, ℕ, ◌+◌, ◌-◌, ◌^◌, ◌<◌, ◌≤◌, true, List, [], ◌∷◌, length, All, slice_index, slice_set}
 use Rattle.fuzzy_meaning.specs.declared.block.Block.{Block}
 use Rattle.fuzzy_meaning.specs.Blocks.{IsValid}
 use Rattle.point_slope.specs.Bytes.{byte_answer}
@@ -7,7 +7,7 @@ use Rattle.rule_layout.specs.Layouts.{IsWithinLimits}
 use Rattle.cpu12_asm.specs.Bytes.{byte_at}
 use Rattle.cpu12_asm.specs.Items.{given_by}
 use Rattle.cpu12_parts.specs.State.{State}
-use Rattle.cpu12_parts.specs.Whole.{IsWholeStep}
+use Rattle.cpu12_parts.specs.Whole.{PlainWay}
 use Rattle.cpu12_emul.specs.Image.{byte_or_zero, image_memory}
 use Rattle.cpu12_emul.specs.Step.{reset_with}
 use Rattle.codegen.specs.declared.layout.Layout.{Layout}
@@ -27,13 +27,13 @@ pub record HasGiven (mem : List ℕ) (given : List (ℕ × ℕ)) : Type 0 where
   pub size : length mem ≡ 65536
   pub bytes : (at : ℕ) → at < 65536 → slice_index mem at ≡ byte_or_zero (byte_at given at)
 
--- the first arrival where the code waits, from reset
+-- the first arrival where the code waits, by three plain instructions from reset; there LDAA ($B6) reads READY
 pub record IsArrived (l : Layout) (image : List ℕ) (flags : ℕ) (s : State) : Type 0 where
-  pub ds : List ℕ
-  pub way : Way (λ d u v. (u.regs.pc ≢ l.wait) × IsWholeStep flags d u v) ds (reset_with image) s
+  pub way : PlainWay flags l.wait 3 (reset_with image) s
   pub wait : s.regs.pc ≡ l.wait
   pub idle : is_idle l s ≡ true
   pub calm : IsCalm image s
+  pub load : slice_index image l.wait ≡ 0xB6
 
 -- a sample's bytes and READY are written
 abbrev pub given : Layout → List ℕ → State → State

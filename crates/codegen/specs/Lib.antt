@@ -3,6 +3,7 @@ pub mod Code
 pub mod Data
 pub mod Images
 pub mod Bounds
+pub mod Firmwares
 pub mod Ways
 pub mod Firing
 pub mod Answers

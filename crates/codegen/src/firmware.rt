@@ -1,12 +1,8 @@
 //! Firmware.
-ghost use Rattle.std.specs.Prelude.{◌≡◌, length, IfOk, IfErr, OnOk};
+ghost use Rattle.std.specs.Prelude.{IfOk, IfErr, OnOk};
 ghost use Rattle.fuzzy_meaning.specs.Blocks.{IsValid};
-ghost use Rattle.cpu12_asm.specs.Bytes.{start_of, Holds, IsAscending};
-ghost use Rattle.cpu12_asm.specs.Items.{given_by};
 ghost use Rattle.rule_layout.specs.Layouts.{IsWithinLimits, IsFaultOf};
-ghost use Rattle.codegen.specs.Layouts.{main_layout};
-ghost use Rattle.codegen.specs.Images.{firmware_items};
-ghost use Rattle.codegen.specs.Bounds.{instruction_bound, step_bound};
+ghost use Rattle.codegen.specs.Firmwares.{IsFirmwareOf};
 ghost use Rattle.codegen.specs.Answers.{AnswersFrom};
 
 use crate::bounds::{instruction_bound, step_bound};
@@ -37,14 +33,7 @@ pub struct Firmware {
 /// are: where they spread into more than 512 conjunctions, or into a list of more than 9984 bytes.
 pub fn compile(alloc: Global, block: &Block) -> Result<Firmware, LayoutFault>
     requires { IsValid block.now }
-    ensures image { IfOk result (λ f. Holds f.image.bytes (given_by (firmware_items main_layout block.now))) }
-    ensures ascending { IfOk result (λ f. IsAscending f.image.bytes) }
-    ensures start { IfOk result (λ f. f.image.start ≡ start_of f.image.bytes) }
-    ensures inputs { IfOk result (λ f. f.inputs ≡ length block.now.inputs) }
-    ensures outputs { IfOk result (λ f. f.outputs ≡ length block.now.outputs) }
-    ensures loop_at { IfOk result (λ f. f.loop_at ≡ 0xC008) }
-    ensures instructions { IfOk result (λ f. f.instr_bound ≡ instruction_bound block.now) }
-    ensures steps { IfOk result (λ f. f.step_bound ≡ step_bound block.now) }
+    ensures firmware { IfOk result (IsFirmwareOf block.now) }
     ensures answers { IfOk result (λ f. AnswersFrom block.now f.image.bytes) }
 
     // Refused exactly where the rules can't be laid out.

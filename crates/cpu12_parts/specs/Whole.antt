@@ -1,5 +1,5 @@
 -- One whole instruction without an interrupt.
-use Rattle.std.specs.Prelude.{◌≡◌, ℕ, suc, ◌-◌, ◌⊎◌, true, Ok, List, length}
+use Rattle.std.specs.Prelude.{◌≡◌, ◌≢◌, ℕ, zero, suc, ◌-◌, ◌⊎◌, true, Ok, List, length}
 use Rattle.cpu12_isa.specs.declared.instr.Instr.{Instr}
 use Rattle.cpu12_isa.specs.declared.instr.Instr.TheVariants.{Rev, Revw, Wav}
 use Rattle.cpu12_isa.specs.Act.{write_all}
@@ -21,6 +21,11 @@ pub record IsPlainStep (flags : ℕ) (i : Instr) (s t : State) : Type 0 where
   pub decoded : decode_at s.mem s.regs.pc ≡ Ok i
   pub plain : is_plain i ≡ true
   pub after : t ≡ after_plain flags i s
+
+-- n plain instructions lead from s to t, and none of them stands at this address
+abbrev pub PlainWay : ℕ → ℕ → ℕ → State → State → Type 0
+PlainWay flags at zero s t = s ≡ t
+PlainWay flags at (suc n) s t = (u : State) × ((s.regs.pc ≢ at) × ((i : Instr) × IsPlainStep flags i s u) × PlainWay flags at n u t)
 
 -- REV or REVW stands at PC with its rules, and leads from s to t by d parts more than one
 pub record IsRulesStep (i : Instr) (f : Form) (flags d : ℕ) (p : Rule) (ps : List Rule) (s t : State) : Type 0 where

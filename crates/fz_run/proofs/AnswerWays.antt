@@ -1,31 +1,36 @@
 -- Where whole instructions answer all samples, so do the rows under every good plan.
-use Rattle.std.proofs.Common.{◌≡◌, ◌==◌, ◌&&◌, ℕ, zero, suc, ◌+◌, ◌-◌, ◌%◌, ◌^◌, ◌<◌, ◌≤◌, Bool, true, false, List, [], ◌∷◌, ◌++◌, length, get_or, refl, ap, ap₂, sym, ◌∙◌, subst, arith, inl, inr, ◌⊎◌}
+use Rattle.std.proofs.Common.{◌≡◌, ◌==◌, ℕ, zero, suc, ◌+◌, ◌-◌, ◌^◌, ◌<◌, ◌≤◌, false, List, [], ◌∷◌, length, get_or, refl, ap, ap₂, sym, ◌∙◌, subst, arith, inl, inr, ◌⊎◌}
+use Rattle.std.specs.Prelude.{All}
 use Rattle.std.proofs.Math.ListN.{set}
 use Rattle.std.proofs.lemmas.Bool.Decides.{nat_tests}
 use Rattle.fuzzy_meaning.specs.declared.block.Block.{Block}
 use Rattle.point_slope.specs.Bytes.{byte_answer}
-use Rattle.cpu12_isa.specs.declared.instr.Instr.TheVariants.{Rev, Revw, Wav}
+use Rattle.cpu12_isa.specs.declared.instr.Instr.TheVariants.{Rev, Revw}
 use Rattle.cpu12_isa.specs.Act.{write_all}
 use Rattle.cpu12_isa.specs.Code.{six_from}
 use Rattle.cpu12_isa.specs.Memory.{plus, from, placed, bytes_at}
 use Rattle.cpu12_parts.specs.State.{State}
 use Rattle.cpu12_emul.specs.Image.{image_memory}
+use Rattle.cpu12_emul.specs.Step.{reset_with}
 use Rattle.interrupt_plan.specs.declared.Request.{Request}
 use Rattle.interrupt_plan.specs.Plans.{IsGood}
 use Rattle.codegen.specs.declared.firmware.Firmware.{Firmware}
 use Rattle.codegen.specs.Layouts.{main_layout}
 use Rattle.codegen.specs.Bounds.{instruction_bound, step_bound}
-use Rattle.codegen.specs.Ways as ways
-use Rattle.codegen.specs.Ways.{IsCalm, IsCalmInstruction, IsCalmStep}
+use Rattle.codegen.specs.Ways.{Way, all_steps, IsCalm, IsCalmInstruction, IsCalmStep}
 use Rattle.codegen.specs.Answers as answers
-use Rattle.codegen.specs.Answers.{IsAnswered, AreAnswered}
+use Rattle.codegen.specs.Answers.{IsArrived, IsAnswered, AreAnswered}
+use Rattle.codegen.specs.Firing.{AreInputBytes}
+use Rattle.codegen.specs.Firmwares.{IsFirmwareOf}
+use Rattle.codegen.proofs.runs.Law.{answers_from}
 use Rattle.fz_run.specs.declared.board.Board.{Board}
-use Rattle.fz_run.specs.Rows.{board_of, is_idle, given, answers_in, requests_of, with_writes, RowSeen, rows_from, firmware_rows}
-use Rattle.fz_run.specs.Calm.{calm, counted}
-use Rattle.fz_run.specs.Undisturbed.{is_hidden, Calmed, Before}
+use Rattle.fz_run.specs.Rows.{board_of, is_idle, given, answers_in, requests_of, with_writes, RowSeen, rows_from, arrival, first_state, firmware_rows}
+use Rattle.fz_run.specs.Calm.{calm}
+use Rattle.fz_run.specs.Undisturbed.{Calmed}
 use Rattle.fz_run.specs.CalmRows.{is_free, Sampled, AllSampled, AllWithin, expected_row, expected_rows, IsLow, GoesCalmly}
-use Rattle.fz_run.specs.Stretches.{Stretch, Way, all_steps, Went, Kept, Calmly}
-use Rattle.fz_run.specs.Answering.{IsRowOf, AreRowsOf, AreShort, IsFirmwareOf, AnswersUnder, AnswersUnderPlans}
+use Rattle.fz_run.specs.Stretches.{Stretch, Went, Kept, Calmly}
+use Rattle.fz_run.specs.Answering.{IsRowOf, AreRowsOf, AreCountsOf, AreAnswersOf, AnswersItsBlock, AnswersUnder, AnswersUnderPlans}
+use Rattle.fz_run.proofs.Arrivals.{arrives_plainly}
 use Rattle.fz_run.proofs.Boards.{write_last}
 use Rattle.fz_run.proofs.Decoding.{page_of, average_byte}
 use Rattle.fz_run.proofs.PlainSteps.{plain_step}
@@ -95,13 +100,14 @@ step_stretch n image flags d s t hf w h = by h.instruction
         let ne = not_there image s (plus s.regs.pc 1) 60 h.calm w (average_byte (bytes_at s.mem (six_from s.regs.pc)) p.step.decoded) (λ e. omega arith) in
         average_step is_free flags (On n) d s t hf c p.step p.reads h.busy (λ v e. off_loop n v (λ z. ne (sym e ∙ z)))
 
-way_stretch : (n : ℕ) (image : List ℕ) (flags : ℕ) (ds : List ℕ) (s t : State) → flags < 2 ^ 8 → get_or image 49160 0 ≡ 182 → ways.Way (IsCalmStep main_layout image flags) ds s t → Way (Stretch (Kept is_free flags (On n)) flags) ds s t
+way_stretch : (n : ℕ) (image : List ℕ) (flags : ℕ) (ds : List ℕ) (s t : State) → flags < 2 ^ 8 → get_or image 49160 0 ≡ 182 → Way (IsCalmStep main_layout image flags) ds s t → Way (Stretch (Kept is_free flags (On n)) flags) ds s t
 way_stretch n image flags [] s t hf w h = h
 way_stretch n image flags (d ∷ ds) s t hf w h = (h.0, (step_stretch n image flags d s h.0 hf w h.1.0, way_stretch n image flags ds h.0 t hf w h.1.1))
 
-same_steps : (ds : List ℕ) → ways.all_steps ds ≡ all_steps ds
-same_steps [] = refl
-same_steps (d ∷ ds) = ap (λ (k : ℕ). suc d + k) (same_steps ds)
+-- samples that end below the outputs' bytes
+abbrev AreShort : List (List ℕ) → Type 0
+AreShort [] = Unit {0}
+AreShort (bytes ∷ samples) = (length bytes ≤ 8) × AreShort samples
 
 -- a sample is given alike
 same_put : (at : ℕ) (bytes m : List ℕ) → at + length bytes ≤ 65535 → write_all (placed at bytes) m ≡ answers.put m at bytes
@@ -125,7 +131,7 @@ numbers b image flags before (bytes ∷ samples) s w = all_steps w.1.0.ds ∷ nu
 within : (b : Block) (image : List ℕ) (flags : ℕ) (before : ℕ → ℕ) (samples : List (List ℕ)) (s : State) (w : AreAnswered main_layout b image flags before samples s) → AllWithin (step_bound b) (numbers b image flags before samples s w)
 unfolding numbers
 within b image flags before [] s w = tt
-within b image flags before (bytes ∷ samples) s w = (subst (λ (k : ℕ). k ≤ step_bound b) (same_steps w.1.0.ds) w.1.0.steps, within b image flags (λ o. byte_answer b o bytes (before o)) samples w.0 w.1.1)
+within b image flags before (bytes ∷ samples) s w = (w.1.0.steps, within b image flags (λ o. byte_answer b o bytes (before o)) samples w.0 w.1.1)
 
 went : (n : ℕ) (b : Block) (image : List ℕ) (flags : ℕ) (before : ℕ → ℕ) (bytes : List ℕ) (s t : State) → flags < 2 ^ 8 → get_or image 49160 0 ≡ 182 → length bytes ≤ 8 → (a : IsAnswered main_layout b image flags before bytes s t)
     → Went (Kept is_free flags (On n)) flags a.ds (given (board n) bytes s) t
@@ -162,6 +168,10 @@ byte_of m at (suc n) (suc k) l h =
     let e : plus at 1 + k ≡ at + suc k = omega arith in
     byte_of m (plus at 1) n k (omega arith) (omega arith) ∙ ap (λ (j : ℕ). get_or m j 0) e
 
+count_of : (m : List ℕ) (at n : ℕ) → length (bytes_at m (from at n)) ≡ n
+count_of m at zero = refl
+count_of m at (suc n) = ap suc (count_of m (plus at 1) n)
+
 row_answers : (b : Block) (image : List ℕ) (flags : ℕ) (before : ℕ → ℕ) (bytes : List ℕ) (qs : List Request) (s t : State) → flags < 2 ^ 8 → get_or image 49160 0 ≡ 182 → length bytes ≤ 8 → length b.outputs ≤ 4
     → (a : IsAnswered main_layout b image flags before bytes s t) → IsRowOf b before bytes (expected_row flags (board (length b.outputs)) qs (all_steps a.ds) bytes (given (board (length b.outputs)) bytes s))
 row_answers b image flags before bytes qs s t hf w l few a =
@@ -171,8 +181,9 @@ row_answers b image flags before bytes qs s t hf w l few a =
     record {
       bytes_are = refl;
       answers = λ o lo hi. ap (λ (l : List ℕ). get_or l (o - 1) 0) same ∙ byte_of t.mem 4112 n (o - 1) (omega arith) (omega arith) ∙ a.answers o lo hi;
+      count = ap length same ∙ count_of t.mem 4112 n;
       instructions = subst (λ (k : ℕ). k ≤ instruction_bound b) (sym g.counts) a.instructions;
-      steps = subst (λ (k : ℕ). k ≤ step_bound b) (same_steps a.ds) a.steps;
+      steps = a.steps;
     }
 
 all_answers : (b : Block) (image : List ℕ) (flags : ℕ) (before : ℕ → ℕ) (plan : List Request) (k : ℕ) (samples : List (List ℕ)) (s : State) → flags < 2 ^ 8 → get_or image 49160 0 ≡ 182 → AreShort samples → length b.outputs ≤ 4
@@ -188,24 +199,69 @@ all_answers b image flags before plan k (bytes ∷ samples) s hf c l few w =
           (all_answers b image flags later plan (suc k) samples w.0 hf c l.1 few w.1.1),
     )
 
-pub answers_under_plans : AnswersUnderPlans
-answers_under_plans f b flags samples plan s hf h short good w =
+-- the same rows count as the ways do
+all_counts : (b : Block) (image : List ℕ) (flags : ℕ) (before : ℕ → ℕ) (plan : List Request) (k : ℕ) (samples : List (List ℕ)) (s : State) → flags < 2 ^ 8 → get_or image 49160 0 ≡ 182 → AreShort samples
+    → (w : AreAnswered main_layout b image flags before samples s) → AreCountsOf b image flags before samples s w (expected_rows flags (board (length b.outputs)) plan k (numbers b image flags before samples s w) samples s)
+unfolding numbers
+all_counts b image flags before plan k [] s hf c l w = refl
+all_counts b image flags before plan k (bytes ∷ samples) s hf c l w =
+    let n = length b.outputs in
+    let g = went n b image flags before bytes s w.0 hf c l.0 w.1.0 in
+    let later : ℕ → ℕ = λ o. byte_answer b o bytes (before o) in (
+      g.counts,
+      refl,
+      subst (λ (u : State). AreCountsOf b image flags later samples w.0 w.1.1 (expected_rows flags (board n) plan (suc k) (numbers b image flags later samples w.0 w.1.1) samples u)) (sym g.goes) (all_counts b image flags later plan (suc k) samples w.0 hf c l.1 w.1.1),
+    )
+
+-- a firmware waits first where it arrives first
+enough_steps : (b : Block) → length b.outputs ≤ 4 → 3 ≤ step_bound b
+unfolding step_bound instruction_bound
+enough_steps b few = omega arith
+
+first_is : (b : Block) (f : Firmware) (flags : ℕ) (s : State) → length b.outputs ≤ 4 → IsFirmwareOf b f → IsArrived main_layout (image_memory f.image.bytes) flags s → first_state f flags ≡ s
+first_is b f flags s few h a =
+    let start = reset_with (image_memory f.image.bytes) in
+    ap₂ (λ (loop most : ℕ). arrival flags loop most start) h.loop_at h.steps ∙ arrives_plainly flags 49160 3 (step_bound b) start s refl a.way a.wait (enough_steps b few)
+
+all_short : (b : Block) (samples : List (List ℕ)) → length b.inputs ≤ 8 → All (AreInputBytes b) samples → AreShort samples
+all_short b [] few all = tt
+all_short b (bytes ∷ samples) few all = (let i = all 0 bytes (omega arith) in omega (arith, i.count), all_short b samples few (λ k d lt. all (suc k) d (omega arith)))
+
+-- the rows of a firmware that waits first in s
+under : (b : Block) (f : Firmware) (flags : ℕ) (samples : List (List ℕ)) (plan : List Request) (s : State) → flags < 2 ^ 8 → length b.outputs ≤ 4 → IsFirmwareOf b f → AreShort samples → IsGood plan
+    → IsArrived main_layout (image_memory f.image.bytes) flags s → AreAnswered main_layout b (image_memory f.image.bytes) flags (λ o. 0) samples s → AnswersUnder b f flags samples plan
+under b f flags samples plan s hf few h short good a w =
     let image = image_memory f.image.bytes in
     let n = length b.outputs in
     let ns = numbers b image flags (λ o. 0) samples s w in
-    let few = h.few in
     let same : board_of f ≡ board n = ap₂ (λ (l k : ℕ). by l k) h.loop_at h.outputs in
     let low : IsLow (board n) = record { ready = omega arith; outputs = omega arith } in
     let runs : GoesCalmly flags (board n) f.step_bound plan ns samples s =
-    runs_calmly flags (board n) f.step_bound plan ns samples s low good (subst (λ (m : ℕ). AllWithin m ns) (sym h.bound) (within b image flags (λ o. 0) samples s w)) (all_sampled n b image flags (λ o. 0) samples s hf h.waits short w) in
-    let all : AreRowsOf b (λ o. 0) samples (expected_rows flags (board n) plan 1 ns samples s) = all_answers b image flags (λ o. 0) plan 1 samples s hf h.waits short few w in
-    let rows : AreRowsOf b (λ o. 0) samples (rows_from (with_writes flags (board n)) (board n) f.step_bound plan 1 samples s).rows = subst (λ (rs : List RowSeen). AreRowsOf b (λ o. 0) samples rs) (sym runs.rows_are) all in
+    runs_calmly flags (board n) f.step_bound plan ns samples s low good (subst (λ (m : ℕ). AllWithin m ns) (sym h.steps) (within b image flags (λ o. 0) samples s w)) (all_sampled n b image flags (λ o. 0) samples s hf a.load short w) in
+    let rows_are : (firmware_rows f samples plan flags).rows ≡ expected_rows flags (board n) plan 1 ns samples s =
+    ap (λ (u : State). (rows_from (with_writes flags (board_of f)) (board_of f) f.step_bound plan 1 samples u).rows) (first_is b f flags s few h a)
+    ∙ ap (λ (d : Board). (rows_from (with_writes flags d) d f.step_bound plan 1 samples s).rows) same
+    ∙ runs.rows_are in
     record {
+      answers = record {
+        first = s;
+        arrived = a;
+        ways = w;
+        rows_are = subst (λ (rs : List RowSeen). AreRowsOf b (λ o. 0) samples rs) (sym rows_are) (all_answers b image flags (λ o. 0) plan 1 samples s hf a.load short few w);
+        counts = subst (λ (rs : List RowSeen). AreCountsOf b image flags (λ o. 0) samples s w rs) (sym rows_are) (all_counts b image flags (λ o. 0) plan 1 samples s hf a.load short w);
+      };
       ns = ns;
       calmly = subst (λ (d : Board). GoesCalmly flags d f.step_bound plan ns samples s) (sym same) runs;
-      rows = subst (λ (u : State). AreRowsOf b (λ o. 0) samples (rows_from (with_writes flags (board_of f)) (board_of f) f.step_bound plan 1 samples u).rows) (sym h.first)
-          (subst (λ (d : Board). AreRowsOf b (λ o. 0) samples (rows_from (with_writes flags d) d f.step_bound plan 1 samples s).rows) (sym same) rows);
     }
   where
     by : ℕ → ℕ → Board
     by l k = record { loop_at = l; ready = 4096; inputs = 4097; outputs = 4112; output_count = k }
+
+pub answers_under_plans : AnswersUnderPlans
+answers_under_plans b f flags samples plan hf v limits h all good =
+    let from = answers_from b f.image.bytes v limits h.image flags samples hf all in
+    under b f flags samples plan from.0 hf v.few_outputs h (all_short b samples v.few_inputs all) good from.1.0 from.1.1
+
+-- and so do rows that are those of the run
+pub answers_its_block : (f : Firmware) (flags : ℕ) (samples : List (List ℕ)) (plan : List Request) (rows : List RowSeen) → flags < 2 ^ 8 → IsGood plan → rows ≡ (firmware_rows f samples plan flags).rows → AnswersItsBlock f flags samples rows
+answers_its_block f flags samples plan rows hf good e b v limits h all = subst (λ (rs : List RowSeen). AreAnswersOf b f flags samples rs) (sym e) (answers_under_plans b f flags samples plan hf v limits h all good).answers

@@ -6,7 +6,7 @@ use Rattle.cpu12_emul.specs.Step.{Next, next_of}
 use Rattle.cpu12_parts.specs.declared.temps.Temps.TheVariants.{Free}
 use Rattle.cpu12_emul.specs.declared.ends.Stepped.TheVariants.{Plain}
 use Rattle.fz_run.specs.Rows.{arrival}
-use Rattle.fz_run.specs.Arrival.{PlainWay, ArrivesPlainly}
+use Rattle.fz_run.specs.Arrival.{ArrivesPlainly}
 use Rattle.fz_run.proofs.PlainSteps.{plain_next}
 
 there : (pc loop : ℕ) → pc ≡ loop → (pc == loop) ≡ true

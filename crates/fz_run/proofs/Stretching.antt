@@ -1,5 +1,5 @@
 -- Stretches of steps, put together.
-use Rattle.std.proofs.Common.{◌≡◌, ℕ, zero, suc, ◌+◌, Bool, not, Result, Ok, List, [], ◌∷◌, length, get_or, refl, ap, ap₂, sym, ◌∙◌, subst, arith}
+use Rattle.std.proofs.Common.{◌≡◌, ℕ, zero, suc, ◌+◌, Bool, not, Result, Ok, List, [], ◌∷◌, get_or, refl, ap, ap₂, sym, ◌∙◌, subst, arith}
 use Rattle.cpu12_isa.specs.Act.{Act, read_by, get_all}
 use Rattle.cpu12_isa.specs.Agreement.{AllShown}
 use Rattle.cpu12_isa.specs.Memory.{bytes_at}
@@ -7,10 +7,11 @@ use Rattle.cpu12_parts.specs.State.{State}
 use Rattle.cpu12_emul.specs.declared.ends.Stepped.{Stepped}
 use Rattle.cpu12_emul.specs.declared.ends.Stepped.TheVariants.{Plain, Part, LastPart}
 use Rattle.cpu12_emul.specs.Step.{Next, next_of}
+use Rattle.codegen.specs.Ways.{Way, all_steps}
 use Rattle.fz_run.specs.Runs.{is_part, one_if}
 use Rattle.fz_run.specs.Calm.{stepped, kind_at, state_by, kind_by, calm, counted}
 use Rattle.fz_run.specs.Undisturbed.{Before}
-use Rattle.fz_run.specs.Stretches.{Stretch, Way, all_steps, Went}
+use Rattle.fz_run.specs.Stretches.{Stretch, Went}
 
 calm_add : (flags m n : ℕ) (s : State) → calm flags (m + n) s ≡ calm flags n (calm flags m s)
 calm_add flags zero n s = let e : 0 + n ≡ n = omega arith in ap (λ (k : ℕ). calm flags k s) e

@@ -1,7 +1,9 @@
 -- The rows of a block's firmware, by what it answers without interrupts.
-use Rattle.std.specs.Prelude.{◌≡◌, ℕ, ◌+◌, ◌-◌, ◌^◌, ◌<◌, ◌≤◌, true, List, [], ◌∷◌, length, slice_index}
+use Rattle.std.specs.Prelude.{◌≡◌, ℕ, ◌-◌, ◌^◌, ◌<◌, ◌≤◌, List, [], ◌∷◌, length, All, slice_index}
 use Rattle.fuzzy_meaning.specs.declared.block.Block.{Block}
+use Rattle.fuzzy_meaning.specs.Blocks.{IsValid}
 use Rattle.point_slope.specs.Bytes.{byte_answer}
+use Rattle.rule_layout.specs.Layouts.{IsWithinLimits}
 use Rattle.cpu12_parts.specs.State.{State}
 use Rattle.cpu12_emul.specs.Image.{image_memory}
 use Rattle.interrupt_plan.specs.declared.Request.{Request}
@@ -9,14 +11,18 @@ use Rattle.interrupt_plan.specs.Plans.{IsGood}
 use Rattle.codegen.specs.declared.firmware.Firmware.{Firmware}
 use Rattle.codegen.specs.Layouts.{main_layout}
 use Rattle.codegen.specs.Bounds.{instruction_bound, step_bound}
-use Rattle.codegen.specs.Answers.{AreAnswered}
-use Rattle.fz_run.specs.Rows.{board_of, RowSeen, firmware_rows, first_state}
-use Rattle.fz_run.specs.CalmRows.{is_free, GoesCalmly}
+use Rattle.codegen.specs.Firing.{AreInputBytes}
+use Rattle.codegen.specs.Firmwares.{IsFirmwareOf}
+use Rattle.codegen.specs.Ways.{all_steps}
+use Rattle.codegen.specs.Answers.{IsArrived, AreAnswered}
+use Rattle.fz_run.specs.Rows.{board_of, RowSeen, firmware_rows}
+use Rattle.fz_run.specs.CalmRows.{GoesCalmly}
 
 -- a row has a sample's bytes, the byte answers to them after those before, and no more instructions and steps than the bounds say
 pub record IsRowOf (b : Block) (before : ℕ → ℕ) (bytes : List ℕ) (row : RowSeen) : Type 0 where
   pub bytes_are : row.bytes ≡ bytes
   pub answers : (o : ℕ) → 1 ≤ o → o ≤ length b.outputs → slice_index row.answers (o - 1) ≡ byte_answer b o bytes (before o)
+  pub count : length row.answers ≡ length b.outputs
   pub instructions : row.instrs ≤ instruction_bound b
   pub steps : row.steps ≤ step_bound b
 
@@ -27,26 +33,33 @@ AreRowsOf b before [] (row ∷ rows) = ⊥
 AreRowsOf b before (bytes ∷ samples) [] = ⊥
 AreRowsOf b before (bytes ∷ samples) (row ∷ rows) = IsRowOf b before bytes row × AreRowsOf b (λ o. byte_answer b o bytes (before o)) samples rows
 
-abbrev pub AreShort : List (List ℕ) → Type 0
-AreShort [] = Unit {0}
-AreShort (bytes ∷ samples) = (length bytes ≤ 8) × AreShort samples
+-- each row counts the instructions and the steps of its sample's way without interrupts
+abbrev pub AreCountsOf : (b : Block) (image : List ℕ) (flags : ℕ) (before : ℕ → ℕ) (samples : List (List ℕ)) (s : State) → AreAnswered main_layout b image flags before samples s → List RowSeen → Type 0
+AreCountsOf b image flags before [] s ways rows = rows ≡ []
+AreCountsOf b image flags before (bytes ∷ samples) s ways [] = ⊥
+AreCountsOf b image flags before (bytes ∷ samples) s ways (row ∷ rows) =
+    (row.instrs ≡ length ways.1.0.ds) × (row.steps ≡ all_steps ways.1.0.ds) × AreCountsOf b image flags (λ o. byte_answer b o bytes (before o)) samples ways.0 ways.1.1 rows
 
--- a firmware that stands alone, of a block, and the state in which it waits first
-pub record IsFirmwareOf (f : Firmware) (b : Block) (flags : ℕ) (s : State) : Type 0 where
-  pub outputs : f.outputs ≡ length b.outputs
-  pub few : length b.outputs ≤ 4
-  pub loop_at : f.loop_at ≡ 49160
-  pub bound : f.step_bound ≡ step_bound b
-  pub waits : slice_index (image_memory f.image.bytes) 49160 ≡ 182
-  pub first : first_state f flags ≡ s
+-- Rows are a block's answers: from the first arrival whole instructions without interrupts answer all samples, and the rows have
+-- those answers and counts.
+pub record AreAnswersOf (b : Block) (f : Firmware) (flags : ℕ) (samples : List (List ℕ)) (rows : List RowSeen) : Type 0 where
+  pub first : State
+  pub arrived : IsArrived main_layout (image_memory f.image.bytes) flags first
+  pub ways : AreAnswered main_layout b (image_memory f.image.bytes) flags (λ o. 0) samples first
+  pub rows_are : AreRowsOf b (λ o. 0) samples rows
+  pub counts : AreCountsOf b (image_memory f.image.bytes) flags (λ o. 0) samples first ways rows
 
--- what its rows are under a plan
-pub record AnswersUnder (f : Firmware) (b : Block) (flags : ℕ) (samples : List (List ℕ)) (plan : List Request) (s : State) : Type 0 where
+-- the rows are the answers of the block whose firmware it is, where it is one of a valid block
+abbrev pub AnswersItsBlock : Firmware → ℕ → List (List ℕ) → List RowSeen → Type 0
+AnswersItsBlock f flags samples rows = (b : Block) → IsValid b → IsWithinLimits b → IsFirmwareOf b f → All (AreInputBytes b) samples → AreAnswersOf b f flags samples rows
+
+-- what a block's firmware does under a plan: its rows are the block's answers, and the run goes calmly
+pub record AnswersUnder (b : Block) (f : Firmware) (flags : ℕ) (samples : List (List ℕ)) (plan : List Request) : Type 0 where
+  pub answers : AreAnswersOf b f flags samples (firmware_rows f samples plan flags).rows
   pub ns : List ℕ
-  pub calmly : GoesCalmly flags (board_of f) f.step_bound plan ns samples s
-  pub rows : AreRowsOf b (λ o. 0) samples (firmware_rows f samples plan flags).rows
+  pub calmly : GoesCalmly flags (board_of f) f.step_bound plan ns samples answers.first
 
--- Where whole instructions answer all samples, the firmware's rows have those answers under every good plan.
+-- The firmware of a block answers every list of samples so under every good plan.
 abbrev pub AnswersUnderPlans : Type 0
-AnswersUnderPlans = (f : Firmware) (b : Block) (flags : ℕ) (samples : List (List ℕ)) (plan : List Request) (s : State) → flags < 2 ^ 8 → IsFirmwareOf f b flags s → AreShort samples → IsGood plan
-    → AreAnswered main_layout b (image_memory f.image.bytes) flags (λ o. 0) samples s → AnswersUnder f b flags samples plan s
+AnswersUnderPlans = (b : Block) (f : Firmware) (flags : ℕ) (samples : List (List ℕ)) (plan : List Request) → flags < 2 ^ 8 → IsValid b → IsWithinLimits b → IsFirmwareOf b f → All (AreInputBytes b) samples → IsGood plan
+    → AnswersUnder b f flags samples plan

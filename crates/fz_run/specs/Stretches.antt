@@ -1,11 +1,12 @@
 -- Whole instructions as stretches of steps.
-use Rattle.std.specs.Prelude.{◌≡◌, ℕ, suc, ◌+◌, ◌≤◌, Bool, false, List, [], ◌∷◌, length}
+use Rattle.std.specs.Prelude.{◌≡◌, ℕ, suc, ◌≤◌, Bool, false, List, length}
 use Rattle.cpu12_isa.specs.Agreement.{AllShown}
 use Rattle.cpu12_isa.specs.Code.{six_from}
 use Rattle.cpu12_isa.specs.Fits.{FitsRegs, AreBytes}
 use Rattle.cpu12_isa.specs.Flags.{interrupts_masked, has}
 use Rattle.cpu12_parts.specs.declared.temps.Temps.TheVariants.{Free}
 use Rattle.cpu12_parts.specs.State.{State}
+use Rattle.codegen.specs.Ways.{all_steps}
 use Rattle.fz_run.specs.Calm.{calm, counted}
 use Rattle.fz_run.specs.Undisturbed.{is_hidden, Calmed, Before}
 
@@ -14,16 +15,6 @@ pub record Stretch (P : State → Type 0) (flags d : ℕ) (s t : State) : Type 0
   pub goes : calm flags (suc d) s ≡ t
   pub counts : counted flags (suc d) s ≡ 1
   pub each : Before P flags (suc d) s
-
--- whole instructions one after the other, with the numbers of their further steps
-abbrev pub Way : (ℕ → State → State → Type 0) → List ℕ → State → State → Type 0
-Way W [] s t = s ≡ t
-Way W (d ∷ ds) s t = (u : State) × (W d s u × Way W ds u t)
-
--- how many steps they are
-abbrev pub all_steps : List ℕ → ℕ
-all_steps [] = 0
-all_steps (d ∷ ds) = suc d + all_steps ds
 
 -- the steps of a way of whole instructions: as many count as there are instructions
 pub record Went (P : State → Type 0) (flags : ℕ) (ds : List ℕ) (s t : State) : Type 0 where

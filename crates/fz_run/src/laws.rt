@@ -14,9 +14,10 @@ pub fn runs_calmly()
     ensures { RunsCalmly }
 {}
 
-/// Where whole instructions alone answer all samples, a block's firmware answers the same under
-/// every good plan: each row has the sample's bytes and the byte answers, with no more instructions
-/// and steps than the bounds say, and the run goes calmly.
+/// The firmware of a block answers every list of samples under every good plan as without
+/// interrupts: each row has the sample's bytes, the byte answers, and the counts of the whole
+/// instructions and of the steps that answer it alone, no more than the bounds say; and the run goes
+/// calmly.
 pub fn answers_under_plans()
     ensures { AnswersUnderPlans }
 {}

@@ -4,6 +4,7 @@ ghost use Rattle.interrupt_plan.specs.Plans.{IsGood};
 ghost use Rattle.fz_run.specs.Runs.{run_from};
 ghost use Rattle.fz_run.specs.Rows.{given, setting_of, is_of, requests_of, row_seen, row_of, rows_from, arrival, input_bytes, firmware_rows};
 ghost use Rattle.fz_run.specs.Slices.{HaveRoom, HasRoom, requests_first};
+ghost use Rattle.fz_run.specs.Answering.{AnswersItsBlock};
 
 use crate::board::Board;
 use crate::handler::{Handler, ListedWrites};
@@ -40,6 +41,9 @@ pub struct Row {
 
 /// Runs a firmware over a trace under a plan, and answers a row for each sample and the memory of
 /// the last state. Bits of `flags` give the flags that the CPU12 Reference Manual leaves undefined.
+/// Where the firmware is a block's, the rows have its byte answers and the counts of the run without
+/// interrupts, within the bounds.
+#[tactic(auto, using(crate::proofs::AnswerWays::answers_its_block))]
 pub fn run_on<M: Mem>(
     alloc: Global,
     firmware: &Firmware,
@@ -50,6 +54,7 @@ pub fn run_on<M: Mem>(
     requires outputs { firmware.now.outputs ≤ 4 }
     requires plan { IsGood plan.now }
     ensures rows { IfOk result (λ r. map row_seen r.0.items ≡ (firmware_rows firmware.now (map input_bytes samples.now) plan.now flags).rows) }
+    ensures answers { IfOk result (λ r. AnswersItsBlock firmware.now flags (map input_bytes samples.now) (map row_seen r.0.items)) }
     ensures memory { IfOk result (λ r. M.bytes r.1 ≡ (firmware_rows firmware.now (map input_bytes samples.now) plan.now flags).state.mem) }
 {
     let rooms = make_rooms(alloc, samples.len(), plan.as_slice())?;
@@ -83,6 +88,7 @@ pub fn run(
     requires outputs { firmware.now.outputs ≤ 4 }
     requires plan { IsGood plan.now }
     ensures rows { IfOk result (λ rows. map row_seen rows.items ≡ (firmware_rows firmware.now (map input_bytes samples.now) plan.now flags).rows) }
+    ensures answers { IfOk result (λ rows. AnswersItsBlock firmware.now flags (map input_bytes samples.now) (map row_seen rows.items)) }
 {
     let (rows, _memory): (Vec<Row>, FlatMem) = run_on(alloc, firmware, samples, plan, flags)?;
     Ok(rows)

@@ -2,3 +2,4 @@ pub mod ReadLemmas
 pub mod RunLemmas
 pub mod UsageLemmas
 pub mod LineLemmas
+pub mod AnswerLemmas

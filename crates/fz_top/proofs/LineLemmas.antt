@@ -5,10 +5,7 @@ use Rattle.std.specs.declared.alloc.Global.{Global}
 use Rattle.std.proofs.Math.Seq.{take-suc}
 use Rattle.std.proofs.lemmas.List.{append-nil, length-map, length-take-le, map-append}
 use Rattle.fz_shelf.specs.Lines.{text_of}
-use Rattle.codegen.specs.declared.firmware.Firmware.{Firmware}
-use Rattle.interrupt_plan.specs.declared.Request.{Request}
-use Rattle.trace_io.specs.declared.sample.Sample.{Sample}
-use Rattle.fz_run.specs.Rows.{firmware_rows, input_bytes, row_seen}
+use Rattle.fz_run.specs.Rows.{row_seen}
 use Rattle.fz_top.specs.Lines.{Answered, answered, lines_of, newline, numbers, sample_line, sample_lines, shown}
 use Rattle.fz_run.specs.declared.rows.Row.{Row}
 
@@ -68,12 +65,6 @@ map_answered : (rows : List Row) → map answered rows ≡ map shown (map row_se
 map_answered [] = refl
 map_answered (r ∷ rows) = ap (λ (l : List Answered). answered r ∷ l) (map_answered rows)
 
-pub run_text : (f : Firmware) (flags bound bound' : ℕ) (samples slice : List Sample) (plan : List Request) (rows shows : List Row) (text : List ℕ)
-    → text ≡ lines_of bound (map answered shows) → bound ≡ bound' → shows ≡ rows → map row_seen rows ≡ (firmware_rows f (map input_bytes slice) plan flags).rows → slice ≡ samples → plan ≡ []
-    → text ≡ lines_of bound' (map shown (firmware_rows f (map input_bytes samples) [] flags).rows)
-run_text f flags bound bound' samples slice plan rows shows text written bound_is shows_are seen slice_is plan_is =
-    written
-    ∙ ap (λ (b : ℕ). lines_of b (map answered shows)) bound_is
-    ∙ ap (λ (rs : List Row). lines_of bound' (map answered rs)) shows_are
-    ∙ ap (lines_of bound') (map_answered rows ∙ ap (map shown) (seen ∙ ap (λ (s : List Sample). (firmware_rows f (map input_bytes s) plan flags).rows) slice_is
-    ∙ ap (λ (p : List Request). (firmware_rows f (map input_bytes samples) p flags).rows) plan_is))
+pub run_text : (bound bound' : ℕ) (rows shows : List Row) (text : List ℕ) → text ≡ lines_of bound (map answered shows) → bound ≡ bound' → shows ≡ rows → text ≡ lines_of bound' (map shown (map row_seen rows))
+run_text bound bound' rows shows text written bound_is shows_are =
+    written ∙ ap (λ (b : ℕ). lines_of b (map answered shows)) bound_is ∙ ap (λ (rs : List Row). lines_of bound' (map answered rs)) shows_are ∙ ap (lines_of bound') (map_answered rows)

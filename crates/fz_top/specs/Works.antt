@@ -1,18 +1,16 @@
 -- What the commands make of their files.
-use Rattle.std.specs.Prelude.{◌≡◌, ◌≢◌, ℕ, List, [], ◌∷◌, length, map, Option, None, option_map, Result, Ok, Err}
+use Rattle.std.specs.Prelude.{◌≡◌, ◌≢◌, ℕ, List, [], ◌∷◌, map, Option, None, option_map, Result, Ok, Err}
 use Rattle.fz_shelf.specs.Lines.{text_of}
 use Rattle.fuzzy_meaning.specs.Blocks.{IsValid}
 use Rattle.fuzzy_meaning.specs.declared.block.Block.{Block}
 use Rattle.rule_layout.specs.Layouts.{IsWithinLimits, IsFaultOf as IsLayoutFault}
-use Rattle.cpu12_asm.specs.Bytes.{Holds, start_of}
-use Rattle.cpu12_asm.specs.Items.{given_by}
-use Rattle.codegen.specs.Bounds.{instruction_bound, step_bound}
-use Rattle.codegen.specs.Images.{firmware_items}
-use Rattle.codegen.specs.Layouts.{main_layout}
+use Rattle.codegen.specs.Bounds.{instruction_bound}
+use Rattle.codegen.specs.Firmwares.{IsFirmwareOf}
 use Rattle.codegen.specs.declared.firmware.Firmware.{Firmware}
 use Rattle.trace_io.specs.Traces.{HasFault, Spells}
 use Rattle.trace_io.specs.declared.sample.Sample.{Sample}
-use Rattle.fz_run.specs.Rows.{firmware_rows, input_bytes}
+use Rattle.fz_run.specs.Rows.{RowSeen, firmware_rows, input_bytes}
+use Rattle.fz_run.specs.Answering.{AreAnswersOf}
 use Rattle.fcl_syntax.specs.Grammar.{TBlock}
 use Rattle.fcl_syntax.specs.Text.{IsFirstFault, SpellsTree}
 use Rattle.trace_io.specs.declared.sample.TraceFault.{TraceFault}
@@ -36,16 +34,9 @@ pub record Deed : Type 0 where
 abbrev pub deed_of : Work → Deed
 deed_of w = record { text = text_of w.lines.items; file = option_map (λ p. (p.0, p.1.items)) w.file }
 
--- the firmware of a block
-pub record IsFirmwareOf (block : Block) (f : Firmware) : Type 0 where
-  pub image : Holds f.image.bytes (given_by (firmware_items main_layout block))
-  pub start : f.image.start ≡ start_of f.image.bytes
-  pub outputs : f.outputs ≡ length block.outputs
-  pub loop_at : f.loop_at ≡ 0xC008
-  pub steps : f.step_bound ≡ step_bound block
-
--- what `run` gives: the text spells a tree and that a block, the trace its samples, and the lines
--- are those of the bound and of the rows of the firmware's run without interrupts
+-- what `run` gives: the text spells a tree and that a block, the trace its samples; the rows are
+-- those of the run of the block's firmware without interrupts, and they are the block's answers;
+-- and the lines are those of the bound and of the rows
 pub record RunGives (flags : ℕ) (text samples : List ℕ) (deed : Deed) : Type 0 where
   pub tree : TBlock
   pub spelled : SpellsTree text tree
@@ -56,7 +47,10 @@ pub record RunGives (flags : ℕ) (text samples : List ℕ) (deed : Deed) : Type
   pub compiled : IsFirmwareOf block firmware
   pub values : List Sample
   pub trace : Spells block.inputs samples values
-  pub deed_is : deed ≡ record { text = lines_of (instruction_bound block) (map shown (firmware_rows firmware (map input_bytes values) [] flags).rows); file = None }
+  pub rows : List RowSeen
+  pub ran : rows ≡ (firmware_rows firmware (map input_bytes values) [] flags).rows
+  pub answers : AreAnswersOf block firmware flags (map input_bytes values) rows
+  pub deed_is : deed ≡ record { text = lines_of (instruction_bound block) (map shown rows); file = None }
 
 -- why a text gives no firmware; none is for want of memory
 abbrev pub FclRefuses : List ℕ → FclFault → Type 0

@@ -100,11 +100,11 @@ arrive c b f a few h fb g bytes zero_low =
     record {
       t = s3;
       arrived = record {
-        ds = 0 ∷ 0 ∷ 0 ∷ [];
-        way = (s1, ((omega arith, inl (LdsImmediate 0x2000, (record { decoded = d0; plain = refl; after = refl }, refl))), (s2, ((omega arith, inl (ClrExtended l.ready, (record { decoded = d1; plain = refl; after = refl }, refl))), (s3, ((omega arith, inl (Andcc 0xEF, (record { decoded = d2; plain = refl; after = refl }, refl))), refl))))));
+        way = (s1, (omega arith, (LdsImmediate 0x2000, record { decoded = d0; plain = refl; after = refl }), (s2, (omega arith, (ClrExtended l.ready, record { decoded = d1; plain = refl; after = refl }), (s3, (omega arith, (Andcc 0xEF, record { decoded = d2; plain = refl; after = refl }), refl))))));
         wait = home;
         idle = waits l s3 home ready;
         calm = calm_of c s3 live (omega arith) (omega arith);
+        load = ap (λ p. get_or c.image p 0) w ∙ fb.load.0;
       };
       home = record {
         live = live;
