@@ -59,9 +59,11 @@ fn cells_are_half_open_but_for_the_last(rt: HostRuntime) -> Result<(), Fail> {
     }
     assert_eq!(rt; to_byte(&input, Dec(-1)), Err(OutOfRange));
     assert_eq!(rt; to_byte(&input, Dec(2_560_001)), Err(OutOfRange));
-    let (low, high) = cell(&input, 255);
-    assert_eq!(rt; (low.num, low.den), (255, 256));
-    assert_eq!(rt; (high.num, high.den), (256, 256));
+    for (byte, from, to) in [(0, 0, 1), (1, 1, 2), (255, 255, 256)] {
+        let (low, high) = cell(&input, byte);
+        assert_eq!(rt; (low.num, low.den), (from, 256));
+        assert_eq!(rt; (high.num, high.den), (to, 256));
+    }
     Ok(())
 }
 

@@ -131,3 +131,6 @@ impl<R: Files + Drop> Shelf for FileShelf<R> {
         Ok(())
     }
 }
+
+#[cfg(test)]
+mod tests;

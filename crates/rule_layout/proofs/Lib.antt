@@ -15,3 +15,4 @@ pub mod MassLemmas
 pub mod LaidOutLemmas
 pub mod ExampleLemmas
 pub mod PlaceLemmas
+pub mod WidestLemmas

@@ -10,3 +10,4 @@ pub mod Masses
 pub mod Examples
 pub mod Steps
 pub mod Numbers
+pub mod Widest

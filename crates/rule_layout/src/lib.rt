@@ -23,4 +23,6 @@ pub use laws::{layout_law, mass_law, slot_number_laws, spreading_law};
 pub use layout::spread;
 
 #[cfg(test)]
+mod slot_tests;
+#[cfg(test)]
 mod tests;
