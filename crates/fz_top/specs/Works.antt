@@ -1,7 +1,6 @@
 -- What the commands make of their files.
 use Rattle.std.specs.Prelude.{◌≡◌, ◌≢◌, ℕ, List, [], ◌∷◌, map, Option, None, option_map, Result, Ok, Err}
 use Rattle.fz_shelf.specs.Lines.{text_of}
-use Rattle.fuzzy_meaning.specs.Blocks.{IsValid}
 use Rattle.fuzzy_meaning.specs.declared.block.Block.{Block}
 use Rattle.rule_layout.specs.Layouts.{IsWithinLimits, IsFaultOf as IsLayoutFault}
 use Rattle.codegen.specs.Bounds.{instruction_bound}
@@ -11,8 +10,8 @@ use Rattle.trace_io.specs.Traces.{HasFault, Spells}
 use Rattle.trace_io.specs.declared.sample.Sample.{Sample}
 use Rattle.fz_run.specs.Rows.{RowSeen, firmware_rows, input_bytes}
 use Rattle.fz_run.specs.Answering.{AreAnswersOf}
-use Rattle.fcl_syntax.specs.Grammar.{TBlock}
-use Rattle.fcl_syntax.specs.Text.{IsFirstFault, SpellsTree}
+use Rattle.fcl_syntax.specs.Text.{IsFirstFault}
+use Rattle.fcl_check.specs.Texts.{SpellsBlock, HasLoadFault}
 use Rattle.trace_io.specs.declared.sample.TraceFault.{TraceFault}
 use Rattle.trace_io.specs.declared.sample.TraceFault.TheVariants as trace
 use Rattle.fz_top.specs.Lines.{lines_of, shown}
@@ -34,14 +33,12 @@ pub record Deed : Type 0 where
 abbrev pub deed_of : Work → Deed
 deed_of w = record { text = text_of w.lines.items; file = option_map (λ p. (p.0, p.1.items)) w.file }
 
--- what `run` gives: the text spells a tree and that a block, the trace its samples; the rows are
+-- what `run` gives: the text spells a block, the trace its samples; the rows are
 -- those of the run of the block's firmware without interrupts, and they are the block's answers;
 -- and the lines are those of the bound and of the rows
 pub record RunGives (flags : ℕ) (text samples : List ℕ) (deed : Deed) : Type 0 where
-  pub tree : TBlock
-  pub spelled : SpellsTree text tree
   pub block : Block
-  pub valid : IsValid block
+  pub spelled : SpellsBlock text block
   pub limits : IsWithinLimits block
   pub firmware : Firmware
   pub compiled : IsFirmwareOf block firmware
@@ -55,12 +52,12 @@ pub record RunGives (flags : ℕ) (text samples : List ℕ) (deed : Deed) : Type
 -- why a text gives no firmware; none is for want of memory
 abbrev pub FclRefuses : List ℕ → FclFault → Type 0
 FclRefuses text (fcl.Syntax f) = IsFirstFault text f
-FclRefuses text (fcl.Load f) = (f ≢ load.Memory) × (t : TBlock) × SpellsTree text t
-FclRefuses text (fcl.Layout f) = (f ≢ layout.Memory) × (t : TBlock) × SpellsTree text t × (block : Block) × IsValid block × IsLayoutFault block f
+FclRefuses text (fcl.Load f) = (f ≢ load.Memory) × HasLoadFault text f
+FclRefuses text (fcl.Layout f) = (f ≢ layout.Memory) × (block : Block) × SpellsBlock text block × IsLayoutFault block f
 
 -- why a trace is refused, the text giving firmware; none is for want of memory
 abbrev pub TraceRefuses : List ℕ → List ℕ → TraceFault → Type 0
-TraceRefuses text samples f = (f ≢ trace.Memory) × (t : TBlock) × SpellsTree text t × (block : Block) × IsValid block × IsWithinLimits block × HasFault block.inputs samples f
+TraceRefuses text samples f = (f ≢ trace.Memory) × (block : Block) × SpellsBlock text block × IsWithinLimits block × HasFault block.inputs samples f
 
 -- what `run` makes of its files
 abbrev pub RunMakes : ℕ → List ℕ → List ℕ → Result Deed Status → Type 0

@@ -1,8 +1,7 @@
 //! The command `run`.
 ghost use Rattle.std.specs.Prelude.{◌≡◌, ◌<◌, ◌≤◌, length, IfOk, IfErr, Ok};
 ghost use Rattle.std.specs.Option.{ForSome};
-ghost use Rattle.fcl_syntax.specs.Text.{SpellsTree};
-ghost use Rattle.fcl_syntax.specs.View.{view};
+ghost use Rattle.fcl_check.specs.Texts.{SpellsBlock};
 ghost use Rattle.fz_top.specs.Works.{RunMakes, FclRefuses, IsFaultOf, IsFclFault, deed_of};
 
 use crate::lines::run_lines;
@@ -10,7 +9,8 @@ use crate::work::Work;
 use crate::{FclFault, Status};
 use codegen::compile;
 use fcl_check::{LoadFault, load};
-use fcl_syntax::{SyntaxFault, Tree, parse};
+use fcl_syntax::{SyntaxFault, parse};
+use fuzzy_meaning::Block;
 use interrupt_plan::no_interrupts;
 use rule_layout::LayoutFault;
 use std::alloc::Global;
@@ -24,15 +24,7 @@ pub(crate) fn run(alloc: Global, fcl: &[u8], trace: &[u8], flags: u8) -> Result<
     ensures err { IfErr result (IsFaultOf (RunMakes flags fcl.now trace.now)) }
     ensures place { IfOk result (λ w. ForSome w.file (λ f. f.0 < 5)) }
 {
-    let tree = match tree_of(alloc, fcl) {
-        Ok(tree) => tree,
-        Err(status) => return Err(status),
-    };
-    let block = match load(alloc, &tree) {
-        Ok(block) => block,
-        Err(LoadFault::Memory) => return Err(Status::Memory),
-        Err(fault) => return Err(Status::Fcl(FclFault::Load(fault))),
-    };
+    let block = block_of(alloc, fcl)?;
     let firmware = match compile(alloc, &block) {
         Ok(firmware) => firmware,
         Err(LayoutFault::Memory) => return Err(Status::Memory),
@@ -54,15 +46,20 @@ pub(crate) fn run(alloc: Global, fcl: &[u8], trace: &[u8], flags: u8) -> Result<
     }
 }
 
-/// The tree of the text.
-fn tree_of(alloc: Global, text: &[u8]) -> Result<Tree, Status>
+/// The block that the text spells.
+fn block_of(alloc: Global, text: &[u8]) -> Result<Block, Status>
     requires { length text.now ≤ 1048576 }
-    ensures tree { IfOk result (λ tree. SpellsTree text.now (view tree.block)) }
+    ensures block { IfOk result (SpellsBlock text.now) }
     ensures fault { IfErr result (IsFclFault (FclRefuses text.now)) }
 {
-    match parse(alloc, text) {
-        Ok(tree) => Ok(tree),
-        Err(SyntaxFault::Memory) => Err(Status::Memory),
-        Err(fault) => Err(Status::Fcl(FclFault::Syntax(fault))),
+    let tree = match parse(alloc, text) {
+        Ok(tree) => tree,
+        Err(SyntaxFault::Memory) => return Err(Status::Memory),
+        Err(fault) => return Err(Status::Fcl(FclFault::Syntax(fault))),
+    };
+    match load(alloc, &tree) {
+        Ok(block) => Ok(block),
+        Err(LoadFault::Memory) => Err(Status::Memory),
+        Err(fault) => Err(Status::Fcl(FclFault::Load(fault))),
     }
 }
