@@ -1,1 +1,6 @@
 pub mod Fitting
+pub mod FirstPlaces
+pub mod LetterMaps
+pub mod VariableNames
+pub mod TermNames
+pub mod SectionNames
