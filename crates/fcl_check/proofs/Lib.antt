@@ -1,1 +1,4 @@
 pub mod Fitting
+pub mod Falling
+pub mod Hulls
+pub mod Places

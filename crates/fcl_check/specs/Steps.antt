@@ -1,0 +1,20 @@
+-- How far the points of a section have come, and what follows.
+use Rattle.std.specs.Prelude.{Bool, false, List, Option, Some, None, ℤ}
+use Rattle.std.specs.List.{list_all}
+use Rattle.fcl_syntax.specs.declared.tree.Point.{Point}
+use Rattle.fcl_check.specs.declared.sections.Course.{Course}
+use Rattle.fcl_check.specs.declared.sections.Course.TheVariants.{Rising, Top, Falling, Broken}
+use Rattle.fcl_check.specs.Places.{drop_while}
+use Rattle.fcl_check.specs.Sections.{Ends, has_one, has_zero, has_shape, hull_of, reach}
+
+-- whether these points complete a trapezoid
+abbrev pub completes : Course → List Point → Bool
+completes Rising points = has_shape points
+completes Top points = list_all has_zero (drop_while has_one points)
+completes Falling points = list_all has_zero points
+completes Broken points = false
+
+-- the reach of some numbers and these
+abbrev pub extended : Option Ends → List ℤ → Option Ends
+extended None numbers = hull_of numbers
+extended (Some e) numbers = Some (reach e numbers)
