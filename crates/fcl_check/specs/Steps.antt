@@ -1,9 +1,11 @@
--- How far the points of a section have come, and what follows.
+-- What the passes over a tree keep on their way.
 use Rattle.std.specs.Prelude.{Bool, false, List, Option, Some, None, ℤ}
 use Rattle.std.specs.List.{list_all}
+use Rattle.fcl_syntax.specs.declared.tree.Operand.{Operand}
 use Rattle.fcl_syntax.specs.declared.tree.Point.{Point}
 use Rattle.fcl_check.specs.declared.sections.Course.{Course}
 use Rattle.fcl_check.specs.declared.sections.Course.TheVariants.{Rising, Top, Falling, Broken}
+use Rattle.fcl_check.specs.Faults.{Pair}
 use Rattle.fcl_check.specs.Places.{drop_while}
 use Rattle.fcl_check.specs.Sections.{Ends, has_one, has_zero, has_shape, hull_of, reach}
 
@@ -18,3 +20,7 @@ completes Broken points = false
 abbrev pub extended : Option Ends → List ℤ → Option Ends
 extended None numbers = hull_of numbers
 extended (Some e) numbers = Some (reach e numbers)
+
+-- the names of an operand
+abbrev pub pair_of : Operand → Pair
+pair_of o = record { variable = o.variable; term = o.term }

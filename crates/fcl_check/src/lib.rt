@@ -12,6 +12,7 @@ mod inputs;
 mod loading;
 mod names;
 mod numbers;
+mod operands;
 mod outputs;
 mod rules;
 mod sections;

@@ -9,10 +9,10 @@ use crate::block::{RULES, block};
 use crate::fault::LoadFault;
 use crate::inputs::INPUTS;
 use crate::names::Names;
+use crate::operands::RuleNames;
 use crate::outputs::{OUTPUTS, is_complete};
 use crate::rules::{
-    RuleNames, mistaken_name, mistaken_section, operands, unknown_name, unknown_section,
-    weight_outside,
+    mistaken_name, mistaken_section, operands, unknown_name, unknown_section, weight_outside,
 };
 use crate::sections::{
     bad_range, falling_points, points_outside, shapeless_term, singleton_outside, term_over_limit,
