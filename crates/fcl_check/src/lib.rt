@@ -14,6 +14,7 @@ mod names;
 mod numbers;
 mod operands;
 mod outputs;
+mod passes;
 mod rules;
 mod sections;
 
