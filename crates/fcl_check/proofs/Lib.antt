@@ -3,3 +3,8 @@ pub mod Falling
 pub mod Hulls
 pub mod Places
 pub mod Limits
+pub mod FirstPlaces
+pub mod LetterMaps
+pub mod VariableNames
+pub mod TermNames
+pub mod SectionNames

@@ -1,3 +1,4 @@
+pub mod ByLetters
 pub mod Building
 pub mod Places
 pub mod Names

@@ -37,14 +37,14 @@ fn weight(rule: &fcl_syntax::Rule) -> Result<Option<Dec>, LoadFault>
 }
 
 // The numbers of an output and of a term of it, where they are there.
-fn place(outputs: &[Output], output: u32, term: u32) -> Option<(u8, u8)>
+fn place(outputs: &[Output], output: usize, term: usize) -> Option<(u8, u8)>
     ensures { IfSome result (λ p. HasSingletonIn outputs.now p.0 p.1) }
 {
     if output == 0 || term == 0 || output > 255 || term > 255 {
         return None;
     }
-    let index = output as usize - 1;
-    if index < outputs.len() && term as usize <= outputs[index].singletons.len() {
+    let index = output - 1;
+    if index < outputs.len() && term <= outputs[index].singletons.len() {
         return Some((output as u8, term as u8));
     }
     None

@@ -22,14 +22,14 @@ pub struct Source<'a, 'n, 'i> {
 }
 
 // The numbers of an input and of a term of it, where they are there.
-fn place(inputs: &[Input], input: u32, term: u32) -> Option<(u8, u8)>
+fn place(inputs: &[Input], input: usize, term: usize) -> Option<(u8, u8)>
     ensures { IfSome result (λ p. HasTermIn inputs.now p.0 p.1) }
 {
     if input == 0 || term == 0 || input > 255 || term > 255 {
         return None;
     }
-    let index = input as usize - 1;
-    if index < inputs.len() && term as usize <= inputs[index].terms.len() {
+    let index = input - 1;
+    if index < inputs.len() && term <= inputs[index].terms.len() {
         return Some((input as u8, term as u8));
     }
     None

@@ -1,32 +1,38 @@
 //! Which names a tree declares, and what is given twice.
 
-ghost use Rattle.std.specs.Prelude.{◌≡◌, is_some, option_map, IfOk};
+ghost use Rattle.std.specs.Prelude.{◌≡◌, ◌+◌, ◌^◌, ◌<◌, ℕ, List, [], ◌∷◌, ◌++◌, map, cond, Some, None, is_some, option_map, IfOk, IfSome, OnOk};
+ghost use Rattle.std.specs.BTreeMap.{btree_map_len};
+ghost use Rattle.std.specs.List.{flat_map, find, list_any};
+ghost use Rattle.std.specs.Option.{option_or};
+ghost use Rattle.fcl_syntax.specs.declared.tree.Direction.{Direction};
+ghost use Rattle.fcl_syntax.specs.declared.tree.Part.TheVariants as part;
 ghost use Rattle.fcl_syntax.specs.declared.tree.Tree.{Tree};
-ghost use Rattle.fcl_check.specs.Faults.{Answers, twice};
+ghost use Rattle.fcl_check.specs.ByLetters.{at_letters, variable_in, count_of, same_kind, HoldsSections};
+ghost use Rattle.fcl_check.specs.Faults.{Answers, twice, repeated, same_declared, same_rule_line, output_line_at, rule_line_at, repeated_line, repeated_section};
 ghost use Rattle.fcl_check.specs.declared.fault.LoadFault.TheVariants as load;
-ghost use Rattle.fcl_check.specs.Known.{Knows, variable_of};
-ghost use Rattle.fcl_check.specs.Names.{section_name, section_of, term_number};
+ghost use Rattle.fcl_check.specs.Known.{Knows, variable_of, names_in};
+ghost use Rattle.fcl_check.specs.Names.{declared_by, is_direction, is_named, letters, number_in, section_name, section_of, singleton_names, term_names, term_number};
+ghost use Rattle.fcl_check.specs.Places.{at_if, first_after};
 
 use crate::fault::LoadFault;
 use fcl_syntax::{
-    Defuzzify, DefuzzyLine, Direction, Fuzzify, FuzzyLine, Name, Part, RuleLine, Tree, Vars,
+    Decl, Defuzzify, DefuzzyLine, Direction, Fuzzify, FuzzyLine, Name, Part, RuleLine, Tree, Vars,
 };
 use std::alloc::{AllocError, Global};
 use std::collections::BTreeMap;
-use std::mem;
 
 /// A declared variable, with its number among the inputs or outputs.
 #[derive(Clone, Copy)]
 pub struct Variable {
     pub direction: Direction,
-    pub number: u32,
+    pub number: usize,
 }
 
 /// A section, with the numbers of its terms by their names.
 #[derive(Drop)]
 pub struct Section<'a> {
     pub part: &'a Part,
-    pub terms: BTreeMap<&'a [u8], u32>,
+    pub terms: BTreeMap<&'a [u8], usize>,
 }
 
 /// The variables and sections of a tree by their names in small letters.
@@ -70,7 +76,7 @@ impl<'a> Names<'a> {
 
     /// The number of a term, looked for in the section of its variable that a variable of this
     /// direction has.
-    pub fn term(&self, direction: Direction, variable: &[u8], term: &[u8]) -> Option<u32>
+    pub fn term(&self, direction: Direction, variable: &[u8], term: &[u8]) -> Option<usize>
         ensures { (tree : Tree) → Knows tree self.now → result ≡ term_number tree.text.items tree.block direction variable.now term.now }
     {
         let section = self.sections.get(variable)?;
@@ -93,161 +99,257 @@ pub fn section_name(part: &Part) -> Name
     }
 }
 
-fn push_vars(into: &mut Vec<(Direction, Name)>, vars: &Vars) -> Result<(), AllocError> {
-    for decl in &vars.decls {
-        into.push((vars.direction, decl.first))?;
-        for name in &decl.more {
-            into.push((vars.direction, *name))?;
-        }
+fn push_decl(
+    into: &mut Vec<(Direction, Name)>,
+    direction: Direction,
+    decl: &Decl,
+) -> Result<(), AllocError>
+    ensures { OnOk result (into.new.items ≡ into.old.items ++ map (λ n. (direction, n)) (decl.now.first ∷ decl.now.more.items)) }
+{
+    into.push((direction, decl.first))?;
+    'each: for name in &decl.more {
+        into.push((direction, *name))?;
+    }
+    Ok(())
+}
+
+fn push_vars(into: &mut Vec<(Direction, Name)>, vars: &Vars) -> Result<(), AllocError>
+    ensures { OnOk result (into.new.items ≡ into.old.items ++ declared_by vars.now) }
+{
+    'each: for decl in &vars.decls {
+        push_decl(into, vars.direction, decl)?;
     }
     Ok(())
 }
 
 // The declared names in the text's order.
-fn declared(alloc: Global, vars: &[Vars]) -> Result<Vec<(Direction, Name)>, AllocError> {
+fn declared(alloc: Global, vars: &[Vars]) -> Result<Vec<(Direction, Name)>, AllocError>
+    ensures { IfOk result (λ v. v.items ≡ flat_map declared_by vars.now) }
+{
     let mut names = Vec::new(alloc);
-    for section in vars {
+    'each: for section in vars {
         push_vars(&mut names, section)?;
     }
     Ok(names)
 }
 
+// Adds a value under the letters of a name, which no other may have yet.
+fn add<'a, V: Drop>(
+    values: &mut BTreeMap<&'a [u8], V>,
+    tree: &'a Tree,
+    name: Name,
+    value: V,
+) -> Result<(), LoadFault>
+    ensures fault { Answers result (option_map load.Twice (at_if (is_some (at_letters values.old (letters tree.now.text.items name))) name.at)) }
+    ensures added { OnOk result ((ls : List ℕ) → at_letters values.new ls ≡ option_or (at_letters values.old ls) (cond (is_named tree.now.text.items ls name) (Some value) None)) }
+    ensures len { OnOk result (btree_map_len values.new ≡ btree_map_len values.old + 1) }
+{
+    if values.insert(tree.letters(name), value)?.is_some() {
+        return Err(LoadFault::Twice(name.at));
+    }
+    Ok(())
+}
+
+// How many inputs and outputs were counted.
+#[derive(Clone, Copy)]
+struct Counts {
+    inputs: usize,
+    outputs: usize,
+}
+
+impl Counts {
+    // Counts one more variable, and says its number.
+    fn next(&mut self, direction: Direction) -> usize
+        requires inputs { self.old.inputs < 2 ^ 63 }
+        requires outputs { self.old.outputs < 2 ^ 63 }
+        ensures number { result ≡ count_of direction self.old + 1 }
+        ensures counts { (d : Direction) → count_of d self.new ≡ cond (is_direction d direction) (count_of d self.old + 1) (count_of d self.old) }
+    {
+        match direction {
+            Direction::Input => {
+                self.inputs += 1;
+                self.inputs
+            }
+            Direction::Output => {
+                self.outputs += 1;
+                self.outputs
+            }
+        }
+    }
+}
+
+// The declared variables by their letters.
 fn variables<'a>(
     alloc: Global,
     tree: &'a Tree,
     declared: &[(Direction, Name)],
-) -> Result<BTreeMap<&'a [u8], Variable>, LoadFault> {
+) -> Result<BTreeMap<&'a [u8], Variable>, LoadFault>
+    ensures variables { IfOk result (λ m. (ls : List ℕ) → at_letters m ls ≡ variable_in tree.now.text.items declared.now ls) }
+    ensures fault { Answers result (option_map load.Twice (repeated (same_declared tree.now.text.items tree.now.block) (λ d. d.1.at) declared.now)) }
+{
     let mut variables = BTreeMap::new(alloc);
-    let mut inputs: u32 = 0;
-    let mut outputs: u32 = 0;
-    for (direction, name) in declared {
-        let count = match direction {
-            Direction::Input => &mut inputs,
-            Direction::Output => &mut outputs,
-        };
-        *count = count.saturating_add(1);
+    let mut counts = Counts {
+        inputs: 0,
+        outputs: 0,
+    };
+    'each: for (direction, name) in declared {
         let variable = Variable {
             direction: *direction,
-            number: *count,
+            number: counts.next(*direction),
         };
-        if variables.insert(tree.letters(*name), variable)?.is_some() {
-            return Err(LoadFault::Twice(name.at));
-        }
+        add(&mut variables, tree, *name, variable)?;
     }
     Ok(variables)
 }
 
-fn sections(alloc: Global, tree: &Tree) -> Result<BTreeMap<&[u8], Section<'_>>, LoadFault> {
-    let mut sections = BTreeMap::new(alloc);
-    for part in &tree.block.parts {
-        let name = section_name(part);
-        let letters = tree.letters(name);
-        if sections.contains_key(letters) {
-            return Err(LoadFault::Twice(name.at));
-        }
-        let terms = match part {
-            Part::Fuzzify(section) => fuzzy_terms(alloc, tree, section)?,
-            Part::Defuzzify(section) => defuzzy_terms(alloc, tree, section)?,
-        };
-        sections.insert(letters, Section { part, terms })?;
-    }
-    Ok(sections)
-}
-
-// Whether this is the second time.
-fn is_again(seen: &mut bool) -> bool {
-    mem::replace(seen, true)
-}
-
-// Numbers the terms of a section as they come.
-#[derive(Drop)]
-struct Terms<'a> {
-    tree: &'a Tree,
-    numbers: BTreeMap<&'a [u8], u32>,
-    count: u32,
-}
-
-impl<'a> Terms<'a> {
-    fn new(alloc: Global, tree: &'a Tree) -> Terms<'a> {
-        Terms {
-            tree,
-            numbers: BTreeMap::new(alloc),
-            count: 0,
-        }
-    }
-
-    fn add(&mut self, name: Name) -> Result<(), LoadFault> {
-        self.count = self.count.saturating_add(1);
-        let letters = self.tree.letters(name);
-        if self.numbers.insert(letters, self.count)?.is_some() {
-            return Err(LoadFault::Twice(name.at));
-        }
-        Ok(())
-    }
-}
-
+// The numbers of the terms of an input's section, whose lines stand once each.
 fn fuzzy_terms<'a>(
     alloc: Global,
     tree: &'a Tree,
     section: &Fuzzify,
-) -> Result<BTreeMap<&'a [u8], u32>, LoadFault> {
-    let mut terms = Terms::new(alloc, tree);
-    let mut range = false;
-    for line in &section.lines {
+) -> Result<BTreeMap<&'a [u8], usize>, LoadFault>
+    ensures terms { IfOk result (λ m. (ls : List ℕ) → at_letters m ls ≡ number_in tree.now.text.items (term_names section.now) ls) }
+    ensures fault { Answers result (option_map load.Twice (repeated_line tree.now.text.items tree.now.block (part.Fuzzify section.now))) }
+{
+    let mut terms = BTreeMap::new(alloc);
+    let mut has_range = false;
+    'each: for line in &section.lines {
         match line {
-            FuzzyLine::Term(term) => terms.add(term.name)?,
-            FuzzyLine::Range(line) => {
-                if is_again(&mut range) {
-                    return Err(LoadFault::Twice(line.at));
+            FuzzyLine::Term(term) => {
+                let number = terms.len() + 1;
+                add(&mut terms, tree, term.name, number)?;
+            }
+            FuzzyLine::Range(range) => {
+                if has_range {
+                    return Err(LoadFault::Twice(range.at));
                 }
+                has_range = true;
             }
         }
     }
-    Ok(terms.numbers)
+    Ok(terms)
 }
 
+fn line_at(line: &DefuzzyLine) -> u32
+    ensures { result ≡ output_line_at line.now }
+{
+    match line {
+        DefuzzyLine::Singleton(singleton) => singleton.name.at,
+        DefuzzyLine::Accu(line) | DefuzzyLine::Method(line) => line.at,
+        DefuzzyLine::Default(fallback) => fallback.at,
+        DefuzzyLine::Range(range) => range.at,
+    }
+}
+
+fn is_same_kind(line: &DefuzzyLine, other: &DefuzzyLine) -> bool
+    ensures { result ≡ same_kind line.now other.now }
+{
+    matches!(
+        (line, other),
+        (DefuzzyLine::Accu(_), DefuzzyLine::Accu(_))
+            | (DefuzzyLine::Method(_), DefuzzyLine::Method(_))
+            | (DefuzzyLine::Default(_), DefuzzyLine::Default(_))
+            | (DefuzzyLine::Range(_), DefuzzyLine::Range(_))
+    )
+}
+
+fn has_kind(lines: &[DefuzzyLine], line: &DefuzzyLine) -> bool
+    ensures { result ≡ list_any (same_kind line.now) lines.now }
+{
+    lines.iter().any(|other| is_same_kind(line, other))
+}
+
+// The numbers of the terms of an output's section, whose lines stand once each.
 fn defuzzy_terms<'a>(
     alloc: Global,
     tree: &'a Tree,
     section: &Defuzzify,
-) -> Result<BTreeMap<&'a [u8], u32>, LoadFault> {
-    let mut terms = Terms::new(alloc, tree);
-    let mut accu = false;
-    let mut method = false;
-    let mut fallback = false;
-    let mut range = false;
-    for line in &section.lines {
-        let (at, seen) = match line {
-            DefuzzyLine::Singleton(singleton) => {
-                terms.add(singleton.name)?;
-                continue;
+) -> Result<BTreeMap<&'a [u8], usize>, LoadFault>
+    ensures terms { IfOk result (λ m. (ls : List ℕ) → at_letters m ls ≡ number_in tree.now.text.items (singleton_names section.now) ls) }
+    ensures fault { Answers result (option_map load.Twice (repeated_line tree.now.text.items tree.now.block (part.Defuzzify section.now))) }
+{
+    let mut terms = BTreeMap::new(alloc);
+    // The other lines, at most one of each kind.
+    let mut others: Vec<DefuzzyLine> = Vec::new(alloc);
+    'each: for line in &section.lines {
+        if let DefuzzyLine::Singleton(singleton) = line {
+            let number = terms.len() + 1;
+            add(&mut terms, tree, singleton.name, number)?;
+        } else {
+            if has_kind(&others, line) {
+                return Err(LoadFault::Twice(line_at(line)));
             }
-            DefuzzyLine::Accu(line) => (line.at, &mut accu),
-            DefuzzyLine::Method(line) => (line.at, &mut method),
-            DefuzzyLine::Default(line) => (line.at, &mut fallback),
-            DefuzzyLine::Range(line) => (line.at, &mut range),
-        };
-        if is_again(seen) {
-            return Err(LoadFault::Twice(at));
+            others.push(*line)?;
         }
     }
-    Ok(terms.numbers)
+    Ok(terms)
 }
 
-fn rule_lines(lines: &[RuleLine]) -> Result<(), LoadFault> {
-    let mut and = false;
-    let mut or = false;
-    let mut act = false;
-    let mut accu = false;
-    for line in lines {
-        let (at, seen) = match line {
-            RuleLine::And(line) => (line.at, &mut and),
-            RuleLine::Or(line) => (line.at, &mut or),
-            RuleLine::Act(line) => (line.at, &mut act),
-            RuleLine::Accu(line) => (line.at, &mut accu),
-        };
-        if is_again(seen) {
-            return Err(LoadFault::Twice(at));
+fn terms<'a>(
+    alloc: Global,
+    tree: &'a Tree,
+    part: &Part,
+) -> Result<BTreeMap<&'a [u8], usize>, LoadFault>
+    ensures terms { IfOk result (λ m. (ls : List ℕ) → at_letters m ls ≡ number_in tree.now.text.items (names_in part.now) ls) }
+    ensures fault { Answers result (option_map load.Twice (repeated_line tree.now.text.items tree.now.block part.now)) }
+{
+    match part {
+        Part::Fuzzify(section) => fuzzy_terms(alloc, tree, section),
+        Part::Defuzzify(section) => defuzzy_terms(alloc, tree, section),
+    }
+}
+
+// The sections by the letters of their names.
+fn sections(alloc: Global, tree: &Tree) -> Result<BTreeMap<&[u8], Section<'_>>, LoadFault>
+    ensures sections { IfOk result (HoldsSections tree.now.text.items tree.now.block.parts.items) }
+    ensures fault { Answers result (option_map load.Twice (first_after (repeated_section tree.now.text.items tree.now.block) [] tree.now.block.parts.items)) }
+{
+    let mut sections = BTreeMap::new(alloc);
+    'each: for part in &tree.block.parts {
+        let name = section_name(part);
+        if sections.contains_key(tree.letters(name)) {
+            return Err(LoadFault::Twice(name.at));
+        }
+        let terms = terms(alloc, tree, part)?;
+        add(&mut sections, tree, name, Section { part, terms })?;
+    }
+    Ok(sections)
+}
+
+fn is_same_rule_line(line: &RuleLine, other: &RuleLine) -> bool
+    ensures { result ≡ same_rule_line line.now other.now }
+{
+    matches!(
+        (line, other),
+        (RuleLine::And(_), RuleLine::And(_))
+            | (RuleLine::Or(_), RuleLine::Or(_))
+            | (RuleLine::Act(_), RuleLine::Act(_))
+            | (RuleLine::Accu(_), RuleLine::Accu(_))
+    )
+}
+
+fn has_rule_line(lines: &[RuleLine], line: &RuleLine) -> bool
+    ensures { result ≡ list_any (same_rule_line line.now) lines.now }
+{
+    lines.iter().any(|other| is_same_rule_line(line, other))
+}
+
+fn rule_line_at(line: &RuleLine) -> u32
+    ensures { result ≡ rule_line_at line.now }
+{
+    match line {
+        RuleLine::And(line) | RuleLine::Or(line) | RuleLine::Accu(line) => line.at,
+        RuleLine::Act(line) => line.at,
+    }
+}
+
+// No line is given twice. Lines are compared with at most four before them, one of each kind.
+fn rule_lines(lines: &[RuleLine]) -> Result<(), LoadFault>
+    ensures { Answers result (option_map load.Twice (repeated same_rule_line rule_line_at lines.now)) }
+{
+    'each: for (index, line) in lines.iter().enumerate() {
+        if has_rule_line(&lines[..index], line) {
+            return Err(LoadFault::Twice(rule_line_at(line)));
         }
     }
     Ok(())
