@@ -5,3 +5,4 @@ pub mod Sections
 pub mod Faults
 pub mod Loaded
 pub mod Known
+pub mod Corners
