@@ -8,3 +8,9 @@ pub mod LetterMaps
 pub mod VariableNames
 pub mod TermNames
 pub mod SectionNames
+pub mod Pushes
+pub mod CornerSteps
+pub mod Scales
+pub mod Naming
+pub mod Lines
+pub mod OutputLines

@@ -7,3 +7,4 @@ pub mod Faults
 pub mod Loaded
 pub mod Known
 pub mod Steps
+pub mod Corners
