@@ -1,4 +1,4 @@
--- The first place with a fault, over lists.
+-- The first of the lines of a sort.
 use Rattle.std.proofs.Common.{◌≡◌, Bool, List, [], ◌∷◌, ◌++◌, Option, Some, None, refl, ap, sym, ◌∙◌}
 use Rattle.std.specs.Prelude.{ℕ, is_some, ◌||◌}
 use Rattle.std.specs.Option.{option_or}
@@ -13,11 +13,3 @@ found_first h xs rest (Some y) e = refl
 pub any_found : {X Y : Type 0} (h : X → Option Y) (xs : List X) → list_any (λ x. is_some (h x)) xs ≡ is_some (first (filter_map h xs))
 any_found h [] = refl
 any_found h (x ∷ xs) = found_first h xs (list_any (λ x. is_some (h x)) xs) (h x) (any_found h xs)
-
-option_or_assoc : {A : Type 0} (a b c : Option A) → option_or (option_or a b) c ≡ option_or a (option_or b c)
-option_or_assoc None b c = refl
-option_or_assoc (Some x) b c = refl
-
-pub first_of_append : {A : Type 0} (f : A → Option ℕ) (xs ys : List A) → first_of f (xs ++ ys) ≡ option_or (first_of f xs) (first_of f ys)
-first_of_append f [] ys = refl
-first_of_append f (x ∷ xs) ys = ap (option_or (f x)) (first_of_append f xs ys) ∙ sym (option_or_assoc (f x) (first_of f xs) (first_of f ys))

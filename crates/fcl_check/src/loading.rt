@@ -45,7 +45,10 @@ fn first_fault(names: &Names<'_>, tree: &Tree, rules: &[RuleNames<'_>]) -> Optio
     refuse!(term_outside(parts), LoadFault::TermOutside);
     refuse!(bad_ranges(names, tree), LoadFault::BadRange);
     refuse!(singletons_outside(parts), LoadFault::SingletonOutside);
-    refuse!(weights_outside(&tree.block.rules.rules), LoadFault::WeightOutside);
+    refuse!(
+        weights_outside(&tree.block.rules.rules),
+        LoadFault::WeightOutside
+    );
     refuse!(wrong_side(names, tree, rules), LoadFault::WrongSide);
     refuse!(missing_part(names, tree), LoadFault::MissingPart);
     None

@@ -15,13 +15,13 @@ use crate::block::RULES;
 use crate::inputs::INPUTS;
 use crate::names::Names;
 use crate::operands::RuleNames;
-use crate::outputs::OUTPUTS;
+use crate::outputs::{OUTPUTS, is_complete};
 use crate::rules::{
     mistaken_name, mistaken_section, unknown_name, unknown_section, weight_outside,
 };
 use crate::sections::{
-    bad_range, falling_points, incomplete, points_outside, shapeless_term, singleton_outside,
-    term_over_limit, without_terms,
+    bad_range, falling_points, points_outside, shapeless_term, singleton_outside, term_over_limit,
+    without_terms,
 };
 use fcl_syntax::{Direction, Name, Part, Rule, Tree};
 
@@ -255,6 +255,16 @@ fn without_section(names: &Names<'_>, tree: &Tree) -> Option<u32>
         }
     }
     None
+}
+
+// The END word of an output's section that lacks METHOD or DEFAULT.
+fn incomplete(part: &Part) -> Option<u32>
+    ensures { result ≡ incomplete part.now }
+{
+    match part {
+        Part::Defuzzify(section) if !is_complete(section) => Some(section.end),
+        _ => None,
+    }
 }
 
 fn incomplete_sections(parts: &[Part]) -> Option<u32>

@@ -1,7 +1,6 @@
 //! What is wrong with the terms, ranges and singletons of sections.
 
 ghost use Rattle.std.specs.Prelude.{◌≡◌, ℕ, ◌∷◌, List, map, option_map, is_some};
-ghost use Rattle.std.specs.List.{filter_map};
 ghost use Rattle.fcl_syntax.specs.declared.tree.Direction.TheVariants as side;
 ghost use Rattle.fcl_syntax.specs.declared.tree.Part.TheVariants as part;
 ghost use Rattle.fcl_syntax.specs.declared.tree.Point.{Point};
@@ -12,13 +11,13 @@ ghost use Rattle.fcl_check.specs.Faults.{is_declared_as};
 ghost use Rattle.fcl_check.specs.Known.{Knows};
 ghost use Rattle.fcl_check.specs.Names.{singleton_of, singletons_of, term_of, terms_of};
 ghost use Rattle.fcl_check.specs.Places.{first};
-ghost use Rattle.fcl_check.specs.Sections.{abscissas, bad_range, default_of, defuzzy_range, empty_range, falling_point, falling_points, fuzzy_range, has_shape, hull_of, incomplete, method_line, number_line, point_outside, points_of, points_outside, reach, shapeless_term, singleton_outside, term_over_limit, without_terms, x_of};
+ghost use Rattle.fcl_check.specs.Sections.{abscissas, bad_range, defuzzy_range, empty_range, falling_point, falling_points, fuzzy_range, has_shape, hull_of, number_line, point_outside, points_of, points_outside, reach, shapeless_term, singleton_outside, term_over_limit, without_terms, x_of};
 
 use crate::names::Names;
 use crate::numbers::{Span, is_one, value};
 use fcl_syntax::{
-    Defuzzify, DefuzzyLine, Direction, Fallback, FallbackValue, Fuzzify, FuzzyLine, Part, Point,
-    Range, Term, Tree,
+    Defuzzify, DefuzzyLine, Direction, FallbackValue, Fuzzify, FuzzyLine, Part, Point, Range, Term,
+    Tree,
 };
 use fz_num::Dec;
 
@@ -55,18 +54,6 @@ fn is_term(line: &FuzzyLine) -> bool
     matches!(line, FuzzyLine::Term(_))
 }
 
-/// The DEFAULT of a section.
-pub fn default_of(section: &Defuzzify) -> Option<Fallback>
-    ensures { result ≡ default_of section.now }
-{
-    for line in &section.lines {
-        if let DefuzzyLine::Default(fallback) = line {
-            return Some(*fallback);
-        }
-    }
-    None
-}
-
 fn is_singleton(line: &DefuzzyLine) -> bool
     ensures { result ≡ is_some (singleton_of line.now) }
 {
@@ -77,18 +64,6 @@ fn has_term(section: &Fuzzify) -> bool
     ensures { result ≡ is_some (first (terms_of section.now)) }
 {
     section.lines.iter().any(is_term)
-}
-
-fn is_method(line: &DefuzzyLine) -> bool
-    ensures { result ≡ is_some (method_line line.now) }
-{
-    matches!(line, DefuzzyLine::Method(_))
-}
-
-fn has_method(section: &Defuzzify) -> bool
-    ensures { result ≡ is_some (first (filter_map method_line section.now.lines.items)) }
-{
-    section.lines.iter().any(is_method)
 }
 
 fn has_singleton(section: &Defuzzify) -> bool
@@ -358,18 +333,4 @@ pub fn singleton_outside(part: &Part) -> Option<u32>
         }
     }
     None
-}
-
-/// The END word of an output's section that lacks METHOD or DEFAULT.
-pub fn incomplete(part: &Part) -> Option<u32>
-    ensures { result ≡ incomplete part.now }
-{
-    let Part::Defuzzify(section) = part else {
-        return None;
-    };
-    if has_method(section) && default_of(section).is_some() {
-        None
-    } else {
-        Some(section.end)
-    }
 }
