@@ -1,6 +1,16 @@
 pub mod Fitting
+pub mod Falling
+pub mod Hulls
+pub mod Places
+pub mod Limits
 pub mod FirstPlaces
 pub mod LetterMaps
 pub mod VariableNames
 pub mod TermNames
 pub mod SectionNames
+pub mod Pushes
+pub mod CornerSteps
+pub mod Scales
+pub mod Naming
+pub mod Lines
+pub mod OutputLines

@@ -105,6 +105,11 @@ most_of Output = 4
 abbrev pub is_over : List Declared → Declared → Bool
 is_over before d = nat_le (most_of d.0) (length (filter (λ (e : Declared). is_direction d.0 e.0) before))
 
+-- ---- WeightOutside: a weight below 0 or above 1, at WITH
+
+abbrev pub weight_outside : Rule → Option ℕ
+weight_outside r = option_and_then (λ (w : Weight). at_if (int_lt (value w.num) (pos 0) || int_lt (pos 10000) (value w.num)) w.at) r.weight
+
 module _ (text : List ℕ) (b : FunctionBlock) where
   abbrev pub same_name : Name → Name → Bool
   same_name m n = is_named text (letters text m) n
@@ -140,8 +145,8 @@ module _ (text : List ℕ) (b : FunctionBlock) where
 
   abbrev pub twice : Option ℕ
   twice = option_or (repeated same_declared (λ (d : Declared). d.1.at) (declared_in b))
-    (option_or (first_after repeated_section [] b.parts.items)
-    (repeated same_rule_line rule_line_at b.rules.lines.items))
+      (option_or (first_after repeated_section [] b.parts.items)
+      (repeated same_rule_line rule_line_at b.rules.lines.items))
 
   -- ---- Unknown
 
@@ -157,7 +162,7 @@ module _ (text : List ℕ) (b : FunctionBlock) where
 
   abbrev pub unknown_in : Rule → Option ℕ
   unknown_in r = option_or (first_of (λ (p : Pair). unknown_pair Input p.variable p.term) (condition_pairs r))
-    (first_of (λ (c : Conclusion). unknown_pair Output c.variable c.term) (conclusions_of r))
+      (first_of (λ (c : Conclusion). unknown_pair Output c.variable c.term) (conclusions_of r))
 
   abbrev pub unknown_section : Part → Option ℕ
   unknown_section p = at_if (is_none (direction (section_name p))) (section_name p).at
@@ -169,13 +174,8 @@ module _ (text : List ℕ) (b : FunctionBlock) where
 
   abbrev pub too_many : Option ℕ
   too_many = option_or (first_after (λ (before : List Declared) (d : Declared). at_if (is_over before d) d.1.at) [] (declared_in b))
-    (option_or (first_of term_over_limit b.parts.items)
-    (option_map (λ (r : Rule). r.at) (slice_get b.rules.rules.items 256)))
-
-  -- ---- WeightOutside: a weight below 0 or above 1, at WITH
-
-  abbrev pub weight_outside : Rule → Option ℕ
-  weight_outside r = option_and_then (λ (w : Weight). at_if (int_lt (value w.num) (pos 0) || int_lt (pos 10000) (value w.num)) w.at) r.weight
+      (option_or (first_of term_over_limit b.parts.items)
+      (option_map (λ (r : Rule). r.at) (slice_get b.rules.rules.items 256)))
 
   -- ---- WrongSide: a name that is declared, but in the other direction
 
@@ -188,7 +188,7 @@ module _ (text : List ℕ) (b : FunctionBlock) where
 
   abbrev pub mistaken_in : Rule → Option ℕ
   mistaken_in r = option_or (first_of (λ (p : Pair). mistaken Input p.variable) (condition_pairs r))
-    (first_of (λ (c : Conclusion). mistaken Output c.variable) (conclusions_of r))
+      (first_of (λ (c : Conclusion). mistaken Output c.variable) (conclusions_of r))
 
   abbrev pub wrong_side : Option ℕ
   wrong_side = option_or (first_of mistaken_section b.parts.items) (first_of mistaken_in b.rules.rules.items)
@@ -207,24 +207,24 @@ module _ (text : List ℕ) (b : FunctionBlock) where
 
   abbrev pub missing_part : Option ℕ
   missing_part = option_or (first_of without_section (declared_in b))
-    (option_or (first_of incomplete b.parts.items)
-    (at_if (not is_whole) b.end))
+      (option_or (first_of incomplete b.parts.items)
+      (at_if (not is_whole) b.end))
 
   -- ---- the first kind that occurs, at its first place
 
   abbrev pub first_fault : Option LoadFault
   first_fault = option_or (option_map load.Twice twice)
-    (option_or (option_map load.Unknown unknown)
-    (option_or (option_map load.NoTerms (first_of without_terms b.parts.items))
-    (option_or (option_map load.TooMany too_many)
-    (option_or (option_map load.PointsNotAscending (first_of falling_points b.parts.items))
-    (option_or (option_map load.TermShape (first_of shapeless_term b.parts.items))
-    (option_or (option_map load.TermOutside (first_of points_outside b.parts.items))
-    (option_or (option_map load.BadRange (first_of (bad_range (is_declared_as Input)) b.parts.items))
-    (option_or (option_map load.SingletonOutside (first_of singleton_outside b.parts.items))
-    (option_or (option_map load.WeightOutside (first_of weight_outside b.rules.rules.items))
-    (option_or (option_map load.WrongSide wrong_side)
-    (option_map load.MissingPart missing_part)))))))))))
+      (option_or (option_map load.Unknown unknown)
+      (option_or (option_map load.NoTerms (first_of without_terms b.parts.items))
+      (option_or (option_map load.TooMany too_many)
+      (option_or (option_map load.PointsNotAscending (first_of falling_points b.parts.items))
+      (option_or (option_map load.TermShape (first_of shapeless_term b.parts.items))
+      (option_or (option_map load.TermOutside (first_of points_outside b.parts.items))
+      (option_or (option_map load.BadRange (first_of (bad_range (is_declared_as Input)) b.parts.items))
+      (option_or (option_map load.SingletonOutside (first_of singleton_outside b.parts.items))
+      (option_or (option_map load.WeightOutside (first_of weight_outside b.rules.rules.items))
+      (option_or (option_map load.WrongSide wrong_side)
+      (option_map load.MissingPart missing_part)))))))))))
 
 -- the answer is this fault, and no fault where there is none; want of memory is free
 abbrev pub Answers : {A : Type 0} → Result A LoadFault → Option LoadFault → Type 0

@@ -7,3 +7,5 @@ pub mod Faults
 pub mod Loaded
 pub mod Known
 pub mod Texts
+pub mod Steps
+pub mod Corners

@@ -1,9 +1,17 @@
-//! The inputs of a block.
+//! The inputs of a block. They are built of a tree without faults, so that a part which is missing
+//! or does not fit never comes; were it to, the answer is as for want of memory.
 
-ghost use Rattle.std.specs.Prelude.{◌≤◌, All, IfOk, IfSome, IsTrue, length, ◌≤ℤ◌};
+ghost use Rattle.std.specs.Prelude.{◌≡◌, ◌≤◌, List as Items, [], ◌∷◌, ◌++◌, All, option_map, IfOk, IfSome, IsTrue, length, ◌≤ℤ◌};
+ghost use Rattle.std.specs.List.{AllZip};
+ghost use Rattle.fcl_syntax.specs.declared.tree.Direction.TheVariants as side;
+ghost use Rattle.fcl_syntax.specs.declared.tree.Point.{Point};
 ghost use Rattle.fuzzy_meaning.specs.Blocks.{IsValidInput, IsValidTerm};
+ghost use Rattle.fcl_check.specs.Building.{ends_in};
+ghost use Rattle.fcl_check.specs.Corners.{AreCornersOf};
+ghost use Rattle.fcl_check.specs.Known.{Knows};
+ghost use Rattle.fcl_check.specs.Loaded.{IsInputNamed, IsInputOf, IsTermOf, input_range};
+ghost use Rattle.fcl_check.specs.Names.{declared_as, fuzzify_of, letters, terms_of};
 
-use crate::fault::LoadFault;
 use crate::names::Names;
 use crate::numbers::{Span, is_one, value};
 use crate::sections::{TERMS, fuzzy_range, hull};
@@ -11,7 +19,7 @@ use fcl_syntax::{Direction, Fuzzify, FuzzyLine, Name, Part, Point, Term, Tree};
 use fuzzy_meaning::{Input, Trapezoid};
 use fz_list::List;
 use fz_num::Dec;
-use std::alloc::Global;
+use std::alloc::{AllocError, Global};
 
 /// How many inputs a block may have.
 pub const INPUTS: usize = 8;
@@ -25,7 +33,9 @@ struct Corners {
 }
 
 impl Corners {
-    fn with(self, point: &Point) -> Corners {
+    fn with(self, point: &Point) -> Corners
+        ensures { (seen : Items Point) → AreCornersOf seen self → AreCornersOf (seen ++ point.now ∷ []) result }
+    {
         let x = value(point.x);
         match (is_one(point.degree), self.top) {
             (false, None) => Corners { a: Some(x), ..self },
@@ -46,7 +56,9 @@ impl Corners {
 }
 
 // The trapezoid of a term, where it has a point of degree 1.
-fn trapezoid(term: &Term) -> Option<Trapezoid> {
+fn trapezoid(term: &Term) -> Option<Trapezoid>
+    ensures { IfSome result (IsTermOf term.now) }
+{
     let none = Corners {
         a: None,
         top: None,
@@ -93,17 +105,16 @@ fn fits(span: Span, term: &Trapezoid) -> bool
         && falls(span, term)
 }
 
-fn terms(alloc: Global, section: &Fuzzify, span: Span) -> Result<Vec<Trapezoid>, LoadFault>
-    ensures { IfOk result (λ v. All (IsValidTerm span.lo span.hi) v.items) }
+fn terms(alloc: Global, section: &Fuzzify, span: Span) -> Result<Vec<Trapezoid>, AllocError>
+    ensures valid { IfOk result (λ v. All (IsValidTerm span.lo span.hi) v.items) }
+    ensures same { IfOk result (λ v. AllZip IsTermOf (terms_of section.now) v.items) }
 {
     let mut terms = Vec::new(alloc);
     'each: for line in &section.lines {
         if let FuzzyLine::Term(term) = line {
-            let Some(shape) = trapezoid(term) else {
-                return Err(LoadFault::TermShape(term.at));
-            };
+            let shape = trapezoid(term).ok_or(AllocError)?;
             if !fits(span, &shape) {
-                return Err(LoadFault::TermOutside(term.first.open_at));
+                return Err(AllocError);
             }
             terms.push(shape)?;
         }
@@ -111,26 +122,27 @@ fn terms(alloc: Global, section: &Fuzzify, span: Span) -> Result<Vec<Trapezoid>,
     Ok(terms)
 }
 
-fn input(alloc: Global, section: &Fuzzify) -> Result<Input, LoadFault>
-    ensures { IfOk result IsValidInput }
+// The RANGE of a section, or from the least to the greatest of its points.
+fn range(section: &Fuzzify) -> Option<Span>
+    ensures { option_map ends_in result ≡ input_range section.now }
 {
-    let span = match fuzzy_range(section) {
-        Some(range) => Span::of(range),
-        None => match hull(section) {
-            Some(span) => span,
-            None => return Err(LoadFault::NoTerms(section.end)),
-        },
-    };
-    let span = span.in_scale();
+    match fuzzy_range(section) {
+        Some(range) => Some(Span::of(range)),
+        None => hull(section),
+    }
+}
+
+fn input(alloc: Global, section: &Fuzzify) -> Result<Input, AllocError>
+    ensures valid { IfOk result IsValidInput }
+    ensures same { IfOk result (IsInputOf section.now) }
+{
+    let span = range(section).ok_or(AllocError)?;
     if span.is_empty() {
-        return Err(LoadFault::BadRange(section.name.at));
+        return Err(AllocError);
     }
     let terms = terms(alloc, section, span)?;
-    if terms.is_empty() {
-        return Err(LoadFault::NoTerms(section.end));
-    }
-    if terms.len() > TERMS {
-        return Err(LoadFault::TooMany(section.name.at));
+    if terms.is_empty() || terms.len() > TERMS {
+        return Err(AllocError);
     }
     Ok(Input {
         lo: span.lo,
@@ -140,7 +152,10 @@ fn input(alloc: Global, section: &Fuzzify) -> Result<Input, LoadFault>
 }
 
 // The section of a declared input.
-fn section_of<'a>(tree: &'a Tree, names: &Names<'a>, name: Name) -> Option<&'a Fuzzify> {
+fn section_of<'a>(tree: &'a Tree, names: &Names<'a>, name: Name) -> Option<&'a Fuzzify>
+    requires { Knows tree.now names.now }
+    ensures { option_map (λ s. s.now) result ≡ fuzzify_of tree.now.text.items tree.now.block (letters tree.now.text.items name) }
+{
     match names.sections.get(tree.letters(name))?.part {
         Part::Fuzzify(section) => Some(section),
         Part::Defuzzify(_) => None,
@@ -148,23 +163,24 @@ fn section_of<'a>(tree: &'a Tree, names: &Names<'a>, name: Name) -> Option<&'a F
 }
 
 /// The inputs in the order of their declaration.
-pub fn inputs<'a>(alloc: Global, tree: &'a Tree, names: &Names<'a>) -> Result<Vec<Input>, LoadFault>
-    ensures { IfOk result (λ v. (1 ≤ length v.items) × ((length v.items ≤ 8) × All IsValidInput v.items)) }
+pub fn inputs<'a>(
+    alloc: Global,
+    tree: &'a Tree,
+    names: &Names<'a>,
+) -> Result<Vec<Input>, AllocError>
+    requires { Knows tree.now names.now }
+    ensures valid { IfOk result (λ v. (1 ≤ length v.items) × ((length v.items ≤ 8) × All IsValidInput v.items)) }
+    ensures same { IfOk result (λ v. AllZip (IsInputNamed tree.now.text.items tree.now.block) (declared_as side.Input tree.now.block) v.items) }
 {
     let mut inputs = Vec::new(alloc);
     'each: for (direction, name) in &names.declared {
         if *direction == Direction::Input {
-            let Some(section) = section_of(tree, names, *name) else {
-                return Err(LoadFault::MissingPart(name.at));
-            };
+            let section = section_of(tree, names, *name).ok_or(AllocError)?;
             inputs.push(input(alloc, section)?)?;
         }
     }
-    if inputs.is_empty() {
-        return Err(LoadFault::MissingPart(tree.block.end));
-    }
-    if inputs.len() > INPUTS {
-        return Err(LoadFault::TooMany(tree.block.name.at));
+    if inputs.is_empty() || inputs.len() > INPUTS {
+        return Err(AllocError);
     }
     Ok(inputs)
 }

@@ -12,7 +12,9 @@ mod inputs;
 mod loading;
 mod names;
 mod numbers;
+mod operands;
 mod outputs;
+mod passes;
 mod rules;
 mod sections;
 

@@ -1,141 +1,57 @@
 //! Trees to blocks.
 
-ghost use Rattle.std.specs.Prelude.{IfOk};
+ghost use Rattle.std.specs.Prelude.{◌≡◌, map, IfOk};
 ghost use Rattle.fuzzy_meaning.specs.Blocks.{IsValid};
-ghost use Rattle.fcl_check.specs.Faults.{Answers, first_fault};
+ghost use Rattle.fcl_check.specs.Faults.{Answers, first_fault, twice};
+ghost use Rattle.fcl_check.specs.Known.{Knows};
 ghost use Rattle.fcl_check.specs.Loaded.{IsBlockOf};
+ghost use Rattle.fcl_check.specs.declared.operands.RuleNames.{RuleNames};
 
-use crate::block::{RULES, block};
+use crate::block::block;
 use crate::fault::LoadFault;
-use crate::inputs::INPUTS;
 use crate::names::Names;
-use crate::outputs::{OUTPUTS, is_complete};
-use crate::rules::{
-    RuleNames, mistaken_name, mistaken_section, operands, unknown_name, unknown_section,
-    weight_outside,
+use crate::operands::RuleNames;
+use crate::passes::{
+    bad_ranges, missing_part, no_terms, points_not_ascending, singletons_outside, term_outside,
+    term_shape, too_many, unknown, weights_outside, wrong_side,
 };
-use crate::sections::{
-    bad_range, falling_points, points_outside, shapeless_term, singleton_outside, term_over_limit,
-    without_terms,
-};
-use fcl_syntax::{Direction, Name, Part, Tree};
+use crate::rules::operands;
+use fcl_syntax::Tree;
 use fuzzy_meaning::Block;
 use std::alloc::Global;
 
-// Refuses a place where there is one.
+// Answers a place where there is one.
 macro_rules! refuse {
     ($place:expr, $fault:path) => {
         if let Some(at) = $place {
-            return Err($fault(at));
+            return Some($fault(at));
         }
     };
 }
 
-fn check_unknown(names: &Names<'_>, tree: &Tree, rules: &[RuleNames<'_>]) -> Result<(), LoadFault> {
-    for part in &tree.block.parts {
-        refuse!(unknown_section(names, tree, part), LoadFault::Unknown);
-    }
-    for rule in rules {
-        refuse!(unknown_name(names, tree, rule), LoadFault::Unknown);
-    }
-    Ok(())
-}
-
-// The first declared name of a direction past so many of them.
-fn over_limit(declared: &[(Direction, Name)]) -> Option<u32> {
-    let mut inputs = INPUTS;
-    let mut outputs = OUTPUTS;
-    for (direction, name) in declared {
-        let room = match direction {
-            Direction::Input => &mut inputs,
-            Direction::Output => &mut outputs,
-        };
-        if *room == 0 {
-            return Some(name.at);
-        }
-        *room -= 1;
-    }
-    None
-}
-
-fn check_limits(names: &Names<'_>, tree: &Tree) -> Result<(), LoadFault> {
-    refuse!(over_limit(&names.declared), LoadFault::TooMany);
-    for part in &tree.block.parts {
-        refuse!(term_over_limit(part), LoadFault::TooMany);
-    }
-    match tree.block.rules.rules.get(RULES) {
-        Some(rule) => Err(LoadFault::TooMany(rule.at)),
-        None => Ok(()),
-    }
-}
-
-// The kinds that look at one section alone, each over all sections before the next kind.
-fn check_sections(names: &Names<'_>, tree: &Tree) -> Result<(), LoadFault> {
+// The first fault, where nothing is given twice.
+fn first_fault(names: &Names<'_>, tree: &Tree, rules: &[RuleNames<'_>]) -> Option<LoadFault>
+    requires known { Knows tree.now names.now }
+    requires rules { map (λ (n : RuleNames). n.rule.now) rules.now ≡ tree.now.block.rules.rules.items }
+    requires once { twice tree.now.text.items tree.now.block ≡ None }
+    ensures { result ≡ first_fault tree.now.text.items tree.now.block }
+{
     let parts = &tree.block.parts;
-    for part in parts {
-        refuse!(falling_points(part), LoadFault::PointsNotAscending);
-    }
-    for part in parts {
-        refuse!(shapeless_term(part), LoadFault::TermShape);
-    }
-    for part in parts {
-        refuse!(points_outside(part), LoadFault::TermOutside);
-    }
-    for part in parts {
-        refuse!(bad_range(names, tree, part), LoadFault::BadRange);
-    }
-    for part in parts {
-        refuse!(singleton_outside(part), LoadFault::SingletonOutside);
-    }
-    Ok(())
-}
-
-fn check_weights(tree: &Tree) -> Result<(), LoadFault> {
-    for rule in &tree.block.rules.rules {
-        refuse!(weight_outside(rule), LoadFault::WeightOutside);
-    }
-    Ok(())
-}
-
-fn check_sides(names: &Names<'_>, tree: &Tree, rules: &[RuleNames<'_>]) -> Result<(), LoadFault> {
-    for part in &tree.block.parts {
-        refuse!(mistaken_section(names, tree, part), LoadFault::WrongSide);
-    }
-    for rule in rules {
-        refuse!(mistaken_name(names, tree, rule), LoadFault::WrongSide);
-    }
-    Ok(())
-}
-
-// The END word of an output's section that lacks METHOD or DEFAULT.
-fn incomplete(part: &Part) -> Option<u32> {
-    match part {
-        Part::Defuzzify(section) if !is_complete(section) => Some(section.end),
-        _ => None,
-    }
-}
-
-fn has_direction(declared: &[(Direction, Name)], wanted: Direction) -> bool {
-    declared.iter().any(|(direction, _)| *direction == wanted)
-}
-
-fn check_parts(names: &Names<'_>, tree: &Tree) -> Result<(), LoadFault> {
-    for (_, name) in &names.declared {
-        if !names.sections.contains_key(tree.letters(*name)) {
-            return Err(LoadFault::MissingPart(name.at));
-        }
-    }
-    for part in &tree.block.parts {
-        refuse!(incomplete(part), LoadFault::MissingPart);
-    }
-    let is_whole = has_direction(&names.declared, Direction::Input)
-        && has_direction(&names.declared, Direction::Output)
-        && !tree.block.rules.rules.is_empty();
-    if is_whole {
-        Ok(())
-    } else {
-        Err(LoadFault::MissingPart(tree.block.end))
-    }
+    refuse!(unknown(names, tree, rules), LoadFault::Unknown);
+    refuse!(no_terms(parts), LoadFault::NoTerms);
+    refuse!(too_many(names, tree), LoadFault::TooMany);
+    refuse!(points_not_ascending(parts), LoadFault::PointsNotAscending);
+    refuse!(term_shape(parts), LoadFault::TermShape);
+    refuse!(term_outside(parts), LoadFault::TermOutside);
+    refuse!(bad_ranges(names, tree), LoadFault::BadRange);
+    refuse!(singletons_outside(parts), LoadFault::SingletonOutside);
+    refuse!(
+        weights_outside(&tree.block.rules.rules),
+        LoadFault::WeightOutside
+    );
+    refuse!(wrong_side(names, tree, rules), LoadFault::WrongSide);
+    refuse!(missing_part(names, tree), LoadFault::MissingPart);
+    None
 }
 
 /// The block that a tree spells, or its first load fault.
@@ -149,14 +65,8 @@ pub fn load(alloc: Global, tree: &Tree) -> Result<Block, LoadFault>
 {
     let names = Names::of(alloc, tree)?;
     let rules = operands(alloc, &tree.block.rules.rules)?;
-    check_unknown(&names, tree, &rules)?;
-    for part in &tree.block.parts {
-        refuse!(without_terms(part), LoadFault::NoTerms);
+    match first_fault(&names, tree, &rules) {
+        Some(fault) => Err(fault),
+        None => Ok(block(alloc, tree, &names)?),
     }
-    check_limits(&names, tree)?;
-    check_sections(&names, tree)?;
-    check_weights(tree)?;
-    check_sides(&names, tree, &rules)?;
-    check_parts(&names, tree)?;
-    block(alloc, tree, &names)
 }

@@ -4,6 +4,7 @@ ghost use Rattle.std.specs.Prelude.{◌≡◌, ◌↔◌, IsTrue, pos, ◌≤ℤ
 ghost use Rattle.std.specs.Int.{int_min, int_max};
 ghost use Rattle.fuzzy_meaning.specs.Blocks.{IsInScale, IsWithin};
 ghost use Rattle.fcl_check.specs.Building.{ends_in};
+ghost use Rattle.fcl_check.specs.Loaded.{widened};
 ghost use Rattle.fcl_check.specs.Sections.{magnitude, value, is_one, ends_of, lies_in, is_empty_range};
 
 use fcl_syntax::{Amount, Degree, Num, Number, Range};
@@ -94,29 +95,17 @@ impl Span {
         }
     }
 
-    /// The same span, with its ends in the scale of numbers.
-    pub fn in_scale(self) -> Span
-        ensures lo { IsInScale result.lo.0 }
-        ensures hi { IsInScale result.hi.0 }
-    {
-        Span {
-            lo: Dec(self.lo.0.max(-GREATEST).min(GREATEST)),
-            hi: Dec(self.hi.0.max(-GREATEST).min(GREATEST)),
-        }
-    }
-
     /// The same span, and from p to p + 1 where it is the one number p.
     pub fn widened(self) -> Span
-        ensures lo { IsInScale result.lo.0 }
-        ensures hi { result.hi.0 ≤ℤ pos 1000010000 }
+        requires { self.hi.0 ≤ℤ pos 1000000000 }
+        ensures { ends_in result ≡ widened (ends_in self) }
     {
-        let span = self.in_scale();
-        if span.lo.0 == span.hi.0 {
+        if self.lo.0 == self.hi.0 {
             return Span {
-                lo: span.lo,
-                hi: Dec(span.hi.0 + ONE),
+                lo: self.lo,
+                hi: Dec(self.hi.0 + ONE),
             };
         }
-        span
+        self
     }
 }

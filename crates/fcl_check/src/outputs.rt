@@ -1,9 +1,17 @@
-//! The outputs of a block.
+//! The outputs of a block. They are built of a tree without faults, so that a part which is missing
+//! or does not fit never comes; were it to, the answer is as for want of memory.
 
-ghost use Rattle.std.specs.Prelude.{◌≤◌, All, IfOk, IfSome, length};
+ghost use Rattle.std.specs.Prelude.{◌≡◌, ◌≤◌, ◌||◌, Some, All, filter_map, is_none, not, map, option_map, IfOk, IfSome, length};
+ghost use Rattle.std.specs.List.{AllZip};
+ghost use Rattle.fcl_syntax.specs.declared.tree.Direction.TheVariants as side;
 ghost use Rattle.fuzzy_meaning.specs.Blocks.{IsValidOutput, IsWithin};
+ghost use Rattle.fcl_check.specs.Building.{ends_in};
+ghost use Rattle.fcl_check.specs.Known.{Knows};
+ghost use Rattle.fcl_check.specs.Loaded.{IsOutputNamed, IsOutputOf, default_number, given_or, number_of};
+ghost use Rattle.fcl_check.specs.Names.{declared_as, defuzzify_of, letters, singletons_of};
+ghost use Rattle.fcl_check.specs.Places.{first};
+ghost use Rattle.fcl_check.specs.Sections.{default_of, defuzzy_range, fallback_number, hull_of, method_line, number_line, output_numbers, value};
 
-use crate::fault::LoadFault;
 use crate::names::Names;
 use crate::numbers::{Span, value};
 use crate::sections::{TERMS, defuzzy_range};
@@ -11,13 +19,15 @@ use fcl_syntax::{Defuzzify, DefuzzyLine, Direction, Fallback, FallbackValue, Nam
 use fuzzy_meaning::Output;
 use fz_list::List;
 use fz_num::Dec;
-use std::alloc::Global;
+use std::alloc::{AllocError, Global};
 
 /// How many outputs a block may have.
 pub const OUTPUTS: usize = 4;
 
 // The DEFAULT line of a section.
-fn fallback(section: &Defuzzify) -> Option<Fallback> {
+fn fallback(section: &Defuzzify) -> Option<Fallback>
+    ensures { result ≡ default_of section.now }
+{
     for line in &section.lines {
         if let DefuzzyLine::Default(fallback) = line {
             return Some(*fallback);
@@ -26,34 +36,52 @@ fn fallback(section: &Defuzzify) -> Option<Fallback> {
     None
 }
 
+fn has_method(section: &Defuzzify) -> bool
+    ensures { not result ≡ is_none (first (filter_map method_line section.now.lines.items)) }
+{
+    for line in &section.lines {
+        if let DefuzzyLine::Method(_) = line {
+            return true;
+        }
+    }
+    false
+}
+
 /// Whether a section has the lines that it needs beside its terms.
-pub fn is_complete(section: &Defuzzify) -> bool {
-    let has_method = section
-        .lines
-        .iter()
-        .any(|line| matches!(line, DefuzzyLine::Method(_)));
-    has_method && fallback(section).is_some()
+pub fn is_complete(section: &Defuzzify) -> bool
+    ensures { not result ≡ (is_none (first (filter_map method_line section.now.lines.items)) || is_none (default_of section.now)) }
+{
+    has_method(section) && fallback(section).is_some()
+}
+
+// The number of DEFAULT, none for NC.
+fn fallback_number(value_or_nc: FallbackValue) -> Option<Dec>
+    ensures { number_of result ≡ option_map value (fallback_number value_or_nc) }
+{
+    match value_or_nc {
+        FallbackValue::Number(num) => Some(value(num)),
+        FallbackValue::Nc(_) => None,
+    }
 }
 
 // The number of a singleton or of DEFAULT.
-fn number_of(line: &DefuzzyLine) -> Option<Dec> {
+fn number_in(line: &DefuzzyLine) -> Option<Dec>
+    ensures { number_of result ≡ option_map (λ n. n.0) (number_line line.now) }
+{
     match line {
         DefuzzyLine::Singleton(singleton) => Some(value(singleton.value)),
-        DefuzzyLine::Default(
-            Fallback {
-                value: FallbackValue::Number(num),
-                ..
-            },
-        ) => Some(value(*num)),
+        DefuzzyLine::Default(fallback) => fallback_number(fallback.value),
         _ => None,
     }
 }
 
 // From the least to the greatest number of a section; none where it has no number.
-fn hull(section: &Defuzzify) -> Option<Span> {
+fn hull(section: &Defuzzify) -> Option<Span>
+    ensures { option_map ends_in result ≡ hull_of (map (λ n. n.0) (output_numbers section.now)) }
+{
     let mut hull: Option<Span> = None;
     for line in &section.lines {
-        if let Some(x) = number_of(line) {
+        if let Some(x) = number_in(line) {
             hull = Some(match hull {
                 Some(span) => span.with(x),
                 None => Span::at(x),
@@ -63,15 +91,26 @@ fn hull(section: &Defuzzify) -> Option<Span> {
     hull
 }
 
-fn singletons(alloc: Global, section: &Defuzzify, span: Span) -> Result<Vec<Dec>, LoadFault>
-    ensures { IfOk result (λ v. All (IsWithin span.lo span.hi) v.items) }
+// The RANGE of a section, or from the least to the greatest of its numbers.
+fn range(section: &Defuzzify) -> Option<Span>
+    ensures { option_map ends_in result ≡ given_or (hull_of (map (λ n. n.0) (output_numbers section.now))) (defuzzy_range section.now) }
+{
+    match defuzzy_range(section) {
+        Some(range) => Some(Span::of(range)),
+        None => hull(section),
+    }
+}
+
+fn singletons(alloc: Global, section: &Defuzzify, span: Span) -> Result<Vec<Dec>, AllocError>
+    ensures valid { IfOk result (λ v. All (IsWithin span.lo span.hi) v.items) }
+    ensures same { IfOk result (λ v. map (λ d. d.0) v.items ≡ map (λ t. value t.value) (singletons_of section.now)) }
 {
     let mut singletons = Vec::new(alloc);
     'each: for line in &section.lines {
         if let DefuzzyLine::Singleton(singleton) = line {
             let x = value(singleton.value);
             if !span.holds(x) {
-                return Err(LoadFault::SingletonOutside(singleton.at));
+                return Err(AllocError);
             }
             singletons.push(x)?;
         }
@@ -79,46 +118,33 @@ fn singletons(alloc: Global, section: &Defuzzify, span: Span) -> Result<Vec<Dec>
     Ok(singletons)
 }
 
-// The number of DEFAULT, none for NC.
-fn default(section: &Defuzzify, span: Span) -> Result<Option<Dec>, LoadFault>
-    ensures { IfOk result (λ d. IfSome d (IsWithin span.lo span.hi)) }
+fn default(section: &Defuzzify, span: Span) -> Result<Option<Dec>, AllocError>
+    ensures valid { IfOk result (λ d. IfSome d (IsWithin span.lo span.hi)) }
+    ensures same { IfOk result (λ d. Some (number_of d) ≡ option_map default_number (default_of section.now)) }
 {
-    let Some(fallback) = fallback(section) else {
-        return Err(LoadFault::MissingPart(section.end));
-    };
-    match fallback.value {
-        FallbackValue::Nc(_) => Ok(None),
-        FallbackValue::Number(num) => {
-            let x = value(num);
-            if !span.holds(x) {
-                return Err(LoadFault::SingletonOutside(fallback.at));
-            }
-            Ok(Some(x))
-        }
+    let fallback = fallback(section).ok_or(AllocError)?;
+    let number = fallback_number(fallback.value);
+    if let Some(x) = number
+        && !span.holds(x)
+    {
+        return Err(AllocError);
     }
+    Ok(number)
 }
 
-fn output(alloc: Global, section: &Defuzzify) -> Result<Output, LoadFault>
-    ensures { IfOk result IsValidOutput }
+fn output(alloc: Global, section: &Defuzzify) -> Result<Output, AllocError>
+    ensures valid { IfOk result IsValidOutput }
+    ensures same { IfOk result (IsOutputOf section.now) }
 {
-    let span = match defuzzy_range(section) {
-        Some(range) => Span::of(range),
-        None => match hull(section) {
-            Some(span) => span,
-            None => return Err(LoadFault::NoTerms(section.end)),
-        },
-    };
+    let span = range(section).ok_or(AllocError)?;
     let span = span.widened();
     if span.is_empty() {
-        return Err(LoadFault::BadRange(section.name.at));
+        return Err(AllocError);
     }
     let singletons = singletons(alloc, section, span)?;
     let default = default(section, span)?;
-    if singletons.is_empty() {
-        return Err(LoadFault::NoTerms(section.end));
-    }
-    if singletons.len() > TERMS {
-        return Err(LoadFault::TooMany(section.name.at));
+    if singletons.is_empty() || singletons.len() > TERMS {
+        return Err(AllocError);
     }
     Ok(Output {
         lo: span.lo,
@@ -129,7 +155,10 @@ fn output(alloc: Global, section: &Defuzzify) -> Result<Output, LoadFault>
 }
 
 // The section of a declared output.
-fn section_of<'a>(tree: &'a Tree, names: &Names<'a>, name: Name) -> Option<&'a Defuzzify> {
+fn section_of<'a>(tree: &'a Tree, names: &Names<'a>, name: Name) -> Option<&'a Defuzzify>
+    requires { Knows tree.now names.now }
+    ensures { option_map (λ s. s.now) result ≡ defuzzify_of tree.now.text.items tree.now.block (letters tree.now.text.items name) }
+{
     match names.sections.get(tree.letters(name))?.part {
         Part::Defuzzify(section) => Some(section),
         Part::Fuzzify(_) => None,
@@ -141,23 +170,20 @@ pub fn outputs<'a>(
     alloc: Global,
     tree: &'a Tree,
     names: &Names<'a>,
-) -> Result<Vec<Output>, LoadFault>
-    ensures { IfOk result (λ v. (1 ≤ length v.items) × ((length v.items ≤ 4) × All IsValidOutput v.items)) }
+) -> Result<Vec<Output>, AllocError>
+    requires { Knows tree.now names.now }
+    ensures valid { IfOk result (λ v. (1 ≤ length v.items) × ((length v.items ≤ 4) × All IsValidOutput v.items)) }
+    ensures same { IfOk result (λ v. AllZip (IsOutputNamed tree.now.text.items tree.now.block) (declared_as side.Output tree.now.block) v.items) }
 {
     let mut outputs = Vec::new(alloc);
     'each: for (direction, name) in &names.declared {
         if *direction == Direction::Output {
-            let Some(section) = section_of(tree, names, *name) else {
-                return Err(LoadFault::MissingPart(name.at));
-            };
+            let section = section_of(tree, names, *name).ok_or(AllocError)?;
             outputs.push(output(alloc, section)?)?;
         }
     }
-    if outputs.is_empty() {
-        return Err(LoadFault::MissingPart(tree.block.end));
-    }
-    if outputs.len() > OUTPUTS {
-        return Err(LoadFault::TooMany(tree.block.name.at));
+    if outputs.is_empty() || outputs.len() > OUTPUTS {
+        return Err(AllocError);
     }
     Ok(outputs)
 }

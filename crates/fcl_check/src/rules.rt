@@ -1,80 +1,68 @@
 //! What is wrong with the names and weights of rules.
 
+ghost use Rattle.std.specs.Prelude.{◌≡◌, map, IfOk};
+ghost use Rattle.fcl_syntax.specs.declared.tree.Conclusion.{Conclusion};
+ghost use Rattle.fcl_syntax.specs.declared.tree.Direction.TheVariants as side;
+ghost use Rattle.fcl_check.specs.Faults.{Pair, conclusions_of, direction, mistaken, mistaken_in, mistaken_section, unknown_in, unknown_pair, unknown_section, weight_outside};
+ghost use Rattle.fcl_check.specs.Known.{Knows};
+ghost use Rattle.fcl_check.specs.Places.{first_of};
+ghost use Rattle.fcl_check.specs.Steps.{pair_of};
+ghost use Rattle.fcl_check.specs.declared.operands.RuleNames.{RuleNames};
+
 use crate::names::{Names, section_name};
 use crate::numbers::value;
-use fcl_syntax::{And, Conclusion, Direction, Name, Not, Operand, Or, Part, Rule, Tree};
+use crate::operands::RuleNames;
+use fcl_syntax::{Conclusion, Direction, Name, Operand, Part, Rule, Tree};
 use std::alloc::{AllocError, Global};
 
-/// A rule with the operands of its condition in the text's order.
-#[derive(Drop)]
-pub struct RuleNames<'a> {
-    pub rule: &'a Rule,
-    pub operands: Vec<Operand>,
-}
-
 /// The operands of all rules.
-pub fn operands(alloc: Global, rules: &[Rule]) -> Result<Vec<RuleNames<'_>>, AllocError> {
+pub fn operands(alloc: Global, rules: &[Rule]) -> Result<Vec<RuleNames<'_>>, AllocError>
+    ensures { IfOk result (λ all. map (λ (n : RuleNames). n.rule.now) all.items ≡ rules.now) }
+{
     let mut all = Vec::new(alloc);
     for rule in rules {
-        let mut operands = Vec::new(alloc);
-        push_or(&mut operands, &rule.condition)?;
-        all.push(RuleNames { rule, operands })?;
+        all.push(RuleNames::of(alloc, rule)?)?;
     }
     Ok(all)
 }
 
-#[cycle(operands)]
-fn push_or(into: &mut Vec<Operand>, or: &Or) -> Result<(), AllocError> {
-    push_and(into, &or.first)?;
-    for alternative in &or.more {
-        push_and(into, &alternative.and)?;
-    }
-    Ok(())
-}
-
-#[cycle(operands)]
-fn push_and(into: &mut Vec<Operand>, and: &And) -> Result<(), AllocError> {
-    push_not(into, &and.first)?;
-    for conjunct in &and.more {
-        push_not(into, &conjunct.not)?;
-    }
-    Ok(())
-}
-
-#[cycle(operands)]
-fn push_not(into: &mut Vec<Operand>, not: &Not) -> Result<(), AllocError> {
-    match not {
-        Not::Not(_, part) => push_not(into, part),
-        Not::Group(_, group) => push_or(into, group),
-        Not::Is(operand) => {
-            into.push(*operand)?;
-            Ok(())
-        }
-    }
+// The direction in which a name is declared.
+fn direction(names: &Names<'_>, tree: &Tree, name: Name) -> Option<Direction>
+    requires { Knows tree.now names.now }
+    ensures { result ≡ direction tree.now.text.items tree.now.block name }
+{
+    let variable = names.variable(tree.letters(name))?;
+    Some(variable.direction)
 }
 
 /// The name of a section's variable, where it is not declared.
-pub fn unknown_section(names: &Names<'_>, tree: &Tree, part: &Part) -> Option<u32> {
+pub fn unknown_section(names: &Names<'_>, tree: &Tree, part: &Part) -> Option<u32>
+    requires { Knows tree.now names.now }
+    ensures { result ≡ unknown_section tree.now.text.items tree.now.block part.now }
+{
     let name = section_name(part);
-    match names.variable(tree.letters(name)) {
+    match direction(names, tree, name) {
         Some(_) => None,
         None => Some(name.at),
     }
 }
 
 // A variable that is not declared, or a term that it does not have where it stands on its side.
-fn unknown(
+fn unknown_pair(
     names: &Names<'_>,
     tree: &Tree,
     side: Direction,
     variable: Name,
     term: Name,
-) -> Option<u32> {
-    let letters = tree.letters(variable);
-    match names.variable(letters) {
+) -> Option<u32>
+    requires { Knows tree.now names.now }
+    ensures { result ≡ unknown_pair tree.now.text.items tree.now.block side variable term }
+{
+    match direction(names, tree, variable) {
         None => Some(variable.at),
         Some(found) => {
-            if found.direction == side && names.term(side, letters, tree.letters(term)).is_none() {
+            let (letters, of) = (tree.letters(variable), tree.letters(term));
+            if found == side && names.term(side, letters, of).is_none() {
                 Some(term.at)
             } else {
                 None
@@ -83,44 +71,58 @@ fn unknown(
     }
 }
 
-fn unknown_operand(names: &Names<'_>, tree: &Tree, operands: &[Operand]) -> Option<u32> {
+fn unknown_operand(names: &Names<'_>, tree: &Tree, operands: &[Operand]) -> Option<u32>
+    requires { Knows tree.now names.now }
+    ensures { result ≡ first_of (λ (p : Pair). unknown_pair tree.now.text.items tree.now.block side.Input p.variable p.term) (map pair_of operands.now) }
+{
     for operand in operands {
         let (variable, term) = (operand.variable, operand.term);
-        if let Some(at) = unknown(names, tree, Direction::Input, variable, term) {
+        if let Some(at) = unknown_pair(names, tree, Direction::Input, variable, term) {
             return Some(at);
         }
     }
     None
 }
 
-fn unknown_conclusion(names: &Names<'_>, tree: &Tree, rule: &Rule) -> Option<u32> {
-    let at = unknown_in(names, tree, &rule.first);
+fn unknown_conclusion(names: &Names<'_>, tree: &Tree, conclusion: &Conclusion) -> Option<u32>
+    requires { Knows tree.now names.now }
+    ensures { result ≡ unknown_pair tree.now.text.items tree.now.block side.Output conclusion.now.variable conclusion.now.term }
+{
+    let (variable, term) = (conclusion.variable, conclusion.term);
+    unknown_pair(names, tree, Direction::Output, variable, term)
+}
+
+fn unknown_conclusions(names: &Names<'_>, tree: &Tree, rule: &Rule) -> Option<u32>
+    requires { Knows tree.now names.now }
+    ensures { result ≡ first_of (λ (c : Conclusion). unknown_pair tree.now.text.items tree.now.block side.Output c.variable c.term) (conclusions_of rule.now) }
+{
+    let at = unknown_conclusion(names, tree, &rule.first);
     if at.is_some() {
         return at;
     }
     for conclusion in &rule.more {
-        if let Some(at) = unknown_in(names, tree, conclusion) {
+        if let Some(at) = unknown_conclusion(names, tree, conclusion) {
             return Some(at);
         }
     }
     None
 }
 
-fn unknown_in(names: &Names<'_>, tree: &Tree, conclusion: &Conclusion) -> Option<u32> {
-    let (variable, term) = (conclusion.variable, conclusion.term);
-    unknown(names, tree, Direction::Output, variable, term)
-}
-
 /// The first name of a rule that is unknown.
-pub fn unknown_name(names: &Names<'_>, tree: &Tree, rule: &RuleNames<'_>) -> Option<u32> {
+pub fn unknown_name(names: &Names<'_>, tree: &Tree, rule: &RuleNames<'_>) -> Option<u32>
+    requires { Knows tree.now names.now }
+    ensures { result ≡ unknown_in tree.now.text.items tree.now.block rule.now.rule.now }
+{
     match unknown_operand(names, tree, &rule.operands) {
         Some(at) => Some(at),
-        None => unknown_conclusion(names, tree, rule.rule),
+        None => unknown_conclusions(names, tree, rule.rule),
     }
 }
 
 /// The WITH of a weight below 0 or above 1.
-pub fn weight_outside(rule: &Rule) -> Option<u32> {
+pub fn weight_outside(rule: &Rule) -> Option<u32>
+    ensures { result ≡ weight_outside rule.now }
+{
     let weight = rule.weight?;
     let w = value(weight.num);
     if w.0 < 0 || 10_000 < w.0 {
@@ -131,9 +133,11 @@ pub fn weight_outside(rule: &Rule) -> Option<u32> {
 }
 
 // The name, where its variable is not of this direction.
-fn mistaken(names: &Names<'_>, tree: &Tree, side: Direction, name: Name) -> Option<u32> {
-    let variable = names.variable(tree.letters(name))?;
-    if variable.direction == side {
+fn mistaken(names: &Names<'_>, tree: &Tree, side: Direction, name: Name) -> Option<u32>
+    requires { Knows tree.now names.now }
+    ensures { result ≡ mistaken tree.now.text.items tree.now.block side name }
+{
+    if direction(names, tree, name)? == side {
         None
     } else {
         Some(name.at)
@@ -141,14 +145,20 @@ fn mistaken(names: &Names<'_>, tree: &Tree, side: Direction, name: Name) -> Opti
 }
 
 /// The name of a section of the wrong sort for its variable.
-pub fn mistaken_section(names: &Names<'_>, tree: &Tree, part: &Part) -> Option<u32> {
+pub fn mistaken_section(names: &Names<'_>, tree: &Tree, part: &Part) -> Option<u32>
+    requires { Knows tree.now names.now }
+    ensures { result ≡ mistaken_section tree.now.text.items tree.now.block part.now }
+{
     match part {
         Part::Fuzzify(section) => mistaken(names, tree, Direction::Input, section.name),
         Part::Defuzzify(section) => mistaken(names, tree, Direction::Output, section.name),
     }
 }
 
-fn mistaken_operand(names: &Names<'_>, tree: &Tree, operands: &[Operand]) -> Option<u32> {
+fn mistaken_operand(names: &Names<'_>, tree: &Tree, operands: &[Operand]) -> Option<u32>
+    requires { Knows tree.now names.now }
+    ensures { result ≡ first_of (λ (p : Pair). mistaken tree.now.text.items tree.now.block side.Input p.variable) (map pair_of operands.now) }
+{
     for operand in operands {
         if let Some(at) = mistaken(names, tree, Direction::Input, operand.variable) {
             return Some(at);
@@ -157,7 +167,10 @@ fn mistaken_operand(names: &Names<'_>, tree: &Tree, operands: &[Operand]) -> Opt
     None
 }
 
-fn mistaken_conclusion(names: &Names<'_>, tree: &Tree, rule: &Rule) -> Option<u32> {
+fn mistaken_conclusion(names: &Names<'_>, tree: &Tree, rule: &Rule) -> Option<u32>
+    requires { Knows tree.now names.now }
+    ensures { result ≡ first_of (λ (c : Conclusion). mistaken tree.now.text.items tree.now.block side.Output c.variable) (conclusions_of rule.now) }
+{
     if let Some(at) = mistaken(names, tree, Direction::Output, rule.first.variable) {
         return Some(at);
     }
@@ -170,7 +183,10 @@ fn mistaken_conclusion(names: &Names<'_>, tree: &Tree, rule: &Rule) -> Option<u3
 }
 
 /// The first variable of a rule that stands on the wrong side.
-pub fn mistaken_name(names: &Names<'_>, tree: &Tree, rule: &RuleNames<'_>) -> Option<u32> {
+pub fn mistaken_name(names: &Names<'_>, tree: &Tree, rule: &RuleNames<'_>) -> Option<u32>
+    requires { Knows tree.now names.now }
+    ensures { result ≡ mistaken_in tree.now.text.items tree.now.block rule.now.rule.now }
+{
     match mistaken_operand(names, tree, &rule.operands) {
         Some(at) => Some(at),
         None => mistaken_conclusion(names, tree, rule.rule),

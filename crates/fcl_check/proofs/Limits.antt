@@ -1,0 +1,46 @@
+-- The first declared name behind as many of its direction as there may be.
+use Rattle.std.proofs.Common.{◌≡◌, ℕ, suc, zero, ◌+◌, ◌≤◌, ◌<◌, Bool, true, false, cond, List, [], ◌∷◌, length, Option, Some, None, refl, ap, sym, ◌∙◌, arith}
+use Rattle.std.specs.Prelude.{nat_le}
+use Rattle.std.specs.Option.{option_or}
+use Rattle.std.specs.List.{filter}
+use Rattle.std.proofs.lemmas.Bool.{lt-leb}
+use Rattle.fcl_syntax.specs.declared.tree.Direction.{Direction}
+use Rattle.fcl_syntax.specs.declared.tree.Direction.TheVariants.{Input, Output}
+use Rattle.fcl_syntax.specs.declared.tree.Name.{Name}
+use Rattle.fcl_check.specs.Faults.{is_over, most_of}
+use Rattle.fcl_check.specs.Names.{Declared, is_direction}
+use Rattle.fcl_check.specs.Places.{at_if, first_after}
+use Rattle.fcl_check.specs.Steps.{room_behind}
+use Rattle.fcl_check.specs.declared.passes.Room.{Room}
+
+-- the first place with no room left
+abbrev pub over_from : Room → List Declared → Option ℕ
+over_from r [] = None
+over_from r (d ∷ ds) = elim (room_behind r d.0) [ None ↦ Some d.1.at | Some left ↦ over_from left ds ]
+
+abbrev room : ℕ → ℕ → Room
+room i o = record { inputs = i; outputs = o }
+
+abbrev count : Direction → List Declared → ℕ
+count side before = length (filter (λ (e : Declared). is_direction side e.0) before)
+
+abbrev over_place : List Declared → Declared → Option ℕ
+over_place before d = at_if (is_over before d) d.1.at
+
+over_is : (i o : ℕ) (before ds : List Declared) → i + count Input before ≡ 8 → o + count Output before ≡ 4 → over_from (room i o) ds ≡ first_after over_place before ds
+over_is i o before [] hi ho = refl
+over_is zero o before ((Input, n) ∷ ds) hi ho =
+    let e : count Input before ≡ 8 = omega arith in
+    rw e refl
+over_is (suc i) o before ((Input, n) ∷ ds) hi ho =
+    let e : nat_le 8 (count Input before) ≡ false = lt-leb 8 (count Input before) (omega arith) in
+    rw e (over_is i o ((Input, n) ∷ before) ds (omega arith) ho)
+over_is i zero before ((Output, n) ∷ ds) hi ho =
+    let e : count Output before ≡ 4 = omega arith in
+    rw e refl
+over_is i (suc o) before ((Output, n) ∷ ds) hi ho =
+    let e : nat_le 4 (count Output before) ≡ false = lt-leb 4 (count Output before) (omega arith) in
+    rw e (over_is i o ((Output, n) ∷ before) ds hi (omega arith))
+
+pub over_first : (ds : List Declared) → first_after (λ (before : List Declared) (d : Declared). at_if (is_over before d) d.1.at) [] ds ≡ over_from (room 8 4) ds
+over_first ds = sym (over_is 8 4 [] ds refl refl)

@@ -1,0 +1,11 @@
+use Rattle.std.proofs.Common.{[], ◌∷◌, take, refl, arith}
+use Rattle.fcl_check.proofs.CornerSteps.{AreCornersOf-more}
+use Rattle.fcl_check.proofs.inputs.trapezoid.Goals as goal
+
+pub loop-point-init : goal.loop-point-init
+loop-point-init c = c.with-corners.ensures [] (record { a = refl; b = refl; c = refl; d = refl })
+
+pub loop-point-preserved : goal.loop-point-preserved
+loop-point-preserved c =
+    let points = c.args.term.now.more.items in
+    AreCornersOf-more c.args.term.now.first points c.deref-point-items.result.now c.loop-point.point-index _ _ c.deref-point-items.ensures.value (omega arith) (c.with-corners-in-loop-point.ensures (c.args.term.now.first ∷ take c.loop-point.point-index points) c.loop-point.invariant)

@@ -1,0 +1,11 @@
+use Rattle.std.proofs.Common.{◌≡◌, drop, map}
+use Rattle.std.specs.Prelude.{option_map}
+use Rattle.std.specs.List.{filter_map, flat_map}
+use Rattle.fcl_check.specs.Building.{ends_in}
+use Rattle.fcl_check.specs.Names.{term_of}
+use Rattle.fcl_check.specs.Sections.{abscissas, hull_of, points_of, x_of}
+use Rattle.fcl_check.specs.Steps.{extended}
+use Rattle.fcl_check.proofs.sections.hull.Given as goal
+
+abbrev pub invariant-loop-line : goal.invariant-loop-line
+invariant-loop-line l = extended (option_map ends_in l.hull) (map x_of (flat_map points_of (filter_map term_of (drop l.line-index l.section.lines.items)))) ≡ hull_of (abscissas l.section)
