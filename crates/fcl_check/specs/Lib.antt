@@ -6,3 +6,4 @@ pub mod Faults
 pub mod Loaded
 pub mod Known
 pub mod Corners
+pub mod Courses
