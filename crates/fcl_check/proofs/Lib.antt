@@ -14,3 +14,6 @@ pub mod Scales
 pub mod Naming
 pub mod Lines
 pub mod OutputLines
+pub mod Standing
+pub mod Heights
+pub mod CourseSteps

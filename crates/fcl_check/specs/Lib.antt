@@ -9,3 +9,4 @@ pub mod Known
 pub mod Texts
 pub mod Steps
 pub mod Corners
+pub mod Courses

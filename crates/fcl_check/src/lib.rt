@@ -9,6 +9,7 @@ mod block;
 mod conditions;
 mod fault;
 mod inputs;
+mod laws;
 mod loading;
 mod names;
 mod numbers;
@@ -19,6 +20,7 @@ mod rules;
 mod sections;
 
 pub use fault::LoadFault;
+pub use laws::course_law;
 pub use loading::load;
 
 #[cfg(test)]
