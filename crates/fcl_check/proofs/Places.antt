@@ -1,9 +1,8 @@
 -- The first of the lines of a sort.
-use Rattle.std.proofs.Common.{◌≡◌, Bool, List, [], ◌∷◌, ◌++◌, Option, Some, None, refl, ap, sym, ◌∙◌}
-use Rattle.std.specs.Prelude.{ℕ, is_some, ◌||◌}
-use Rattle.std.specs.Option.{option_or}
+use Rattle.std.proofs.Common.{◌≡◌, Bool, List, [], ◌∷◌, Option, Some, None, refl}
+use Rattle.std.specs.Prelude.{is_some, ◌||◌}
 use Rattle.std.specs.List.{list_any, filter_map, cons_option}
-use Rattle.fcl_check.specs.Places.{first, first_of}
+use Rattle.fcl_check.specs.Places.{first}
 
 found_first : {X Y : Type 0} (h : X → Option Y) (xs : List X) (rest : Bool) (o : Option Y) → rest ≡ is_some (first (filter_map h xs)) → (is_some o || rest) ≡ is_some (first (cons_option o (filter_map h xs)))
 found_first h xs rest None e = e

@@ -172,7 +172,7 @@ pub fn term_outside(parts: &[Part]) -> Option<u32>
     None
 }
 
-/// A range that is empty.
+/// A range that is empty, or points that are all one.
 pub fn bad_ranges(names: &Names<'_>, tree: &Tree) -> Option<u32>
     requires { Knows tree.now names.now }
     ensures { result ≡ first_of (bad_range (is_declared_as tree.now.text.items tree.now.block side.Input)) tree.now.block.parts.items }
@@ -197,7 +197,7 @@ pub fn singletons_outside(parts: &[Part]) -> Option<u32>
     None
 }
 
-/// A weight that is none.
+/// A weight below 0 or above 1.
 pub fn weights_outside(rules: &[Rule]) -> Option<u32>
     ensures { result ≡ first_of weight_outside rules.now }
 {
