@@ -4,3 +4,5 @@ pub mod LetterMaps
 pub mod VariableNames
 pub mod TermNames
 pub mod SectionNames
+pub mod ConditionTrees
+pub mod OneByOne
