@@ -2,8 +2,12 @@
 
 ghost use Rattle.std.specs.Prelude.{◌≤◌, All, IfOk, IfSome, IsTrue, length, ◌≤ℤ◌};
 ghost use Rattle.fuzzy_meaning.specs.Blocks.{IsValidInput, IsValidTerm};
+ghost use Rattle.std.specs.List.{AllZip};
+ghost use Rattle.fcl_syntax.specs.declared.tree.Direction.TheVariants as side;
+ghost use Rattle.fcl_check.specs.Known.{Knows};
+ghost use Rattle.fcl_check.specs.Loaded.{IsInputNamed};
+ghost use Rattle.fcl_check.specs.Names.{declared_as};
 
-use crate::fault::LoadFault;
 use crate::names::Names;
 use crate::numbers::{Span, is_one, value};
 use crate::sections::{TERMS, fuzzy_range, hull};
@@ -11,7 +15,7 @@ use fcl_syntax::{Direction, Fuzzify, FuzzyLine, Name, Part, Point, Term, Tree};
 use fuzzy_meaning::{Input, Trapezoid};
 use fz_list::List;
 use fz_num::Dec;
-use std::alloc::Global;
+use std::alloc::{AllocError, Global};
 
 /// How many inputs a block may have.
 pub const INPUTS: usize = 8;
@@ -93,17 +97,17 @@ fn fits(span: Span, term: &Trapezoid) -> bool
         && falls(span, term)
 }
 
-fn terms(alloc: Global, section: &Fuzzify, span: Span) -> Result<Vec<Trapezoid>, LoadFault>
+fn terms(alloc: Global, section: &Fuzzify, span: Span) -> Result<Vec<Trapezoid>, AllocError>
     ensures { IfOk result (λ v. All (IsValidTerm span.lo span.hi) v.items) }
 {
     let mut terms = Vec::new(alloc);
     'each: for line in &section.lines {
         if let FuzzyLine::Term(term) = line {
             let Some(shape) = trapezoid(term) else {
-                return Err(LoadFault::TermShape(term.at));
+                return Err(AllocError);
             };
             if !fits(span, &shape) {
-                return Err(LoadFault::TermOutside(term.first.open_at));
+                return Err(AllocError);
             }
             terms.push(shape)?;
         }
@@ -111,26 +115,26 @@ fn terms(alloc: Global, section: &Fuzzify, span: Span) -> Result<Vec<Trapezoid>,
     Ok(terms)
 }
 
-fn input(alloc: Global, section: &Fuzzify) -> Result<Input, LoadFault>
+fn input(alloc: Global, section: &Fuzzify) -> Result<Input, AllocError>
     ensures { IfOk result IsValidInput }
 {
     let span = match fuzzy_range(section) {
         Some(range) => Span::of(range),
         None => match hull(section) {
             Some(span) => span,
-            None => return Err(LoadFault::NoTerms(section.end)),
+            None => return Err(AllocError),
         },
     };
     let span = span.in_scale();
     if span.is_empty() {
-        return Err(LoadFault::BadRange(section.name.at));
+        return Err(AllocError);
     }
     let terms = terms(alloc, section, span)?;
     if terms.is_empty() {
-        return Err(LoadFault::NoTerms(section.end));
+        return Err(AllocError);
     }
     if terms.len() > TERMS {
-        return Err(LoadFault::TooMany(section.name.at));
+        return Err(AllocError);
     }
     Ok(Input {
         lo: span.lo,
@@ -148,23 +152,29 @@ fn section_of<'a>(tree: &'a Tree, names: &Names<'a>, name: Name) -> Option<&'a F
 }
 
 /// The inputs in the order of their declaration.
-pub fn inputs<'a>(alloc: Global, tree: &'a Tree, names: &Names<'a>) -> Result<Vec<Input>, LoadFault>
-    ensures { IfOk result (λ v. (1 ≤ length v.items) × ((length v.items ≤ 8) × All IsValidInput v.items)) }
+pub fn inputs<'a>(
+    alloc: Global,
+    tree: &'a Tree,
+    names: &Names<'a>,
+) -> Result<Vec<Input>, AllocError>
+    requires { Knows tree.now names.now }
+    ensures same { IfOk result (λ v. AllZip (IsInputNamed tree.now.text.items tree.now.block) (declared_as side.Input tree.now.block) v.items) }
+    ensures valid { IfOk result (λ v. (1 ≤ length v.items) × ((length v.items ≤ 8) × All IsValidInput v.items)) }
 {
     let mut inputs = Vec::new(alloc);
     'each: for (direction, name) in &names.declared {
         if *direction == Direction::Input {
             let Some(section) = section_of(tree, names, *name) else {
-                return Err(LoadFault::MissingPart(name.at));
+                return Err(AllocError);
             };
             inputs.push(input(alloc, section)?)?;
         }
     }
     if inputs.is_empty() {
-        return Err(LoadFault::MissingPart(tree.block.end));
+        return Err(AllocError);
     }
     if inputs.len() > INPUTS {
-        return Err(LoadFault::TooMany(tree.block.name.at));
+        return Err(AllocError);
     }
     Ok(inputs)
 }

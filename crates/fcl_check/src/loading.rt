@@ -158,5 +158,5 @@ pub fn load(alloc: Global, tree: &Tree) -> Result<Block, LoadFault>
     check_weights(tree)?;
     check_sides(&names, tree, &rules)?;
     check_parts(&names, tree)?;
-    block(alloc, tree, &names)
+    Ok(block(alloc, tree, &names)?)
 }

@@ -2,8 +2,12 @@
 
 ghost use Rattle.std.specs.Prelude.{◌≤◌, All, IfOk, IfSome, length};
 ghost use Rattle.fuzzy_meaning.specs.Blocks.{IsValidOutput, IsWithin};
+ghost use Rattle.std.specs.List.{AllZip};
+ghost use Rattle.fcl_syntax.specs.declared.tree.Direction.TheVariants as side;
+ghost use Rattle.fcl_check.specs.Known.{Knows};
+ghost use Rattle.fcl_check.specs.Loaded.{IsOutputNamed};
+ghost use Rattle.fcl_check.specs.Names.{declared_as};
 
-use crate::fault::LoadFault;
 use crate::names::Names;
 use crate::numbers::{Span, value};
 use crate::sections::{TERMS, defuzzy_range};
@@ -11,7 +15,7 @@ use fcl_syntax::{Defuzzify, DefuzzyLine, Direction, Fallback, FallbackValue, Nam
 use fuzzy_meaning::Output;
 use fz_list::List;
 use fz_num::Dec;
-use std::alloc::Global;
+use std::alloc::{AllocError, Global};
 
 /// How many outputs a block may have.
 pub const OUTPUTS: usize = 4;
@@ -63,7 +67,7 @@ fn hull(section: &Defuzzify) -> Option<Span> {
     hull
 }
 
-fn singletons(alloc: Global, section: &Defuzzify, span: Span) -> Result<Vec<Dec>, LoadFault>
+fn singletons(alloc: Global, section: &Defuzzify, span: Span) -> Result<Vec<Dec>, AllocError>
     ensures { IfOk result (λ v. All (IsWithin span.lo span.hi) v.items) }
 {
     let mut singletons = Vec::new(alloc);
@@ -71,7 +75,7 @@ fn singletons(alloc: Global, section: &Defuzzify, span: Span) -> Result<Vec<Dec>
         if let DefuzzyLine::Singleton(singleton) = line {
             let x = value(singleton.value);
             if !span.holds(x) {
-                return Err(LoadFault::SingletonOutside(singleton.at));
+                return Err(AllocError);
             }
             singletons.push(x)?;
         }
@@ -80,45 +84,45 @@ fn singletons(alloc: Global, section: &Defuzzify, span: Span) -> Result<Vec<Dec>
 }
 
 // The number of DEFAULT, none for NC.
-fn default(section: &Defuzzify, span: Span) -> Result<Option<Dec>, LoadFault>
+fn default(section: &Defuzzify, span: Span) -> Result<Option<Dec>, AllocError>
     ensures { IfOk result (λ d. IfSome d (IsWithin span.lo span.hi)) }
 {
     let Some(fallback) = fallback(section) else {
-        return Err(LoadFault::MissingPart(section.end));
+        return Err(AllocError);
     };
     match fallback.value {
         FallbackValue::Nc(_) => Ok(None),
         FallbackValue::Number(num) => {
             let x = value(num);
             if !span.holds(x) {
-                return Err(LoadFault::SingletonOutside(fallback.at));
+                return Err(AllocError);
             }
             Ok(Some(x))
         }
     }
 }
 
-fn output(alloc: Global, section: &Defuzzify) -> Result<Output, LoadFault>
+fn output(alloc: Global, section: &Defuzzify) -> Result<Output, AllocError>
     ensures { IfOk result IsValidOutput }
 {
     let span = match defuzzy_range(section) {
         Some(range) => Span::of(range),
         None => match hull(section) {
             Some(span) => span,
-            None => return Err(LoadFault::NoTerms(section.end)),
+            None => return Err(AllocError),
         },
     };
     let span = span.widened();
     if span.is_empty() {
-        return Err(LoadFault::BadRange(section.name.at));
+        return Err(AllocError);
     }
     let singletons = singletons(alloc, section, span)?;
     let default = default(section, span)?;
     if singletons.is_empty() {
-        return Err(LoadFault::NoTerms(section.end));
+        return Err(AllocError);
     }
     if singletons.len() > TERMS {
-        return Err(LoadFault::TooMany(section.name.at));
+        return Err(AllocError);
     }
     Ok(Output {
         lo: span.lo,
@@ -141,23 +145,25 @@ pub fn outputs<'a>(
     alloc: Global,
     tree: &'a Tree,
     names: &Names<'a>,
-) -> Result<Vec<Output>, LoadFault>
-    ensures { IfOk result (λ v. (1 ≤ length v.items) × ((length v.items ≤ 4) × All IsValidOutput v.items)) }
+) -> Result<Vec<Output>, AllocError>
+    requires { Knows tree.now names.now }
+    ensures same { IfOk result (λ v. AllZip (IsOutputNamed tree.now.text.items tree.now.block) (declared_as side.Output tree.now.block) v.items) }
+    ensures valid { IfOk result (λ v. (1 ≤ length v.items) × ((length v.items ≤ 4) × All IsValidOutput v.items)) }
 {
     let mut outputs = Vec::new(alloc);
     'each: for (direction, name) in &names.declared {
         if *direction == Direction::Output {
             let Some(section) = section_of(tree, names, *name) else {
-                return Err(LoadFault::MissingPart(name.at));
+                return Err(AllocError);
             };
             outputs.push(output(alloc, section)?)?;
         }
     }
     if outputs.is_empty() {
-        return Err(LoadFault::MissingPart(tree.block.end));
+        return Err(AllocError);
     }
     if outputs.len() > OUTPUTS {
-        return Err(LoadFault::TooMany(tree.block.name.at));
+        return Err(AllocError);
     }
     Ok(outputs)
 }
