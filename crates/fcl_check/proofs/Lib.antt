@@ -17,3 +17,5 @@ pub mod OutputLines
 pub mod Standing
 pub mod Heights
 pub mod CourseSteps
+pub mod ConditionTrees
+pub mod OneByOne

@@ -10,6 +10,7 @@ use Rattle.fcl_syntax.specs.declared.tree.DefuzzyLine.{DefuzzyLine}
 use Rattle.fcl_syntax.specs.declared.tree.DefuzzyLine.TheVariants as defuzzy
 use Rattle.fcl_syntax.specs.declared.tree.Direction.{Direction}
 use Rattle.fcl_syntax.specs.declared.tree.Direction.TheVariants.{Input, Output}
+use Rattle.fcl_syntax.specs.declared.tree.FunctionBlock.{FunctionBlock}
 use Rattle.fcl_syntax.specs.declared.tree.FuzzyLine.{FuzzyLine}
 use Rattle.fcl_syntax.specs.declared.tree.FuzzyLine.TheVariants as fuzzy
 use Rattle.fcl_syntax.specs.declared.tree.Name.{Name}
@@ -21,7 +22,7 @@ use Rattle.fcl_check.specs.declared.names.Section.{Section}
 use Rattle.fcl_check.specs.declared.names.Variable.{Variable}
 use Rattle.fcl_check.specs.Known.{names_in}
 use Rattle.fcl_check.specs.Loaded.{or_zero}
-use Rattle.fcl_check.specs.Names.{Declared, is_direction, is_named, number_in, section_name, term_of, singleton_of}
+use Rattle.fcl_check.specs.Names.{Declared, is_direction, is_named, number_in, section_name, term_of, singleton_of, letters, term_number, variable_number}
 
 -- the value at some letters
 abbrev pub at_letters : {X : Type 0} → BTreeMap (Bor (List ℕ)) X → List ℕ → Option X
@@ -70,3 +71,7 @@ same_kind _ _ = false
 pub record HoldsSections (text : List ℕ) (ps : List Part) (sections : BTreeMap (Bor (List ℕ)) Section) : Type 0 where
   pub parts : (ls : List ℕ) → option_map (λ (s : Section). s.part.now) (at_letters sections ls) ≡ find (λ p. is_named text ls (section_name p)) ps
   pub terms : (ls : List ℕ) → IfSome (at_letters sections ls) (λ (s : Section). (ts : List ℕ) → at_letters s.terms ts ≡ number_in text (names_in s.part.now) ts)
+
+-- the numbers of a variable and of a term of it on one side
+abbrev pub numbers_of : List ℕ → FunctionBlock → Direction → Name → Name → ℕ × ℕ
+numbers_of text b side v t = (or_zero (variable_number text b side (letters text v)), or_zero (term_number text b side (letters text v) (letters text t)))

@@ -1,13 +1,18 @@
-//! Conditions of a block from those of a tree.
+//! Conditions of a block from those of a tree without load faults.
 
 ghost use Rattle.std.specs.Prelude.{◌≡◌, ◌+◌, ◌*◌, IfOk, IfSome};
+ghost use Rattle.fuzzy_meaning.specs.Conditions.{negation, condition_of};
+ghost use Rattle.fcl_syntax.specs.View.{view_not, view_and, view_or};
 ghost use Rattle.fcl_check.specs.Building.{HasTermIn, FitsInputs};
+ghost use Rattle.fcl_check.specs.ByLetters.{numbers_of};
+ghost use Rattle.fcl_check.specs.Known.{Knows};
+ghost use Rattle.fcl_check.specs.Loaded.{literal_of, negated, not_condition, and_condition, or_condition};
+ghost use Rattle.fcl_syntax.specs.declared.tree.Direction.TheVariants.{Input as InputSide};
 
-use crate::fault::LoadFault;
 use crate::names::Names;
 use fcl_syntax::{And, Direction, Not, Operand, Or, Tree};
 use fuzzy_meaning::{Cond, Input};
-use std::alloc::Global;
+use std::alloc::{AllocError, Global};
 
 /// How many "(" and NOT may be open at once.
 pub const ROOM: u8 = 64;
@@ -23,7 +28,8 @@ pub struct Source<'a, 'n, 'i> {
 
 // The numbers of an input and of a term of it, where they are there.
 fn place(inputs: &[Input], input: usize, term: usize) -> Option<(u8, u8)>
-    ensures { IfSome result (λ p. HasTermIn inputs.now p.0 p.1) }
+    ensures within { IfSome result (λ p. HasTermIn inputs.now p.0 p.1) }
+    ensures same { IfSome result (λ p. p ≡ (input, term)) }
 {
     if input == 0 || term == 0 || input > 255 || term > 255 {
         return None;
@@ -35,25 +41,31 @@ fn place(inputs: &[Input], input: usize, term: usize) -> Option<(u8, u8)>
     None
 }
 
-fn found(source: &Source<'_, '_, '_>, operand: &Operand) -> Result<(u8, u8), LoadFault>
-    ensures { IfOk result (λ p. HasTermIn source.now.inputs.now p.0 p.1) }
+// The numbers of the names of an operand, which are there where the tree has no fault.
+fn found(source: &Source<'_, '_, '_>, operand: &Operand) -> Result<(u8, u8), AllocError>
+    requires { Knows source.now.tree.now source.now.names.now }
+    ensures within { IfOk result (λ p. HasTermIn source.now.inputs.now p.0 p.1) }
+    ensures same { IfOk result (λ p. p ≡ numbers_of source.now.tree.now.text.items source.now.tree.now.block InputSide operand.now.variable operand.now.term) }
 {
-    let letters = source.tree.letters(operand.variable);
-    let Some(variable) = source.names.variable(letters) else {
-        return Err(LoadFault::Unknown(operand.variable.at));
+    let numbers = source.names.numbers(
+        source.tree,
+        Direction::Input,
+        operand.variable,
+        operand.term,
+    );
+    let Some((input, term)) = numbers else {
+        return Err(AllocError);
     };
-    let name = source.tree.letters(operand.term);
-    let Some(term) = source.names.term(Direction::Input, letters, name) else {
-        return Err(LoadFault::Unknown(operand.term.at));
-    };
-    match place(source.inputs, variable.number, term) {
+    match place(source.inputs, input, term) {
         Some(place) => Ok(place),
-        None => Err(LoadFault::WrongSide(operand.variable.at)),
+        None => Err(AllocError),
     }
 }
 
-fn literal(source: &Source<'_, '_, '_>, operand: &Operand) -> Result<(Cond, u32), LoadFault>
-    ensures { IfOk result (λ r. FitsInputs source.now.inputs.now 2 r.1 r.0) }
+fn literal(source: &Source<'_, '_, '_>, operand: &Operand) -> Result<(Cond, u32), AllocError>
+    requires { Knows source.now.tree.now source.now.names.now }
+    ensures fits { IfOk result (λ r. FitsInputs source.now.inputs.now 2 r.1 r.0) }
+    ensures same { IfOk result (λ r. condition_of r.0 ≡ negated operand.now.not_at (literal_of source.now.tree.now.text.items source.now.tree.now.block operand.now.variable operand.now.term)) }
 {
     let (input, term) = found(source, operand)?;
     let is = Cond::Is(input, term);
@@ -65,29 +77,31 @@ fn literal(source: &Source<'_, '_, '_>, operand: &Operand) -> Result<(Cond, u32)
 }
 
 // One less may be open. A tree that was read has never more open.
-fn less(room: u8) -> Result<u8, LoadFault>
+fn less(room: u8) -> Result<u8, AllocError>
     ensures { IfOk result (λ n. n + 1 ≡ room) }
 {
     if room == 0 {
-        return Err(LoadFault::Memory);
+        return Err(AllocError);
     }
     Ok(room - 1)
 }
 
-/// The sum of two sizes.
-pub fn sum(a: u32, b: u32) -> Result<u32, LoadFault>
+/// The sum of two sizes. A text that can be read has none that overflows.
+pub fn sum(a: u32, b: u32) -> Result<u32, AllocError>
     ensures { IfOk result (λ n. n ≡ a + b) }
 {
     match a.checked_add(b) {
         Some(n) => Ok(n),
-        None => Err(LoadFault::Memory),
+        None => Err(AllocError),
     }
 }
 
 // A condition, and how many conditions it has in it.
 #[cycle(condition)]
-fn not(source: &Source<'_, '_, '_>, not: &Not, room: u8) -> Result<(Cond, u32), LoadFault>
-    ensures { IfOk result (λ r. FitsInputs source.now.inputs.now (2 * room + 2) r.1 r.0) }
+fn not(source: &Source<'_, '_, '_>, not: &Not, room: u8) -> Result<(Cond, u32), AllocError>
+    requires { Knows source.now.tree.now source.now.names.now }
+    ensures fits { IfOk result (λ r. FitsInputs source.now.inputs.now (2 * room + 2) r.1 r.0) }
+    ensures same { IfOk result (λ r. condition_of r.0 ≡ not_condition (literal_of source.now.tree.now.text.items source.now.tree.now.block) (view_not not.now)) }
 {
     match not {
         Not::Is(operand) => literal(source, operand),
@@ -97,8 +111,10 @@ fn not(source: &Source<'_, '_, '_>, not: &Not, room: u8) -> Result<(Cond, u32), 
 }
 
 #[cycle(condition)]
-fn negated(source: &Source<'_, '_, '_>, part: &Not, room: u8) -> Result<(Cond, u32), LoadFault>
-    ensures { IfOk result (λ r. FitsInputs source.now.inputs.now (2 * room + 3) r.1 r.0) }
+fn negated(source: &Source<'_, '_, '_>, part: &Not, room: u8) -> Result<(Cond, u32), AllocError>
+    requires { Knows source.now.tree.now source.now.names.now }
+    ensures fits { IfOk result (λ r. FitsInputs source.now.inputs.now (2 * room + 3) r.1 r.0) }
+    ensures same { IfOk result (λ r. condition_of r.0 ≡ negation (not_condition (literal_of source.now.tree.now.text.items source.now.tree.now.block) (view_not part.now))) }
 {
     let (part, size) = not(source, part, room)?;
     let size = sum(size, 1)?;
@@ -107,8 +123,10 @@ fn negated(source: &Source<'_, '_, '_>, part: &Not, room: u8) -> Result<(Cond, u
 }
 
 #[cycle(condition)]
-fn and(source: &Source<'_, '_, '_>, and: &And, room: u8) -> Result<(Cond, u32), LoadFault>
-    ensures { IfOk result (λ r. FitsInputs source.now.inputs.now (2 * room + 3) r.1 r.0) }
+fn and(source: &Source<'_, '_, '_>, and: &And, room: u8) -> Result<(Cond, u32), AllocError>
+    requires { Knows source.now.tree.now source.now.names.now }
+    ensures fits { IfOk result (λ r. FitsInputs source.now.inputs.now (2 * room + 3) r.1 r.0) }
+    ensures same { IfOk result (λ r. condition_of r.0 ≡ and_condition (literal_of source.now.tree.now.text.items source.now.tree.now.block) (view_and and.now)) }
 {
     let (first, size) = not(source, &and.first, room)?;
     if and.more.is_empty() {
@@ -128,8 +146,10 @@ fn and(source: &Source<'_, '_, '_>, and: &And, room: u8) -> Result<(Cond, u32), 
 
 /// A condition, and how many conditions it has in it.
 #[cycle(condition)]
-pub fn or(source: &Source<'_, '_, '_>, or: &Or, room: u8) -> Result<(Cond, u32), LoadFault>
-    ensures { IfOk result (λ r. FitsInputs source.now.inputs.now (2 * room + 4) r.1 r.0) }
+pub fn or(source: &Source<'_, '_, '_>, or: &Or, room: u8) -> Result<(Cond, u32), AllocError>
+    requires { Knows source.now.tree.now source.now.names.now }
+    ensures fits { IfOk result (λ r. FitsInputs source.now.inputs.now (2 * room + 4) r.1 r.0) }
+    ensures same { IfOk result (λ r. condition_of r.0 ≡ or_condition (literal_of source.now.tree.now.text.items source.now.tree.now.block) (view_or or.now)) }
 {
     let (first, size) = and(source, &or.first, room)?;
     if or.more.is_empty() {

@@ -1,30 +1,103 @@
-use Rattle.std.proofs.Common.{◌≡◌, ◌+◌, ◌*◌, [], ◌∷◌, map, rules, arith, refl, length-append}
+use Rattle.std.proofs.Common.{◌≡◌, ℕ, ◌+◌, ◌*◌, ◌≤◌, [], ◌∷◌, length, map, take, rules, arith, refl, ap, sym, ◌∙◌, length-append}
+use Rattle.std.proofs.lemmas.Bool.{eqb-true, eqb-false}
+use Rattle.std.proofs.lemmas.List.{take_all}
 use Rattle.fuzzy_meaning.specs.declared.block.Cond.{the_lemmas}
 use Rattle.fuzzy_meaning.specs.declared.block.Cond.TheVariants as cond
+use Rattle.fcl_syntax.specs.Grammar.{TNot, TAnd, and_of, or_of}
+use Rattle.fcl_syntax.specs.View.{view_not, view_and, view_or, view_conjunct, view_alternative, nots_of, ands_of}
+use Rattle.fcl_syntax.specs.declared.tree.Alternative.{out-Alternative}
+use Rattle.fcl_syntax.specs.declared.tree.And.{out-And}
+use Rattle.fcl_syntax.specs.declared.tree.Or.{out-Or}
+use Rattle.fcl_syntax.specs.declared.tree.Not.{the_lemmas as tree_lemmas}
+use Rattle.fcl_check.specs.Loaded.{literal_of, not_condition, and_condition}
+use Rattle.fcl_check.proofs.FirstPlaces.{one_further}
+use Rattle.fcl_check.proofs.ConditionTrees.{all_together, all_alone, any_together, any_alone, parts_more}
 use Rattle.fuzzy_meaning.specs.Conditions.{all, any, conditions, condition_of}
-use Rattle.fcl_check.proofs.Fitting.{fit_more, fit_all, fit_any, fit_wider}
+use Rattle.fcl_check.proofs.Fitting.{fit_one, fit_more, fit_all, fit_any, fit_wider}
 use Rattle.fcl_check.proofs.conditions.+condition.Goals as goal
 
-pub and-each-preserved : goal.and-each-preserved
-and-each-preserved t c = record {
-  fit = rw (c.in_ok-total.ensures, c.in_ok-push-2.ensures.items) (fit_more _ (2 * c.args.room + 2) c.each.total c.in_ok-part.size c.each.parts.items c.in_ok-part.part c.each.invariant.fit c.in_ok-part.ensures);
-  some = rw c.in_ok-push-2.ensures.items (omega (arith, length-append c.each.parts.items (c.in_ok-part.part ∷ [])));
+pub and-returns-then-is_empty-clause-same : goal.and-returns-then-is_empty-clause-same
+and-returns-then-is_empty-clause-same t c =
+    let node = out-And c.args.and.now in
+    let none : length node.more.items ≡ 0 = omega (arith, node.more.ok.0, eqb-true _ _ (sym c.is_empty.ensures ∙ c.if-is_empty.true)) in
+    let view : view_and c.args.and.now ≡ and_of (view_not node.first) (nots_of (map view_conjunct node.more.items)) = search (rules, tree_lemmas) in
+    rw view (all_alone (literal_of c.args.source.now.tree.now.text.items c.args.source.now.tree.now.block) view_conjunct (view_not node.first) node.more.items c.in_ok-first.first none c.in_ok-first.ensures.same)
+
+pub and-each-init : goal.and-each-init
+and-each-init t c = record {
+  fit = rw (c.in_ok-push.ensures.items, c.new-parts.ensures.items) (fit_one _ (2 * c.args.room + 2) c.in_ok-first.size c.in_ok-first.first c.in_ok-first.ensures.fits);
+  some = rw (c.in_ok-push.ensures.items, c.new-parts.ensures.items) (omega arith);
+  same = rw (c.in_ok-push.ensures.items, c.new-parts.ensures.items, c.in_ok-first.ensures.same) refl;
 }
 
-pub and-returns : goal.and-returns
-and-returns t c =
+pub and-each-preserved : goal.and-each-preserved
+and-each-preserved t c =
+    let node = out-And c.args.and.now in
+    let value = c.deref-conjunct-items.ensures.value in
+    let x = c.conjunct-item.result in
+    let more = one_further node.more.items c.each.conjunct-index x x (rw value at c.each-test.true) (rw value at c.conjunct-item.is) refl in
+    let view : view_conjunct x ≡ (x.at, view_not x.not) = search (rules, tree_lemmas) in
+    let same = c.in_ok-part.ensures.same ∙ ap (λ (u : ℕ × TNot). not_condition (literal_of c.args.source.now.tree.now.text.items c.args.source.now.tree.now.block) u.1) (sym view) in
+    record {
+      fit = rw (c.in_ok-total.ensures, c.in_ok-push-2.ensures.items) (fit_more _ (2 * c.args.room + 2) c.each.total c.in_ok-part.size c.each.parts.items c.in_ok-part.part c.each.invariant.fit c.in_ok-part.ensures.fits);
+      some = rw c.in_ok-push-2.ensures.items (omega (arith, length-append c.each.parts.items (c.in_ok-part.part ∷ [])));
+      same = rw (c.in_ok-push-2.ensures.items, more) (parts_more _ _ (take c.each.conjunct-index node.more.items) x c.each.parts.items c.in_ok-part.part c.each.invariant.same same);
+    }
+
+pub and-returns-clause-fits : goal.and-returns-clause-fits
+and-returns-clause-fits t c =
     let same : condition_of (cond.And c.each.parts) ≡ all (conditions (map condition_of c.each.parts.items)) = search (rules, the_lemmas) in
     rw c.in_ok-total-2.ensures (fit_wider _ (2 * c.args.room + 2 + 1) (2 * c.args.room + 3) (c.each.total + 1) (c.each.total + 1) _ (omega arith) (omega arith)
     (fit_all _ (2 * c.args.room + 2) c.each.total c.each.parts.items (cond.And c.each.parts) same c.each.invariant.some c.each.invariant.fit))
 
-pub or-each-preserved : goal.or-each-preserved
-or-each-preserved t c = record {
-  fit = rw (c.in_ok-total.ensures, c.in_ok-push-2.ensures.items) (fit_more _ (2 * c.args.room + 3) c.each.total c.in_ok-part.size c.each.parts.items c.in_ok-part.part c.each.invariant.fit c.in_ok-part.ensures);
-  some = rw c.in_ok-push-2.ensures.items (omega (arith, length-append c.each.parts.items (c.in_ok-part.part ∷ [])));
+pub and-returns-clause-same : goal.and-returns-clause-same
+and-returns-clause-same t c =
+    let node = out-And c.args.and.now in
+    let some : 1 ≤ length node.more.items = omega (arith, node.more.ok.0, eqb-false _ _ (sym c.is_empty.ensures ∙ c.if-is_empty.false)) in
+    let whole : take c.each.conjunct-index node.more.items ≡ node.more.items = take_all c.each.conjunct-index node.more.items (rw c.deref-conjunct-items.ensures.value at c.each-test.false) in
+    let same : condition_of (cond.And c.each.parts) ≡ all (conditions (map condition_of c.each.parts.items)) = search (rules, the_lemmas) in
+    let view : view_and c.args.and.now ≡ and_of (view_not node.first) (nots_of (map view_conjunct node.more.items)) = search (rules, tree_lemmas) in
+    rw view (all_together (literal_of c.args.source.now.tree.now.text.items c.args.source.now.tree.now.block) view_conjunct (view_not node.first) node.more.items c.each.parts.items (cond.And c.each.parts) some same (rw whole at c.each.invariant.same))
+
+pub or-returns-then-is_empty-clause-same : goal.or-returns-then-is_empty-clause-same
+or-returns-then-is_empty-clause-same t c =
+    let node = out-Or c.args.or.now in
+    let none : length node.more.items ≡ 0 = omega (arith, node.more.ok.0, eqb-true _ _ (sym c.is_empty.ensures ∙ c.if-is_empty.true)) in
+    let view : view_or c.args.or.now ≡ or_of (view_and node.first) (ands_of (map view_alternative node.more.items)) = search (rules, tree_lemmas) in
+    rw view (any_alone (literal_of c.args.source.now.tree.now.text.items c.args.source.now.tree.now.block) view_alternative (view_and node.first) node.more.items c.in_ok-first.first none c.in_ok-first.ensures.same)
+
+pub or-each-init : goal.or-each-init
+or-each-init t c = record {
+  fit = rw (c.in_ok-push.ensures.items, c.new-parts.ensures.items) (fit_one _ (2 * c.args.room + 3) c.in_ok-first.size c.in_ok-first.first c.in_ok-first.ensures.fits);
+  some = rw (c.in_ok-push.ensures.items, c.new-parts.ensures.items) (omega arith);
+  same = rw (c.in_ok-push.ensures.items, c.new-parts.ensures.items, c.in_ok-first.ensures.same) refl;
 }
 
-pub or-returns : goal.or-returns
-or-returns t c =
+pub or-each-preserved : goal.or-each-preserved
+or-each-preserved t c =
+    let node = out-Or c.args.or.now in
+    let value = c.deref-alternative-items.ensures.value in
+    let x = c.alternative-item.result in
+    let more = one_further node.more.items c.each.alternative-index x x (rw value at c.each-test.true) (rw value at c.alternative-item.is) refl in
+    let view : view_alternative x ≡ ((out-Alternative x).at, view_and (out-Alternative x).and) = search (rules, tree_lemmas) in
+    let same = c.in_ok-part.ensures.same ∙ ap (λ (u : ℕ × TAnd). and_condition (literal_of c.args.source.now.tree.now.text.items c.args.source.now.tree.now.block) u.1) (sym view) in
+    record {
+      fit = rw (c.in_ok-total.ensures, c.in_ok-push-2.ensures.items) (fit_more _ (2 * c.args.room + 3) c.each.total c.in_ok-part.size c.each.parts.items c.in_ok-part.part c.each.invariant.fit c.in_ok-part.ensures.fits);
+      some = rw c.in_ok-push-2.ensures.items (omega (arith, length-append c.each.parts.items (c.in_ok-part.part ∷ [])));
+      same = rw (c.in_ok-push-2.ensures.items, more) (parts_more _ _ (take c.each.alternative-index node.more.items) x c.each.parts.items c.in_ok-part.part c.each.invariant.same same);
+    }
+
+pub or-returns-clause-fits : goal.or-returns-clause-fits
+or-returns-clause-fits t c =
     let same : condition_of (cond.Or c.each.parts) ≡ any (conditions (map condition_of c.each.parts.items)) = search (rules, the_lemmas) in
     rw c.in_ok-total-2.ensures (fit_wider _ (2 * c.args.room + 3 + 1) (2 * c.args.room + 4) (c.each.total + 1) (c.each.total + 1) _ (omega arith) (omega arith)
     (fit_any _ (2 * c.args.room + 3) c.each.total c.each.parts.items (cond.Or c.each.parts) same c.each.invariant.some c.each.invariant.fit))
+
+pub or-returns-clause-same : goal.or-returns-clause-same
+or-returns-clause-same t c =
+    let node = out-Or c.args.or.now in
+    let some : 1 ≤ length node.more.items = omega (arith, node.more.ok.0, eqb-false _ _ (sym c.is_empty.ensures ∙ c.if-is_empty.false)) in
+    let whole : take c.each.alternative-index node.more.items ≡ node.more.items = take_all c.each.alternative-index node.more.items (rw c.deref-alternative-items.ensures.value at c.each-test.false) in
+    let same : condition_of (cond.Or c.each.parts) ≡ any (conditions (map condition_of c.each.parts.items)) = search (rules, the_lemmas) in
+    let view : view_or c.args.or.now ≡ or_of (view_and node.first) (ands_of (map view_alternative node.more.items)) = search (rules, tree_lemmas) in
+    rw view (any_together (literal_of c.args.source.now.tree.now.text.items c.args.source.now.tree.now.block) view_alternative (view_and node.first) node.more.items c.each.parts.items (cond.Or c.each.parts) some same (rw whole at c.each.invariant.same))
