@@ -1,5 +1,5 @@
 -- The conditions of a tree as lists of their parts.
-use Rattle.std.proofs.Common.{◌≡◌, ℕ, ◌≤◌, List, [], ◌∷◌, ◌++◌, length, map, refl, ap, ◌∙◌, sym, arith}
+use Rattle.std.proofs.Common.{◌≡◌, ℕ, ◌≤◌, List, [], ◌∷◌, ◌++◌, length, map, refl, ap, arith}
 use Rattle.std.proofs.lemmas.List.{map-append}
 use Rattle.fuzzy_meaning.specs.declared.block.Cond.{Cond}
 use Rattle.fuzzy_meaning.specs.Conditions.{Condition, all, any, also, conditions, condition_of}

@@ -1,5 +1,5 @@
 -- Conditions over inputs, one by one and together.
-use Rattle.std.proofs.Common.{◌≡◌, ℕ, ◌+◌, ◌≤◌, List, [], ◌∷◌, ◌++◌, length, map, All, refl, arith}
+use Rattle.std.proofs.Common.{◌≡◌, ℕ, ◌+◌, ◌≤◌, List, [], ◌∷◌, ◌++◌, length, map, All, arith}
 use Rattle.std.specs.Prelude.{sum_by}
 use Rattle.fuzzy_meaning.specs.declared.block.Block.{Block}
 use Rattle.fuzzy_meaning.specs.declared.block.Cond.{Cond}
@@ -7,7 +7,7 @@ use Rattle.fuzzy_meaning.specs.declared.block.Input.{Input}
 use Rattle.fuzzy_meaning.specs.declared.block.Output.{Output}
 use Rattle.fuzzy_meaning.specs.declared.block.Rule.{Rule}
 use Rattle.fuzzy_meaning.specs.Blocks.{IsValid, IsValidInput, IsValidOutput, IsValidCondition, AreValidConditions, AllValidConditions, rule_size}
-use Rattle.fuzzy_meaning.specs.Conditions.{Condition, all, any, negation, Conditions, end, also, conditions, condition_of, depth, greatest_depth, nodes, total_nodes}
+use Rattle.fuzzy_meaning.specs.Conditions.{all, any, negation, conditions, condition_of, depth, greatest_depth, nodes, total_nodes}
 use Rattle.fcl_check.specs.Building.{block_of, FitsBlock, FitsInputs, AllFitInputs}
 
 AllValid-push : (b : Block) (cs : List Cond) (c : Cond) → AllValidConditions b (conditions (map condition_of cs)) → IsValidCondition b (condition_of c) → AllValidConditions b (conditions (map condition_of (cs ++ c ∷ [])))

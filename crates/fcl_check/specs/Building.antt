@@ -1,5 +1,5 @@
 -- What a part of a block keeps while the block is built.
-use Rattle.std.specs.Prelude.{◌≡◌, ℕ, ◌+◌, ◌≤◌, List, length, map, All}
+use Rattle.std.specs.Prelude.{ℕ, ◌≤◌, List, map, All}
 use Rattle.fuzzy_meaning.specs.declared.block.Block.{Block}
 use Rattle.fuzzy_meaning.specs.declared.block.Cond.{Cond}
 use Rattle.fuzzy_meaning.specs.declared.block.Input.{Input}
@@ -8,7 +8,7 @@ use Rattle.fuzzy_meaning.specs.declared.block.Rule.{Rule}
 use Rattle.fcl_check.specs.declared.numbers.Span.{Span}
 use Rattle.fcl_check.specs.Sections.{Ends}
 use Rattle.fuzzy_meaning.specs.Blocks.{HasTerm, HasSingleton, IsValidCondition, AllValidConditions, IsValidRule}
-use Rattle.fuzzy_meaning.specs.Conditions.{Conditions, conditions, condition_of, depth, greatest_depth, nodes, total_nodes}
+use Rattle.fuzzy_meaning.specs.Conditions.{conditions, condition_of, depth, greatest_depth, nodes, total_nodes}
 
 -- the low and the high end of a span
 abbrev pub ends_in : Span → Ends

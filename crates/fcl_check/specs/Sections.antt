@@ -1,8 +1,7 @@
 -- The numbers of a section, and the faults that one section has alone. All numbers are in 1/10000.
-use Rattle.std.specs.Prelude.{ℕ, Bool, true, false, not, ◌&&◌, ◌||◌, cond, List, [], ◌∷◌, map, Option, Some, None, option_map, option_and_then, is_none, slice_get, ℤ, pos, neg_ℤ, int_lt}
-use Rattle.std.specs.Option.{option_or}
+use Rattle.std.specs.Prelude.{ℕ, Bool, false, not, ◌&&◌, ◌||◌, List, [], ◌∷◌, map, Option, Some, None, option_map, option_and_then, is_none, slice_get, ℤ, pos, neg_ℤ, int_lt}
 use Rattle.std.specs.Int.{int_min, int_max}
-use Rattle.std.specs.List.{filter, filter_map, flat_map, list_all}
+use Rattle.std.specs.List.{filter_map, flat_map, list_all}
 use Rattle.fcl_syntax.specs.declared.token.Amount.{Amount}
 use Rattle.fcl_syntax.specs.declared.token.Amount.TheVariants as amount
 use Rattle.fcl_syntax.specs.declared.tree.Defuzzify.{Defuzzify}

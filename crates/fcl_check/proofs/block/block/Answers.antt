@@ -1,4 +1,3 @@
-use Rattle.std.proofs.Common.{refl}
 use Rattle.fcl_check.proofs.Fitting.{valid_block}
 use Rattle.fcl_check.proofs.block.block.Goals as goal
 

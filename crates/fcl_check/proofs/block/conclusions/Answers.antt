@@ -1,4 +1,4 @@
-use Rattle.std.proofs.Common.{ℕ, ◌≤◌, [], ◌∷◌, arith, refl, length-append}
+use Rattle.std.proofs.Common.{ℕ, [], ◌∷◌, arith, refl, length-append}
 use Rattle.std.proofs.lemmas.List.Elements.{All-push}
 use Rattle.fuzzy_meaning.specs.Blocks.{HasSingleton}
 use Rattle.fcl_check.specs.Building.{block_of}

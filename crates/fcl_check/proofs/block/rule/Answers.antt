@@ -1,4 +1,4 @@
-use Rattle.std.proofs.Common.{arith, refl, ap, length}
+use Rattle.std.proofs.Common.{arith}
 use Rattle.fcl_check.proofs.block.rule.Goals as goal
 
 pub returns-clause-fits : goal.returns-clause-fits

@@ -1,4 +1,4 @@
-use Rattle.std.proofs.Common.{◌≡◌, rules, arith, refl}
+use Rattle.std.proofs.Common.{◌≡◌, rules, arith}
 use Rattle.fuzzy_meaning.specs.declared.block.Cond.{the_lemmas}
 use Rattle.fuzzy_meaning.specs.declared.block.Cond.TheVariants as cond
 use Rattle.fuzzy_meaning.specs.Conditions.{is, negation, condition_of}

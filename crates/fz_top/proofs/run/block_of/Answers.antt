@@ -23,9 +23,12 @@ returns c =
     let no_memory : c.in-Err-load.fault ≢ load.Memory = search rules in
     record {
       block = tt;
-      fault = (no_memory, record {
-        tree = tree.block;
-        spelled = c.in-Ok.ensures.found;
-        first = subst (λ (ls : List ℕ). first_fault ls tree.block ≡ Some c.in-Err-load.fault) c.in-Ok.ensures.kept (c.in-Err-load.ensures.fault no_memory);
-      });
+      fault = (
+        no_memory,
+        record {
+          tree = tree.block;
+          spelled = c.in-Ok.ensures.found;
+          first = subst (λ (ls : List ℕ). first_fault ls tree.block ≡ Some c.in-Err-load.fault) c.in-Ok.ensures.kept (c.in-Err-load.ensures.fault no_memory);
+        },
+      );
     }
