@@ -1,8 +1,10 @@
 //! The program's call over a shelf and sinks in memory.
+ghost use Rattle.std.specs.Prelude.{◌≤◌};
+
 use fz_list::{List, Text};
 use fz_shelf::{MemFile, MemShelf, MemSink};
 use fz_top::fuzz12;
-use std::alloc::Global;
+use std::alloc::{AllocError, Global};
 use std::process::Abort;
 use std::test::Fail;
 
@@ -109,6 +111,24 @@ sample 4 bytes 128 answers 0 instructions 27
         "instructions 30\nsample 1 bytes 128 answers 0 instructions 27\n",
     ),
 ];
+
+const FULL_VARIABLES: &str = "FUNCTION_BLOCK full
+VAR_INPUT x1, x2, x3, x4, x5, x6, x7, x8 : REAL; END_VAR
+VAR_OUTPUT y1, y2, y3, y4 : REAL; END_VAR
+";
+
+const FULL_SAMPLES: &str = "112,240,240,240,240,240,240,240
+0,240,240,240,240,240,240,240
+240,16,16,16,16,16,16,16
+";
+
+// The bound is 13 + 8 + 120 + 3*120 + 60 + 10*2 + 9*2 + 1, and where nothing fires an output with a
+// number as its DEFAULT takes 2 instructions less, and one with NC 3.
+const FULL_LINES: &str = "instructions 600
+sample 1 bytes 112 240 240 240 240 240 240 240 answers 119 136 103 112 instructions 600
+sample 2 bytes 0 240 240 240 240 240 240 240 answers 3 4 103 112 instructions 590
+sample 3 bytes 240 16 16 16 16 16 16 16 answers 255 0 239 240 instructions 600
+";
 
 // The parts of a text that is refused, and the line on err.
 const REFUSED: [(&[&str], &str); 6] = [
@@ -338,4 +358,74 @@ fn refused_texts(rt: HostRuntime) -> Result<(), Fail> {
         run_of(&rt, rt.alloc(), fcl, "64", 4, "", text)?;
     }
     Ok(())
+}
+
+/// The singleton of term `k` of output `o` of a full block.
+fn singleton(o: u32, k: u32) -> u32
+    requires { (1 ≤ k) × (k ≤ 15) }
+{
+    match o {
+        1 => 17 * k,
+        2 => 255 - 17 * k,
+        3 => 17 * k - 16,
+        _ => 16 * k,
+    }
+}
+
+/// Input `i`: its term `k` is wholly true at 16*k alone, and false from the points of the terms
+/// beside it on.
+fn push_input(alloc: Global, text: &mut String, i: u32) -> Result<(), AllocError> {
+    text.push_str(&format!(in alloc; "FUZZIFY x{i} RANGE := (0 .. 256);\n")?)?;
+    for k in 1..16u32 {
+        let (first, mid, last) = (16 * k - 16, 16 * k, 16 * k + 16);
+        text.push_str(&format!(in alloc; "TERM t{k} := ({first}, 0) ({mid}, 1) ({last}, 0);\n")?)?;
+    }
+    text.push_str("END_FUZZIFY\n")
+}
+
+fn push_output(alloc: Global, text: &mut String, o: u32, default: &str) -> Result<(), AllocError> {
+    text.push_str(&format!(in alloc; "DEFUZZIFY y{o} RANGE := (0 .. 255);\n")?)?;
+    for k in 1..16u32 {
+        let value = singleton(o, k);
+        text.push_str(&format!(in alloc; "TERM s{k} := {value};\n")?)?;
+    }
+    text.push_str(&format!(in alloc; "METHOD : COGS; DEFAULT := {default}; END_DEFUZZIFY\n")?)
+}
+
+/// Rules that use the complement of each term, and spread into two conjunctions each.
+fn push_rules(alloc: Global, text: &mut String) -> Result<(), AllocError> {
+    for r in 0..256u32 {
+        let (k, i) = (r % 15 + 1, r % 120 / 15 + 1);
+        let cond = format!(in alloc; "x1 IS t{k} AND (x{i} IS NOT t{k} OR x2 IS NOT t{k})")?;
+        let concl = format!(in alloc; "y1 IS s{k}, y2 IS s{k}, y3 IS s{k}, y4 IS s{k}")?;
+        text.push_str(&format!(in alloc; "RULE {r} : IF {cond} THEN {concl};\n")?)?;
+    }
+    Ok(())
+}
+
+/// A block at every limit: 8 inputs of 15 terms, 4 outputs of 15 terms, and 256 rules that spread
+/// into 512 conjunctions.
+fn full_text(alloc: Global) -> Result<String, AllocError> {
+    let mut text = String::from_str(alloc, FULL_VARIABLES)?;
+    for i in 1..9u32 {
+        push_input(alloc, &mut text, i)?;
+    }
+    push_output(alloc, &mut text, 1, "3")?;
+    push_output(alloc, &mut text, 2, "4")?;
+    push_output(alloc, &mut text, 3, "NC")?;
+    push_output(alloc, &mut text, 4, "NC")?;
+    text.push_str("RULEBLOCK r\n")?;
+    push_rules(alloc, &mut text)?;
+    text.push_str("END_RULEBLOCK\nEND_FUNCTION_BLOCK\n")?;
+    Ok(text)
+}
+
+// Where x1 is at the point of its term k and no other input is at that of theirs, only the rules of
+// term k fire, wholly: each output answers its singleton k. Where x1 is at 0 none fires.
+#[test]
+fn a_block_at_every_limit(rt: HostRuntime) -> Result<(), Fail> {
+    let alloc = rt.alloc();
+    let text = full_text(alloc)?;
+    let parts = [text.as_str()];
+    run_of(&rt, alloc, &parts, FULL_SAMPLES, 0, FULL_LINES, "")
 }
