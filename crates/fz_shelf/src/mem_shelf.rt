@@ -75,6 +75,8 @@ fn store(alloc: Global, files: List<MemFile>) -> Result<Vec<Stored>, Memory>
 }
 
 impl MemShelf {
+    ghost use Rattle.fz_shelf.specs.Fakes.{failing_reads_of, failing_writes_of};
+
     /// A shelf with these files, whose reads and writes with these numbers fail.
     pub fn new(
         alloc: Global,
@@ -85,6 +87,8 @@ impl MemShelf {
         ensures files { IfOk result (λ s. ⟦<MemShelf as Shelf>⟧.files s ≡ file_in files) }
         ensures asked { IfOk result (λ s. ⟦<MemShelf as Shelf>⟧.asked s ≡ []) }
         ensures counts { IfOk result (λ s. ⟦<MemShelf as Shelf>⟧.counts s ≡ record { reads = 0; longs = 0; writes = 0 }) }
+        ensures failing_reads { IfOk result (λ s. failing_reads_of s ≡ failing_reads) }
+        ensures failing_writes { IfOk result (λ s. failing_writes_of s ≡ failing_writes) }
         ensures sound { All (λ n. n ≤ 0) failing_reads → All (λ n. n ≤ 0) failing_writes → IfOk result (λ s. ⟦<MemShelf as Shelf>⟧.sound s) }
     {
         let files = match store(alloc, files) {

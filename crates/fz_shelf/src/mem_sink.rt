@@ -22,6 +22,8 @@ pub struct MemSink {
 }
 
 impl MemSink {
+    ghost use Rattle.fz_shelf.specs.Fakes.{failing_puts_of, most_of};
+
     /// A sink that has taken nothing. One put takes at most `most` bytes, and 1 where `most`
     /// is 0.
     pub fn new(
@@ -32,6 +34,8 @@ impl MemSink {
     ) -> Result<MemSink, Memory>
         ensures told { IfOk result (λ s. ⟦<MemSink as Sink>⟧.told s ≡ Some (record { bytes = []; room = room })) }
         ensures faults { IfOk result (λ s. ⟦<MemSink as Sink>⟧.faults s ≡ 0) }
+        ensures failing { IfOk result (λ s. failing_puts_of s ≡ failing_puts) }
+        ensures most { IfOk result (λ s. most_of s ≡ most) }
         ensures sound { All (λ n. n ≤ 0) failing_puts → IfOk result (λ s. ⟦<MemSink as Sink>⟧.sound s) }
     {
         let bytes = match Vec::with_capacity(alloc, room as usize) {

@@ -1,0 +1,20 @@
+-- What a shelf and a sink in memory are told to do.
+use Rattle.std.specs.Prelude.{ℕ, List}
+use Rattle.fz_shelf.specs.declared.mem_shelf.MemShelf.{MemShelf}
+use Rattle.fz_shelf.specs.declared.mem_sink.MemSink.{MemSink}
+
+-- the numbers of the reads that fail
+abbrev pub failing_reads_of : MemShelf → List ℕ
+failing_reads_of s = s.failing_reads
+
+-- the numbers of the writes that fail
+abbrev pub failing_writes_of : MemShelf → List ℕ
+failing_writes_of s = s.failing_writes
+
+-- the numbers of the puts that fail
+abbrev pub failing_puts_of : MemSink → List ℕ
+failing_puts_of s = s.failing
+
+-- the most bytes that one put takes, 0 being 1
+abbrev pub most_of : MemSink → ℕ
+most_of s = s.most
