@@ -10,3 +10,4 @@ pub mod Texts
 pub mod Steps
 pub mod Corners
 pub mod Courses
+pub mod Order
