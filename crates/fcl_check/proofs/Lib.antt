@@ -19,3 +19,6 @@ pub mod Heights
 pub mod CourseSteps
 pub mod ConditionTrees
 pub mod OneByOne
+pub mod Faultless
+pub mod Elements
+pub mod Counts
