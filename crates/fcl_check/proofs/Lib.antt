@@ -22,3 +22,5 @@ pub mod OneByOne
 pub mod Faultless
 pub mod Elements
 pub mod Counts
+pub mod ConditionSizes
+pub mod RuleSizes
