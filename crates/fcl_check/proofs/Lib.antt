@@ -24,3 +24,6 @@ pub mod Elements
 pub mod Counts
 pub mod ConditionSizes
 pub mod RuleSizes
+pub mod NumberedNames
+pub mod ValidConditions
+pub mod ValidRules
