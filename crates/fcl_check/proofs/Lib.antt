@@ -27,3 +27,7 @@ pub mod RuleSizes
 pub mod NumberedNames
 pub mod ValidConditions
 pub mod ValidRules
+pub mod Ranges
+pub mod ValidTerms
+pub mod ValidInputs
+pub mod ValidOutputs
