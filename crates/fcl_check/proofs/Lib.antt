@@ -31,3 +31,4 @@ pub mod Ranges
 pub mod ValidTerms
 pub mod ValidInputs
 pub mod ValidOutputs
+pub mod ValidBlocks
