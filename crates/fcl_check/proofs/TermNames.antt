@@ -32,11 +32,11 @@ pub record Numbers (text : List ℕ) (ns : List Name) (m : BTreeMap (Bor (List �
   pub numbers : (ls : List ℕ) → at_letters m ls ≡ number_in text ns ls
   pub count : btree_map_len m ≡ length ns
 
-pub numbers_more : (text : List ℕ) (ns : List Name) (name : Name) (k : ℕ) (m n : BTreeMap (Bor (List ℕ)) ℕ) → Numbers text ns m → k ≡ btree_map_len m + 1
-    → ((ls : List ℕ) → at_letters n ls ≡ option_or (at_letters m ls) (cond (is_named text ls name) (Some k) None))
+pub numbers_more : (text : List ℕ) (ns : List Name) (name : Name) (m n : BTreeMap (Bor (List ℕ)) ℕ) → Numbers text ns m
+    → ((ls : List ℕ) → at_letters n ls ≡ option_or (at_letters m ls) (cond (is_named text ls name) (Some (btree_map_len m + 1)) None))
     → btree_map_len n ≡ btree_map_len m + 1 → Numbers text (ns ++ name ∷ []) n
-numbers_more text ns name k m n holds is added grown =
-    let number : suc (length ns) ≡ k = omega (arith, holds.count) in
+numbers_more text ns name m n holds added grown =
+    let number : suc (length ns) ≡ btree_map_len m + 1 = omega (arith, holds.count) in
     record {
       numbers = λ ls. rw (number_push text ns name ls, number, ← holds.numbers ls) (added ls);
       count = omega (arith, length-append ns (name ∷ []), holds.count);
@@ -143,10 +143,9 @@ module _ (text : List ℕ) (b : FunctionBlock) (lines : List FuzzyLine) (i : ℕ
     pub term_once : option_map load.Twice (first (at_if (is_some (at_letters m (letters text t.name))) t.name.at)) ≡ None → first (repeated (same_line text b) line_at (take (i + 1) lines)) ≡ None
     term_once nothing = passed_by (same_line text b) line_at lines i (fuzzy.Term t) (one_further lines i x (fuzzy.Term t) h here is) once _ term_taken nothing
 
-    pub term_numbers : (k : ℕ) (n : BTreeMap (Bor (List ℕ)) ℕ) → k ≡ btree_map_len m + 1
-        → ((ls : List ℕ) → at_letters n ls ≡ option_or (at_letters m ls) (cond (is_named text ls t.name) (Some k) None))
+    pub term_numbers : (n : BTreeMap (Bor (List ℕ)) ℕ) → ((ls : List ℕ) → at_letters n ls ≡ option_or (at_letters m ls) (cond (is_named text ls t.name) (Some (btree_map_len m + 1)) None))
         → btree_map_len n ≡ btree_map_len m + 1 → Numbers text (names_of_terms (take (i + 1) lines)) n
-    term_numbers k n is_next added grown = rw (one_further lines i x (fuzzy.Term t) h here is, names_with_term (take i lines) t) (numbers_more text (names_of_terms (take i lines)) t.name k m n holds is_next added grown)
+    term_numbers n added grown = rw (one_further lines i x (fuzzy.Term t) h here is, names_with_term (take i lines) t) (numbers_more text (names_of_terms (take i lines)) t.name m n holds added grown)
 
     pub term_range : (has_range : Bool) → has_range ≡ list_any is_range (take i lines) → has_range ≡ list_any is_range (take (i + 1) lines)
     term_range has_range had = rw (one_further lines i x (fuzzy.Term t) h here is, list_any-append is_range (take i lines) (fuzzy.Term t ∷ [])) (had ∙ sym (or_false (list_any is_range (take i lines))))
@@ -180,10 +179,9 @@ module _ (text : List ℕ) (b : FunctionBlock) (lines : List DefuzzyLine) (i : �
     pub singleton_once : option_map load.Twice (first (at_if (is_some (at_letters m (letters text t.name))) t.name.at)) ≡ None → first (repeated (same_output_line text b) output_line_at (take (i + 1) lines)) ≡ None
     singleton_once nothing = passed_by (same_output_line text b) output_line_at lines i (defuzzy.Singleton t) singleton_more once _ singleton_taken nothing
 
-    pub singleton_numbers : (k : ℕ) (n : BTreeMap (Bor (List ℕ)) ℕ) → k ≡ btree_map_len m + 1
-        → ((ls : List ℕ) → at_letters n ls ≡ option_or (at_letters m ls) (cond (is_named text ls t.name) (Some k) None))
+    pub singleton_numbers : (n : BTreeMap (Bor (List ℕ)) ℕ) → ((ls : List ℕ) → at_letters n ls ≡ option_or (at_letters m ls) (cond (is_named text ls t.name) (Some (btree_map_len m + 1)) None))
         → btree_map_len n ≡ btree_map_len m + 1 → Numbers text (names_of_singletons (take (i + 1) lines)) n
-    singleton_numbers k n is_next added grown = rw (singleton_more, names_with_singleton (take i lines) t) (numbers_more text (names_of_singletons (take i lines)) t.name k m n holds is_next added grown)
+    singleton_numbers n added grown = rw (singleton_more, names_with_singleton (take i lines) t) (numbers_more text (names_of_singletons (take i lines)) t.name m n holds added grown)
 
     pub singleton_others : filter is_other (take (i + 1) lines) ≡ filter is_other (take i lines)
     singleton_others = rw (singleton_more, filter-append is_other (take i lines) (defuzzy.Singleton t ∷ [])) (append-nil (filter is_other (take i lines)))

@@ -223,6 +223,20 @@ fn variables<'a>(
     Ok(variables)
 }
 
+// Adds a term under the letters of its name, with the next number.
+fn add_term<'a>(
+    terms: &mut BTreeMap<&'a [u8], usize>,
+    tree: &'a Tree,
+    name: Name,
+) -> Result<(), LoadFault>
+    ensures fault { Answers result (option_map load.Twice (first (at_if (is_some (at_letters terms.old (letters tree.now.text.items name))) name.at))) }
+    ensures added { OnOk result ((ls : List ℕ) → at_letters terms.new ls ≡ option_or (at_letters terms.old ls) (cond (is_named tree.now.text.items ls name) (Some (btree_map_len terms.old + 1)) None)) }
+    ensures len { OnOk result (btree_map_len terms.new ≡ btree_map_len terms.old + 1) }
+{
+    let number = terms.len() + 1;
+    add(terms, tree, name, number)
+}
+
 // The numbers of the terms of an input's section, whose lines stand once each.
 fn fuzzy_terms<'a>(
     alloc: Global,
@@ -236,10 +250,7 @@ fn fuzzy_terms<'a>(
     let mut has_range = false;
     'each: for line in &section.lines {
         match line {
-            FuzzyLine::Term(term) => {
-                let number = terms.len() + 1;
-                add(&mut terms, tree, term.name, number)?;
-            }
+            FuzzyLine::Term(term) => add_term(&mut terms, tree, term.name)?,
             FuzzyLine::Range(range) => {
                 if has_range {
                     return Err(LoadFault::Twice(range.at));
@@ -294,8 +305,7 @@ fn defuzzy_terms<'a>(
     let mut others: Vec<DefuzzyLine> = Vec::new(alloc);
     'each: for line in &section.lines {
         if let DefuzzyLine::Singleton(singleton) = line {
-            let number = terms.len() + 1;
-            add(&mut terms, tree, singleton.name, number)?;
+            add_term(&mut terms, tree, singleton.name)?;
         } else {
             if has_kind(&others, line) {
                 return Err(LoadFault::Twice(line_at(line)));
