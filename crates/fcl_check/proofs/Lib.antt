@@ -19,3 +19,7 @@ pub mod Heights
 pub mod CourseSteps
 pub mod ConditionTrees
 pub mod OneByOne
+pub mod TextPlaces
+pub mod SectionPlaces
+pub mod RulePlaces
+pub mod TreePlaces
