@@ -1,5 +1,5 @@
 -- Places of a rule's faults stand in the rule's text, and those of repeated lines in theirs.
-use Rattle.std.proofs.Common.{ℕ, Bool, not, ◌&&◌, List, [], ◌∷◌, ◌++◌, Option, Some, None, pos, refl}
+use Rattle.std.proofs.Common.{ℕ, Bool, List, [], ◌∷◌, ◌++◌, Option, Some, None, pos, refl}
 use Rattle.std.specs.Prelude.{◌||◌, is_none, int_lt}
 use Rattle.std.specs.List.{flat_map}
 use Rattle.std.proofs.lemmas.Grind.{flat_map-append}
@@ -18,8 +18,7 @@ use Rattle.fcl_syntax.specs.declared.tree.Rule.{Rule}
 use Rattle.fcl_syntax.specs.declared.tree.RuleLine.{RuleLine}
 use Rattle.fcl_syntax.specs.declared.tree.RuleLine.TheVariants as line
 use Rattle.fcl_syntax.specs.declared.tree.Weight.{Weight}
-use Rattle.fcl_check.specs.Faults.{Pair, not_pairs, nots_pairs, and_pairs, ands_pairs, or_pairs, conclusions_of, rule_line_at, weight_outside, direction, is_declared_as, unknown_pair, unknown_in, mistaken, mistaken_in}
-use Rattle.fcl_check.specs.Names.{is_direction, letters, term_number}
+use Rattle.fcl_check.specs.Faults.{Pair, not_pairs, nots_pairs, and_pairs, ands_pairs, or_pairs, conclusions_of, rule_line_at, weight_outside, direction, unknown_pair, unknown_in, mistaken, mistaken_in}
 use Rattle.fcl_check.specs.Places.{at_if, at_some}
 use Rattle.fcl_check.specs.Sections.{value}
 use Rattle.fcl_check.proofs.TextPlaces.{StandIn, none, passed, taken, no_places, join, in_front, in_back, at_head, at_head_and, in_some, in_row}

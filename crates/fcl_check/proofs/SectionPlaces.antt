@@ -25,7 +25,7 @@ use Rattle.fcl_syntax.specs.declared.tree.Term.{Term}
 use Rattle.fcl_check.specs.Faults.{line_at, output_line_at, repeated_lines, direction, mistaken_section}
 use Rattle.fcl_check.specs.Names.{is_direction, section_name, term_of, terms_of, singleton_of, singletons_of}
 use Rattle.fcl_check.specs.Places.{at_if, at_some, at_each}
-use Rattle.fcl_check.specs.Sections.{value, points_of, Ends, ends_of, lies_in, is_empty_range, hull_of, range_line, fuzzy_range, output_range_line, defuzzy_range, abscissas, fallback_number, number_line, output_numbers, without_terms, terms_over_limit, falling_in, falling_points, has_shape, shapeless_terms, outside_in, points_outside, numbers_outside, empty_range, bad_fuzzy_range, bad_range, incomplete}
+use Rattle.fcl_check.specs.Sections.{value, points_of, Ends, lies_in, is_empty_range, hull_of, range_line, fuzzy_range, output_range_line, defuzzy_range, abscissas, fallback_number, number_line, output_numbers, without_terms, terms_over_limit, falling_in, falling_points, shapeless_terms, outside_in, points_outside, numbers_outside, empty_range, bad_fuzzy_range, bad_range, incomplete}
 use Rattle.fcl_check.proofs.TextPlaces.{StandIn, passed, taken, no_places, join, in_front, in_back, dropped_items, at_head, at_head_and, in_some, in_each, in_each_after, in_each_kept, in_first_kept, in_repeated}
 
 -- a number outside the range
@@ -89,11 +89,6 @@ at_output_line test (defuzzy.Method m) = at_head test m.at refl
 at_output_line test (defuzzy.Default d) = at_head test d.at refl
 at_output_line test (defuzzy.Range r) = at_head test r.at refl
 
--- a section's name and the lines that are repeated in it
-pub repeated_in_section : (text : List ℕ) (b : FunctionBlock) (test : Bool) (p : Part) → StandIn (at_if test (section_name p).at ++ repeated_lines text b p) (part_text (view_part p))
-repeated_in_section text b test (part.Fuzzify s) = at_name_and test (part.Fuzzify s) (in_repeated _ view_fuzzy_line _ line_at s.lines.items at_line)
-repeated_in_section text b test (part.Defuzzify s) = at_name_and test (part.Defuzzify s) (in_repeated _ view_defuzzy_line _ output_line_at s.lines.items at_output_line)
-
 in_terms : (f : Term → List ℕ) (s : Fuzzify) → ((t : Term) → StandIn (f t) (term_text (view_term t))) → StandIn (flat_map f (terms_of s)) (part_text (view_part (part.Fuzzify s)))
 in_terms f s d = in_lines (part.Fuzzify s) (in_each_kept fuzzy_line_text view_fuzzy_line term_of f s.lines.items at_term)
   where
@@ -113,28 +108,33 @@ in_range s = in_first_kept fuzzy_line_text view_fuzzy_line range_line empty_rang
   where
     at_range : (l : FuzzyLine) → StandIn (at_some empty_range (range_line l)) (fuzzy_line_text (view_fuzzy_line l))
     at_range (fuzzy.Term t) = no_places _
-    at_range (fuzzy.Range r) = at_head (is_empty_range (ends_of r)) r.at refl
+    at_range (fuzzy.Range r) = search at_head
 
 in_output_range : (s : Defuzzify) → StandIn (at_some empty_range (defuzzy_range s)) (lines_text (part.Defuzzify s))
 in_output_range s = in_first_kept defuzzy_line_text view_defuzzy_line output_range_line empty_range s.lines.items at_range
   where
     at_range : (l : DefuzzyLine) → StandIn (at_some empty_range (output_range_line l)) (defuzzy_line_text (view_defuzzy_line l))
-    at_range (defuzzy.Range r) = at_head (is_empty_range (ends_of r)) r.at refl
+    at_range (defuzzy.Range r) = search at_head
     at_range _ = no_places _
 
 in_numbers : (e : Ends) (s : Defuzzify) → StandIn (flat_map (outside_number e) (output_numbers s)) (part_text (view_part (part.Defuzzify s)))
 in_numbers e s = in_lines (part.Defuzzify s) (in_each_kept defuzzy_line_text view_defuzzy_line number_line _ s.lines.items at_number)
   where
     at_default : (at : ℕ) (v : FallbackValue) → StandIn (at_some (outside_number e) (option_map (λ (n : Num). (value n, at)) (fallback_number v))) (fallback_text (view_fallback (record { at = at; value = v })))
-    at_default at (fallback.Number n) = at_head (not (lies_in e (value n))) at refl
+    at_default at (fallback.Number n) = search at_head
     at_default at (fallback.Nc nc) = no_places _
 
     at_number : (l : DefuzzyLine) → StandIn (at_some (outside_number e) (number_line l)) (defuzzy_line_text (view_defuzzy_line l))
-    at_number (defuzzy.Singleton t) = at_head (not (lies_in e (value t.value))) t.at refl
+    at_number (defuzzy.Singleton t) = search at_head
     at_number (defuzzy.Default d) = at_default d.at d.value
     at_number _ = no_places _
 
 -- ---- the faults of one section
+
+-- the section's name, where an earlier one has it, and the lines that are given twice in it
+pub repeated_in_section : (text : List ℕ) (b : FunctionBlock) (test : Bool) (p : Part) → StandIn (at_if test (section_name p).at ++ repeated_lines text b p) (part_text (view_part p))
+repeated_in_section text b test (part.Fuzzify s) = at_name_and test (part.Fuzzify s) (in_repeated _ view_fuzzy_line _ line_at s.lines.items at_line)
+repeated_in_section text b test (part.Defuzzify s) = at_name_and test (part.Defuzzify s) (in_repeated _ view_defuzzy_line _ output_line_at s.lines.items at_output_line)
 
 pub without_terms_in_section : (p : Part) → StandIn (without_terms p) (part_text (view_part p))
 without_terms_in_section (part.Fuzzify s) = search at_fuzzify_end
@@ -149,16 +149,16 @@ falling_points_in_section (part.Fuzzify s) = in_terms falling_in s falling_in_te
 falling_points_in_section (part.Defuzzify s) = no_places _
 
 pub shapeless_terms_in_section : (p : Part) → StandIn (shapeless_terms p) (part_text (view_part p))
-shapeless_terms_in_section (part.Fuzzify s) = in_terms _ s (λ t. at_head (not (has_shape (points_of t))) t.at refl)
+shapeless_terms_in_section (part.Fuzzify s) = search (in_terms, at_head)
 shapeless_terms_in_section (part.Defuzzify s) = no_places _
 
 pub points_outside_in_section : (p : Part) → StandIn (points_outside p) (part_text (view_part p))
-points_outside_in_section (part.Fuzzify s) = in_some _ (fuzzy_range s) (λ r. in_terms _ s (outside_in_term (ends_of r)))
+points_outside_in_section (part.Fuzzify s) = search (in_some, in_terms, outside_in_term)
 points_outside_in_section (part.Defuzzify s) = no_places _
 
 pub numbers_outside_in_section : (p : Part) → StandIn (numbers_outside p) (part_text (view_part p))
 numbers_outside_in_section (part.Fuzzify s) = no_places _
-numbers_outside_in_section (part.Defuzzify s) = in_some _ (defuzzy_range s) (λ r. in_numbers (ends_of r) s)
+numbers_outside_in_section (part.Defuzzify s) = search (in_some, in_numbers)
 
 bad_fuzzy_range_in_section : (is_input : Bool) (s : Fuzzify) (o : Option Range) → StandIn (at_some empty_range o) (lines_text (part.Fuzzify s)) → StandIn (bad_fuzzy_range is_input s o) (part_text (view_part (part.Fuzzify s)))
 bad_fuzzy_range_in_section is_input s (Some r) d = in_lines (part.Fuzzify s) d

@@ -49,6 +49,7 @@ module _ (f : List Declared → Declared → List ℕ) (d : (before : List Decla
   in_declared : (b : FunctionBlock) → StandIn (at_each f [] (declared_in b)) (each section_text (map view_section b.vars.items))
   in_declared b = in_each_of_each section_text view_section f declared_by [] b.vars.items in_vars
 
+-- places that do not look at the items before theirs
 at_each-constant : {X : Type 0} (f : X → List ℕ) (before xs : List X) → at_each (λ (before : List X) (x : X). f x) before xs ≡ flat_map f xs
 at_each-constant f before [] = refl
 at_each-constant f before (x ∷ xs) = ap (λ (ns : List ℕ). f x ++ ns) (at_each-constant f (x ∷ before) xs)
@@ -69,6 +70,7 @@ in_rules b d = passed (passed (in_front _ (in_back _ (in_front _ d))))
 
 -- ---- the kinds
 
+-- a kind of fault, with its places
 abbrev Kind : Type 0
 Kind = (ℕ → LoadFault) × List ℕ
 
