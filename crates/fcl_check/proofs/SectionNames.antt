@@ -16,7 +16,7 @@ use Rattle.fcl_check.specs.Faults.{repeated_lines, repeated_section, same_sectio
 use Rattle.fcl_check.specs.Names.{is_named, letters, number_in, section_name}
 use Rattle.fcl_check.specs.Places.{at_each, first}
 use Rattle.fcl_check.proofs.LetterMaps.{found_any}
-use Rattle.fcl_check.proofs.FirstPlaces.{Says, first_at_here, first_at_more, list_any-all_behind, same_place}
+use Rattle.fcl_check.proofs.FirstPlaces.{Says, first_at_here, first_at_more, list_any-all_walked, same_place}
 
 is_some-map : {A B : Type 0} (f : A → B) (o : Option A) → is_some (option_map f o) ≡ is_some o
 is_some-map f None = refl
@@ -46,16 +46,16 @@ module _ (text : List ℕ) (b : FunctionBlock) (parts : List Part) (i : ℕ) (p 
   module _ (once : first (at_each (repeated_section text b) [] (take i parts)) ≡ None) where
     pub section_twice : is_some (at_letters m (letters text name)) ≡ true → first (at_each (repeated_section text b) [] parts) ≡ Some name.at
     section_twice found =
-        first_at_here (repeated_section text b) parts i p more once name.at (rw (list_any-all_behind (same_section text b p) (take i parts), ← section_taken, found, named) refl)
+        first_at_here (repeated_section text b) parts i p more once name.at (rw (list_any-all_walked (same_section text b p) (take i parts), ← section_taken, found, named) refl)
 
     module _ (free : is_some (at_letters m (letters text name)) ≡ false) where
       pub line_twice : (e : LoadFault) → Says e (option_map load.Twice (first (repeated_lines text b p))) → Says e (option_map load.Twice (first (at_each (repeated_section text b) [] parts)))
       line_twice e found =
-          same_place e (first (repeated_lines text b p)) _ (λ n at. first_at_here (repeated_section text b) parts i p more once n (rw (list_any-all_behind (same_section text b p) (take i parts), ← section_taken, free) at)) found
+          same_place e (first (repeated_lines text b p)) _ (λ n at. first_at_here (repeated_section text b) parts i p more once n (rw (list_any-all_walked (same_section text b p) (take i parts), ← section_taken, free) at)) found
 
       pub section_once : option_map load.Twice (first (repeated_lines text b p)) ≡ None → first (at_each (repeated_section text b) [] (take (i + 1) parts)) ≡ None
       section_once none =
-          first_at_more (repeated_section text b) parts i p more once (rw (list_any-all_behind (same_section text b p) (take i parts), ← section_taken, free) (nowhere (first (repeated_lines text b p)) none))
+          first_at_more (repeated_section text b) parts i p more once (rw (list_any-all_walked (same_section text b p) (take i parts), ← section_taken, free) (nowhere (first (repeated_lines text b p)) none))
 
   pub sections_more : (n : BTreeMap (Bor (List ℕ)) Section) (s : Section) → s.part.now ≡ p
       → ((ts : List ℕ) → at_letters s.terms ts ≡ number_in text (names_in p) ts)

@@ -10,6 +10,7 @@ use Rattle.fcl_syntax.specs.declared.token.Token.{Token}
 use Rattle.fcl_syntax.proofs.Offsets.{AscendWithin, AscendWithin-lower}
 use Rattle.fcl_check.specs.Faults.{repeated}
 use Rattle.fcl_check.specs.Places.{at_if, at_some, at_each, first}
+use Rattle.fcl_check.proofs.FirstPlaces.{at_each-append, walked}
 
 pub data StandIn : List ℕ → List Sym → Type 0 where
   none : StandIn [] []
@@ -84,17 +85,9 @@ module _ {X Y : Type 0} (text : Y → List Sym) (view : X → Y) where
 
   -- the same where each item holds some of those that are looked at
   module _ {Z : Type 0} (f : List Z → Z → List ℕ) (g : X → List Z) where
-    abbrev walked : List Z → List Z → List Z
-    walked before [] = before
-    walked before (z ∷ zs) = walked (z ∷ before) zs
-
-    at_each-append : (before ys zs : List Z) → at_each f before (ys ++ zs) ≡ at_each f before ys ++ at_each f (walked before ys) zs
-    at_each-append before [] zs = refl
-    at_each-append before (y ∷ ys) zs = rw (at_each-append (y ∷ before) ys zs) (sym (append_assoc (f before y) (at_each f (y ∷ before) ys) _))
-
     pub in_each_of_each : (before : List Z) (xs : List X) → ((before : List Z) (x : X) → StandIn (at_each f before (g x)) (text (view x))) → StandIn (at_each f before (flat_map g xs)) (each text (map view xs))
     in_each_of_each before [] d = none
-    in_each_of_each before (x ∷ xs) d = rw (at_each-append before (g x) (flat_map g xs)) (join (d before x) (in_each_of_each (walked before (g x)) xs d))
+    in_each_of_each before (x ∷ xs) d = rw (at_each-append f before (g x) (flat_map g xs)) (join (d before x) (in_each_of_each (walked before (g x)) xs d))
 
   -- the items that are the same as one before them
   pub in_repeated : (same : X → X → Bool) (at : X → ℕ) (xs : List X) → ((test : Bool) (x : X) → StandIn (at_if test (at x)) (text (view x))) → StandIn (repeated same at xs) (each text (map view xs))
