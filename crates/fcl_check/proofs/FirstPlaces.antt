@@ -21,7 +21,7 @@ at_each-append f before (x ∷ xs) ys = rw (at_each-append f (x ∷ before) xs y
 first-at_each-append : {A : Type 0} (f : List A → A → List ℕ) (before xs ys : List A) → first (at_each f before (xs ++ ys)) ≡ option_or (first (at_each f before xs)) (first (at_each f (walked before xs) ys))
 first-at_each-append f before xs ys = ap first (at_each-append f before xs ys) ∙ first-append (at_each f before xs) (at_each f (walked before xs) ys)
 
--- the items up to one, and it, where nothing is found up to it
+-- what is found up to an item and at it, where nothing is found before it
 module _ {A : Type 0} (f : List A → A → List ℕ) (xs : List A) (i : ℕ) (x : A) (more : take (i + 1) xs ≡ take i xs ++ x ∷ []) (none : first (at_each f [] (take i xs)) ≡ None) where
   first-at_each-take : first (at_each f [] (take (i + 1) xs)) ≡ first (f (walked [] (take i xs)) x)
   first-at_each-take = rw (more, first-at_each-append f [] (take i xs) (x ∷ []), none, append-nil (f (walked [] (take i xs)) x)) refl
@@ -77,14 +77,11 @@ one_further xs i x y h here is = take_more xs i x h ∙ ap (λ z. take i xs ++ z
 
 -- the same of what is repeated
 module _ {A : Type 0} (same : A → A → Bool) (at : A → ℕ) (xs : List A) (i : ℕ) (x : A) (more : take (i + 1) xs ≡ take i xs ++ x ∷ []) (none : first (repeated same at (take i xs)) ≡ None) where
-  abbrev repeat_at : List A → A → List ℕ
-  repeat_at before y = at_if (list_any (same y) before) (at y)
-
   pub repeated_here : list_any (same x) (take i xs) ≡ true → first (repeated same at xs) ≡ Some (at x)
-  repeated_here found = first_at_here repeat_at xs i x more none (at x) (rw (list_any-all_walked (same x) (take i xs), found) refl)
+  repeated_here found = first_at_here _ xs i x more none (at x) (rw (list_any-all_walked (same x) (take i xs), found) refl)
 
   pub repeated_more : list_any (same x) (take i xs) ≡ false → first (repeated same at (take (i + 1) xs)) ≡ None
-  repeated_more found = first_at_more repeat_at xs i x more none (rw (list_any-all_walked (same x) (take i xs), found) refl)
+  repeated_more found = first_at_more _ xs i x more none (rw (list_any-all_walked (same x) (take i xs), found) refl)
 
   -- where a place is found at an item, and what is known where none is
   pub place_here : (taken : Bool) (e : LoadFault) → taken ≡ list_any (same x) (take i xs) → Says e (option_map load.Twice (first (at_if taken (at x)))) → Says e (option_map load.Twice (first (repeated same at xs)))
