@@ -3,7 +3,6 @@
 ghost use Rattle.std.specs.Prelude.{◌≡◌, ℕ, ◌∷◌, List, map, option_map, is_some, not};
 ghost use Rattle.std.specs.Borrow.{Bor};
 ghost use Rattle.fcl_syntax.specs.declared.tree.Direction.TheVariants as side;
-ghost use Rattle.fcl_syntax.specs.declared.tree.Part.TheVariants as part;
 ghost use Rattle.fcl_syntax.specs.declared.tree.Point.{Point};
 ghost use Rattle.fcl_syntax.specs.declared.tree.Singleton.{Singleton};
 ghost use Rattle.fcl_syntax.specs.declared.tree.Term.{Term};
@@ -61,13 +60,7 @@ fn as_term(line: &FuzzyLine) -> Option<&Term>
     }
 }
 
-fn is_term(line: &FuzzyLine) -> bool
-    ensures { result ≡ is_some (term_of line.now) }
-{
-    matches!(line, FuzzyLine::Term(_))
-}
-
-// The name of a term.
+// The place of the name of a term.
 fn term_at(line: &FuzzyLine) -> Option<u32>
     ensures { result ≡ option_map (λ (t : Term). t.name.at) (term_of line.now) }
 {
@@ -83,22 +76,19 @@ fn singleton_at(line: &DefuzzyLine) -> Option<u32>
     }
 }
 
-fn is_singleton(line: &DefuzzyLine) -> bool
-    ensures { result ≡ is_some (singleton_of line.now) }
-{
-    matches!(line, DefuzzyLine::Singleton(_))
-}
-
 fn has_term(section: &Fuzzify) -> bool
     ensures { result ≡ is_some (first (terms_of section.now)) }
 {
-    section.lines.iter().any(is_term)
+    section.lines.iter().any(|line| term_at(line).is_some())
 }
 
 fn has_singleton(section: &Defuzzify) -> bool
     ensures { result ≡ is_some (first (singletons_of section.now)) }
 {
-    section.lines.iter().any(is_singleton)
+    section
+        .lines
+        .iter()
+        .any(|line| singleton_at(line).is_some())
 }
 
 /// The END word of a section without TERM.
