@@ -24,6 +24,7 @@ first-drop (suc n) (x ∷ xs) = first-drop n xs
 pub first-map-drop : {A B : Type 0} (f : A → B) (n : ℕ) (xs : List A) → first (map f (drop n xs)) ≡ option_map f (slice_get xs n)
 first-map-drop f n xs = first-map f (drop n xs) ∙ ap (option_map f) (first-drop n xs)
 
+-- under a name that an attribute can cite
 pub ruleset firsts = (first-append)
 
 map-cons_option : {Y Z : Type 0} (f : Y → Z) (o : Option Y) (ys : List Y) → map f (cons_option o ys) ≡ cons_option (option_map f o) (map f ys)

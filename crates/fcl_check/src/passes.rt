@@ -208,12 +208,6 @@ fn incomplete(part: &Part) -> Option<u32>
     }
 }
 
-fn incomplete_sections(parts: &[Part]) -> Option<u32>
-    ensures { result ≡ first (flat_map incomplete parts.now) }
-{
-    first_at(parts, incomplete)
-}
-
 fn has_direction(declared: &[(Direction, Name)], wanted: Direction) -> bool
     ensures { result ≡ list_any (λ (d : Declared). is_direction wanted d.0) declared.now }
 {
@@ -235,9 +229,11 @@ pub fn missing_part(names: &Names<'_>, tree: &Tree) -> Option<u32>
     requires { Knows tree.now names.now }
     ensures { result ≡ first (missing_part tree.now.text.items tree.now.block) }
 {
-    let at = without_section(names, tree).or_else(|| incomplete_sections(&tree.block.parts));
-    if at.is_none() && !is_whole(names, tree) {
-        return Some(tree.block.end);
+    if let Some(at) = without_section(names, tree) {
+        return Some(at);
     }
-    at
+    match first_at(&tree.block.parts, incomplete) {
+        None if !is_whole(names, tree) => Some(tree.block.end),
+        at => at,
+    }
 }
