@@ -2,6 +2,7 @@ pub mod Fitting
 pub mod Falling
 pub mod Hulls
 pub mod Places
+pub mod FaultKinds
 pub mod Limits
 pub mod FirstPlaces
 pub mod LetterMaps

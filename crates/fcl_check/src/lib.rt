@@ -19,6 +19,7 @@ mod outputs;
 mod passes;
 mod rules;
 mod sections;
+mod walk;
 
 pub use fault::LoadFault;
 pub use laws::{course_law, places_ascend, spelled_blocks_are_valid};
