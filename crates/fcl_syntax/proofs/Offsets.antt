@@ -1,10 +1,10 @@
 -- The offsets of a text's tokens ascend.
-use Rattle.std.proofs.Common.{◌≡◌, ℕ, zero, suc, ◌+◌, ◌-◌, ◌<◌, ◌≤◌, Bool, true, false, cond, List, [], ◌∷◌, length, take, drop, Option, Some, None, Result, Ok, Err, refl, sym, ap, subst, arith, All, inl, inr, ◌⊎◌, ◌==◌, if◌then◌else◌}
+use Rattle.std.proofs.Common.{◌≡◌, ℕ, zero, suc, ◌+◌, ◌-◌, ◌<◌, ◌≤◌, Bool, true, false, List, [], ◌∷◌, length, take, drop, Option, Some, None, Result, Ok, Err, refl, subst, arith, All, inl, inr, ◌⊎◌, ◌==◌, if◌then◌else◌}
 use Rattle.std.specs.List.Sorted.{IsStrictlyIncreasing}
 use native.Mathlib.Numerals.{add-one}
 use Rattle.std.specs.Prelude.{◌||◌, slice_index}
 use Rattle.std.specs.Char.{is_ascii_digit}
-use Rattle.std.specs.List.{cons_option, filter_map, take_while}
+use Rattle.std.specs.List.{filter_map}
 use Rattle.std.proofs.lemmas.List.{length-drop}
 use Rattle.std.proofs.lemmas.List.Elements.{All-nil, All-cons}
 use Rattle.std.proofs.lemmas.List.Sums.{take_while-cons}
@@ -13,16 +13,14 @@ use Rattle.fz_num.specs.declared.dec.DecFault.{DecFault}
 use Rattle.fz_num.specs.Decimals.{decimal}
 use Rattle.fcl_syntax.specs.Grammar.{TBlock, block_text}
 use Rattle.fcl_syntax.specs.Lexing.{Lexed, colon_piece, comment_end, comment_piece, decimal_piece, has_fraction, in_front, is_blank, is_name_byte, is_name_start, lexed, mark_piece, meaning_in, next_piece, number_len, number_piece, open_piece, piece_of, point_piece, run, slash_piece, starts_name, token_of, word_token}
-use Rattle.fcl_syntax.specs.Marks.{tokens_of}
 use Rattle.fcl_syntax.specs.Meanings.{meanings}
-use Rattle.fcl_syntax.specs.Offsets.{AreOffsetsIn, offset_of, offsets, OffsetsAscend}
+use Rattle.fcl_syntax.specs.Offsets.{offset_of, offsets, OffsetsAscend}
 use Rattle.fcl_syntax.specs.Text.{SpellsTree}
 use Rattle.fcl_syntax.specs.declared.lexer.Piece.{Piece}
 use Rattle.fcl_syntax.specs.declared.lexer.Piece.TheVariants as piece
 use Rattle.fcl_syntax.specs.declared.token.Meaning.{Meaning}
 use Rattle.fcl_syntax.specs.declared.token.Meaning.TheVariants as meaning
 use Rattle.fcl_syntax.specs.declared.token.Token.{Token}
-use Rattle.fcl_syntax.specs.declared.token.Token.TheVariants as tok
 
 -- ---- numbers that ascend from one bound to below another
 
