@@ -1,4 +1,3 @@
-pub mod Fitting
 pub mod Falling
 pub mod Hulls
 pub mod Places
@@ -25,6 +24,7 @@ pub mod Counts
 pub mod ConditionSizes
 pub mod RuleSizes
 pub mod NumberedNames
+pub mod WholeConditions
 pub mod ValidConditions
 pub mod ValidRules
 pub mod Ranges

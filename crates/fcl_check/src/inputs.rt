@@ -1,11 +1,10 @@
-//! The inputs of a block. They are built of a tree without faults, so that a part which is missing
-//! or does not fit never comes; were it to, the answer is as for want of memory.
+//! The inputs of a block, taken as the tree has them: where it has no load fault, they are valid.
+//! A part that is missing, which only a tree with a fault lacks, ends in `AllocError`.
 
-ghost use Rattle.std.specs.Prelude.{◌≡◌, ◌≤◌, List as Items, [], ◌∷◌, ◌++◌, All, option_map, IfOk, IfSome, IsTrue, length, ◌≤ℤ◌};
+ghost use Rattle.std.specs.Prelude.{◌≡◌, List as Items, [], ◌∷◌, ◌++◌, option_map, IfOk, IfSome};
 ghost use Rattle.std.specs.List.{AllZip};
 ghost use Rattle.fcl_syntax.specs.declared.tree.Direction.TheVariants as side;
 ghost use Rattle.fcl_syntax.specs.declared.tree.Point.{Point};
-ghost use Rattle.fuzzy_meaning.specs.Blocks.{IsValidInput, IsValidTerm};
 ghost use Rattle.fcl_check.specs.Building.{ends_in};
 ghost use Rattle.fcl_check.specs.Corners.{AreCornersOf};
 ghost use Rattle.fcl_check.specs.Known.{Knows};
@@ -14,7 +13,7 @@ ghost use Rattle.fcl_check.specs.Names.{declared_as, fuzzify_of, letters, terms_
 
 use crate::names::Names;
 use crate::numbers::{Span, is_one, value};
-use crate::sections::{TERMS, fuzzy_range, hull};
+use crate::sections::{fuzzy_range, hull};
 use fcl_syntax::{Direction, Fuzzify, FuzzyLine, Name, Part, Point, Term, Tree};
 use fuzzy_meaning::{Input, Trapezoid};
 use fz_list::List;
@@ -77,45 +76,13 @@ fn trapezoid(term: &Term) -> Option<Trapezoid>
     })
 }
 
-fn rises(span: Span, term: &Trapezoid) -> bool
-    ensures { IsTrue result → IfSome term.now.a (λ a. (span.lo.0 ≤ℤ a.0) × (a.0 ≤ℤ term.now.b.0)) }
-{
-    match term.a {
-        Some(a) => span.lo.0 <= a.0 && a.0 <= term.b.0,
-        None => true,
-    }
-}
-
-fn falls(span: Span, term: &Trapezoid) -> bool
-    ensures { IsTrue result → IfSome term.now.d (λ d. (term.now.c.0 ≤ℤ d.0) × (d.0 ≤ℤ span.hi.0)) }
-{
-    match term.d {
-        Some(d) => term.c.0 <= d.0 && d.0 <= span.hi.0,
-        None => true,
-    }
-}
-
-fn fits(span: Span, term: &Trapezoid) -> bool
-    ensures { IsTrue result → IsValidTerm span.lo span.hi term.now }
-{
-    rises(span, term)
-        && span.lo.0 <= term.b.0
-        && term.b.0 <= term.c.0
-        && term.c.0 <= span.hi.0
-        && falls(span, term)
-}
-
-fn terms(alloc: Global, section: &Fuzzify, span: Span) -> Result<Vec<Trapezoid>, AllocError>
-    ensures valid { IfOk result (λ v. All (IsValidTerm span.lo span.hi) v.items) }
+fn terms(alloc: Global, section: &Fuzzify) -> Result<Vec<Trapezoid>, AllocError>
     ensures same { IfOk result (λ v. AllZip IsTermOf (terms_of section.now) v.items) }
 {
     let mut terms = Vec::new(alloc);
     'each: for line in &section.lines {
         if let FuzzyLine::Term(term) = line {
             let shape = trapezoid(term).ok_or(AllocError)?;
-            if !fits(span, &shape) {
-                return Err(AllocError);
-            }
             terms.push(shape)?;
         }
     }
@@ -133,17 +100,10 @@ fn range(section: &Fuzzify) -> Option<Span>
 }
 
 fn input(alloc: Global, section: &Fuzzify) -> Result<Input, AllocError>
-    ensures valid { IfOk result IsValidInput }
     ensures same { IfOk result (IsInputOf section.now) }
 {
     let span = range(section).ok_or(AllocError)?;
-    if span.is_empty() {
-        return Err(AllocError);
-    }
-    let terms = terms(alloc, section, span)?;
-    if terms.is_empty() || terms.len() > TERMS {
-        return Err(AllocError);
-    }
+    let terms = terms(alloc, section)?;
     Ok(Input {
         lo: span.lo,
         hi: span.hi,
@@ -169,7 +129,6 @@ pub fn inputs<'a>(
     names: &Names<'a>,
 ) -> Result<Vec<Input>, AllocError>
     requires { Knows tree.now names.now }
-    ensures valid { IfOk result (λ v. (1 ≤ length v.items) × ((length v.items ≤ 8) × All IsValidInput v.items)) }
     ensures same { IfOk result (λ v. AllZip (IsInputNamed tree.now.text.items tree.now.block) (declared_as side.Input tree.now.block) v.items) }
 {
     let mut inputs = Vec::new(alloc);
@@ -178,9 +137,6 @@ pub fn inputs<'a>(
             let section = section_of(tree, names, *name).ok_or(AllocError)?;
             inputs.push(input(alloc, section)?)?;
         }
-    }
-    if inputs.is_empty() || inputs.len() > INPUTS {
-        return Err(AllocError);
     }
     Ok(inputs)
 }
