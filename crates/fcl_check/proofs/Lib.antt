@@ -32,6 +32,7 @@ pub mod ValidTerms
 pub mod ValidInputs
 pub mod ValidOutputs
 pub mod ValidBlocks
+pub mod Present
 pub mod TextPlaces
 pub mod SectionPlaces
 pub mod RulePlaces

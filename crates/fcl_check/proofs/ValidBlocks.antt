@@ -1,6 +1,6 @@
 -- The block of a tree without load faults is valid, where it is not too deep and not too large: as it is
 -- where a text spells the tree.
-use Rattle.std.proofs.Common.{◌≡◌, ℕ, ◌≤◌, Bool, true, false, not, ◌&&◌, List, [], length, Option, Some, None, option_and_then, refl, arith}
+use Rattle.std.proofs.Common.{◌≡◌, ℕ, ◌≤◌, Bool, true, false, not, ◌&&◌, List, [], length, None, refl, arith}
 use Rattle.std.specs.Prelude.{All, is_none, sum_by}
 use Rattle.std.specs.List.{flat_map, slice_get}
 use Rattle.std.specs.Str.{str_to_ascii_lowercase}
@@ -19,19 +19,17 @@ use Rattle.fcl_syntax.specs.declared.tree.Direction.TheVariants as side
 use Rattle.fcl_syntax.specs.declared.tree.FunctionBlock.{FunctionBlock}
 use Rattle.fcl_syntax.specs.declared.tree.Fuzzify.{Fuzzify}
 use Rattle.fcl_syntax.specs.declared.tree.Name.{Name}
-use Rattle.fcl_syntax.specs.declared.tree.Part.{Part}
-use Rattle.fcl_syntax.specs.declared.tree.Part.TheVariants as part
 use Rattle.fcl_syntax.specs.declared.tree.Rule.{Rule as RuleNode}
 use Rattle.fcl_check.specs.Building.{IsShallow}
 use Rattle.fcl_check.specs.Faults.{first_fault, has_direction, is_whole, without_section}
 use Rattle.fcl_check.specs.Loaded.{IsBlockOf, IsInputNamed, IsOutputNamed, IsRuleOf}
-use Rattle.fcl_check.specs.Names.{as_defuzzify, as_fuzzify, declared_as, declared_in, letters, section_of}
+use Rattle.fcl_check.specs.Names.{declared_as, declared_in, letters}
 use Rattle.fcl_check.specs.Places.{at_each}
 use Rattle.fcl_check.specs.Sections.{incomplete, terms_over_limit}
 use Rattle.fcl_check.specs.Texts.{SpelledBlocksAreValid}
 use Rattle.fcl_check.proofs.Counts.{few_items, few_names, over, some_at_all, some_names}
 use Rattle.fcl_check.proofs.Elements.{all_images, all_related}
-use Rattle.fcl_check.proofs.Faultless.{IsFaultless, IsSoundRule, faultless, no_items, no_place, sound_part, sound_rules}
+use Rattle.fcl_check.proofs.Faultless.{IsFaultless, IsSoundRule, faultless, no_items, no_place, sound_input, sound_output, sound_rules}
 use Rattle.fcl_check.proofs.RuleSizes.{clean-rules, count-rules, rule_sizes, shallow_rules}
 use Rattle.fcl_check.proofs.ValidInputs.{valid_input}
 use Rattle.fcl_check.proofs.ValidOutputs.{valid_output}
@@ -43,30 +41,18 @@ all_three true true false h = (refl, (refl, refl))
 all_three true false r h = absurd cc
 all_three false q r h = absurd cc
 
--- ---- the section of a name
-
-fuzzify_found : (o : Option Part) (s : Fuzzify) → option_and_then as_fuzzify o ≡ Some s → o ≡ Some (part.Fuzzify s)
-fuzzify_found None s h = cc
-fuzzify_found (Some (part.Fuzzify f)) s h = cc
-fuzzify_found (Some (part.Defuzzify f)) s h = cc
-
-defuzzify_found : (o : Option Part) (s : Defuzzify) → option_and_then as_defuzzify o ≡ Some s → o ≡ Some (part.Defuzzify s)
-defuzzify_found None s h = cc
-defuzzify_found (Some (part.Fuzzify f)) s h = cc
-defuzzify_found (Some (part.Defuzzify f)) s h = cc
-
 -- ---- the block
 
 module _ (text : List ℕ) (b : FunctionBlock) (block : Block) (sound : IsFaultless text b) (of : IsBlockOf text b block) where
   named_input : (n : Name) (x : Input) → IsInputNamed text b n x → IsValidInput x
   named_input n x named =
       let s : Fuzzify = named.0 in
-      valid_input text b s x (sound_part text b sound (letters text n) (part.Fuzzify s) (fuzzify_found (section_of text b (letters text n)) s named.1)) named.2
+      valid_input text b s x (sound_input text b sound (letters text n) s named.1) named.2
 
   named_output : (n : Name) (y : Output) → IsOutputNamed text b n y → IsValidOutput y
   named_output n y named =
       let s : Defuzzify = named.0 in
-      valid_output text b s y (sound_part text b sound (letters text n) (part.Defuzzify s) (defuzzify_found (section_of text b (letters text n)) s named.1)) named.2
+      valid_output text b s y (sound_output text b sound (letters text n) s named.1) named.2
 
   sized_block : All IsShallow block.rules → sum_by rule_size block.rules ≤ 1048576 → IsValid block
   sized_block deep small =

@@ -1,15 +1,17 @@
-//! The inputs of a block, taken as the tree has them: where it has no load fault, they are valid.
-//! A part that is missing, which only a tree with a fault lacks, ends in `AllocError`.
+//! The inputs of a block, taken as a tree without load faults has them.
 
-ghost use Rattle.std.specs.Prelude.{◌≡◌, List as Items, [], ◌∷◌, ◌++◌, option_map, IfOk, IfSome};
+ghost use Rattle.std.specs.Prelude.{◌≡◌, true, List as Items, [], ◌∷◌, ◌++◌, None, option_map, IfOk};
 ghost use Rattle.std.specs.List.{AllZip};
 ghost use Rattle.fcl_syntax.specs.declared.tree.Direction.TheVariants as side;
+ghost use Rattle.fcl_syntax.specs.declared.tree.Part.TheVariants as part;
 ghost use Rattle.fcl_syntax.specs.declared.tree.Point.{Point};
 ghost use Rattle.fcl_check.specs.Building.{ends_in};
 ghost use Rattle.fcl_check.specs.Corners.{AreCornersOf};
+ghost use Rattle.fcl_check.specs.Faults.{first_fault};
 ghost use Rattle.fcl_check.specs.Known.{Knows};
 ghost use Rattle.fcl_check.specs.Loaded.{IsInputNamed, IsInputOf, IsTermOf, input_range};
 ghost use Rattle.fcl_check.specs.Names.{declared_as, fuzzify_of, letters, terms_of};
+ghost use Rattle.fcl_check.specs.Sections.{has_shape, points_of, shapeless_terms, without_terms};
 
 use crate::names::Names;
 use crate::numbers::{Span, is_one, value};
@@ -54,9 +56,9 @@ impl Corners {
     }
 }
 
-// The trapezoid of a term, where it has a point of degree 1.
-fn trapezoid(term: &Term) -> Option<Trapezoid>
-    ensures { IfSome result (IsTermOf term.now) }
+fn trapezoid(term: &Term) -> Trapezoid
+    requires { has_shape (points_of term.now) ≡ true }
+    ensures { IsTermOf term.now result }
 {
     let none = Corners {
         a: None,
@@ -67,23 +69,23 @@ fn trapezoid(term: &Term) -> Option<Trapezoid>
     for point in &term.more {
         corners = corners.with(point);
     }
-    let (b, c) = corners.top?;
-    Some(Trapezoid {
+    let (b, c) = corners.top.unwrap();
+    Trapezoid {
         a: corners.a,
         b,
         c,
         d: corners.d,
-    })
+    }
 }
 
 fn terms(alloc: Global, section: &Fuzzify) -> Result<Vec<Trapezoid>, AllocError>
+    requires { shapeless_terms (part.Fuzzify section.now) ≡ [] }
     ensures same { IfOk result (λ v. AllZip IsTermOf (terms_of section.now) v.items) }
 {
     let mut terms = Vec::new(alloc);
     'each: for line in &section.lines {
         if let FuzzyLine::Term(term) = line {
-            let shape = trapezoid(term).ok_or(AllocError)?;
-            terms.push(shape)?;
+            terms.push(trapezoid(term))?;
         }
     }
     Ok(terms)
@@ -100,9 +102,11 @@ fn range(section: &Fuzzify) -> Option<Span>
 }
 
 fn input(alloc: Global, section: &Fuzzify) -> Result<Input, AllocError>
+    requires some { without_terms (part.Fuzzify section.now) ≡ [] }
+    requires shaped { shapeless_terms (part.Fuzzify section.now) ≡ [] }
     ensures same { IfOk result (IsInputOf section.now) }
 {
-    let span = range(section).ok_or(AllocError)?;
+    let span = range(section).unwrap();
     let terms = terms(alloc, section)?;
     Ok(Input {
         lo: span.lo,
@@ -128,13 +132,14 @@ pub fn inputs<'a>(
     tree: &'a Tree,
     names: &Names<'a>,
 ) -> Result<Vec<Input>, AllocError>
-    requires { Knows tree.now names.now }
+    requires known { Knows tree.now names.now }
+    requires sound { first_fault tree.now.text.items tree.now.block ≡ None }
     ensures same { IfOk result (λ v. AllZip (IsInputNamed tree.now.text.items tree.now.block) (declared_as side.Input tree.now.block) v.items) }
 {
     let mut inputs = Vec::new(alloc);
     'each: for (direction, name) in &names.declared {
         if *direction == Direction::Input {
-            let section = section_of(tree, names, *name).ok_or(AllocError)?;
+            let section = section_of(tree, names, *name).unwrap();
             inputs.push(input(alloc, section)?)?;
         }
     }

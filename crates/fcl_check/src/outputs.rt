@@ -1,15 +1,16 @@
-//! The outputs of a block, taken as the tree has them: where it has no load fault, they are valid.
-//! A part that is missing, which only a tree with a fault lacks, ends in `AllocError`.
+//! The outputs of a block, taken as a tree without load faults has them.
 
-ghost use Rattle.std.specs.Prelude.{◌≡◌, ◌||◌, Some, filter_map, is_none, not, map, option_map, IfOk};
+ghost use Rattle.std.specs.Prelude.{◌≡◌, ◌||◌, [], None, Some, filter_map, is_none, not, map, option_map, IfOk};
 ghost use Rattle.std.specs.List.{AllZip};
 ghost use Rattle.fcl_syntax.specs.declared.tree.Direction.TheVariants as side;
+ghost use Rattle.fcl_syntax.specs.declared.tree.Part.TheVariants as part;
 ghost use Rattle.fcl_check.specs.Building.{ends_in};
+ghost use Rattle.fcl_check.specs.Faults.{first_fault};
 ghost use Rattle.fcl_check.specs.Known.{Knows};
 ghost use Rattle.fcl_check.specs.Loaded.{IsOutputNamed, IsOutputOf, default_number, given_or, number_of};
 ghost use Rattle.fcl_check.specs.Names.{declared_as, defuzzify_of, letters, singletons_of};
 ghost use Rattle.fcl_check.specs.Places.{first};
-ghost use Rattle.fcl_check.specs.Sections.{default_of, defuzzy_range, fallback_number, hull_of, method_line, number_line, output_numbers, value};
+ghost use Rattle.fcl_check.specs.Sections.{default_of, defuzzy_range, fallback_number, hull_of, incomplete, method_line, number_line, output_numbers, value, without_terms};
 
 use crate::names::Names;
 use crate::numbers::{Span, value};
@@ -112,24 +113,25 @@ fn singletons(alloc: Global, section: &Defuzzify) -> Result<Vec<Dec>, AllocError
     Ok(singletons)
 }
 
-fn default(section: &Defuzzify) -> Result<Option<Dec>, AllocError>
-    ensures same { IfOk result (λ d. Some (number_of d) ≡ option_map default_number (default_of section.now)) }
+fn default(section: &Defuzzify) -> Option<Dec>
+    requires { incomplete (part.Defuzzify section.now) ≡ [] }
+    ensures same { Some (number_of result) ≡ option_map default_number (default_of section.now) }
 {
-    let fallback = fallback(section).ok_or(AllocError)?;
-    Ok(fallback_number(fallback.value))
+    fallback_number(fallback(section).unwrap().value)
 }
 
 fn output(alloc: Global, section: &Defuzzify) -> Result<Output, AllocError>
+    requires some { without_terms (part.Defuzzify section.now) ≡ [] }
+    requires complete { incomplete (part.Defuzzify section.now) ≡ [] }
     ensures same { IfOk result (IsOutputOf section.now) }
 {
-    let span = range(section).ok_or(AllocError)?;
-    let span = span.widened();
+    let span = range(section).unwrap().widened();
     let singletons = singletons(alloc, section)?;
     Ok(Output {
         lo: span.lo,
         hi: span.hi,
         singletons: List::new(singletons),
-        default: default(section)?,
+        default: default(section),
     })
 }
 
@@ -150,13 +152,14 @@ pub fn outputs<'a>(
     tree: &'a Tree,
     names: &Names<'a>,
 ) -> Result<Vec<Output>, AllocError>
-    requires { Knows tree.now names.now }
+    requires known { Knows tree.now names.now }
+    requires sound { first_fault tree.now.text.items tree.now.block ≡ None }
     ensures same { IfOk result (λ v. AllZip (IsOutputNamed tree.now.text.items tree.now.block) (declared_as side.Output tree.now.block) v.items) }
 {
     let mut outputs = Vec::new(alloc);
     'each: for (direction, name) in &names.declared {
         if *direction == Direction::Output {
-            let section = section_of(tree, names, *name).ok_or(AllocError)?;
+            let section = section_of(tree, names, *name).unwrap();
             outputs.push(output(alloc, section)?)?;
         }
     }
