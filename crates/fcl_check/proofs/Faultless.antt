@@ -16,6 +16,7 @@ use Rattle.fcl_check.specs.declared.fault.LoadFault.{LoadFault}
 use Rattle.fcl_check.specs.Faults.{Pair, conclusions_of, condition_pairs, direction, first_fault, is_declared_as, is_some_direction, kinds, mistaken, mistaken_in, mistaken_section, missing_part, too_many, twice, unknown, unknown_in, unknown_pair, unknown_section, weight_outside, wrong_side}
 use Rattle.fcl_check.specs.Names.{as_defuzzify, as_fuzzify, defuzzify_of, fuzzify_of, is_direction, is_named, letters, section_of, section_name, term_number}
 use Rattle.fcl_check.specs.Places.{at_if, at_some, first}
+use Rattle.fcl_check.specs.Sound.{IsKnown, IsSoundRule}
 use Rattle.fcl_check.specs.Sections.{bad_range, falling_points, incomplete, numbers_outside, points_outside, shapeless_terms, terms_over_limit, without_terms}
 
 -- ---- lists without items
@@ -78,13 +79,7 @@ defuzzify_found (Some (part.Fuzzify f)) s h = cc
 defuzzify_found (Some (part.Defuzzify f)) s h = cc
 
 module _ (text : List ℕ) (b : FunctionBlock) where
-  -- a variable that is declared on this side, and a term of it
-  pub record IsKnown (side : Direction) (v t : Name) : Type 0 where
-    pub declared : is_declared_as text b side v ≡ true
-    pub number : ℕ
-    pub numbered : term_number text b side (letters text v) (letters text t) ≡ Some number
-
-  known : (side : Direction) (v t : Name) → unknown_pair text b side v t ≡ [] → mistaken text b side v ≡ [] → IsKnown side v t
+  known : (side : Direction) (v t : Name) → unknown_pair text b side v t ≡ [] → mistaken text b side v ≡ [] → IsKnown text b side v t
   known side v t h k =
       let both = no_items (at_if (is_none (direction text b v)) v.at) _ h in
       let declared = known_side side (direction text b v) v.at both.0 k in
@@ -93,19 +88,14 @@ module _ (text : List ℕ) (b : FunctionBlock) where
 
   -- ---- rules
 
-  pub record IsSoundRule (r : Rule) : Type 0 where
-    pub condition : AllByRecursion (λ (p : Pair). IsKnown Input p.variable p.term) (condition_pairs r)
-    pub conclusions : AllByRecursion (λ (c : Conclusion). IsKnown Output c.variable c.term) (conclusions_of r)
-    pub weight : weight_outside r ≡ []
-
-  all_known : {X : Type 0} (side : Direction) (v t : X → Name) (xs : List X) → flat_map (λ x. unknown_pair text b side (v x) (t x)) xs ≡ [] → flat_map (λ x. mistaken text b side (v x)) xs ≡ [] → AllByRecursion (λ x. IsKnown side (v x) (t x)) xs
+  all_known : {X : Type 0} (side : Direction) (v t : X → Name) (xs : List X) → flat_map (λ x. unknown_pair text b side (v x) (t x)) xs ≡ [] → flat_map (λ x. mistaken text b side (v x)) xs ≡ [] → AllByRecursion (λ x. IsKnown text b side (v x) (t x)) xs
   all_known side v t [] h k = tt
   all_known side v t (x ∷ xs) h k =
       let here = no_items (unknown_pair text b side (v x) (t x)) _ h in
       let sided = no_items (mistaken text b side (v x)) _ k in
       (known side (v x) (t x) here.0 sided.0, all_known side v t xs here.1 sided.1)
 
-  sound_rule : (r : Rule) → unknown_in text b r ≡ [] → mistaken_in text b r ≡ [] → weight_outside r ≡ [] → IsSoundRule r
+  sound_rule : (r : Rule) → unknown_in text b r ≡ [] → mistaken_in text b r ≡ [] → weight_outside r ≡ [] → IsSoundRule text b r
   sound_rule r h k w =
       let pairs = condition_pairs r in
       let ends = conclusions_of r in
@@ -117,7 +107,7 @@ module _ (text : List ℕ) (b : FunctionBlock) where
         weight = w;
       }
 
-  all_sound : (rs : List Rule) → flat_map (unknown_in text b) rs ≡ [] → flat_map (mistaken_in text b) rs ≡ [] → flat_map weight_outside rs ≡ [] → AllByRecursion IsSoundRule rs
+  all_sound : (rs : List Rule) → flat_map (unknown_in text b) rs ≡ [] → flat_map (mistaken_in text b) rs ≡ [] → flat_map weight_outside rs ≡ [] → AllByRecursion (IsSoundRule text b) rs
   all_sound [] h k w = tt
   all_sound (r ∷ rs) h k w =
       let here = no_items (unknown_in text b r) _ h in
@@ -203,7 +193,7 @@ module _ (text : List ℕ) (b : FunctionBlock) where
     pub sound_output : (ls : List ℕ) (s : Defuzzify) → defuzzify_of text b ls ≡ Some s → IsSoundPart (part.Defuzzify s)
     sound_output ls s found = sound_part ls (part.Defuzzify s) (defuzzify_found (section_of text b ls) s found)
 
-    pub sound_rules : AllByRecursion IsSoundRule b.rules.rules.items
+    pub sound_rules : AllByRecursion (IsSoundRule text b) b.rules.rules.items
     sound_rules =
         let names = no_items (flat_map (unknown_section text b) b.parts.items) _ sound.names in
         let sides = no_items (flat_map (mistaken_section text b) b.parts.items) _ sound.sides in

@@ -33,6 +33,7 @@ pub mod ValidInputs
 pub mod ValidOutputs
 pub mod ValidBlocks
 pub mod Present
+pub mod KnownNames
 pub mod TextPlaces
 pub mod SectionPlaces
 pub mod RulePlaces

@@ -108,7 +108,7 @@ defuzzified None there other = absurd cc
 defuzzified (Some (part.Fuzzify s)) there other = absurd (other s refl)
 defuzzified (Some (part.Defuzzify s)) there other = refl
 
-as_side : (side x : Direction) → is_direction side x ≡ true → x ≡ side
+pub as_side : (side x : Direction) → is_direction side x ≡ true → x ≡ side
 as_side Input Input h = refl
 as_side Input Output h = cc
 as_side Output Input h = cc

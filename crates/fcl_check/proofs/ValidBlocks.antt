@@ -27,9 +27,10 @@ use Rattle.fcl_check.specs.Names.{declared_as, declared_in, letters}
 use Rattle.fcl_check.specs.Places.{at_each}
 use Rattle.fcl_check.specs.Sections.{incomplete, terms_over_limit}
 use Rattle.fcl_check.specs.Texts.{SpelledBlocksAreValid}
+use Rattle.fcl_check.specs.Sound.{IsSoundRule}
 use Rattle.fcl_check.proofs.Counts.{few_items, few_names, over, some_at_all, some_names}
 use Rattle.fcl_check.proofs.Elements.{all_images, all_related}
-use Rattle.fcl_check.proofs.Faultless.{IsFaultless, IsSoundRule, faultless, no_items, no_place, sound_input, sound_output, sound_rules}
+use Rattle.fcl_check.proofs.Faultless.{IsFaultless, faultless, no_items, no_place, sound_input, sound_output, sound_rules}
 use Rattle.fcl_check.proofs.RuleSizes.{clean-rules, count-rules, rule_sizes, shallow_rules}
 use Rattle.fcl_check.proofs.ValidInputs.{valid_input}
 use Rattle.fcl_check.proofs.ValidOutputs.{valid_output}

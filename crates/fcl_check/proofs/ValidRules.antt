@@ -31,8 +31,9 @@ use Rattle.fcl_check.specs.Loaded.{IsBlockOf, IsInputNamed, IsOutputNamed, IsRul
 use Rattle.fcl_check.specs.Names.{declared_as, declared_in, defuzzify_of, fuzzify_of, letters, number_in, singleton_names, singletons_of, term_names, term_number, terms_of, variable_number}
 use Rattle.fcl_check.specs.Places.{at_if, at_some}
 use Rattle.fcl_check.specs.Sections.{value}
+use Rattle.fcl_check.specs.Sound.{IsKnown, IsSoundRule}
 use Rattle.fcl_check.proofs.Elements.{all_mapped, all_weaker}
-use Rattle.fcl_check.proofs.Faultless.{IsKnown, IsSoundRule, no_place}
+use Rattle.fcl_check.proofs.Faultless.{no_place}
 use Rattle.fcl_check.proofs.NumberedNames.{declared_any, number_within, numbered}
 use Rattle.fcl_check.proofs.ValidConditions.{valid_or}
 use Rattle.fcl_check.proofs.WholeConditions.{whole}

@@ -1,7 +1,7 @@
 //! The block of a tree: its rules, and the whole.
 //!
 //! It is built where no load fault was found, and is valid for that reason: only depth and size are
-//! counted here. A name that is not found, which only a tree with a fault has, ends in `AllocError`.
+//! counted here, and too much of them ends in `AllocError`.
 
 ghost use Rattle.std.specs.Prelude.{◌≡◌, ◌≤◌, All, IfOk, None, length, map, option_map, sum_by};
 ghost use Rattle.std.specs.List.{AllZip};
@@ -12,6 +12,8 @@ ghost use Rattle.fcl_check.specs.Faults.{conclusions_of, first_fault};
 ghost use Rattle.fcl_check.specs.Known.{Knows};
 ghost use Rattle.fcl_check.specs.Loaded.{number_of, conclusion_of, IsRuleOf, IsBlockOf};
 ghost use Rattle.fcl_check.specs.Sections.{value};
+ghost use Rattle.fcl_check.specs.Sound.{AreConcluded, IsKnown, IsSoundRule};
+ghost use Rattle.fcl_syntax.specs.declared.tree.Direction.TheVariants.{Output as OutputSide};
 
 use crate::conditions::{ROOM, Source, numbers, or, sum};
 use crate::inputs::inputs;
@@ -37,9 +39,9 @@ fn weight(rule: &fcl_syntax::Rule) -> Option<Dec>
     rule.weight.map(|weight| value(weight.num))
 }
 
-fn conclusion(source: &Source<'_, '_>, conclusion: &Conclusion) -> Result<(u8, u8), AllocError>
-    requires { Knows source.now.tree.now source.now.names.now }
-    ensures same { IfOk result (λ p. p ≡ conclusion_of source.now.tree.now.text.items source.now.tree.now.block conclusion.now) }
+fn conclusion(source: &Source<'_, '_>, conclusion: &Conclusion) -> (u8, u8)
+    requires { IsKnown source.now.tree.now.text.items source.now.tree.now.block OutputSide conclusion.now.variable conclusion.now.term }
+    ensures same { result ≡ conclusion_of source.now.tree.now.text.items source.now.tree.now.block conclusion.now }
 {
     numbers(
         source,
@@ -53,13 +55,13 @@ fn conclusions(
     source: &Source<'_, '_>,
     rule: &fcl_syntax::Rule,
 ) -> Result<Vec<(u8, u8)>, AllocError>
-    requires { Knows source.now.tree.now source.now.names.now }
+    requires { AreConcluded source.now.tree.now.text.items source.now.tree.now.block (conclusions_of rule.now) }
     ensures same { IfOk result (λ v. v.items ≡ map (conclusion_of source.now.tree.now.text.items source.now.tree.now.block) (conclusions_of rule.now)) }
 {
     let mut places = Vec::new(source.alloc);
-    places.push(conclusion(source, &rule.first)?)?;
+    places.push(conclusion(source, &rule.first))?;
     'each: for more in &rule.more {
-        places.push(conclusion(source, more)?)?;
+        places.push(conclusion(source, more))?;
     }
     Ok(places)
 }
@@ -78,7 +80,7 @@ fn rule(
     source: &Source<'_, '_>,
     rule: &fcl_syntax::Rule,
 ) -> Result<(fuzzy_meaning::Rule, u32), AllocError>
-    requires { Knows source.now.tree.now source.now.names.now }
+    requires { IsSoundRule source.now.tree.now.text.items source.now.tree.now.block rule.now }
     ensures deep { IfOk result (λ r. IsShallow r.0) }
     ensures size { IfOk result (λ r. rule_size r.0 ≡ r.1) }
     ensures same { IfOk result (λ r. IsRuleOf source.now.tree.now.text.items source.now.tree.now.block rule.now r.0) }
@@ -98,7 +100,6 @@ fn rule(
 }
 
 fn rules(source: &Source<'_, '_>) -> Result<Vec<fuzzy_meaning::Rule>, AllocError>
-    requires { Knows source.now.tree.now source.now.names.now }
     ensures deep { IfOk result (λ v. All IsShallow v.items) }
     ensures size { IfOk result (λ v. sum_by rule_size v.items ≤ 1048576) }
     ensures same { IfOk result (λ v. AllZip (IsRuleOf source.now.tree.now.text.items source.now.tree.now.block) source.now.tree.now.block.rules.rules.items v.items) }

@@ -10,7 +10,10 @@ use Rattle.fcl_syntax.specs.declared.tree.And.{out-And}
 use Rattle.fcl_syntax.specs.declared.tree.Or.{out-Or}
 use Rattle.fcl_syntax.specs.declared.tree.Not.{the_lemmas as tree_lemmas}
 use Rattle.fcl_check.specs.Loaded.{literal_of, not_condition, and_condition}
+use Rattle.fcl_check.specs.Faults.{and_pairs, not_pairs}
+use Rattle.fcl_check.proofs.Elements.{parts_of}
 use Rattle.fcl_check.proofs.FirstPlaces.{one_further}
+use Rattle.fcl_check.proofs.KnownNames.{pairs_of-alternative, pairs_of-conjunct}
 use Rattle.fcl_check.proofs.ConditionTrees.{all_together, all_alone, any_together, any_alone, greatest_depth-push, parts_more, total_nodes-push}
 use Rattle.fuzzy_meaning.specs.Conditions.{all, any, conditions, condition_of}
 use Rattle.fcl_check.proofs.conditions.+condition.Goals as goal
@@ -108,3 +111,37 @@ or-returns-clause-same t c =
     let same : condition_of (cond.Or c.each.parts) ≡ any (conditions (map condition_of c.each.parts.items)) = search (rules, the_lemmas) in
     let view : view_or c.args.or.now ≡ or_of (view_and node.first) (ands_of (map view_alternative node.more.items)) = search (rules, tree_lemmas) in
     rw view (any_together (literal_of c.args.source.now.tree.now.text.items c.args.source.now.tree.now.block) view_alternative (view_and node.first) node.more.items c.each.parts.items (cond.Or c.each.parts) some same (rw whole at c.each.invariant.same))
+
+pub and-not-requires : goal.and-not-requires
+and-not-requires t c =
+    let node = out-And c.args.and.now in
+    let view : view_and c.args.and.now ≡ and_of (view_not node.first) (nots_of (map view_conjunct node.more.items)) = search (rules, tree_lemmas) in
+    (search rules, (parts_of _ (not_pairs (view_not node.first)) _ (rw view at c.requires)).0)
+
+pub and-not-requires-in-each : goal.and-not-requires-in-each
+and-not-requires-in-each t c =
+    let node = out-And c.args.and.now in
+    let value = c.deref-conjunct-items.ensures.value in
+    let x = c.conjunct-item.result in
+    let view : view_and c.args.and.now ≡ and_of (view_not node.first) (nots_of (map view_conjunct node.more.items)) = search (rules, tree_lemmas) in
+    let part : view_conjunct x ≡ (x.at, view_not x.not) = search (rules, tree_lemmas) in
+    let here = pairs_of-conjunct _ node.more.items c.each.conjunct-index x (parts_of _ (not_pairs (view_not node.first)) _ (rw view at c.requires)).1 (rw value at c.each-test.true) in
+    let is = rw value at c.conjunct-item.is in
+    (search rules, rw (← is, part) at here)
+
+pub or-and-requires : goal.or-and-requires
+or-and-requires t c =
+    let node = out-Or c.args.or.now in
+    let view : view_or c.args.or.now ≡ or_of (view_and node.first) (ands_of (map view_alternative node.more.items)) = search (rules, tree_lemmas) in
+    (search rules, (parts_of _ (and_pairs (view_and node.first)) _ (rw view at c.requires)).0)
+
+pub or-and-requires-in-each : goal.or-and-requires-in-each
+or-and-requires-in-each t c =
+    let node = out-Or c.args.or.now in
+    let value = c.deref-alternative-items.ensures.value in
+    let x = c.alternative-item.result in
+    let view : view_or c.args.or.now ≡ or_of (view_and node.first) (ands_of (map view_alternative node.more.items)) = search (rules, tree_lemmas) in
+    let part : view_alternative x ≡ ((out-Alternative x).at, view_and (out-Alternative x).and) = search (rules, tree_lemmas) in
+    let here = pairs_of-alternative _ node.more.items c.each.alternative-index x (parts_of _ (and_pairs (view_and node.first)) _ (rw view at c.requires)).1 (rw value at c.each-test.true) in
+    let is = rw value at c.alternative-item.is in
+    (search rules, rw (← is, part) at here)
