@@ -32,7 +32,7 @@ token-opener : (n : ℕ) (x : Token) → (opener n x).token ≡ x
 token-opener zero x = refl
 token-opener (suc n) x = refl
 
-pub no_mark : (k : Kind) → Some k ≡ None → ⊥
+no_mark : (k : Kind) → Some k ≡ None → ⊥
 no_mark k h = cc
 
 module _ (f : Name → Name → Condition) where

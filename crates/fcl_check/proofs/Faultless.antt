@@ -1,19 +1,23 @@
 -- A tree without load faults: no kind has a place, neither in a section nor in a rule.
-use Rattle.std.proofs.Common.{◌≡◌, ℕ, Bool, true, false, cond, not, ◌&&◌, List, [], ◌∷◌, ◌++◌, map, Option, Some, None, refl}
+use Rattle.std.proofs.Common.{◌≡◌, ℕ, Bool, true, false, cond, not, ◌&&◌, List, [], ◌∷◌, ◌++◌, map, Option, Some, None, option_and_then, refl}
 use Rattle.std.specs.Prelude.{is_none}
 use Rattle.std.specs.List.{AllByRecursion, find, flat_map}
 use Rattle.fcl_syntax.specs.declared.tree.Conclusion.{Conclusion}
+use Rattle.fcl_syntax.specs.declared.tree.Defuzzify.{Defuzzify}
 use Rattle.fcl_syntax.specs.declared.tree.Direction.{Direction}
 use Rattle.fcl_syntax.specs.declared.tree.Direction.TheVariants.{Input, Output}
 use Rattle.fcl_syntax.specs.declared.tree.FunctionBlock.{FunctionBlock}
+use Rattle.fcl_syntax.specs.declared.tree.Fuzzify.{Fuzzify}
 use Rattle.fcl_syntax.specs.declared.tree.Name.{Name}
 use Rattle.fcl_syntax.specs.declared.tree.Part.{Part}
+use Rattle.fcl_syntax.specs.declared.tree.Part.TheVariants as part
 use Rattle.fcl_syntax.specs.declared.tree.Rule.{Rule}
 use Rattle.fcl_check.specs.declared.fault.LoadFault.{LoadFault}
-use Rattle.fcl_check.specs.Faults.{Pair, conclusions_of, condition_pairs, direction, first_fault, is_declared_as, is_some_direction, kinds, mistaken, mistaken_in, mistaken_section, missing_part, too_many, unknown, unknown_in, unknown_pair, unknown_section, weight_outside, wrong_side}
-use Rattle.fcl_check.specs.Names.{is_direction, is_named, letters, section_of, section_name, term_number}
+use Rattle.fcl_check.specs.Faults.{Pair, conclusions_of, condition_pairs, direction, first_fault, is_declared_as, is_some_direction, kinds, mistaken, mistaken_in, mistaken_section, missing_part, too_many, twice, unknown, unknown_in, unknown_pair, unknown_section, weight_outside, wrong_side}
+use Rattle.fcl_check.specs.Names.{as_defuzzify, as_fuzzify, defuzzify_of, fuzzify_of, is_direction, is_named, letters, section_of, section_name, term_number}
 use Rattle.fcl_check.specs.Places.{at_if, at_some, first}
-use Rattle.fcl_check.specs.Sections.{bad_range, falling_points, numbers_outside, points_outside, shapeless_terms, terms_over_limit, without_terms}
+use Rattle.fcl_check.specs.Sound.{IsKnown, IsSoundRule}
+use Rattle.fcl_check.specs.Sections.{bad_range, falling_points, incomplete, numbers_outside, points_outside, shapeless_terms, terms_over_limit, without_terms}
 
 -- ---- lists without items
 
@@ -24,6 +28,10 @@ no_items (x ∷ xs) ys h = absurd cc
 pub no_place : (test : Bool) (at : ℕ) → at_if test at ≡ [] → test ≡ false
 no_place true at h = cc
 no_place false at h = refl
+
+pub shaped : (test : Bool) (at : ℕ) → at_if (not test) at ≡ [] → test ≡ true
+shaped true at h = refl
+shaped false at h = absurd cc
 
 pub nowhere : {X Y : Type 0} (f : X → List Y) (xs : List X) → flat_map f xs ≡ [] → AllByRecursion (λ x. f x ≡ []) xs
 nowhere f [] h = tt
@@ -58,14 +66,20 @@ known_number true None at h k = absurd cc
 known_number true (Some n) at h k = (n, refl)
 known_number false o at h k = absurd cc
 
-module _ (text : List ℕ) (b : FunctionBlock) where
-  -- a variable that is declared on this side, and a term of it
-  pub record IsKnown (side : Direction) (v t : Name) : Type 0 where
-    pub declared : is_declared_as text b side v ≡ true
-    pub number : ℕ
-    pub numbered : term_number text b side (letters text v) (letters text t) ≡ Some number
+-- ---- sections by their sort
 
-  known : (side : Direction) (v t : Name) → unknown_pair text b side v t ≡ [] → mistaken text b side v ≡ [] → IsKnown side v t
+fuzzify_found : (o : Option Part) (s : Fuzzify) → option_and_then as_fuzzify o ≡ Some s → o ≡ Some (part.Fuzzify s)
+fuzzify_found None s h = cc
+fuzzify_found (Some (part.Fuzzify f)) s h = cc
+fuzzify_found (Some (part.Defuzzify f)) s h = cc
+
+defuzzify_found : (o : Option Part) (s : Defuzzify) → option_and_then as_defuzzify o ≡ Some s → o ≡ Some (part.Defuzzify s)
+defuzzify_found None s h = cc
+defuzzify_found (Some (part.Fuzzify f)) s h = cc
+defuzzify_found (Some (part.Defuzzify f)) s h = cc
+
+module _ (text : List ℕ) (b : FunctionBlock) where
+  known : (side : Direction) (v t : Name) → unknown_pair text b side v t ≡ [] → mistaken text b side v ≡ [] → IsKnown text b side v t
   known side v t h k =
       let both = no_items (at_if (is_none (direction text b v)) v.at) _ h in
       let declared = known_side side (direction text b v) v.at both.0 k in
@@ -74,19 +88,14 @@ module _ (text : List ℕ) (b : FunctionBlock) where
 
   -- ---- rules
 
-  pub record IsSoundRule (r : Rule) : Type 0 where
-    pub condition : AllByRecursion (λ (p : Pair). IsKnown Input p.variable p.term) (condition_pairs r)
-    pub conclusions : AllByRecursion (λ (c : Conclusion). IsKnown Output c.variable c.term) (conclusions_of r)
-    pub weight : weight_outside r ≡ []
-
-  all_known : {X : Type 0} (side : Direction) (v t : X → Name) (xs : List X) → flat_map (λ x. unknown_pair text b side (v x) (t x)) xs ≡ [] → flat_map (λ x. mistaken text b side (v x)) xs ≡ [] → AllByRecursion (λ x. IsKnown side (v x) (t x)) xs
+  all_known : {X : Type 0} (side : Direction) (v t : X → Name) (xs : List X) → flat_map (λ x. unknown_pair text b side (v x) (t x)) xs ≡ [] → flat_map (λ x. mistaken text b side (v x)) xs ≡ [] → AllByRecursion (λ x. IsKnown text b side (v x) (t x)) xs
   all_known side v t [] h k = tt
   all_known side v t (x ∷ xs) h k =
       let here = no_items (unknown_pair text b side (v x) (t x)) _ h in
       let sided = no_items (mistaken text b side (v x)) _ k in
       (known side (v x) (t x) here.0 sided.0, all_known side v t xs here.1 sided.1)
 
-  sound_rule : (r : Rule) → unknown_in text b r ≡ [] → mistaken_in text b r ≡ [] → weight_outside r ≡ [] → IsSoundRule r
+  sound_rule : (r : Rule) → unknown_in text b r ≡ [] → mistaken_in text b r ≡ [] → weight_outside r ≡ [] → IsSoundRule text b r
   sound_rule r h k w =
       let pairs = condition_pairs r in
       let ends = conclusions_of r in
@@ -98,7 +107,7 @@ module _ (text : List ℕ) (b : FunctionBlock) where
         weight = w;
       }
 
-  all_sound : (rs : List Rule) → flat_map (unknown_in text b) rs ≡ [] → flat_map (mistaken_in text b) rs ≡ [] → flat_map weight_outside rs ≡ [] → AllByRecursion IsSoundRule rs
+  all_sound : (rs : List Rule) → flat_map (unknown_in text b) rs ≡ [] → flat_map (mistaken_in text b) rs ≡ [] → flat_map weight_outside rs ≡ [] → AllByRecursion (IsSoundRule text b) rs
   all_sound [] h k w = tt
   all_sound (r ∷ rs) h k w =
       let here = no_items (unknown_in text b r) _ h in
@@ -118,11 +127,13 @@ module _ (text : List ℕ) (b : FunctionBlock) where
     pub range : bad_range (is_declared_as text b Input) p ≡ []
     pub numbers : numbers_outside p ≡ []
     pub sided : mistaken_section text b p ≡ []
+    pub complete : incomplete p ≡ []
 
   -- ---- the tree
 
   -- no place of any kind, in the order of the kinds
   pub record IsFaultless : Type 0 where
+    pub once : twice text b ≡ []
     pub names : unknown text b ≡ []
     pub terms : flat_map without_terms b.parts.items ≡ []
     pub counts : too_many text b ≡ []
@@ -139,6 +150,7 @@ module _ (text : List ℕ) (b : FunctionBlock) where
   faultless sound =
       let none = no_kind (kinds text b) sound in
       record {
+        once = none.0;
         names = none.1.0;
         terms = none.1.1.0;
         counts = none.1.1.1.0;
@@ -161,6 +173,7 @@ module _ (text : List ℕ) (b : FunctionBlock) where
         let names = no_items (flat_map (unknown_section text b) parts) _ sound.names in
         let counts = no_items (flat_map terms_over_limit parts) _ (no_items _ _ sound.counts).1 in
         let sides = no_items (flat_map (mistaken_section text b) parts) _ sound.sides in
+        let whole = no_items (flat_map incomplete parts) _ (no_items _ _ sound.missing).1 in
         record {
           known = not_at (unknown_section text b) test parts p names.0 found;
           some = not_at without_terms test parts p sound.terms found;
@@ -171,9 +184,16 @@ module _ (text : List ℕ) (b : FunctionBlock) where
           range = not_at (bad_range (is_declared_as text b Input)) test parts p sound.ranges found;
           numbers = not_at numbers_outside test parts p sound.numbers found;
           sided = not_at (mistaken_section text b) test parts p sides.0 found;
+          complete = not_at incomplete test parts p whole.0 found;
         }
 
-    pub sound_rules : AllByRecursion IsSoundRule b.rules.rules.items
+    pub sound_input : (ls : List ℕ) (s : Fuzzify) → fuzzify_of text b ls ≡ Some s → IsSoundPart (part.Fuzzify s)
+    sound_input ls s found = sound_part ls (part.Fuzzify s) (fuzzify_found (section_of text b ls) s found)
+
+    pub sound_output : (ls : List ℕ) (s : Defuzzify) → defuzzify_of text b ls ≡ Some s → IsSoundPart (part.Defuzzify s)
+    sound_output ls s found = sound_part ls (part.Defuzzify s) (defuzzify_found (section_of text b ls) s found)
+
+    pub sound_rules : AllByRecursion (IsSoundRule text b) b.rules.rules.items
     sound_rules =
         let names = no_items (flat_map (unknown_section text b) b.parts.items) _ sound.names in
         let sides = no_items (flat_map (mistaken_section text b) b.parts.items) _ sound.sides in

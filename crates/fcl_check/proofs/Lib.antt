@@ -1,4 +1,3 @@
-pub mod Fitting
 pub mod Falling
 pub mod Hulls
 pub mod Places
@@ -26,6 +25,7 @@ pub mod Counts
 pub mod ConditionSizes
 pub mod RuleSizes
 pub mod NumberedNames
+pub mod WholeConditions
 pub mod ValidConditions
 pub mod ValidRules
 pub mod Ranges
@@ -33,6 +33,8 @@ pub mod ValidTerms
 pub mod ValidInputs
 pub mod ValidOutputs
 pub mod ValidBlocks
+pub mod Present
+pub mod KnownNames
 pub mod TextPlaces
 pub mod SectionPlaces
 pub mod RulePlaces

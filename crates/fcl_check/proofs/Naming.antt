@@ -27,7 +27,7 @@ section-found f tree names ls ms s o known same found is =
 abbrev pub named_as : Direction → Declared → Option Name
 named_as direction d = if is_direction direction d.0 then Some d.1 else None
 
-same-direction : (x side : Direction) → is_direction side x ≡ sameb the_type x side
+pub same-direction : (x side : Direction) → is_direction side x ≡ sameb the_type x side
 same-direction Input Input = refl
 same-direction Input Output = refl
 same-direction Output Input = refl

@@ -1,12 +1,13 @@
--- The size of a block's rules is no more than the offsets of its text.
+-- The size of the rules of a text is no more than its offsets, and they are not too deep.
 use Rattle.std.proofs.Common.{◌≡◌, ℕ, ◌≤◌, List, [], ◌∷◌, ◌++◌, length, map, refl, ap, ◌∙◌, arith}
-use Rattle.std.specs.Prelude.{sum_by}
+use Rattle.std.specs.Prelude.{All, sum_by}
 use Rattle.std.specs.List.{AllByRecursion, AllZip}
 use Rattle.std.proofs.lemmas.List.{length-map}
+use Rattle.std.proofs.lemmas.List.Elements.{All-from_recursion}
 use Rattle.std.proofs.lemmas.List.Sums.{sum_by-cons}
 use Rattle.fuzzy_meaning.specs.declared.block.Rule.{Rule}
 use Rattle.fuzzy_meaning.specs.Blocks.{rule_size}
-use Rattle.fuzzy_meaning.specs.Conditions.{condition_of, nodes}
+use Rattle.fuzzy_meaning.specs.Conditions.{condition_of, depth, nodes}
 use Rattle.fcl_syntax.specs.declared.token.Keyword.TheVariants as key
 use Rattle.fcl_syntax.specs.declared.token.Token.TheVariants as tok
 use Rattle.fcl_syntax.specs.declared.tree.Conclusion.{Conclusion}
@@ -15,9 +16,11 @@ use Rattle.fcl_syntax.specs.declared.tree.Rule.{Rule as RuleNode}
 use Rattle.fcl_syntax.specs.Grammar.{behind, block_text, conclusion_text, conclusions_text, each, end_text, key_text, or_text, part_text, rule_item_text, rule_line_text, rulebase_text, section_text, semicolon_text, weight_text}
 use Rattle.fcl_syntax.specs.Marks.{IsClean, Sym, either_text, plain}
 use Rattle.fcl_syntax.specs.View.{view, view_or, view_part, view_rule_item, view_rule_line, view_section, view_weight}
+use Rattle.fcl_check.specs.Building.{IsShallow}
 use Rattle.fcl_check.specs.Faults.{conclusions_of}
-use Rattle.fcl_check.specs.Loaded.{IsRuleOf, conclusion_of, literal_of}
-use Rattle.fcl_check.proofs.ConditionSizes.{clean_parts, count, count-append, nodes_or}
+use Rattle.fcl_check.specs.Loaded.{IsRuleOf, conclusion_of, literal_of, or_condition}
+use Rattle.fcl_check.proofs.ConditionSizes.{clean_parts, count, count-append, depth_or, nodes_or}
+use Rattle.fcl_check.proofs.Elements.{all_related}
 
 -- ---- a rule
 
@@ -93,12 +96,24 @@ module _ (b : FunctionBlock) where
       let behind_lines = clean_parts lines (tail_text b) base.0.1.1 in
       (clean_parts (rules_text b) (key_text key.EndRuleblock b.rules.end) behind_lines.1).0
 
+-- ---- depths
+
 -- the text of each condition is clean
-abbrev pub HasCleanCondition : RuleNode → Type 0
+abbrev HasCleanCondition : RuleNode → Type 0
 HasCleanCondition r = IsClean (or_text (view_or r.condition) 64)
 
-pub clean_conditions : (rs : List RuleNode) → IsClean (each rule_item_text (map view_rule_item rs)) → AllByRecursion HasCleanCondition rs
+clean_conditions : (rs : List RuleNode) → IsClean (each rule_item_text (map view_rule_item rs)) → AllByRecursion HasCleanCondition rs
 clean_conditions [] clean = tt
 clean_conditions (r ∷ rs) clean =
     let both = clean_parts (rule_item_text (view_rule_item r)) (each rule_item_text (map view_rule_item rs)) clean in
     ((clean_parts (or_text (view_or r.condition) 64) (ending r) both.0.1.1.1.1).0, clean_conditions rs both.1)
+
+module _ (text : List ℕ) (b : FunctionBlock) where
+  shallow_rule : (r : RuleNode) (q : Rule) → HasCleanCondition r → IsRuleOf text b r q → IsShallow q
+  shallow_rule r q clean rule =
+      let literal = literal_of text b in
+      let deep : depth (or_condition literal (view_or r.condition)) ≤ 132 = depth_or literal (λ v t. refl) (view_or r.condition) 64 clean in
+      rw (rule.condition) (omega (arith, deep))
+
+  pub shallow_rules : (rs : List RuleNode) (qs : List Rule) → IsClean (each rule_item_text (map view_rule_item rs)) → AllZip (IsRuleOf text b) rs qs → All IsShallow qs
+  shallow_rules rs qs clean rules = All-from_recursion IsShallow qs (all_related HasCleanCondition (IsRuleOf text b) IsShallow shallow_rule rs qs (clean_conditions rs clean) rules)

@@ -1,5 +1,5 @@
 -- The input of a section without faults is valid.
-use Rattle.std.proofs.Common.{◌≡◌, ℕ, Bool, true, false, not, ◌&&◌, List, [], ◌∷◌, Option, Some, None, refl, arith, sym, subst}
+use Rattle.std.proofs.Common.{◌≡◌, ℕ, true, not, ◌&&◌, List, [], ◌∷◌, Option, Some, None, arith, sym, subst}
 use Rattle.std.specs.Prelude.{◌<ℤ◌}
 use Rattle.std.specs.List.{AllByRecursion, flat_map}
 use Rattle.std.proofs.lemmas.List.Elements.{All-from_recursion}
@@ -22,7 +22,7 @@ use Rattle.fcl_check.specs.Places.{at_if}
 use Rattle.fcl_check.specs.Sections.{Ends, abscissas, bad_fuzzy_range, ends_of, falling_in, fuzzy_range, has_shape, hull_of, is_empty_range, outside, outside_in, points_of, x_of}
 use Rattle.fcl_check.proofs.Counts.{few_items, some_item}
 use Rattle.fcl_check.proofs.Elements.{all_related, all_unmapped, all_weaker, parts_of}
-use Rattle.fcl_check.proofs.Faultless.{IsSoundPart, known_side, no_items, no_place, nowhere}
+use Rattle.fcl_check.proofs.Faultless.{IsSoundPart, known_side, no_items, no_place, nowhere, shaped}
 use Rattle.fcl_check.proofs.Ranges.{AllIn, In, all_inside, hull-over, not_empty}
 use Rattle.fcl_check.proofs.Scales.{input_range-in}
 use Rattle.fcl_check.proofs.ValidTerms.{valid_term}
@@ -60,10 +60,6 @@ record IsSoundTerm (e : Ends) (t : Term) : Type 0 where
   falls : falling_in t ≡ []
   shape : has_shape (points_of t) ≡ true
   inside : AllIn e (points_of t)
-
-shaped : (test : Bool) (at : ℕ) → at_if (not test) at ≡ [] → test ≡ true
-shaped true at h = refl
-shaped false at h = absurd cc
 
 abbrev unshaped : Term → List ℕ
 unshaped t = at_if (not (has_shape (points_of t))) t.at

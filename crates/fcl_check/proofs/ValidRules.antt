@@ -1,5 +1,5 @@
 -- The rule of a rule without faults is valid over the inputs and outputs of its tree.
-use Rattle.std.proofs.Common.{◌≡◌, ℕ, suc, ◌-◌, ◌≤◌, true, false, ◌||◌, List, [], length, map, Option, Some, None, option_map, refl, sym, subst, ap, arith, inl, inr}
+use Rattle.std.proofs.Common.{◌≡◌, ℕ, suc, ◌-◌, ◌≤◌, true, false, ◌||◌, List, [], length, map, Option, Some, None, option_map, sym, subst, ap, arith, inl, inr}
 use Rattle.std.specs.Prelude.{IfSome, IsSomeAnd, ℤ, pos, ◌≤ℤ◌, int_lt}
 use Rattle.std.specs.List.{AllByRecursion, slice_get}
 use Rattle.std.proofs.lemmas.Bool.{cases_Bool}
@@ -14,7 +14,6 @@ use Rattle.fuzzy_meaning.specs.declared.block.Input.{Input}
 use Rattle.fuzzy_meaning.specs.declared.block.Output.{Output}
 use Rattle.fuzzy_meaning.specs.declared.block.Rule.{Rule}
 use Rattle.fuzzy_meaning.specs.Blocks.{HasSingleton, HasTerm, IsValidRule, IsWeight}
-use Rattle.fuzzy_meaning.specs.Conditions.{depth}
 use Rattle.fcl_syntax.specs.declared.tree.Conclusion.{Conclusion}
 use Rattle.fcl_syntax.specs.declared.tree.Defuzzify.{Defuzzify}
 use Rattle.fcl_syntax.specs.declared.tree.Direction.TheVariants as side
@@ -25,19 +24,19 @@ use Rattle.fcl_syntax.specs.declared.tree.Rule.{Rule as RuleNode}
 use Rattle.fcl_syntax.specs.declared.tree.Singleton.{Singleton}
 use Rattle.fcl_syntax.specs.declared.tree.Term.{Term}
 use Rattle.fcl_syntax.specs.declared.tree.Weight.{Weight}
-use Rattle.fcl_syntax.specs.Grammar.{or_text}
-use Rattle.fcl_syntax.specs.Marks.{IsClean}
 use Rattle.fcl_syntax.specs.View.{view_or}
+use Rattle.fcl_check.specs.Building.{IsShallow}
 use Rattle.fcl_check.specs.Faults.{Pair, conclusions_of}
-use Rattle.fcl_check.specs.Loaded.{IsBlockOf, IsInputNamed, IsOutputNamed, IsRuleOf, IsTermOf, conclusion_of, literal_of, number_of, or_condition, or_zero}
+use Rattle.fcl_check.specs.Loaded.{IsBlockOf, IsInputNamed, IsOutputNamed, IsRuleOf, IsTermOf, conclusion_of, literal_of, number_of, or_zero}
 use Rattle.fcl_check.specs.Names.{declared_as, declared_in, defuzzify_of, fuzzify_of, letters, number_in, singleton_names, singletons_of, term_names, term_number, terms_of, variable_number}
 use Rattle.fcl_check.specs.Places.{at_if, at_some}
 use Rattle.fcl_check.specs.Sections.{value}
-use Rattle.fcl_check.proofs.ConditionSizes.{depth_or}
+use Rattle.fcl_check.specs.Sound.{IsKnown, IsSoundRule}
 use Rattle.fcl_check.proofs.Elements.{all_mapped, all_weaker}
-use Rattle.fcl_check.proofs.Faultless.{IsKnown, IsSoundRule, no_place}
+use Rattle.fcl_check.proofs.Faultless.{no_place}
 use Rattle.fcl_check.proofs.NumberedNames.{declared_any, number_within, numbered}
 use Rattle.fcl_check.proofs.ValidConditions.{valid_or}
+use Rattle.fcl_check.proofs.WholeConditions.{whole}
 
 -- ---- what names stand for
 
@@ -111,16 +110,13 @@ module _ (text : List ℕ) (b : FunctionBlock) (block : Block) (of : IsBlockOf t
       let term : or_zero (term_number text b side.Output ls (letters text t)) ≡ known.number = ap or_zero known.numbered in
       rw term (output_with block (or_zero (variable_number text b side.Output ls)) known.number at.index at.item (ap or_zero at.number) at.here within.0 (omega (arith, within.1, many, one, two, long)))
 
-  pub valid_rule : (r : RuleNode) (q : Rule) → IsClean (or_text (view_or r.condition) 64) → IsSoundRule text b r → IsRuleOf text b r q → IsValidRule block q
-  valid_rule r q clean sound rule =
-      let o = view_or r.condition in
-      let literal = literal_of text b in
-      let known = valid_or block literal (λ (p : Pair). IsKnown text b side.Input p.variable p.term) (λ v t h. has_term v t h) o 64 clean sound.condition in
-      let deep : depth (or_condition literal o) ≤ 132 = depth_or literal (λ v t. refl) o 64 clean in
+  pub valid_rule : (r : RuleNode) (q : Rule) → IsSoundRule text b r → IsRuleOf text b r q → IsShallow q → IsValidRule block q
+  valid_rule r q sound rule deep =
+      let known = valid_or block (literal_of text b) (λ (p : Pair). IsKnown text b side.Input p.variable p.term) (λ v t h. has_term v t h) (view_or r.condition) (whole r.condition) sound.condition in
       let ends : AllByRecursion (λ (c : ℕ × ℕ). HasSingleton block c.0 c.1) (map (conclusion_of text b) (conclusions_of r)) = all_mapped (λ (c : ℕ × ℕ). HasSingleton block c.0 c.1) (conclusion_of text b) (conclusions_of r) (all_weaker (λ (c : Conclusion). IsKnown text b side.Output c.variable c.term) (λ (c : Conclusion). HasSingleton block (conclusion_of text b c).0 (conclusion_of text b c).1) (λ c h. has_singleton c.variable c.term h) (conclusions_of r) sound.conclusions) in
       record {
         condition = rw (rule.condition) known;
-        deep = rw (rule.condition) (omega (arith, deep));
+        deep = deep;
         weight = valid_weight r.weight q.weight sound.weight rule.weight;
         some_conclusion = rw (rule.conclusions) (omega arith);
         conclusions = All-from_recursion (λ (c : ℕ × ℕ). HasSingleton block c.0 c.1) q.concl (rw (rule.conclusions) ends);

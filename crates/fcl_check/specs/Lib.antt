@@ -6,6 +6,7 @@ pub mod Sections
 pub mod Faults
 pub mod Loaded
 pub mod Known
+pub mod Sound
 pub mod Texts
 pub mod Steps
 pub mod Corners
