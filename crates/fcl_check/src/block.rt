@@ -26,9 +26,6 @@ use fz_list::List;
 use fz_num::Dec;
 use std::alloc::{AllocError, Global};
 
-/// How many rules a block may have.
-pub const RULES: usize = 256;
-
 /// How many conditions and conclusions a block may have in all. A text that is short enough to be
 /// read has fewer.
 const SIZE: u32 = 1_048_576;

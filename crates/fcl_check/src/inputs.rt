@@ -22,9 +22,6 @@ use fz_list::List;
 use fz_num::Dec;
 use std::alloc::{AllocError, Global};
 
-/// How many inputs a block may have.
-pub const INPUTS: usize = 8;
-
 // The corners of a term as far as its points were seen.
 #[derive(Clone, Copy)]
 struct Corners {

@@ -21,9 +21,6 @@ use fz_list::List;
 use fz_num::Dec;
 use std::alloc::{AllocError, Global};
 
-/// How many outputs a block may have.
-pub const OUTPUTS: usize = 4;
-
 // The DEFAULT line of a section.
 fn fallback(section: &Defuzzify) -> Option<Fallback>
     ensures { result ≡ default_of section.now }

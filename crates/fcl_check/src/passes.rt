@@ -12,11 +12,9 @@ ghost use Rattle.fcl_check.specs.Sections.{bad_range, falling_points, incomplete
 ghost use Rattle.fcl_check.specs.Steps.{room_behind};
 ghost use Rattle.fcl_check.specs.declared.operands.RuleNames.{RuleNames};
 
-use crate::block::RULES;
-use crate::inputs::INPUTS;
 use crate::names::Names;
 use crate::operands::RuleNames;
-use crate::outputs::{OUTPUTS, is_complete};
+use crate::outputs::is_complete;
 use crate::rules::{
     mistaken_name, mistaken_section, unknown_name, unknown_section, weight_outside,
 };
@@ -26,6 +24,13 @@ use crate::sections::{
 };
 use crate::walk::first_at;
 use fcl_syntax::{Direction, Name, Part, Rule, Tree};
+
+// How many inputs, outputs and rules a block may have.
+const INPUTS: usize = 8;
+
+const OUTPUTS: usize = 4;
+
+const RULES: usize = 256;
 
 fn unknown_names(names: &Names<'_>, tree: &Tree, rules: &[RuleNames<'_>]) -> Option<u32>
     requires { Knows tree.now names.now }

@@ -24,8 +24,8 @@ use fcl_syntax::{
 };
 use fz_num::Dec;
 
-/// How many terms a variable may have.
-pub const TERMS: usize = 15;
+// How many terms a variable may have.
+const TERMS: usize = 15;
 
 /// The RANGE of a section of an input.
 pub fn fuzzy_range(section: &Fuzzify) -> Option<Range>
