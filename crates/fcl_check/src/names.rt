@@ -7,7 +7,7 @@ ghost use Rattle.std.specs.Option.{option_or};
 ghost use Rattle.fcl_syntax.specs.declared.tree.Direction.{Direction};
 ghost use Rattle.fcl_syntax.specs.declared.tree.Part.TheVariants as part;
 ghost use Rattle.fcl_syntax.specs.declared.tree.Tree.{Tree};
-ghost use Rattle.fcl_check.specs.ByLetters.{at_letters, variable_in, count_of, names_in, numbers_of, HoldsSections};
+ghost use Rattle.fcl_check.specs.ByLetters.{at_letters, variable_in, count_of, names_in, HoldsSections};
 ghost use Rattle.fcl_check.specs.Faults.{Answers, twice, repeated, same_declared, same_kind, same_rule_line, output_line_at, rule_line_at, repeated_lines, repeated_section};
 ghost use Rattle.fcl_check.specs.declared.fault.LoadFault.TheVariants as load;
 ghost use Rattle.fcl_check.specs.Known.{Knows};
@@ -85,27 +85,6 @@ impl<'a> Names<'a> {
                 section.terms.get(term).copied()
             }
             _ => None,
-        }
-    }
-
-    /// The numbers of a variable and of a term of it, where they are on this side.
-    pub fn numbers(
-        &self,
-        tree: &Tree,
-        direction: Direction,
-        variable: Name,
-        term: Name,
-    ) -> Option<(usize, usize)>
-        requires { Knows tree.now self.now }
-        ensures { IfSome result (λ p. p ≡ numbers_of tree.now.text.items tree.now.block direction variable term) }
-    {
-        let letters = tree.letters(variable);
-        let declared = self.variable(letters)?;
-        let term = self.term(direction, letters, tree.letters(term))?;
-        if declared.direction == direction {
-            Some((declared.number, term))
-        } else {
-            None
         }
     }
 }

@@ -1,8 +1,7 @@
 //! The numbers of a tree.
 
-ghost use Rattle.std.specs.Prelude.{◌≡◌, ◌↔◌, IsTrue, pos, ◌≤ℤ◌};
+ghost use Rattle.std.specs.Prelude.{◌≡◌, pos, ◌≤ℤ◌};
 ghost use Rattle.std.specs.Int.{int_min, int_max};
-ghost use Rattle.fuzzy_meaning.specs.Blocks.{IsInScale, IsWithin};
 ghost use Rattle.fcl_check.specs.Building.{ends_in};
 ghost use Rattle.fcl_check.specs.Loaded.{widened};
 ghost use Rattle.fcl_check.specs.Sections.{magnitude, value, is_one, ends_of, lies_in, is_empty_range};
@@ -27,8 +26,7 @@ fn magnitude(number: Number) -> i64
 
 /// A number, in 1/10000.
 pub fn value(num: Num) -> Dec
-    ensures value { result.0 ≡ value num }
-    ensures scale { IsInScale result.0 }
+    ensures { result.0 ≡ value num }
 {
     let value = match num {
         Num::Plus(number) | Num::Bare(number) => magnitude(number),
@@ -72,15 +70,13 @@ impl Span {
     }
 
     pub fn is_empty(self) -> bool
-        ensures empty { result ≡ is_empty_range (ends_in self) }
-        ensures order { IsTrue result ↔ (self.hi.0 ≤ℤ self.lo.0) }
+        ensures { result ≡ is_empty_range (ends_in self) }
     {
         self.hi.0 <= self.lo.0
     }
 
     pub fn holds(self, x: Dec) -> bool
-        ensures holds { result ≡ lies_in (ends_in self) x.0 }
-        ensures within { IsTrue result → IsWithin self.lo self.hi x }
+        ensures { result ≡ lies_in (ends_in self) x.0 }
     {
         self.lo.0 <= x.0 && x.0 <= self.hi.0
     }

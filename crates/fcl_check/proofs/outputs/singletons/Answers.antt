@@ -9,6 +9,6 @@ each-preserved c =
     let lines = c.args.section.now.lines.items in
     let read = c.deref-line-items in
     elim c.match-line.branch [
-      | in-Singleton+in_ok-push w ↦ rw (w.singletons-is, w.in_ok-push.ensures.items) (singletons-more lines read.result.now c.each.line-index _ read.ensures.value (omega arith) c.each.singletons.items w.value.result w.in-Singleton.singleton w.in-Singleton.is w.value.ensures.value c.each.invariant)
+      | in-Singleton+in_ok-push w ↦ rw (w.singletons-is, w.in_ok-push.ensures.items) (singletons-more lines read.result.now c.each.line-index _ read.ensures.value (omega arith) c.each.singletons.items w.value.result w.in-Singleton.singleton w.in-Singleton.is w.value.ensures c.each.invariant)
       | in_default w ↦ rw w.singletons-is (singletons-passed lines read.result.now c.each.line-index _ read.ensures.value (omega arith) c.each.singletons.items (no-singleton _ w.in_default.not-Singleton) c.each.invariant)
     ]
