@@ -1,9 +1,8 @@
 -- How deep the condition of a text is, and how many conditions there are: no more than the text's offsets.
-use Rattle.std.proofs.Common.{◌≡◌, ℕ, zero, suc, ◌+◌, ◌*◌, ◌≤◌, List, [], ◌∷◌, ◌++◌, length, Some, None, refl, arith}
+use Rattle.std.proofs.Common.{◌≡◌, ℕ, zero, suc, ◌+◌, ◌-◌, ◌*◌, ◌≤◌, List, [], ◌∷◌, ◌++◌, length, Some, None, refl, arith}
 use Rattle.std.proofs.lemmas.List.{length-append}
 use Rattle.std.proofs.lemmas.List.Elements.{filter_map-append}
 use Rattle.fuzzy_meaning.specs.Conditions.{Condition, depth, greatest_depth, nodes, total_nodes}
-use Rattle.fcl_syntax.proofs.MarkedTexts.{tokens_of-append}
 use Rattle.fcl_syntax.specs.declared.fault.Kind.{Kind}
 use Rattle.fcl_syntax.specs.declared.fault.Kind.TheVariants.{Deep}
 use Rattle.fcl_syntax.specs.declared.token.Keyword.TheVariants as key
@@ -11,8 +10,8 @@ use Rattle.fcl_syntax.specs.declared.token.Token.{Token}
 use Rattle.fcl_syntax.specs.declared.token.Token.TheVariants as tok
 use Rattle.fcl_syntax.specs.declared.tree.Name.{Name}
 use Rattle.fcl_syntax.specs.Grammar.{TNot, neg, group, is, lone, TNots, no_nots, more_nots, TAnd, and_of, TAnds, no_ands, more_ands, TOr, or_of, not_text, nots_text, and_text, ands_text, or_text, less, opener}
-use Rattle.fcl_syntax.specs.Marks.{IsClean, Sym, plain, tokens_of}
-use Rattle.fcl_syntax.specs.Offsets.{offset_of, offsets}
+use Rattle.fcl_syntax.specs.Marks.{IsClean, Sym, plain}
+use Rattle.fcl_syntax.specs.Offsets.{AscendWithin, offset_of, offsets}
 use Rattle.fcl_check.specs.Loaded.{not_condition, nots_conditions, and_condition, ands_conditions, or_condition}
 
 -- how many tokens of a text keep their offset
@@ -20,7 +19,12 @@ abbrev pub count : List Sym → ℕ
 count symbols = length (offsets symbols)
 
 pub count-append : (a b : List Sym) → count (a ++ b) ≡ count a + count b
-count-append a b = rw (tokens_of-append a b, filter_map-append offset_of (tokens_of a) (tokens_of b)) (length-append (offsets a) (offsets b))
+count-append a b = rw (filter_map-append (λ (s : Sym). offset_of s.token) a b) (length-append (offsets a) (offsets b))
+
+-- there are no more numbers that ascend than lie between their bounds
+pub few_within : (low end : ℕ) (ns : List ℕ) → AscendWithin low end ns → length ns ≤ end - low
+few_within low end [] up = omega arith
+few_within low end (n ∷ ns) up = let rest = few_within (suc n) end ns up.1.1 in omega (arith, up.0, up.1.0, rest)
 
 pub clean_parts : (a b : List Sym) → IsClean (a ++ b) → IsClean a × IsClean b
 clean_parts [] b h = (tt, h)

@@ -98,9 +98,6 @@ at_x x points = filter (λ (p : Point). int_eq (x_of p) x) points
 abbrev pub left_of : ℤ → List Point → List Point
 left_of x points = filter (λ (p : Point). int_lt (x_of p) x) points
 
-abbrev pub right_of : ℤ → List Point → List Point
-right_of x points = filter (λ (p : Point). int_lt x (x_of p)) points
-
 none-at : (low x : ℤ) (points : List Point) → x <ℤ low → NotBelow low points → at_x x points ≡ []
 none-at low x [] h all = refl
 none-at low x (p ∷ points) h all = let r = right p x (omega (arith, ints, h, all.0)) in rw r.same (none-at low x points h all.1)

@@ -1,13 +1,12 @@
 -- Places that stand in a text of the grammar, each at a token of its own and in the tokens' order.
-use Rattle.std.proofs.Common.{◌≡◌, ℕ, zero, suc, Bool, true, false, List, [], ◌∷◌, ◌++◌, map, drop, Option, Some, None, subst, ap, ◌∙◌, arith}
+use Rattle.std.proofs.Common.{◌≡◌, ℕ, zero, suc, ◌≤◌, Bool, true, false, List, [], ◌∷◌, ◌++◌, map, drop, Option, Some, None, subst, ap, ◌∙◌, arith}
 use Rattle.std.specs.List.{filter_map, flat_map, cons_option, list_any}
 use Rattle.std.proofs.lemmas.List.{drop-map}
 use Rattle.std.proofs.lemmas.List.Concat.{flat_map_single}
 use Rattle.fcl_syntax.specs.Grammar.{behind, each}
 use Rattle.fcl_syntax.specs.Marks.{Sym}
-use Rattle.fcl_syntax.specs.Offsets.{offset_of, offsets}
+use Rattle.fcl_syntax.specs.Offsets.{AscendWithin, offset_of, offsets}
 use Rattle.fcl_syntax.specs.declared.token.Token.{Token}
-use Rattle.fcl_syntax.proofs.Offsets.{AscendWithin, AscendWithin-lower}
 use Rattle.fcl_check.specs.Faults.{repeated}
 use Rattle.fcl_check.specs.Places.{at_if, at_some, at_each, first}
 use Rattle.fcl_check.proofs.FirstPlaces.{at_each-append, walked}
@@ -16,6 +15,10 @@ pub data StandIn : List ℕ → List Sym → Type 0 where
   none : StandIn [] []
   passed : {s : Sym} {ns : List ℕ} {text : List Sym} → StandIn ns text → StandIn ns (s ∷ text)
   taken : {s : Sym} {n : ℕ} {ns : List ℕ} {text : List Sym} → offset_of s.token ≡ Some n → StandIn ns text → StandIn (n ∷ ns) (s ∷ text)
+
+AscendWithin-lower : (low from end : ℕ) (ns : List ℕ) → low ≤ from → AscendWithin from end ns → AscendWithin low end ns
+AscendWithin-lower low from end [] h up = tt
+AscendWithin-lower low from end (n ∷ ns) h up = (omega (arith, h, up.0), up.1)
 
 AscendWithin-rest : (low end : ℕ) (o : Option ℕ) (ns : List ℕ) → AscendWithin low end (cons_option o ns) → AscendWithin low end ns
 AscendWithin-rest low end None ns up = up

@@ -3,11 +3,10 @@ use Rattle.std.proofs.Common.{◌≡◌, ℕ, not, List, [], ◌∷◌, ◌++◌
 use Rattle.std.specs.Prelude.{is_none}
 use Rattle.std.specs.Str.{str_to_ascii_lowercase}
 use Rattle.std.specs.List.{flat_map, list_any}
-use Rattle.std.specs.List.Sorted.{IsStrictlyIncreasing}
 use Rattle.std.proofs.lemmas.List.Elements.{All-nil, All-cons}
 use Rattle.fcl_syntax.specs.Grammar.{behind, each, name_text, decl_text, section_text, part_text, rule_item_text, rule_line_text, rulebase_text, end_text, block_text}
 use Rattle.fcl_syntax.specs.Marks.{Sym}
-use Rattle.fcl_syntax.specs.Offsets.{offsets}
+use Rattle.fcl_syntax.specs.Offsets.{AscendWithin, OffsetsAscend, offsets}
 use Rattle.fcl_syntax.specs.View.{view_decl, view_section, view_part, view_rule_item, view_rule_line, view_rulebase, view}
 use Rattle.fcl_syntax.specs.declared.token.Token.TheVariants as tok
 use Rattle.fcl_syntax.specs.declared.tree.Decl.{Decl}
@@ -18,7 +17,6 @@ use Rattle.fcl_syntax.specs.declared.tree.Name.{Name}
 use Rattle.fcl_syntax.specs.declared.tree.Part.{Part}
 use Rattle.fcl_syntax.specs.declared.tree.Rule.{Rule}
 use Rattle.fcl_syntax.specs.declared.tree.Vars.{Vars}
-use Rattle.fcl_syntax.proofs.Offsets.{AscendWithin, increasing_within, offsets_within}
 use Rattle.fcl_check.specs.declared.fault.LoadFault.{LoadFault}
 use Rattle.fcl_check.specs.Faults.{same_rule_line, rule_line_at, is_over, weight_outside, same_declared, same_section, repeated_section, twice, direction, is_declared_as, unknown_in, unknown_section, unknown, too_many, mistaken_section, mistaken_in, wrong_side, without_section, is_whole, missing_part, kinds}
 use Rattle.fcl_check.specs.Names.{Declared, declared_by, declared_in, section_name, section_of, letters}
@@ -74,16 +72,16 @@ in_rules b d = passed (passed (in_front _ (in_back _ (in_front _ d))))
 abbrev Kind : Type 0
 Kind = (ℕ → LoadFault) × List ℕ
 
-abbrev Ascends : Kind → Type 0
-Ascends k = IsStrictlyIncreasing k.1
+abbrev Ascends : ℕ → Kind → Type 0
+Ascends end k = AscendWithin 0 end k.1
 
 abbrev EachStandsIn : List Sym → List Kind → Type 0
 EachStandsIn text [] = Unit {0}
 EachStandsIn text (k ∷ ks) = StandIn k.1 text × EachStandsIn text ks
 
-each_ascends : (end : ℕ) (text : List Sym) (ks : List Kind) → AscendWithin 0 end (offsets text) → EachStandsIn text ks → All Ascends ks
-each_ascends end text [] up d = All-nil Ascends
-each_ascends end text (k ∷ ks) up d = All-cons Ascends k ks (increasing_within 0 end k.1 (AscendWithin-places 0 end d.0 up)) (each_ascends end text ks up d.1)
+each_ascends : (end : ℕ) (text : List Sym) (ks : List Kind) → AscendWithin 0 end (offsets text) → EachStandsIn text ks → All (Ascends end) ks
+each_ascends end text [] up d = All-nil (Ascends end)
+each_ascends end text (k ∷ ks) up d = All-cons (Ascends end) k ks (AscendWithin-places 0 end d.0 up) (each_ascends end text ks up d.1)
 
 module _ (text : List ℕ) (b : FunctionBlock) where
   twice_in_block : StandIn (twice text b) (block_text (view b))
@@ -158,5 +156,5 @@ module _ (text : List ℕ) (b : FunctionBlock) where
     ),
   )
 
-pub places_ascend : PlacesAscend
-places_ascend text b s = each_ascends (length text) (block_text (view b)) (kinds (str_to_ascii_lowercase text) b) (offsets_within text (view b) s) (all_in_block (str_to_ascii_lowercase text) b)
+pub places_ascend : OffsetsAscend → PlacesAscend
+places_ascend offsets_ascend text b s = each_ascends (length text) (block_text (view b)) (kinds (str_to_ascii_lowercase text) b) (offsets_ascend text (view b) s) (all_in_block (str_to_ascii_lowercase text) b)

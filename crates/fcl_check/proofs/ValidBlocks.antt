@@ -10,9 +10,8 @@ use Rattle.fuzzy_meaning.specs.declared.block.Block.{Block}
 use Rattle.fuzzy_meaning.specs.declared.block.Input.{Input}
 use Rattle.fuzzy_meaning.specs.declared.block.Output.{Output}
 use Rattle.fuzzy_meaning.specs.Blocks.{IsValid, IsValidInput, IsValidOutput, IsValidRule, rule_size}
-use Rattle.fcl_syntax.proofs.Offsets.{few_within, offsets_within}
 use Rattle.fcl_syntax.specs.Grammar.{block_text}
-use Rattle.fcl_syntax.specs.Offsets.{offsets}
+use Rattle.fcl_syntax.specs.Offsets.{OffsetsAscend, offsets}
 use Rattle.fcl_syntax.specs.View.{view}
 use Rattle.fcl_syntax.specs.declared.tree.Defuzzify.{Defuzzify}
 use Rattle.fcl_syntax.specs.declared.tree.Direction.TheVariants as side
@@ -28,6 +27,7 @@ use Rattle.fcl_check.specs.Places.{at_each}
 use Rattle.fcl_check.specs.Sections.{incomplete, terms_over_limit}
 use Rattle.fcl_check.specs.Texts.{SpelledBlocksAreValid}
 use Rattle.fcl_check.specs.Sound.{IsSoundRule}
+use Rattle.fcl_check.proofs.ConditionSizes.{few_within}
 use Rattle.fcl_check.proofs.Counts.{few_items, few_names, over, some_at_all, some_names}
 use Rattle.fcl_check.proofs.Elements.{all_images, all_related}
 use Rattle.fcl_check.proofs.Faultless.{IsFaultless, faultless, no_items, no_place, sound_input, sound_output, sound_rules}
@@ -83,11 +83,11 @@ module _ (text : List ℕ) (b : FunctionBlock) (block : Block) (sound : IsFaultl
 pub valid_block : (text : List ℕ) (b : FunctionBlock) (block : Block) → first_fault text b ≡ None → IsBlockOf text b block → All IsShallow block.rules → sum_by rule_size block.rules ≤ 1048576 → IsValid block
 valid_block text b block sound of = sized_block text b block (faultless text b sound) of
 
-pub spelled_blocks : SpelledBlocksAreValid
-spelled_blocks text b block small spelled sound of =
+pub spelled_blocks : OffsetsAscend → SpelledBlocksAreValid
+spelled_blocks offsets_ascend text b block small spelled sound of =
     let letters = str_to_ascii_lowercase text in
     let rules = b.rules.rules.items in
-    let few = few_within 0 (length text) (offsets (block_text (view b))) (offsets_within text (view b) spelled) in
+    let few = few_within 0 (length text) (offsets (block_text (view b))) (offsets_ascend text (view b) spelled) in
     let sizes = rule_sizes letters b rules block.rules of.rules in
     let deep = shallow_rules letters b rules block.rules (clean-rules b spelled.spells.clean) of.rules in
     valid_block letters b block sound of deep (omega (arith, sizes, count-rules b, few, small))

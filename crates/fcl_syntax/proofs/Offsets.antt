@@ -1,20 +1,18 @@
 -- The offsets of a text's tokens ascend.
-use Rattle.std.proofs.Common.{◌≡◌, ℕ, zero, suc, ◌+◌, ◌-◌, ◌<◌, ◌≤◌, Bool, true, false, List, [], ◌∷◌, length, take, drop, Option, Some, None, Result, Ok, Err, refl, subst, arith, All, inl, inr, ◌⊎◌, ◌==◌, if◌then◌else◌}
-use Rattle.std.specs.List.Sorted.{IsStrictlyIncreasing}
-use native.Mathlib.Numerals.{add-one}
-use Rattle.std.specs.Prelude.{◌||◌, slice_index}
+use Rattle.std.proofs.Common.{◌≡◌, ℕ, zero, suc, ◌+◌, ◌-◌, ◌<◌, ◌≤◌, Bool, true, false, List, [], ◌∷◌, length, take, drop, Option, Some, None, Result, Ok, Err, refl, subst, arith, All, inl, inr, ◌⊎◌, ◌==◌, if◌then◌else◌, ap, ◌∙◌}
+use Rattle.std.specs.Prelude.{◌||◌}
 use Rattle.std.specs.Char.{is_ascii_digit}
-use Rattle.std.specs.List.{filter_map}
+use Rattle.std.specs.List.{cons_option, filter_map}
 use Rattle.std.proofs.lemmas.List.{length-drop}
-use Rattle.std.proofs.lemmas.List.Elements.{All-nil, All-cons}
 use Rattle.std.proofs.lemmas.List.Sums.{take_while-cons}
 use Rattle.fz_num.specs.declared.dec.Dec.{Dec}
 use Rattle.fz_num.specs.declared.dec.DecFault.{DecFault}
 use Rattle.fz_num.specs.Decimals.{decimal}
 use Rattle.fcl_syntax.specs.Grammar.{TBlock, block_text}
 use Rattle.fcl_syntax.specs.Lexing.{Lexed, colon_piece, comment_end, comment_piece, decimal_piece, has_fraction, in_front, is_blank, is_name_byte, is_name_start, lexed, mark_piece, meaning_in, next_piece, number_len, number_piece, open_piece, piece_of, point_piece, run, slash_piece, starts_name, token_of, word_token}
+use Rattle.fcl_syntax.specs.Marks.{Sym, tokens_of}
 use Rattle.fcl_syntax.specs.Meanings.{meanings}
-use Rattle.fcl_syntax.specs.Offsets.{offset_of, offsets, OffsetsAscend}
+use Rattle.fcl_syntax.specs.Offsets.{AscendWithin, offset_of, offsets, OffsetsAscend}
 use Rattle.fcl_syntax.specs.Text.{SpellsTree}
 use Rattle.fcl_syntax.specs.declared.lexer.Piece.{Piece}
 use Rattle.fcl_syntax.specs.declared.lexer.Piece.TheVariants as piece
@@ -22,35 +20,9 @@ use Rattle.fcl_syntax.specs.declared.token.Meaning.{Meaning}
 use Rattle.fcl_syntax.specs.declared.token.Meaning.TheVariants as meaning
 use Rattle.fcl_syntax.specs.declared.token.Token.{Token}
 
--- ---- numbers that ascend from one bound to below another
-
-abbrev pub AscendWithin : ℕ → ℕ → List ℕ → Type 0
-AscendWithin low end [] = Unit {0}
-AscendWithin low end (n ∷ ns) = (low ≤ n) × ((n < end) × AscendWithin (suc n) end ns)
-
-pub AscendWithin-lower : (low from end : ℕ) (ns : List ℕ) → low ≤ from → AscendWithin from end ns → AscendWithin low end ns
+AscendWithin-lower : (low from end : ℕ) (ns : List ℕ) → low ≤ from → AscendWithin from end ns → AscendWithin low end ns
 AscendWithin-lower low from end [] h up = tt
 AscendWithin-lower low from end (n ∷ ns) h up = (omega (arith, h, up.0), up.1)
-
-pub increasing_within : (low end : ℕ) (ns : List ℕ) → AscendWithin low end ns → IsStrictlyIncreasing ns
-increasing_within low end [] up = λ k h. absurd (omega (arith, h))
-increasing_within low end (n ∷ []) up = λ k h. absurd (omega (arith, h))
-increasing_within low end (n ∷ m ∷ ns) up = go (increasing_within (suc n) end (m ∷ ns) up.1.1)
-  where
-    go : IsStrictlyIncreasing (m ∷ ns) → IsStrictlyIncreasing (n ∷ m ∷ ns)
-    go rest zero h = up.1.1.0
-    go rest (suc k) h =
-        let next : slice_index (m ∷ ns) k < slice_index (m ∷ ns) (k + 1) = rest k (omega (arith, h)) in
-        rw (add-one (suc k)) (rw (add-one k) at next)
-
-pub below_end : (low end : ℕ) (ns : List ℕ) → AscendWithin low end ns → All (λ n. n < end) ns
-below_end low end [] up = All-nil (λ n. n < end)
-below_end low end (n ∷ ns) up = All-cons (λ n. n < end) n ns up.1.0 (below_end (suc n) end ns up.1.1)
-
--- there are no more of them than lie between the bounds
-pub few_within : (low end : ℕ) (ns : List ℕ) → AscendWithin low end ns → length ns ≤ end - low
-few_within low end [] up = omega arith
-few_within low end (n ∷ ns) up = let rest = few_within (suc n) end ns up.1.1 in omega (arith, up.0, up.1.0, rest)
 
 -- ---- pieces
 
@@ -173,16 +145,11 @@ lexed_within (suc fuel) at end (b ∷ bytes) h =
     next_within at end (piece_of at (b ∷ bytes)) (λ n. lexed fuel (at + n) (drop n (b ∷ bytes))) (omega (arith, h)) (piece_at at b bytes)
     (λ n. lexed_within fuel (at + n) end (drop n (b ∷ bytes)) (omega (arith, h, length-drop n (b ∷ bytes))))
 
--- the offsets in a tree that a text spells
-pub offsets_within : (text : List ℕ) (t : TBlock) → SpellsTree text t → AscendWithin 0 (length text) (offsets (block_text t))
-offsets_within text t s =
-    let cut : LexedWithin 0 (length text) (Ok (s.tokens, s.places)) = subst (LexedWithin 0 (length text)) s.cut (lexed_within (length text) 0 (length text) text (omega arith)) in
-    subst (λ (ts : List Token). AscendWithin 0 (length text) (filter_map offset_of ts)) s.spells.parts cut
+offsets-tokens : (symbols : List Sym) → filter_map offset_of (tokens_of symbols) ≡ offsets symbols
+offsets-tokens [] = refl
+offsets-tokens (s ∷ symbols) = ap (cons_option (offset_of s.token)) (offsets-tokens symbols)
 
 pub offsets_ascend_lem : OffsetsAscend
 offsets_ascend_lem text t s =
-    let up = offsets_within text t s in
-    record {
-      ascend = increasing_within 0 (length text) (offsets (block_text t)) up;
-      within = below_end 0 (length text) (offsets (block_text t)) up;
-    }
+    let cut : LexedWithin 0 (length text) (Ok (s.tokens, s.places)) = subst (LexedWithin 0 (length text)) s.cut (lexed_within (length text) 0 (length text) text (omega arith)) in
+    subst (AscendWithin 0 (length text)) (ap (filter_map offset_of) s.spells.parts ∙ offsets-tokens (block_text t)) cut

@@ -1,9 +1,8 @@
 -- The offsets of a text's tokens.
-use Rattle.std.specs.Prelude.{ℕ, ◌<◌, List, length, All, Option, Some, None}
-use Rattle.std.specs.List.Sorted.{IsStrictlyIncreasing}
+use Rattle.std.specs.Prelude.{ℕ, suc, ◌<◌, ◌≤◌, List, [], ◌∷◌, length, Option, Some, None}
 use Rattle.std.specs.List.{filter_map}
 use Rattle.fcl_syntax.specs.Grammar.{TBlock, block_text}
-use Rattle.fcl_syntax.specs.Marks.{Sym, tokens_of}
+use Rattle.fcl_syntax.specs.Marks.{Sym}
 use Rattle.fcl_syntax.specs.Text.{SpellsTree}
 use Rattle.fcl_syntax.specs.declared.token.Token.{Token}
 use Rattle.fcl_syntax.specs.declared.token.Token.TheVariants as tok
@@ -18,13 +17,13 @@ offset_of _ = None
 
 -- in the order of the tokens
 abbrev pub offsets : List Sym → List ℕ
-offsets symbols = filter_map offset_of (tokens_of symbols)
+offsets symbols = filter_map (λ (s : Sym). offset_of s.token) symbols
 
--- the offsets of a text of this length
-pub record AreOffsetsIn (len : ℕ) (ats : List ℕ) : Type 0 where
-  pub ascend : IsStrictlyIncreasing ats
-  pub within : All (λ at. at < len) ats
+-- numbers that ascend, from one bound to below another
+abbrev pub AscendWithin : ℕ → ℕ → List ℕ → Type 0
+AscendWithin low end [] = Unit {0}
+AscendWithin low end (n ∷ ns) = (low ≤ n) × ((n < end) × AscendWithin (suc n) end ns)
 
 -- The offsets in a tree that a text spells ascend within the text.
 abbrev pub OffsetsAscend : Type 0
-OffsetsAscend = (text : List ℕ) (t : TBlock) → SpellsTree text t → AreOffsetsIn (length text) (offsets (block_text t))
+OffsetsAscend = (text : List ℕ) (t : TBlock) → SpellsTree text t → AscendWithin 0 (length text) (offsets (block_text t))
