@@ -1,5 +1,5 @@
 -- The offsets of a text's tokens ascend.
-use Rattle.std.proofs.Common.{◌≡◌, ℕ, zero, suc, ◌+◌, ◌-◌, ◌<◌, ◌≤◌, Bool, true, false, List, [], ◌∷◌, length, take, drop, Option, Some, None, Result, Ok, Err, refl, subst, arith, All, inl, inr, ◌⊎◌, ◌==◌, if◌then◌else◌, ap, ◌∙◌}
+use Rattle.std.proofs.Common.{◌≡◌, ℕ, zero, suc, ◌+◌, ◌-◌, ◌<◌, ◌≤◌, Bool, true, false, List, [], ◌∷◌, length, take, drop, Option, Some, None, Result, Ok, Err, refl, subst, arith, inl, inr, ◌⊎◌, ◌==◌, if◌then◌else◌, ap, ◌∙◌}
 use Rattle.std.specs.Prelude.{◌||◌}
 use Rattle.std.specs.Char.{is_ascii_digit}
 use Rattle.std.specs.List.{cons_option, filter_map}
@@ -8,12 +8,11 @@ use Rattle.std.proofs.lemmas.List.Sums.{take_while-cons}
 use Rattle.fz_num.specs.declared.dec.Dec.{Dec}
 use Rattle.fz_num.specs.declared.dec.DecFault.{DecFault}
 use Rattle.fz_num.specs.Decimals.{decimal}
-use Rattle.fcl_syntax.specs.Grammar.{TBlock, block_text}
+use Rattle.fcl_syntax.specs.Grammar.{block_text}
 use Rattle.fcl_syntax.specs.Lexing.{Lexed, colon_piece, comment_end, comment_piece, decimal_piece, has_fraction, in_front, is_blank, is_name_byte, is_name_start, lexed, mark_piece, meaning_in, next_piece, number_len, number_piece, open_piece, piece_of, point_piece, run, slash_piece, starts_name, token_of, word_token}
 use Rattle.fcl_syntax.specs.Marks.{Sym, tokens_of}
 use Rattle.fcl_syntax.specs.Meanings.{meanings}
 use Rattle.fcl_syntax.specs.Offsets.{AscendWithin, offset_of, offsets, OffsetsAscend}
-use Rattle.fcl_syntax.specs.Text.{SpellsTree}
 use Rattle.fcl_syntax.specs.declared.lexer.Piece.{Piece}
 use Rattle.fcl_syntax.specs.declared.lexer.Piece.TheVariants as piece
 use Rattle.fcl_syntax.specs.declared.token.Meaning.{Meaning}
