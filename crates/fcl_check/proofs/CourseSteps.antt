@@ -52,7 +52,7 @@ last-of low p (q ∷ points) all =
     let on = last-of low q points all.1 in
     (on.0, ap abscissa_of (last-over p q points) ∙ on.1, on.2)
 
-no-ones : (points : List Point) → list_all has_zero points ≡ true → filter has_one points ≡ []
+pub no-ones : (points : List Point) → list_all has_zero points ≡ true → filter has_one points ≡ []
 no-ones [] h = refl
 no-ones (p ∷ points) h = rw (head-zero p points h) (no-ones points (tail-zero p points h))
 

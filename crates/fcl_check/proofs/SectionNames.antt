@@ -11,13 +11,12 @@ use Rattle.fcl_syntax.specs.declared.tree.Part.{Part}
 use Rattle.fcl_check.specs.declared.fault.LoadFault.{LoadFault}
 use Rattle.fcl_check.specs.declared.fault.LoadFault.TheVariants as load
 use Rattle.fcl_check.specs.declared.names.Section.{Section}
-use Rattle.fcl_check.specs.ByLetters.{at_letters, HoldsSections}
-use Rattle.fcl_check.specs.Faults.{repeated_line, repeated_section, same_section}
-use Rattle.fcl_check.specs.Known.{names_in}
+use Rattle.fcl_check.specs.ByLetters.{at_letters, names_in, HoldsSections}
+use Rattle.fcl_check.specs.Faults.{repeated_lines, repeated_section, same_section}
 use Rattle.fcl_check.specs.Names.{is_named, letters, number_in, section_name}
-use Rattle.fcl_check.specs.Places.{first_after}
+use Rattle.fcl_check.specs.Places.{at_each, first}
 use Rattle.fcl_check.proofs.LetterMaps.{found_any}
-use Rattle.fcl_check.proofs.FirstPlaces.{Says, first_after_here, first_after_more, list_any-all_behind, same_place}
+use Rattle.fcl_check.proofs.FirstPlaces.{Says, first_at_here, first_at_more, list_any-all_walked, same_place}
 
 is_some-map : {A B : Type 0} (f : A → B) (o : Option A) → is_some (option_map f o) ≡ is_some o
 is_some-map f None = refl
@@ -44,19 +43,19 @@ module _ (text : List ℕ) (b : FunctionBlock) (parts : List Part) (i : ℕ) (p 
       ∙ ap is_some (holds.parts (letters text (section_name p)))
       ∙ found_any (λ (q : Part). is_named text (letters text (section_name p)) (section_name q)) (take i parts))
 
-  module _ (once : first_after (repeated_section text b) [] (take i parts) ≡ None) where
-    pub section_twice : is_some (at_letters m (letters text name)) ≡ true → first_after (repeated_section text b) [] parts ≡ Some name.at
+  module _ (once : first (at_each (repeated_section text b) [] (take i parts)) ≡ None) where
+    pub section_twice : is_some (at_letters m (letters text name)) ≡ true → first (at_each (repeated_section text b) [] parts) ≡ Some name.at
     section_twice found =
-        first_after_here (repeated_section text b) parts i p name.at more once (rw (list_any-all_behind (same_section text b p) (take i parts), ← section_taken, found, named) refl)
+        first_at_here (repeated_section text b) parts i p more once name.at (rw (list_any-all_walked (same_section text b p) (take i parts), ← section_taken, found, named) refl)
 
     module _ (free : is_some (at_letters m (letters text name)) ≡ false) where
-      pub line_twice : (e : LoadFault) → Says e (option_map load.Twice (repeated_line text b p)) → Says e (option_map load.Twice (first_after (repeated_section text b) [] parts))
+      pub line_twice : (e : LoadFault) → Says e (option_map load.Twice (first (repeated_lines text b p))) → Says e (option_map load.Twice (first (at_each (repeated_section text b) [] parts)))
       line_twice e found =
-          same_place e (repeated_line text b p) _ (λ n at. first_after_here (repeated_section text b) parts i p n more once (rw (list_any-all_behind (same_section text b p) (take i parts), ← section_taken, free) at)) found
+          same_place e (first (repeated_lines text b p)) _ (λ n at. first_at_here (repeated_section text b) parts i p more once n (rw (list_any-all_walked (same_section text b p) (take i parts), ← section_taken, free) at)) found
 
-      pub section_once : option_map load.Twice (repeated_line text b p) ≡ None → first_after (repeated_section text b) [] (take (i + 1) parts) ≡ None
+      pub section_once : option_map load.Twice (first (repeated_lines text b p)) ≡ None → first (at_each (repeated_section text b) [] (take (i + 1) parts)) ≡ None
       section_once none =
-          first_after_more (repeated_section text b) parts i p more once (rw (list_any-all_behind (same_section text b p) (take i parts), ← section_taken, free) (nowhere (repeated_line text b p) none))
+          first_at_more (repeated_section text b) parts i p more once (rw (list_any-all_walked (same_section text b p) (take i parts), ← section_taken, free) (nowhere (first (repeated_lines text b p)) none))
 
   pub sections_more : (n : BTreeMap (Bor (List ℕ)) Section) (s : Section) → s.part.now ≡ p
       → ((ts : List ℕ) → at_letters s.terms ts ≡ number_in text (names_in p) ts)

@@ -1,5 +1,5 @@
 -- Points that ascend, and where they stand.
-use Rattle.std.proofs.Common.{◌≡◌, ℕ, true, false, cond, not, ◌&&◌, List, [], ◌∷◌, Option, Some, None, refl, arith, ◌⊎◌, inl, inr}
+use Rattle.std.proofs.Common.{◌≡◌, ℕ, true, false, cond, not, ◌&&◌, List, [], ◌∷◌, ◌++◌, Some, None, refl, arith, ◌⊎◌, inl, inr}
 use Rattle.std.specs.Prelude.{ℤ, ◌≤ℤ◌, ◌<ℤ◌, int_lt}
 use Rattle.std.specs.List.{AllByRecursion, filter, list_all, list_any}
 use Rattle.std.specs.Option.{option_or}
@@ -11,8 +11,8 @@ use Rattle.fz_num.specs.Fractions.{one, none}
 use Rattle.fcl_syntax.specs.declared.tree.Point.{Point}
 use Rattle.fcl_syntax.specs.declared.tree.Term.{Term}
 use Rattle.fcl_check.specs.Courses.{course, height, on_line}
-use Rattle.fcl_check.specs.Places.{at_if, first, last, first_after}
-use Rattle.fcl_check.specs.Sections.{falling_point, has_one, has_zero, is_below, points_of, x_of}
+use Rattle.fcl_check.specs.Places.{at_each, at_if, first, last}
+use Rattle.fcl_check.specs.Sections.{falling_in, has_one, has_zero, is_below, points_of, x_of}
 
 -- ---- where a point stands
 
@@ -65,13 +65,13 @@ pub NotBelow-lower : (low high : ℤ) (points : List Point) → low ≤ℤ high 
 NotBelow-lower low high [] h all = tt
 NotBelow-lower low high (p ∷ points) h all = (omega (arith, ints, h, all.0), NotBelow-lower low high points h all.1)
 
-abbrev falls : List Point → Point → Option ℕ
+abbrev falls : List Point → Point → List ℕ
 falls before p = at_if (is_below p (first before)) p.open_at
 
-ascends-on : (q : Point) (before points : List Point) → first_after falls (q ∷ before) points ≡ None → NotBelow (x_of q) points × Ascends points
+ascends-on : (q : Point) (before points : List Point) → at_each falls (q ∷ before) points ≡ [] → NotBelow (x_of q) points × Ascends points
 ascends-on q before [] h = (tt, tt)
 ascends-on q before (p ∷ points) h =
-    elim (int_lt (x_of p) (x_of q)) as (λ b. int_lt (x_of p) (x_of q) ≡ b → option_or (at_if b p.open_at) (first_after falls (p ∷ q ∷ before) points) ≡ None → NotBelow (x_of q) (p ∷ points) × Ascends (p ∷ points)) [
+    elim (int_lt (x_of p) (x_of q)) as (λ b. int_lt (x_of p) (x_of q) ≡ b → at_if b p.open_at ++ at_each falls (p ∷ q ∷ before) points ≡ [] → NotBelow (x_of q) (p ∷ points) × Ascends (p ∷ points)) [
       | true ↦ λ e k. cc
       | false ↦ λ e k.
           let on = ascends-on p (q ∷ before) points k in
@@ -79,7 +79,7 @@ ascends-on q before (p ∷ points) h =
           ((below, NotBelow-lower (x_of q) (x_of p) points below on.0), on)
     ] refl h
 
-pub ascends : (t : Term) → falling_point t ≡ None → Ascends (points_of t)
+pub ascends : (t : Term) → falling_in t ≡ [] → Ascends (points_of t)
 ascends t h = ascends-on t.first [] t.more.items h
 
 -- ---- zeros

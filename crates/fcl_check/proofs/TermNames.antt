@@ -18,10 +18,10 @@ use Rattle.fcl_syntax.specs.declared.tree.Singleton.{Singleton}
 use Rattle.fcl_syntax.specs.declared.tree.Term.{Term}
 use Rattle.fcl_check.specs.declared.fault.LoadFault.{LoadFault}
 use Rattle.fcl_check.specs.declared.fault.LoadFault.TheVariants as load
-use Rattle.fcl_check.specs.ByLetters.{at_letters, names_of_terms, names_of_singletons, is_range, is_other, same_kind}
-use Rattle.fcl_check.specs.Faults.{repeated, same_line, line_at, same_output_line, output_line_at}
+use Rattle.fcl_check.specs.ByLetters.{at_letters, names_of_terms, names_of_singletons, is_range, is_other}
+use Rattle.fcl_check.specs.Faults.{repeated, same_kind, same_line, line_at, same_output_line, output_line_at}
 use Rattle.fcl_check.specs.Names.{is_named, letters, number_in, singleton_of}
-use Rattle.fcl_check.specs.Places.{at_if}
+use Rattle.fcl_check.specs.Places.{at_if, first}
 use Rattle.fcl_check.proofs.LetterMaps.{number_any, number_push}
 use Rattle.fcl_check.proofs.FirstPlaces.{Says, one_further, or_false, or_true, passed_by, place_here, repeated_here, repeated_more}
 
@@ -32,11 +32,11 @@ pub record Numbers (text : List ℕ) (ns : List Name) (m : BTreeMap (Bor (List �
   pub numbers : (ls : List ℕ) → at_letters m ls ≡ number_in text ns ls
   pub count : btree_map_len m ≡ length ns
 
-pub numbers_more : (text : List ℕ) (ns : List Name) (name : Name) (k : ℕ) (m n : BTreeMap (Bor (List ℕ)) ℕ) → Numbers text ns m → k ≡ btree_map_len m + 1
-    → ((ls : List ℕ) → at_letters n ls ≡ option_or (at_letters m ls) (cond (is_named text ls name) (Some k) None))
+pub numbers_more : (text : List ℕ) (ns : List Name) (name : Name) (m n : BTreeMap (Bor (List ℕ)) ℕ) → Numbers text ns m
+    → ((ls : List ℕ) → at_letters n ls ≡ option_or (at_letters m ls) (cond (is_named text ls name) (Some (btree_map_len m + 1)) None))
     → btree_map_len n ≡ btree_map_len m + 1 → Numbers text (ns ++ name ∷ []) n
-numbers_more text ns name k m n holds is added grown =
-    let number : suc (length ns) ≡ k = omega (arith, holds.count) in
+numbers_more text ns name m n holds added grown =
+    let number : suc (length ns) ≡ btree_map_len m + 1 = omega (arith, holds.count) in
     record {
       numbers = λ ls. rw (number_push text ns name ls, number, ← holds.numbers ls) (added ls);
       count = omega (arith, length-append ns (name ∷ []), holds.count);
@@ -69,14 +69,10 @@ module _ (text : List ℕ) (b : FunctionBlock) where
   -- lines that are no terms are the same where they are of one kind
   same_other : (x y : DefuzzyLine) → is_other x ≡ true → same_output_line text b x y ≡ same_kind x y
   same_other (defuzzy.Singleton s) y h = cc
-  same_other (defuzzy.Accu s) (defuzzy.Accu t) h = refl
-  same_other (defuzzy.Accu s) _ h = refl
-  same_other (defuzzy.Method s) (defuzzy.Method t) h = refl
-  same_other (defuzzy.Method s) _ h = refl
-  same_other (defuzzy.Default s) (defuzzy.Default t) h = refl
-  same_other (defuzzy.Default s) _ h = refl
-  same_other (defuzzy.Range s) (defuzzy.Range t) h = refl
-  same_other (defuzzy.Range s) _ h = refl
+  same_other (defuzzy.Accu s) y h = refl
+  same_other (defuzzy.Method s) y h = refl
+  same_other (defuzzy.Default s) y h = refl
+  same_other (defuzzy.Range s) y h = refl
 
   differ : (x : DefuzzyLine) (t : Singleton) → same_kind x (defuzzy.Singleton t) ≡ false
   differ (defuzzy.Singleton s) t = refl
@@ -136,30 +132,29 @@ names_with_other lines x h =
 
 -- ---- steps over the lines of an input's section
 
-module _ (text : List ℕ) (b : FunctionBlock) (lines : List FuzzyLine) (i : ℕ) (x : FuzzyLine) (h : i < length lines) (here : x ≡ get_or lines i x) (once : repeated (same_line text b) line_at (take i lines) ≡ None) where
+module _ (text : List ℕ) (b : FunctionBlock) (lines : List FuzzyLine) (i : ℕ) (x : FuzzyLine) (h : i < length lines) (here : x ≡ get_or lines i x) (once : first (repeated (same_line text b) line_at (take i lines)) ≡ None) where
   module _ (t : Term) (is : x ≡ fuzzy.Term t) (m : BTreeMap (Bor (List ℕ)) ℕ) (holds : Numbers text (names_of_terms (take i lines)) m) where
     term_taken : is_some (at_letters m (letters text t.name)) ≡ list_any (same_line text b (fuzzy.Term t)) (take i lines)
     term_taken = number_taken text (names_of_terms (take i lines)) t.name m holds ∙ sym (any_terms text b t (take i lines))
 
-    pub term_twice : (e : LoadFault) → Says e (option_map load.Twice (at_if (is_some (at_letters m (letters text t.name))) t.name.at)) → Says e (option_map load.Twice (repeated (same_line text b) line_at lines))
+    pub term_twice : (e : LoadFault) → Says e (option_map load.Twice (first (at_if (is_some (at_letters m (letters text t.name))) t.name.at))) → Says e (option_map load.Twice (first (repeated (same_line text b) line_at lines)))
     term_twice e found = place_here (same_line text b) line_at lines i (fuzzy.Term t) (one_further lines i x (fuzzy.Term t) h here is) once _ e term_taken found
 
-    pub term_once : option_map load.Twice (at_if (is_some (at_letters m (letters text t.name))) t.name.at) ≡ None → repeated (same_line text b) line_at (take (i + 1) lines) ≡ None
+    pub term_once : option_map load.Twice (first (at_if (is_some (at_letters m (letters text t.name))) t.name.at)) ≡ None → first (repeated (same_line text b) line_at (take (i + 1) lines)) ≡ None
     term_once nothing = passed_by (same_line text b) line_at lines i (fuzzy.Term t) (one_further lines i x (fuzzy.Term t) h here is) once _ term_taken nothing
 
-    pub term_numbers : (k : ℕ) (n : BTreeMap (Bor (List ℕ)) ℕ) → k ≡ btree_map_len m + 1
-        → ((ls : List ℕ) → at_letters n ls ≡ option_or (at_letters m ls) (cond (is_named text ls t.name) (Some k) None))
+    pub term_numbers : (n : BTreeMap (Bor (List ℕ)) ℕ) → ((ls : List ℕ) → at_letters n ls ≡ option_or (at_letters m ls) (cond (is_named text ls t.name) (Some (btree_map_len m + 1)) None))
         → btree_map_len n ≡ btree_map_len m + 1 → Numbers text (names_of_terms (take (i + 1) lines)) n
-    term_numbers k n is_next added grown = rw (one_further lines i x (fuzzy.Term t) h here is, names_with_term (take i lines) t) (numbers_more text (names_of_terms (take i lines)) t.name k m n holds is_next added grown)
+    term_numbers n added grown = rw (one_further lines i x (fuzzy.Term t) h here is, names_with_term (take i lines) t) (numbers_more text (names_of_terms (take i lines)) t.name m n holds added grown)
 
     pub term_range : (has_range : Bool) → has_range ≡ list_any is_range (take i lines) → has_range ≡ list_any is_range (take (i + 1) lines)
     term_range has_range had = rw (one_further lines i x (fuzzy.Term t) h here is, list_any-append is_range (take i lines) (fuzzy.Term t ∷ [])) (had ∙ sym (or_false (list_any is_range (take i lines))))
 
   module _ (q : Range) (is : x ≡ fuzzy.Range q) where
-    pub range_twice : true ≡ list_any is_range (take i lines) → repeated (same_line text b) line_at lines ≡ Some q.at
+    pub range_twice : true ≡ list_any is_range (take i lines) → first (repeated (same_line text b) line_at lines) ≡ Some q.at
     range_twice found = repeated_here (same_line text b) line_at lines i (fuzzy.Range q) (one_further lines i x (fuzzy.Range q) h here is) once (any_ranges text b q (take i lines) ∙ sym found)
 
-    pub range_once : false ≡ list_any is_range (take i lines) → repeated (same_line text b) line_at (take (i + 1) lines) ≡ None
+    pub range_once : false ≡ list_any is_range (take i lines) → first (repeated (same_line text b) line_at (take (i + 1) lines)) ≡ None
     range_once found = repeated_more (same_line text b) line_at lines i (fuzzy.Range q) (one_further lines i x (fuzzy.Range q) h here is) once (any_ranges text b q (take i lines) ∙ sym found)
 
     pub range_numbers : (m : BTreeMap (Bor (List ℕ)) ℕ) → Numbers text (names_of_terms (take i lines)) m → Numbers text (names_of_terms (take (i + 1) lines)) m
@@ -170,7 +165,7 @@ module _ (text : List ℕ) (b : FunctionBlock) (lines : List FuzzyLine) (i : ℕ
 
 -- ---- steps over the lines of an output's section
 
-module _ (text : List ℕ) (b : FunctionBlock) (lines : List DefuzzyLine) (i : ℕ) (x : DefuzzyLine) (more : take (i + 1) lines ≡ take i lines ++ x ∷ []) (once : repeated (same_output_line text b) output_line_at (take i lines) ≡ None) where
+module _ (text : List ℕ) (b : FunctionBlock) (lines : List DefuzzyLine) (i : ℕ) (x : DefuzzyLine) (more : take (i + 1) lines ≡ take i lines ++ x ∷ []) (once : first (repeated (same_output_line text b) output_line_at (take i lines)) ≡ None) where
   module _ (t : Singleton) (is : x ≡ defuzzy.Singleton t) (m : BTreeMap (Bor (List ℕ)) ℕ) (holds : Numbers text (names_of_singletons (take i lines)) m) where
     singleton_more : take (i + 1) lines ≡ take i lines ++ defuzzy.Singleton t ∷ []
     singleton_more = more ∙ ap (λ y. take i lines ++ y ∷ []) is
@@ -178,16 +173,15 @@ module _ (text : List ℕ) (b : FunctionBlock) (lines : List DefuzzyLine) (i : �
     singleton_taken : is_some (at_letters m (letters text t.name)) ≡ list_any (same_output_line text b (defuzzy.Singleton t)) (take i lines)
     singleton_taken = number_taken text (names_of_singletons (take i lines)) t.name m holds ∙ sym (any_singletons text b t (take i lines))
 
-    pub singleton_twice : (e : LoadFault) → Says e (option_map load.Twice (at_if (is_some (at_letters m (letters text t.name))) t.name.at)) → Says e (option_map load.Twice (repeated (same_output_line text b) output_line_at lines))
+    pub singleton_twice : (e : LoadFault) → Says e (option_map load.Twice (first (at_if (is_some (at_letters m (letters text t.name))) t.name.at))) → Says e (option_map load.Twice (first (repeated (same_output_line text b) output_line_at lines)))
     singleton_twice e found = place_here (same_output_line text b) output_line_at lines i (defuzzy.Singleton t) singleton_more once _ e singleton_taken found
 
-    pub singleton_once : option_map load.Twice (at_if (is_some (at_letters m (letters text t.name))) t.name.at) ≡ None → repeated (same_output_line text b) output_line_at (take (i + 1) lines) ≡ None
+    pub singleton_once : option_map load.Twice (first (at_if (is_some (at_letters m (letters text t.name))) t.name.at)) ≡ None → first (repeated (same_output_line text b) output_line_at (take (i + 1) lines)) ≡ None
     singleton_once nothing = passed_by (same_output_line text b) output_line_at lines i (defuzzy.Singleton t) singleton_more once _ singleton_taken nothing
 
-    pub singleton_numbers : (k : ℕ) (n : BTreeMap (Bor (List ℕ)) ℕ) → k ≡ btree_map_len m + 1
-        → ((ls : List ℕ) → at_letters n ls ≡ option_or (at_letters m ls) (cond (is_named text ls t.name) (Some k) None))
+    pub singleton_numbers : (n : BTreeMap (Bor (List ℕ)) ℕ) → ((ls : List ℕ) → at_letters n ls ≡ option_or (at_letters m ls) (cond (is_named text ls t.name) (Some (btree_map_len m + 1)) None))
         → btree_map_len n ≡ btree_map_len m + 1 → Numbers text (names_of_singletons (take (i + 1) lines)) n
-    singleton_numbers k n is_next added grown = rw (singleton_more, names_with_singleton (take i lines) t) (numbers_more text (names_of_singletons (take i lines)) t.name k m n holds is_next added grown)
+    singleton_numbers n added grown = rw (singleton_more, names_with_singleton (take i lines) t) (numbers_more text (names_of_singletons (take i lines)) t.name m n holds added grown)
 
     pub singleton_others : filter is_other (take (i + 1) lines) ≡ filter is_other (take i lines)
     singleton_others = rw (singleton_more, filter-append is_other (take i lines) (defuzzy.Singleton t ∷ [])) (append-nil (filter is_other (take i lines)))
@@ -196,10 +190,10 @@ module _ (text : List ℕ) (b : FunctionBlock) (lines : List DefuzzyLine) (i : �
     seen : list_any (same_output_line text b x) (take i lines) ≡ list_any (same_kind x) (filter is_other (take i lines))
     seen = any_same text b x (take i lines) other ∙ any_of_kind text b x (take i lines)
 
-    pub other_twice : true ≡ list_any (same_kind x) (filter is_other (take i lines)) → repeated (same_output_line text b) output_line_at lines ≡ Some (output_line_at x)
+    pub other_twice : true ≡ list_any (same_kind x) (filter is_other (take i lines)) → first (repeated (same_output_line text b) output_line_at lines) ≡ Some (output_line_at x)
     other_twice found = repeated_here (same_output_line text b) output_line_at lines i x more once (seen ∙ sym found)
 
-    pub other_once : false ≡ list_any (same_kind x) (filter is_other (take i lines)) → repeated (same_output_line text b) output_line_at (take (i + 1) lines) ≡ None
+    pub other_once : false ≡ list_any (same_kind x) (filter is_other (take i lines)) → first (repeated (same_output_line text b) output_line_at (take (i + 1) lines)) ≡ None
     other_once found = repeated_more (same_output_line text b) output_line_at lines i x more once (seen ∙ sym found)
 
     pub other_numbers : (m : BTreeMap (Bor (List ℕ)) ℕ) → Numbers text (names_of_singletons (take i lines)) m → Numbers text (names_of_singletons (take (i + 1) lines)) m

@@ -21,7 +21,7 @@ use Rattle.fcl_check.specs.ByLetters.{at_letters, count_of, names_declared, name
 use Rattle.fcl_check.specs.Faults.{repeated, same_declared}
 use Rattle.fcl_check.specs.Loaded.{or_zero}
 use Rattle.fcl_check.specs.Names.{Declared, is_direction, is_named, letters, number_in}
-use Rattle.fcl_check.specs.Places.{at_if}
+use Rattle.fcl_check.specs.Places.{at_if, first}
 use Rattle.fcl_check.proofs.LetterMaps.{found_any, no_value, number_any, number_push}
 use Rattle.fcl_check.proofs.FirstPlaces.{Says, passed_by, place_here}
 
@@ -178,14 +178,14 @@ module _ (text : List ℕ) (b : FunctionBlock) (ds : List Declared) (i : ℕ) (d
 
   pub variables_once : (m : BTreeMap (Bor (List ℕ)) Variable) → i < length ds
       → ((ls : List ℕ) → at_letters m ls ≡ variable_in text (take i ds) ls)
-      → repeated (same_declared text b) (λ (e : Declared). e.1.at) (take i ds) ≡ None
-      → option_map load.Twice (at_if (is_some (at_letters m (letters text (get_or ds i d).1))) (get_or ds i d).1.at) ≡ None
-      → repeated (same_declared text b) (λ (e : Declared). e.1.at) (take (i + 1) ds) ≡ None
+      → first (repeated (same_declared text b) (λ (e : Declared). e.1.at) (take i ds)) ≡ None
+      → option_map load.Twice (first (at_if (is_some (at_letters m (letters text (get_or ds i d).1))) (get_or ds i d).1.at)) ≡ None
+      → first (repeated (same_declared text b) (λ (e : Declared). e.1.at) (take (i + 1) ds)) ≡ None
   variables_once m h holds once nothing = passed_by (same_declared text b) (λ (e : Declared). e.1.at) ds i (get_or ds i d) (take_more ds i d h) once _ (taken m holds) nothing
 
   pub variables_twice : (m : BTreeMap (Bor (List ℕ)) Variable) (e : LoadFault) → i < length ds
       → ((ls : List ℕ) → at_letters m ls ≡ variable_in text (take i ds) ls)
-      → repeated (same_declared text b) (λ (e : Declared). e.1.at) (take i ds) ≡ None
-      → Says e (option_map load.Twice (at_if (is_some (at_letters m (letters text (get_or ds i d).1))) (get_or ds i d).1.at))
-      → Says e (option_map load.Twice (repeated (same_declared text b) (λ (e : Declared). e.1.at) ds))
+      → first (repeated (same_declared text b) (λ (e : Declared). e.1.at) (take i ds)) ≡ None
+      → Says e (option_map load.Twice (first (at_if (is_some (at_letters m (letters text (get_or ds i d).1))) (get_or ds i d).1.at)))
+      → Says e (option_map load.Twice (first (repeated (same_declared text b) (λ (e : Declared). e.1.at) ds)))
   variables_twice m e h holds once found = place_here (same_declared text b) (λ (e : Declared). e.1.at) ds i (get_or ds i d) (take_more ds i d h) once _ e (taken m holds) found

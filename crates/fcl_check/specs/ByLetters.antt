@@ -15,14 +15,14 @@ use Rattle.fcl_syntax.specs.declared.tree.FuzzyLine.{FuzzyLine}
 use Rattle.fcl_syntax.specs.declared.tree.FuzzyLine.TheVariants as fuzzy
 use Rattle.fcl_syntax.specs.declared.tree.Name.{Name}
 use Rattle.fcl_syntax.specs.declared.tree.Part.{Part}
+use Rattle.fcl_syntax.specs.declared.tree.Part.TheVariants as part
 use Rattle.fcl_syntax.specs.declared.tree.Singleton.{Singleton}
 use Rattle.fcl_syntax.specs.declared.tree.Term.{Term}
 use Rattle.fcl_check.specs.declared.names.Counts.{Counts}
 use Rattle.fcl_check.specs.declared.names.Section.{Section}
 use Rattle.fcl_check.specs.declared.names.Variable.{Variable}
-use Rattle.fcl_check.specs.Known.{names_in}
 use Rattle.fcl_check.specs.Loaded.{or_zero}
-use Rattle.fcl_check.specs.Names.{Declared, is_direction, is_named, number_in, section_name, term_of, singleton_of, letters, term_number, variable_number}
+use Rattle.fcl_check.specs.Names.{Declared, is_direction, is_named, letters, number_in, section_name, singleton_names, singleton_of, term_names, term_number, term_of, variable_number}
 
 -- the value at some letters
 abbrev pub at_letters : {X : Type 0} → BTreeMap (Bor (List ℕ)) X → List ℕ → Option X
@@ -59,13 +59,10 @@ abbrev pub is_other : DefuzzyLine → Bool
 is_other (defuzzy.Singleton s) = false
 is_other _ = true
 
--- lines of one kind, of which a section may have one
-abbrev pub same_kind : DefuzzyLine → DefuzzyLine → Bool
-same_kind (defuzzy.Accu s) (defuzzy.Accu t) = true
-same_kind (defuzzy.Method s) (defuzzy.Method t) = true
-same_kind (defuzzy.Default s) (defuzzy.Default t) = true
-same_kind (defuzzy.Range q) (defuzzy.Range r) = true
-same_kind _ _ = false
+-- the names of a section's terms
+abbrev pub names_in : Part → List Name
+names_in (part.Fuzzify s) = term_names s
+names_in (part.Defuzzify s) = singleton_names s
 
 -- the sections of some parts, each with the numbers of its terms
 pub record HoldsSections (text : List ℕ) (ps : List Part) (sections : BTreeMap (Bor (List ℕ)) Section) : Type 0 where

@@ -11,7 +11,7 @@ use Rattle.fcl_syntax.specs.declared.tree.Point.{Point}
 use Rattle.fcl_syntax.specs.declared.tree.Term.{Term}
 use Rattle.fcl_check.specs.Loaded.{IsTermOf}
 use Rattle.fcl_check.specs.Places.{first, last}
-use Rattle.fcl_check.specs.Sections.{falling_point, has_one, has_shape, points_of, x_of}
+use Rattle.fcl_check.specs.Sections.{falling_in, has_one, has_shape, points_of, x_of}
 
 -- the same number
 pub record AreSame (f g : Fraction) : Type 0 where
@@ -49,4 +49,4 @@ course points x =
 
 -- the degree of a loaded term is its course
 abbrev pub CourseLaw : Type 0
-CourseLaw = (t : Term) (z : Trapezoid) (x : Dec) → falling_point t ≡ None → has_shape (points_of t) ≡ true → IsTermOf t z → AreSame (degree z x) (course (points_of t) x.0)
+CourseLaw = (t : Term) (z : Trapezoid) (x : Dec) → falling_in t ≡ [] → has_shape (points_of t) ≡ true → IsTermOf t z → AreSame (degree z x) (course (points_of t) x.0)

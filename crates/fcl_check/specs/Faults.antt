@@ -1,7 +1,6 @@
--- The faults of a tree: each kind at its first place in the text's order, and the first kind.
-use Rattle.std.specs.Prelude.{ℕ, Bool, true, false, not, ◌&&◌, ◌||◌, nat_le, ◌≡◌, ◌≢◌, List, [], ◌∷◌, ◌++◌, length, Result, Ok, Err, Option, Some, None, option_map, option_and_then, is_none, slice_get, int_lt, pos}
-use Rattle.std.specs.Option.{option_or}
-use Rattle.std.specs.List.{filter, list_any}
+-- The faults of a tree: each kind at all its places in the text's order, and the first of them.
+use Rattle.std.specs.Prelude.{ℕ, Bool, true, false, not, ◌&&◌, ◌||◌, nat_le, ◌≡◌, ◌≢◌, List, [], ◌∷◌, ◌++◌, drop, length, map, Result, Ok, Err, Option, Some, None, is_none, slice_get, int_lt, pos}
+use Rattle.std.specs.List.{filter, flat_map, list_any}
 use Rattle.fcl_syntax.specs.Grammar.{TNot, neg, group, is, lone, TNots, no_nots, more_nots, TAnd, and_of, TAnds, no_ands, more_ands, TOr, or_of}
 use Rattle.fcl_syntax.specs.View.{view_or}
 use Rattle.fcl_syntax.specs.declared.tree.Conclusion.{Conclusion}
@@ -22,8 +21,8 @@ use Rattle.fcl_syntax.specs.declared.tree.Weight.{Weight}
 use Rattle.fcl_check.specs.declared.fault.LoadFault.{LoadFault}
 use Rattle.fcl_check.specs.declared.fault.LoadFault.TheVariants as load
 use Rattle.fcl_check.specs.Names.{Declared, is_direction, section_name, declared_in, direction_of, section_of, term_number, letters, is_named}
-use Rattle.fcl_check.specs.Places.{at_if, first_of, first_after}
-use Rattle.fcl_check.specs.Sections.{without_terms, term_over_limit, falling_points, shapeless_term, points_outside, bad_range, singleton_outside, incomplete, value}
+use Rattle.fcl_check.specs.Places.{at_if, at_some, at_each, first}
+use Rattle.fcl_check.specs.Sections.{without_terms, terms_over_limit, falling_points, shapeless_terms, points_outside, bad_range, numbers_outside, incomplete, value}
 
 -- ---- names in conditions and conclusions
 
@@ -86,9 +85,17 @@ same_rule_line (line.Act a) (line.Act b) = true
 same_rule_line (line.Accu s) (line.Accu t) = true
 same_rule_line _ _ = false
 
--- the first item that is the same as one before it
-abbrev pub repeated : {A : Type 0} → (A → A → Bool) → (A → ℕ) → List A → Option ℕ
-repeated {A} same at items = first_after (λ (before : List A) (x : A). at_if (list_any (same x) before) (at x)) [] items
+-- lines of one kind, other than TERM, of which a section may have one
+abbrev pub same_kind : DefuzzyLine → DefuzzyLine → Bool
+same_kind (defuzzy.Accu s) (defuzzy.Accu t) = true
+same_kind (defuzzy.Method s) (defuzzy.Method t) = true
+same_kind (defuzzy.Default s) (defuzzy.Default t) = true
+same_kind (defuzzy.Range q) (defuzzy.Range r) = true
+same_kind _ _ = false
+
+-- the items that are the same as one before them
+abbrev pub repeated : {A : Type 0} → (A → A → Bool) → (A → ℕ) → List A → List ℕ
+repeated {A} same at items = at_each (λ (before : List A) (x : A). at_if (list_any (same x) before) (at x)) [] items
 
 abbrev pub is_some_direction : Direction → Option Direction → Bool
 is_some_direction side None = false
@@ -105,10 +112,10 @@ most_of Output = 4
 abbrev pub is_over : List Declared → Declared → Bool
 is_over before d = nat_le (most_of d.0) (length (filter (λ (e : Declared). is_direction d.0 e.0) before))
 
--- ---- WeightOutside: a weight below 0 or above 1, at WITH
+-- ---- WeightOutside: weights below 0 or above 1, at WITH
 
-abbrev pub weight_outside : Rule → Option ℕ
-weight_outside r = option_and_then (λ (w : Weight). at_if (int_lt (value w.num) (pos 0) || int_lt (pos 10000) (value w.num)) w.at) r.weight
+abbrev pub weight_outside : Rule → List ℕ
+weight_outside r = at_some (λ (w : Weight). at_if (int_lt (value w.num) (pos 0) || int_lt (pos 10000) (value w.num)) w.at) r.weight
 
 module _ (text : List ℕ) (b : FunctionBlock) where
   abbrev pub same_name : Name → Name → Bool
@@ -126,27 +133,23 @@ module _ (text : List ℕ) (b : FunctionBlock) where
 
   abbrev pub same_output_line : DefuzzyLine → DefuzzyLine → Bool
   same_output_line (defuzzy.Singleton s) (defuzzy.Singleton t) = same_name s.name t.name
-  same_output_line (defuzzy.Accu s) (defuzzy.Accu t) = true
-  same_output_line (defuzzy.Method s) (defuzzy.Method t) = true
-  same_output_line (defuzzy.Default s) (defuzzy.Default t) = true
-  same_output_line (defuzzy.Range q) (defuzzy.Range r) = true
-  same_output_line _ _ = false
+  same_output_line l m = same_kind l m
 
-  abbrev pub repeated_line : Part → Option ℕ
-  repeated_line (part.Fuzzify s) = repeated same_line line_at s.lines.items
-  repeated_line (part.Defuzzify s) = repeated same_output_line output_line_at s.lines.items
+  abbrev pub repeated_lines : Part → List ℕ
+  repeated_lines (part.Fuzzify s) = repeated same_line line_at s.lines.items
+  repeated_lines (part.Defuzzify s) = repeated same_output_line output_line_at s.lines.items
 
   abbrev pub same_section : Part → Part → Bool
   same_section p q = same_name (section_name p) (section_name q)
 
-  -- a section of a name that an earlier one has, or a line that is given twice in it
-  abbrev pub repeated_section : List Part → Part → Option ℕ
-  repeated_section before p = option_or (at_if (list_any (same_section p) before) (section_name p).at) (repeated_line p)
+  -- a section of a name that an earlier one has, and the lines that are given twice in it
+  abbrev pub repeated_section : List Part → Part → List ℕ
+  repeated_section before p = at_if (list_any (same_section p) before) (section_name p).at ++ repeated_lines p
 
-  abbrev pub twice : Option ℕ
-  twice = option_or (repeated same_declared (λ (d : Declared). d.1.at) (declared_in b))
-      (option_or (first_after repeated_section [] b.parts.items)
-      (repeated same_rule_line rule_line_at b.rules.lines.items))
+  abbrev pub twice : List ℕ
+  twice = repeated same_declared (λ (d : Declared). d.1.at) (declared_in b)
+      ++ (at_each repeated_section [] b.parts.items
+      ++ repeated same_rule_line rule_line_at b.rules.lines.items)
 
   -- ---- Unknown
 
@@ -157,46 +160,47 @@ module _ (text : List ℕ) (b : FunctionBlock) where
   is_declared_as side n = is_some_direction side (direction n)
 
   -- a variable that is not declared, or a term that it does not have where it stands on its side
-  abbrev pub unknown_pair : Direction → Name → Name → Option ℕ
-  unknown_pair side v t = option_or (at_if (is_none (direction v)) v.at) (at_if (is_declared_as side v && is_none (term_number text b side (letters text v) (letters text t))) t.at)
+  abbrev pub unknown_pair : Direction → Name → Name → List ℕ
+  unknown_pair side v t = at_if (is_none (direction v)) v.at ++ at_if (is_declared_as side v && is_none (term_number text b side (letters text v) (letters text t))) t.at
 
-  abbrev pub unknown_in : Rule → Option ℕ
-  unknown_in r = option_or (first_of (λ (p : Pair). unknown_pair Input p.variable p.term) (condition_pairs r))
-      (first_of (λ (c : Conclusion). unknown_pair Output c.variable c.term) (conclusions_of r))
+  abbrev pub unknown_in : Rule → List ℕ
+  unknown_in r = flat_map (λ (p : Pair). unknown_pair Input p.variable p.term) (condition_pairs r)
+      ++ flat_map (λ (c : Conclusion). unknown_pair Output c.variable c.term) (conclusions_of r)
 
-  abbrev pub unknown_section : Part → Option ℕ
+  abbrev pub unknown_section : Part → List ℕ
   unknown_section p = at_if (is_none (direction (section_name p))) (section_name p).at
 
-  abbrev pub unknown : Option ℕ
-  unknown = option_or (first_of unknown_section b.parts.items) (first_of unknown_in b.rules.rules.items)
+  abbrev pub unknown : List ℕ
+  unknown = flat_map unknown_section b.parts.items ++ flat_map unknown_in b.rules.rules.items
 
-  -- ---- TooMany: the 9th input, the 5th output, the 16th term, the 257th rule
+  -- ---- TooMany: the inputs behind 8 others, the outputs behind 4, the terms behind 15 and the rules
+  -- behind 256
 
-  abbrev pub too_many : Option ℕ
-  too_many = option_or (first_after (λ (before : List Declared) (d : Declared). at_if (is_over before d) d.1.at) [] (declared_in b))
-      (option_or (first_of term_over_limit b.parts.items)
-      (option_map (λ (r : Rule). r.at) (slice_get b.rules.rules.items 256)))
+  abbrev pub too_many : List ℕ
+  too_many = at_each (λ (before : List Declared) (d : Declared). at_if (is_over before d) d.1.at) [] (declared_in b)
+      ++ (flat_map terms_over_limit b.parts.items
+      ++ map (λ (r : Rule). r.at) (drop 256 b.rules.rules.items))
 
-  -- ---- WrongSide: a name that is declared, but in the other direction
+  -- ---- WrongSide: names that are declared, but in the other direction
 
-  abbrev pub mistaken : Direction → Name → Option ℕ
-  mistaken side n = option_and_then (λ (d : Direction). at_if (not (is_direction side d)) n.at) (direction n)
+  abbrev pub mistaken : Direction → Name → List ℕ
+  mistaken side n = at_some (λ (d : Direction). at_if (not (is_direction side d)) n.at) (direction n)
 
-  abbrev pub mistaken_section : Part → Option ℕ
+  abbrev pub mistaken_section : Part → List ℕ
   mistaken_section (part.Fuzzify s) = mistaken Input s.name
   mistaken_section (part.Defuzzify s) = mistaken Output s.name
 
-  abbrev pub mistaken_in : Rule → Option ℕ
-  mistaken_in r = option_or (first_of (λ (p : Pair). mistaken Input p.variable) (condition_pairs r))
-      (first_of (λ (c : Conclusion). mistaken Output c.variable) (conclusions_of r))
+  abbrev pub mistaken_in : Rule → List ℕ
+  mistaken_in r = flat_map (λ (p : Pair). mistaken Input p.variable) (condition_pairs r)
+      ++ flat_map (λ (c : Conclusion). mistaken Output c.variable) (conclusions_of r)
 
-  abbrev pub wrong_side : Option ℕ
-  wrong_side = option_or (first_of mistaken_section b.parts.items) (first_of mistaken_in b.rules.rules.items)
+  abbrev pub wrong_side : List ℕ
+  wrong_side = flat_map mistaken_section b.parts.items ++ flat_map mistaken_in b.rules.rules.items
 
   -- ---- MissingPart: a variable without its section, at its declared name; METHOD or DEFAULT; an
   -- input, an output or a rule, at END_FUNCTION_BLOCK
 
-  abbrev pub without_section : Declared → Option ℕ
+  abbrev pub without_section : Declared → List ℕ
   without_section d = at_if (is_none (section_of text b (letters text d.1))) d.1.at
 
   abbrev pub has_direction : Direction → Bool
@@ -205,26 +209,32 @@ module _ (text : List ℕ) (b : FunctionBlock) where
   abbrev pub is_whole : Bool
   is_whole = has_direction Input && has_direction Output && not (is_none (slice_get b.rules.rules.items 0))
 
-  abbrev pub missing_part : Option ℕ
-  missing_part = option_or (first_of without_section (declared_in b))
-      (option_or (first_of incomplete b.parts.items)
-      (at_if (not is_whole) b.end))
+  abbrev pub missing_part : List ℕ
+  missing_part = flat_map without_section (declared_in b)
+      ++ (flat_map incomplete b.parts.items
+      ++ at_if (not is_whole) b.end)
 
-  -- ---- the first kind that occurs, at its first place
+  -- ---- the kinds in their order, each with all its places in the text's order
 
+  abbrev pub kinds : List ((ℕ → LoadFault) × List ℕ)
+  kinds =
+      (load.Twice, twice)
+      ∷ (load.Unknown, unknown)
+      ∷ (load.NoTerms, flat_map without_terms b.parts.items)
+      ∷ (load.TooMany, too_many)
+      ∷ (load.PointsNotAscending, flat_map falling_points b.parts.items)
+      ∷ (load.TermShape, flat_map shapeless_terms b.parts.items)
+      ∷ (load.TermOutside, flat_map points_outside b.parts.items)
+      ∷ (load.BadRange, flat_map (bad_range (is_declared_as Input)) b.parts.items)
+      ∷ (load.SingletonOutside, flat_map numbers_outside b.parts.items)
+      ∷ (load.WeightOutside, flat_map weight_outside b.rules.rules.items)
+      ∷ (load.WrongSide, wrong_side)
+      ∷ (load.MissingPart, missing_part)
+      ∷ []
+
+  -- the first kind that occurs, at its first place
   abbrev pub first_fault : Option LoadFault
-  first_fault = option_or (option_map load.Twice twice)
-      (option_or (option_map load.Unknown unknown)
-      (option_or (option_map load.NoTerms (first_of without_terms b.parts.items))
-      (option_or (option_map load.TooMany too_many)
-      (option_or (option_map load.PointsNotAscending (first_of falling_points b.parts.items))
-      (option_or (option_map load.TermShape (first_of shapeless_term b.parts.items))
-      (option_or (option_map load.TermOutside (first_of points_outside b.parts.items))
-      (option_or (option_map load.BadRange (first_of (bad_range (is_declared_as Input)) b.parts.items))
-      (option_or (option_map load.SingletonOutside (first_of singleton_outside b.parts.items))
-      (option_or (option_map load.WeightOutside (first_of weight_outside b.rules.rules.items))
-      (option_or (option_map load.WrongSide wrong_side)
-      (option_map load.MissingPart missing_part)))))))))))
+  first_fault = first (flat_map (λ k. map k.0 k.1) kinds)
 
 -- the answer is this fault, and no fault where there is none; want of memory is free
 abbrev pub Answers : {A : Type 0} → Result A LoadFault → Option LoadFault → Type 0

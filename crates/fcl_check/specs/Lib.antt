@@ -6,7 +6,9 @@ pub mod Sections
 pub mod Faults
 pub mod Loaded
 pub mod Known
+pub mod Sound
 pub mod Texts
 pub mod Steps
 pub mod Corners
 pub mod Courses
+pub mod Order

@@ -1,20 +1,20 @@
--- The first place with a fault, over lists.
-use Rattle.std.specs.Prelude.{ℕ, Bool, cond, List, [], ◌∷◌, Option, Some, None}
+-- Places in a text, and fronts and ends of lists.
+use Rattle.std.specs.Prelude.{ℕ, Bool, cond, List, [], ◌∷◌, ◌++◌, Option, Some, None}
 use Rattle.std.specs.Option.{option_or}
 
 -- this place, where the test says so
-abbrev pub at_if : Bool → ℕ → Option ℕ
-at_if test at = cond test (Some at) None
+abbrev pub at_if : Bool → ℕ → List ℕ
+at_if test at = cond test (at ∷ []) []
 
--- the first place that is found at an item
-abbrev pub first_of : {A : Type 0} → (A → Option ℕ) → List A → Option ℕ
-first_of f [] = None
-first_of f (x ∷ items) = option_or (f x) (first_of f items)
+-- the places at something, where it is there
+abbrev pub at_some : {A : Type 0} → (A → List ℕ) → Option A → List ℕ
+at_some f None = []
+at_some f (Some x) = f x
 
--- the first place that is found at an item and those before it, the nearest first
-abbrev pub first_after : {A : Type 0} → (List A → A → Option ℕ) → List A → List A → Option ℕ
-first_after f before [] = None
-first_after f before (x ∷ items) = option_or (f before x) (first_after f (x ∷ before) items)
+-- the places at each item, which look at the items before it, the nearest first
+abbrev pub at_each : {A : Type 0} → (List A → A → List ℕ) → List A → List A → List ℕ
+at_each f before [] = []
+at_each f before (x ∷ items) = f before x ++ at_each f (x ∷ before) items
 
 -- the first item, and the last
 abbrev pub first : {A : Type 0} → List A → Option A

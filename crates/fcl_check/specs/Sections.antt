@@ -1,5 +1,6 @@
--- The numbers of a section, and the faults that one section has alone. All numbers are in 1/10000.
-use Rattle.std.specs.Prelude.{ℕ, Bool, false, not, ◌&&◌, ◌||◌, List, [], ◌∷◌, map, Option, Some, None, option_map, option_and_then, is_none, slice_get, ℤ, pos, neg_ℤ, int_lt}
+-- The numbers of a section, and the places of the faults that one section has alone. All numbers are in
+-- 1/10000.
+use Rattle.std.specs.Prelude.{ℕ, Bool, false, not, ◌&&◌, ◌||◌, List, [], ◌∷◌, drop, map, Option, Some, None, option_map, is_none, ℤ, pos, neg_ℤ, int_lt}
 use Rattle.std.specs.Int.{int_min, int_max}
 use Rattle.std.specs.List.{filter_map, flat_map, list_all}
 use Rattle.fcl_syntax.specs.declared.token.Amount.{Amount}
@@ -26,7 +27,7 @@ use Rattle.fcl_syntax.specs.declared.tree.Setting.{Setting}
 use Rattle.fcl_syntax.specs.declared.tree.Singleton.{Singleton}
 use Rattle.fcl_syntax.specs.declared.tree.Term.{Term}
 use Rattle.fcl_check.specs.Names.{terms_of, singletons_of}
-use Rattle.fcl_check.specs.Places.{at_if, first_of, first_after, first, drop_while}
+use Rattle.fcl_check.specs.Places.{at_if, at_some, at_each, first, drop_while}
 
 -- ---- numbers
 
@@ -121,28 +122,28 @@ output_numbers s = filter_map number_line s.lines.items
 -- ---- faults of one section
 
 -- no TERM, at the END word
-abbrev pub without_terms : Part → Option ℕ
+abbrev pub without_terms : Part → List ℕ
 without_terms (part.Fuzzify s) = at_if (is_none (first (terms_of s))) s.end
 without_terms (part.Defuzzify s) = at_if (is_none (first (singletons_of s))) s.end
 
--- a term behind 15 others, at its name
-abbrev pub term_over_limit : Part → Option ℕ
-term_over_limit (part.Fuzzify s) = option_map (λ (t : Term). t.name.at) (slice_get (terms_of s) 15)
-term_over_limit (part.Defuzzify s) = option_map (λ (t : Singleton). t.name.at) (slice_get (singletons_of s) 15)
+-- the terms behind 15 others, at their names
+abbrev pub terms_over_limit : Part → List ℕ
+terms_over_limit (part.Fuzzify s) = map (λ (t : Term). t.name.at) (drop 15 (terms_of s))
+terms_over_limit (part.Defuzzify s) = map (λ (t : Singleton). t.name.at) (drop 15 (singletons_of s))
 
--- a point below the one before it in its term, at its parenthesis
+-- points below the one before them in their term, at their parentheses
 abbrev pub is_below : Point → Option Point → Bool
 is_below p None = false
 is_below p (Some before) = int_lt (x_of p) (x_of before)
 
-abbrev pub falling_point : Term → Option ℕ
-falling_point t = first_after (λ (before : List Point) (p : Point). at_if (is_below p (first before)) p.open_at) [] (points_of t)
+abbrev pub falling_in : Term → List ℕ
+falling_in t = at_each (λ (before : List Point) (p : Point). at_if (is_below p (first before)) p.open_at) [] (points_of t)
 
-abbrev pub falling_points : Part → Option ℕ
-falling_points (part.Fuzzify s) = first_of falling_point (terms_of s)
-falling_points (part.Defuzzify s) = None
+abbrev pub falling_points : Part → List ℕ
+falling_points (part.Fuzzify s) = flat_map falling_in (terms_of s)
+falling_points (part.Defuzzify s) = []
 
--- degrees that are not zeros, then at least one 1, then zeros, at TERM
+-- terms whose degrees are not zeros, then at least one 1, then zeros, at TERM
 abbrev pub starts_with_one : List Point → Bool
 starts_with_one [] = false
 starts_with_one (p ∷ points) = has_one p
@@ -150,38 +151,38 @@ starts_with_one (p ∷ points) = has_one p
 abbrev pub has_shape : List Point → Bool
 has_shape points = let top = drop_while has_zero points in starts_with_one top && list_all has_zero (drop_while has_one top)
 
-abbrev pub shapeless_term : Part → Option ℕ
-shapeless_term (part.Fuzzify s) = first_of (λ (t : Term). at_if (not (has_shape (points_of t))) t.at) (terms_of s)
-shapeless_term (part.Defuzzify s) = None
+abbrev pub shapeless_terms : Part → List ℕ
+shapeless_terms (part.Fuzzify s) = flat_map (λ (t : Term). at_if (not (has_shape (points_of t))) t.at) (terms_of s)
+shapeless_terms (part.Defuzzify s) = []
 
--- a point outside the given RANGE, at its parenthesis
-abbrev pub point_outside : Ends → Term → Option ℕ
-point_outside e t = first_of (λ (p : Point). at_if (not (lies_in e (x_of p))) p.open_at) (points_of t)
+-- points outside the given RANGE, at their parentheses
+abbrev pub outside_in : Ends → Term → List ℕ
+outside_in e t = flat_map (λ (p : Point). at_if (not (lies_in e (x_of p))) p.open_at) (points_of t)
 
-abbrev pub outside : Option Range → (Ends → Option ℕ) → Option ℕ
-outside range place = option_and_then (λ (r : Range). place (ends_of r)) range
+abbrev pub outside : (Ends → List ℕ) → Option Range → List ℕ
+outside places = at_some (λ (r : Range). places (ends_of r))
 
-abbrev pub points_outside : Part → Option ℕ
-points_outside (part.Fuzzify s) = outside (fuzzy_range s) (λ e. first_of (point_outside e) (terms_of s))
-points_outside (part.Defuzzify s) = None
+abbrev pub points_outside : Part → List ℕ
+points_outside (part.Fuzzify s) = outside (λ e. flat_map (outside_in e) (terms_of s)) (fuzzy_range s)
+points_outside (part.Defuzzify s) = []
 
--- a singleton or DEFAULT outside the given RANGE, at TERM or DEFAULT
-abbrev pub singleton_outside : Part → Option ℕ
-singleton_outside (part.Fuzzify s) = None
-singleton_outside (part.Defuzzify s) = outside (defuzzy_range s) (λ e. first_of (λ (n : ℤ × ℕ). at_if (not (lies_in e n.0)) n.1) (output_numbers s))
+-- singletons and DEFAULT outside the given RANGE, at TERM or DEFAULT
+abbrev pub numbers_outside : Part → List ℕ
+numbers_outside (part.Fuzzify s) = []
+numbers_outside (part.Defuzzify s) = outside (λ e. flat_map (λ (n : ℤ × ℕ). at_if (not (lies_in e n.0)) n.1) (output_numbers s)) (defuzzy_range s)
 
 -- a given RANGE whose low end is not below its high end, at RANGE; where none is given, the points of
 -- a section of an input that are all one, at the section's name
-abbrev pub empty_range : Range → Option ℕ
+abbrev pub empty_range : Range → List ℕ
 empty_range r = at_if (is_empty_range (ends_of r)) r.at
 
-abbrev pub bad_fuzzy_range : Bool → Fuzzify → Option Range → Option ℕ
+abbrev pub bad_fuzzy_range : Bool → Fuzzify → Option Range → List ℕ
 bad_fuzzy_range is_input s (Some r) = empty_range r
-bad_fuzzy_range is_input s None = option_and_then (λ (e : Ends). at_if (is_input && is_empty_range e) s.name.at) (hull_of (abscissas s))
+bad_fuzzy_range is_input s None = at_some (λ (e : Ends). at_if (is_input && is_empty_range e) s.name.at) (hull_of (abscissas s))
 
-abbrev pub bad_range : (Name → Bool) → Part → Option ℕ
+abbrev pub bad_range : (Name → Bool) → Part → List ℕ
 bad_range is_input (part.Fuzzify s) = bad_fuzzy_range (is_input s.name) s (fuzzy_range s)
-bad_range is_input (part.Defuzzify s) = option_and_then empty_range (defuzzy_range s)
+bad_range is_input (part.Defuzzify s) = at_some empty_range (defuzzy_range s)
 
 -- a section of an output without METHOD or without DEFAULT, at its END word
 abbrev pub method_line : DefuzzyLine → Option Setting
@@ -195,6 +196,6 @@ default_line _ = None
 abbrev pub default_of : Defuzzify → Option Fallback
 default_of s = first (filter_map default_line s.lines.items)
 
-abbrev pub incomplete : Part → Option ℕ
-incomplete (part.Fuzzify s) = None
+abbrev pub incomplete : Part → List ℕ
+incomplete (part.Fuzzify s) = []
 incomplete (part.Defuzzify s) = at_if (is_none (first (filter_map method_line s.lines.items)) || is_none (default_of s)) s.end

@@ -1,5 +1,5 @@
 -- The block of a text, or the load fault that it has instead.
-use Rattle.std.specs.Prelude.{◌≡◌, ℕ, List, Some, None}
+use Rattle.std.specs.Prelude.{◌≡◌, ℕ, ◌≤◌, List, length, Some, None}
 use Rattle.std.specs.Str.{str_to_ascii_lowercase}
 use Rattle.fuzzy_meaning.specs.Blocks.{IsValid}
 use Rattle.fuzzy_meaning.specs.declared.block.Block.{Block}
@@ -23,3 +23,7 @@ pub record HasLoadFault (text : List ℕ) (fault : LoadFault) : Type 0 where
   pub tree : FunctionBlock
   pub spelled : SpellsTree text (view tree)
   pub first : first_fault (str_to_ascii_lowercase text) tree ≡ Some fault
+
+-- A tree that a text of at most 1048576 bytes spells and that has no load fault has only valid blocks.
+abbrev pub SpelledBlocksAreValid : Type 0
+SpelledBlocksAreValid = (text : List ℕ) (b : FunctionBlock) (block : Block) → length text ≤ 1048576 → SpellsTree text (view b) → first_fault (str_to_ascii_lowercase text) b ≡ None → IsBlockOf (str_to_ascii_lowercase text) b block → IsValid block

@@ -1,73 +1,56 @@
 //! Conditions of a block from those of a tree without load faults.
 
-ghost use Rattle.std.specs.Prelude.{◌≡◌, ◌+◌, ◌*◌, IfOk, IfSome};
-ghost use Rattle.fuzzy_meaning.specs.Conditions.{negation, condition_of};
+ghost use Rattle.std.proofs.Props.{props};
+ghost use Rattle.std.specs.Prelude.{◌≡◌, ◌+◌, ◌*◌, ◌≤◌, None, IfOk};
+ghost use Rattle.fuzzy_meaning.specs.Conditions.{condition_of, depth, negation, nodes};
 ghost use Rattle.fcl_syntax.specs.View.{view_not, view_and, view_or};
-ghost use Rattle.fcl_check.specs.Building.{HasTermIn, FitsInputs};
 ghost use Rattle.fcl_check.specs.ByLetters.{numbers_of};
+ghost use Rattle.fcl_check.specs.Faults.{and_pairs, first_fault, not_pairs, or_pairs};
 ghost use Rattle.fcl_check.specs.Known.{Knows};
 ghost use Rattle.fcl_check.specs.Loaded.{literal_of, negated, not_condition, and_condition, or_condition};
+ghost use Rattle.fcl_check.specs.Sound.{AreKnown, IsKnown};
 ghost use Rattle.fcl_syntax.specs.declared.tree.Direction.TheVariants.{Input as InputSide};
 
 use crate::names::Names;
-use fcl_syntax::{And, Direction, Not, Operand, Or, Tree};
-use fuzzy_meaning::{Cond, Input};
+use fcl_syntax::{And, Direction, Name, Not, Operand, Or, Tree};
+use fuzzy_meaning::Cond;
 use std::alloc::{AllocError, Global};
 
 /// How many "(" and NOT may be open at once.
 pub const ROOM: u8 = 64;
 
-/// What conditions are built from.
+/// What conditions and conclusions are built from: a tree without load faults.
 #[derive(Clone, Copy)]
-pub struct Source<'a, 'n, 'i> {
+pub struct Source<'a, 'n> {
     pub alloc: Global,
     pub tree: &'a Tree,
     pub names: &'n Names<'a>,
-    pub inputs: &'i [Input],
+    ghost known: { Knows tree.now names.now } by { Prim.hlevel props },
+    ghost sound: { first_fault tree.now.text.items tree.now.block ≡ None },
 }
 
-// The numbers of an input and of a term of it, where they are there.
-fn place(inputs: &[Input], input: usize, term: usize) -> Option<(u8, u8)>
-    ensures within { IfSome result (λ p. HasTermIn inputs.now p.0 p.1) }
-    ensures same { IfSome result (λ p. p ≡ (input, term)) }
+/// The numbers of a variable and of a term of it on one side.
+pub fn numbers(source: &Source<'_, '_>, side: Direction, variable: Name, term: Name) -> (u8, u8)
+    requires { IsKnown source.now.tree.now.text.items source.now.tree.now.block side variable term }
+    ensures { result ≡ numbers_of source.now.tree.now.text.items source.now.tree.now.block side variable term }
 {
-    if input == 0 || term == 0 || input > 255 || term > 255 {
-        return None;
-    }
-    let index = input - 1;
-    if index < inputs.len() && term <= inputs[index].terms.len() {
-        return Some((input as u8, term as u8));
-    }
-    None
+    let tree = source.tree;
+    let letters = tree.letters(variable);
+    let declared = source.names.variable(letters).unwrap();
+    let term = source
+        .names
+        .term(side, letters, tree.letters(term))
+        .unwrap();
+    (declared.number as u8, term as u8)
 }
 
-// The numbers of the names of an operand, which are there where the tree has no fault.
-fn found(source: &Source<'_, '_, '_>, operand: &Operand) -> Result<(u8, u8), AllocError>
-    requires { Knows source.now.tree.now source.now.names.now }
-    ensures within { IfOk result (λ p. HasTermIn source.now.inputs.now p.0 p.1) }
-    ensures same { IfOk result (λ p. p ≡ numbers_of source.now.tree.now.text.items source.now.tree.now.block InputSide operand.now.variable operand.now.term) }
-{
-    let numbers = source.names.numbers(
-        source.tree,
-        Direction::Input,
-        operand.variable,
-        operand.term,
-    );
-    let Some((input, term)) = numbers else {
-        return Err(AllocError);
-    };
-    match place(source.inputs, input, term) {
-        Some(place) => Ok(place),
-        None => Err(AllocError),
-    }
-}
-
-fn literal(source: &Source<'_, '_, '_>, operand: &Operand) -> Result<(Cond, u32), AllocError>
-    requires { Knows source.now.tree.now source.now.names.now }
-    ensures fits { IfOk result (λ r. FitsInputs source.now.inputs.now 2 r.1 r.0) }
+fn literal(source: &Source<'_, '_>, operand: &Operand) -> Result<(Cond, u32), AllocError>
+    requires { IsKnown source.now.tree.now.text.items source.now.tree.now.block InputSide operand.now.variable operand.now.term }
+    ensures deep { IfOk result (λ r. depth (condition_of r.0) ≤ 2) }
+    ensures size { IfOk result (λ r. nodes (condition_of r.0) ≡ r.1) }
     ensures same { IfOk result (λ r. condition_of r.0 ≡ negated operand.now.not_at (literal_of source.now.tree.now.text.items source.now.tree.now.block operand.now.variable operand.now.term)) }
 {
-    let (input, term) = found(source, operand)?;
+    let (input, term) = numbers(source, Direction::Input, operand.variable, operand.term);
     let is = Cond::Is(input, term);
     if operand.not_at.is_none() {
         return Ok((is, 1));
@@ -98,9 +81,10 @@ pub fn sum(a: u32, b: u32) -> Result<u32, AllocError>
 
 // A condition, and how many conditions it has in it.
 #[cycle(condition)]
-fn not(source: &Source<'_, '_, '_>, not: &Not, room: u8) -> Result<(Cond, u32), AllocError>
-    requires { Knows source.now.tree.now source.now.names.now }
-    ensures fits { IfOk result (λ r. FitsInputs source.now.inputs.now (2 * room + 2) r.1 r.0) }
+fn not(source: &Source<'_, '_>, not: &Not, room: u8) -> Result<(Cond, u32), AllocError>
+    requires { AreKnown source.now.tree.now.text.items source.now.tree.now.block (not_pairs (view_not not.now)) }
+    ensures deep { IfOk result (λ r. depth (condition_of r.0) ≤ 2 * room + 2) }
+    ensures size { IfOk result (λ r. nodes (condition_of r.0) ≡ r.1) }
     ensures same { IfOk result (λ r. condition_of r.0 ≡ not_condition (literal_of source.now.tree.now.text.items source.now.tree.now.block) (view_not not.now)) }
 {
     match not {
@@ -111,9 +95,10 @@ fn not(source: &Source<'_, '_, '_>, not: &Not, room: u8) -> Result<(Cond, u32), 
 }
 
 #[cycle(condition)]
-fn negated(source: &Source<'_, '_, '_>, part: &Not, room: u8) -> Result<(Cond, u32), AllocError>
-    requires { Knows source.now.tree.now source.now.names.now }
-    ensures fits { IfOk result (λ r. FitsInputs source.now.inputs.now (2 * room + 3) r.1 r.0) }
+fn negated(source: &Source<'_, '_>, part: &Not, room: u8) -> Result<(Cond, u32), AllocError>
+    requires { AreKnown source.now.tree.now.text.items source.now.tree.now.block (not_pairs (view_not part.now)) }
+    ensures deep { IfOk result (λ r. depth (condition_of r.0) ≤ 2 * room + 3) }
+    ensures size { IfOk result (λ r. nodes (condition_of r.0) ≡ r.1) }
     ensures same { IfOk result (λ r. condition_of r.0 ≡ negation (not_condition (literal_of source.now.tree.now.text.items source.now.tree.now.block) (view_not part.now))) }
 {
     let (part, size) = not(source, part, room)?;
@@ -123,9 +108,10 @@ fn negated(source: &Source<'_, '_, '_>, part: &Not, room: u8) -> Result<(Cond, u
 }
 
 #[cycle(condition)]
-fn and(source: &Source<'_, '_, '_>, and: &And, room: u8) -> Result<(Cond, u32), AllocError>
-    requires { Knows source.now.tree.now source.now.names.now }
-    ensures fits { IfOk result (λ r. FitsInputs source.now.inputs.now (2 * room + 3) r.1 r.0) }
+fn and(source: &Source<'_, '_>, and: &And, room: u8) -> Result<(Cond, u32), AllocError>
+    requires { AreKnown source.now.tree.now.text.items source.now.tree.now.block (and_pairs (view_and and.now)) }
+    ensures deep { IfOk result (λ r. depth (condition_of r.0) ≤ 2 * room + 3) }
+    ensures size { IfOk result (λ r. nodes (condition_of r.0) ≡ r.1) }
     ensures same { IfOk result (λ r. condition_of r.0 ≡ and_condition (literal_of source.now.tree.now.text.items source.now.tree.now.block) (view_and and.now)) }
 {
     let (first, size) = not(source, &and.first, room)?;
@@ -146,9 +132,10 @@ fn and(source: &Source<'_, '_, '_>, and: &And, room: u8) -> Result<(Cond, u32), 
 
 /// A condition, and how many conditions it has in it.
 #[cycle(condition)]
-pub fn or(source: &Source<'_, '_, '_>, or: &Or, room: u8) -> Result<(Cond, u32), AllocError>
-    requires { Knows source.now.tree.now source.now.names.now }
-    ensures fits { IfOk result (λ r. FitsInputs source.now.inputs.now (2 * room + 4) r.1 r.0) }
+pub fn or(source: &Source<'_, '_>, or: &Or, room: u8) -> Result<(Cond, u32), AllocError>
+    requires { AreKnown source.now.tree.now.text.items source.now.tree.now.block (or_pairs (view_or or.now)) }
+    ensures deep { IfOk result (λ r. depth (condition_of r.0) ≤ 2 * room + 4) }
+    ensures size { IfOk result (λ r. nodes (condition_of r.0) ≡ r.1) }
     ensures same { IfOk result (λ r. condition_of r.0 ≡ or_condition (literal_of source.now.tree.now.text.items source.now.tree.now.block) (view_or or.now)) }
 {
     let (first, size) = and(source, &or.first, room)?;

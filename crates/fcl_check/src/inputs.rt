@@ -1,28 +1,26 @@
-//! The inputs of a block. They are built of a tree without faults, so that a part which is missing
-//! or does not fit never comes; were it to, the answer is as for want of memory.
+//! The inputs of a block, taken as a tree without load faults has them.
 
-ghost use Rattle.std.specs.Prelude.{◌≡◌, ◌≤◌, List as Items, [], ◌∷◌, ◌++◌, All, option_map, IfOk, IfSome, IsTrue, length, ◌≤ℤ◌};
+ghost use Rattle.std.specs.Prelude.{◌≡◌, true, List as Items, [], ◌∷◌, ◌++◌, None, option_map, IfOk};
 ghost use Rattle.std.specs.List.{AllZip};
 ghost use Rattle.fcl_syntax.specs.declared.tree.Direction.TheVariants as side;
+ghost use Rattle.fcl_syntax.specs.declared.tree.Part.TheVariants as part;
 ghost use Rattle.fcl_syntax.specs.declared.tree.Point.{Point};
-ghost use Rattle.fuzzy_meaning.specs.Blocks.{IsValidInput, IsValidTerm};
 ghost use Rattle.fcl_check.specs.Building.{ends_in};
 ghost use Rattle.fcl_check.specs.Corners.{AreCornersOf};
+ghost use Rattle.fcl_check.specs.Faults.{first_fault};
 ghost use Rattle.fcl_check.specs.Known.{Knows};
 ghost use Rattle.fcl_check.specs.Loaded.{IsInputNamed, IsInputOf, IsTermOf, input_range};
 ghost use Rattle.fcl_check.specs.Names.{declared_as, fuzzify_of, letters, terms_of};
+ghost use Rattle.fcl_check.specs.Sections.{has_shape, points_of, shapeless_terms, without_terms};
 
 use crate::names::Names;
 use crate::numbers::{Span, is_one, value};
-use crate::sections::{TERMS, fuzzy_range, hull};
+use crate::sections::{fuzzy_range, hull};
 use fcl_syntax::{Direction, Fuzzify, FuzzyLine, Name, Part, Point, Term, Tree};
 use fuzzy_meaning::{Input, Trapezoid};
 use fz_list::List;
 use fz_num::Dec;
 use std::alloc::{AllocError, Global};
-
-/// How many inputs a block may have.
-pub const INPUTS: usize = 8;
 
 // The corners of a term as far as its points were seen.
 #[derive(Clone, Copy)]
@@ -55,9 +53,9 @@ impl Corners {
     }
 }
 
-// The trapezoid of a term, where it has a point of degree 1.
-fn trapezoid(term: &Term) -> Option<Trapezoid>
-    ensures { IfSome result (IsTermOf term.now) }
+fn trapezoid(term: &Term) -> Trapezoid
+    requires { has_shape (points_of term.now) ≡ true }
+    ensures { IsTermOf term.now result }
 {
     let none = Corners {
         a: None,
@@ -68,55 +66,23 @@ fn trapezoid(term: &Term) -> Option<Trapezoid>
     for point in &term.more {
         corners = corners.with(point);
     }
-    let (b, c) = corners.top?;
-    Some(Trapezoid {
+    let (b, c) = corners.top.unwrap();
+    Trapezoid {
         a: corners.a,
         b,
         c,
         d: corners.d,
-    })
-}
-
-fn rises(span: Span, term: &Trapezoid) -> bool
-    ensures { IsTrue result → IfSome term.now.a (λ a. (span.lo.0 ≤ℤ a.0) × (a.0 ≤ℤ term.now.b.0)) }
-{
-    match term.a {
-        Some(a) => span.lo.0 <= a.0 && a.0 <= term.b.0,
-        None => true,
     }
 }
 
-fn falls(span: Span, term: &Trapezoid) -> bool
-    ensures { IsTrue result → IfSome term.now.d (λ d. (term.now.c.0 ≤ℤ d.0) × (d.0 ≤ℤ span.hi.0)) }
-{
-    match term.d {
-        Some(d) => term.c.0 <= d.0 && d.0 <= span.hi.0,
-        None => true,
-    }
-}
-
-fn fits(span: Span, term: &Trapezoid) -> bool
-    ensures { IsTrue result → IsValidTerm span.lo span.hi term.now }
-{
-    rises(span, term)
-        && span.lo.0 <= term.b.0
-        && term.b.0 <= term.c.0
-        && term.c.0 <= span.hi.0
-        && falls(span, term)
-}
-
-fn terms(alloc: Global, section: &Fuzzify, span: Span) -> Result<Vec<Trapezoid>, AllocError>
-    ensures valid { IfOk result (λ v. All (IsValidTerm span.lo span.hi) v.items) }
+fn terms(alloc: Global, section: &Fuzzify) -> Result<Vec<Trapezoid>, AllocError>
+    requires { shapeless_terms (part.Fuzzify section.now) ≡ [] }
     ensures same { IfOk result (λ v. AllZip IsTermOf (terms_of section.now) v.items) }
 {
     let mut terms = Vec::new(alloc);
     'each: for line in &section.lines {
         if let FuzzyLine::Term(term) = line {
-            let shape = trapezoid(term).ok_or(AllocError)?;
-            if !fits(span, &shape) {
-                return Err(AllocError);
-            }
-            terms.push(shape)?;
+            terms.push(trapezoid(term))?;
         }
     }
     Ok(terms)
@@ -133,17 +99,12 @@ fn range(section: &Fuzzify) -> Option<Span>
 }
 
 fn input(alloc: Global, section: &Fuzzify) -> Result<Input, AllocError>
-    ensures valid { IfOk result IsValidInput }
+    requires some { without_terms (part.Fuzzify section.now) ≡ [] }
+    requires shaped { shapeless_terms (part.Fuzzify section.now) ≡ [] }
     ensures same { IfOk result (IsInputOf section.now) }
 {
-    let span = range(section).ok_or(AllocError)?;
-    if span.is_empty() {
-        return Err(AllocError);
-    }
-    let terms = terms(alloc, section, span)?;
-    if terms.is_empty() || terms.len() > TERMS {
-        return Err(AllocError);
-    }
+    let span = range(section).unwrap();
+    let terms = terms(alloc, section)?;
     Ok(Input {
         lo: span.lo,
         hi: span.hi,
@@ -168,19 +129,16 @@ pub fn inputs<'a>(
     tree: &'a Tree,
     names: &Names<'a>,
 ) -> Result<Vec<Input>, AllocError>
-    requires { Knows tree.now names.now }
-    ensures valid { IfOk result (λ v. (1 ≤ length v.items) × ((length v.items ≤ 8) × All IsValidInput v.items)) }
+    requires known { Knows tree.now names.now }
+    requires sound { first_fault tree.now.text.items tree.now.block ≡ None }
     ensures same { IfOk result (λ v. AllZip (IsInputNamed tree.now.text.items tree.now.block) (declared_as side.Input tree.now.block) v.items) }
 {
     let mut inputs = Vec::new(alloc);
     'each: for (direction, name) in &names.declared {
         if *direction == Direction::Input {
-            let section = section_of(tree, names, *name).ok_or(AllocError)?;
+            let section = section_of(tree, names, *name).unwrap();
             inputs.push(input(alloc, section)?)?;
         }
-    }
-    if inputs.is_empty() || inputs.len() > INPUTS {
-        return Err(AllocError);
     }
     Ok(inputs)
 }

@@ -2,7 +2,8 @@
 //!
 //! [`load`] applies the rules that a grammar cannot say: names that are declared and given once,
 //! terms that are trapezoids within their range, limits, weights, and nothing missing. It answers
-//! a valid [`fuzzy_meaning::Block`], or a [`LoadFault`] with its place.
+//! the tree's [`fuzzy_meaning::Block`], which is valid, exactly where the tree has no load fault,
+//! and otherwise exactly the first [`LoadFault`] with its place.
 #![tactic(auto)]
 
 mod block;
@@ -18,9 +19,10 @@ mod outputs;
 mod passes;
 mod rules;
 mod sections;
+mod walk;
 
 pub use fault::LoadFault;
-pub use laws::course_law;
+pub use laws::{course_law, places_ascend, spelled_blocks_are_valid};
 pub use loading::load;
 
 #[cfg(test)]

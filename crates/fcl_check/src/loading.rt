@@ -1,6 +1,6 @@
 //! Trees to blocks.
 
-ghost use Rattle.std.specs.Prelude.{◌≡◌, map, IfOk};
+ghost use Rattle.std.specs.Prelude.{◌≡◌, [], map, IfOk};
 ghost use Rattle.fuzzy_meaning.specs.Blocks.{IsValid};
 ghost use Rattle.fcl_check.specs.Faults.{Answers, first_fault, twice};
 ghost use Rattle.fcl_check.specs.Known.{Knows};
@@ -30,10 +30,11 @@ macro_rules! refuse {
 }
 
 // The first fault, where nothing is given twice.
+#[tactic(auto, using(crate::proofs::FaultKinds::first_fault_by_kinds))]
 fn first_fault(names: &Names<'_>, tree: &Tree, rules: &[RuleNames<'_>]) -> Option<LoadFault>
     requires known { Knows tree.now names.now }
     requires rules { map (λ (n : RuleNames). n.rule.now) rules.now ≡ tree.now.block.rules.rules.items }
-    requires once { twice tree.now.text.items tree.now.block ≡ None }
+    requires once { twice tree.now.text.items tree.now.block ≡ [] }
     ensures { result ≡ first_fault tree.now.text.items tree.now.block }
 {
     let parts = &tree.block.parts;

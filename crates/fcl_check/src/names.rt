@@ -7,12 +7,12 @@ ghost use Rattle.std.specs.Option.{option_or};
 ghost use Rattle.fcl_syntax.specs.declared.tree.Direction.{Direction};
 ghost use Rattle.fcl_syntax.specs.declared.tree.Part.TheVariants as part;
 ghost use Rattle.fcl_syntax.specs.declared.tree.Tree.{Tree};
-ghost use Rattle.fcl_check.specs.ByLetters.{at_letters, variable_in, count_of, numbers_of, same_kind, HoldsSections};
-ghost use Rattle.fcl_check.specs.Faults.{Answers, twice, repeated, same_declared, same_rule_line, output_line_at, rule_line_at, repeated_line, repeated_section};
+ghost use Rattle.fcl_check.specs.ByLetters.{at_letters, variable_in, count_of, names_in, numbers_of, HoldsSections};
+ghost use Rattle.fcl_check.specs.Faults.{Answers, twice, repeated, same_declared, same_kind, same_rule_line, output_line_at, rule_line_at, repeated_lines, repeated_section};
 ghost use Rattle.fcl_check.specs.declared.fault.LoadFault.TheVariants as load;
-ghost use Rattle.fcl_check.specs.Known.{Knows, variable_of, names_in};
-ghost use Rattle.fcl_check.specs.Names.{declared_by, is_direction, is_named, letters, number_in, section_name, section_of, singleton_names, term_names, term_number};
-ghost use Rattle.fcl_check.specs.Places.{at_if, first_after};
+ghost use Rattle.fcl_check.specs.Known.{Knows};
+ghost use Rattle.fcl_check.specs.Names.{declared_by, declared_in, is_direction, is_named, letters, number_in, section_name, section_of, singleton_names, term_names, term_number};
+ghost use Rattle.fcl_check.specs.Places.{at_if, at_each, first};
 
 use crate::fault::LoadFault;
 use fcl_syntax::{
@@ -47,7 +47,7 @@ impl<'a> Names<'a> {
     /// The names of a tree, or the first thing that is given twice.
     pub fn of(alloc: Global, tree: &'a Tree) -> Result<Names<'a>, LoadFault>
         ensures names { IfOk result (Knows tree.now) }
-        ensures fault { Answers result (option_map load.Twice (twice tree.now.text.items tree.now.block)) }
+        ensures fault { Answers result (option_map load.Twice (first (twice tree.now.text.items tree.now.block))) }
     {
         let declared = declared(alloc, &tree.block.vars)?;
         let variables = variables(alloc, tree, &declared)?;
@@ -62,7 +62,7 @@ impl<'a> Names<'a> {
 
     /// A declared variable, by its letters.
     pub fn variable(&self, letters: &[u8]) -> Option<Variable>
-        ensures { (tree : Tree) → Knows tree self.now → result ≡ variable_of tree.text.items tree.block letters.now }
+        ensures { (tree : Tree) → Knows tree self.now → result ≡ variable_in tree.text.items (declared_in tree.block) letters.now }
     {
         self.variables.get(letters).copied()
     }
@@ -161,7 +161,7 @@ fn add<'a, V: Drop>(
     name: Name,
     value: V,
 ) -> Result<(), LoadFault>
-    ensures fault { Answers result (option_map load.Twice (at_if (is_some (at_letters values.old (letters tree.now.text.items name))) name.at)) }
+    ensures fault { Answers result (option_map load.Twice (first (at_if (is_some (at_letters values.old (letters tree.now.text.items name))) name.at))) }
     ensures added { OnOk result ((ls : List ℕ) → at_letters values.new ls ≡ option_or (at_letters values.old ls) (cond (is_named tree.now.text.items ls name) (Some value) None)) }
     ensures len { OnOk result (btree_map_len values.new ≡ btree_map_len values.old + 1) }
 {
@@ -206,7 +206,7 @@ fn variables<'a>(
     declared: &[(Direction, Name)],
 ) -> Result<BTreeMap<&'a [u8], Variable>, LoadFault>
     ensures variables { IfOk result (λ m. (ls : List ℕ) → at_letters m ls ≡ variable_in tree.now.text.items declared.now ls) }
-    ensures fault { Answers result (option_map load.Twice (repeated (same_declared tree.now.text.items tree.now.block) (λ d. d.1.at) declared.now)) }
+    ensures fault { Answers result (option_map load.Twice (first (repeated (same_declared tree.now.text.items tree.now.block) (λ d. d.1.at) declared.now))) }
 {
     let mut variables = BTreeMap::new(alloc);
     let mut counts = Counts {
@@ -223,6 +223,20 @@ fn variables<'a>(
     Ok(variables)
 }
 
+// Adds a term under the letters of its name, with the next number.
+fn add_term<'a>(
+    terms: &mut BTreeMap<&'a [u8], usize>,
+    tree: &'a Tree,
+    name: Name,
+) -> Result<(), LoadFault>
+    ensures fault { Answers result (option_map load.Twice (first (at_if (is_some (at_letters terms.old (letters tree.now.text.items name))) name.at))) }
+    ensures added { OnOk result ((ls : List ℕ) → at_letters terms.new ls ≡ option_or (at_letters terms.old ls) (cond (is_named tree.now.text.items ls name) (Some (btree_map_len terms.old + 1)) None)) }
+    ensures len { OnOk result (btree_map_len terms.new ≡ btree_map_len terms.old + 1) }
+{
+    let number = terms.len() + 1;
+    add(terms, tree, name, number)
+}
+
 // The numbers of the terms of an input's section, whose lines stand once each.
 fn fuzzy_terms<'a>(
     alloc: Global,
@@ -230,16 +244,13 @@ fn fuzzy_terms<'a>(
     section: &Fuzzify,
 ) -> Result<BTreeMap<&'a [u8], usize>, LoadFault>
     ensures terms { IfOk result (λ m. (ls : List ℕ) → at_letters m ls ≡ number_in tree.now.text.items (term_names section.now) ls) }
-    ensures fault { Answers result (option_map load.Twice (repeated_line tree.now.text.items tree.now.block (part.Fuzzify section.now))) }
+    ensures fault { Answers result (option_map load.Twice (first (repeated_lines tree.now.text.items tree.now.block (part.Fuzzify section.now)))) }
 {
     let mut terms = BTreeMap::new(alloc);
     let mut has_range = false;
     'each: for line in &section.lines {
         match line {
-            FuzzyLine::Term(term) => {
-                let number = terms.len() + 1;
-                add(&mut terms, tree, term.name, number)?;
-            }
+            FuzzyLine::Term(term) => add_term(&mut terms, tree, term.name)?,
             FuzzyLine::Range(range) => {
                 if has_range {
                     return Err(LoadFault::Twice(range.at));
@@ -287,15 +298,14 @@ fn defuzzy_terms<'a>(
     section: &Defuzzify,
 ) -> Result<BTreeMap<&'a [u8], usize>, LoadFault>
     ensures terms { IfOk result (λ m. (ls : List ℕ) → at_letters m ls ≡ number_in tree.now.text.items (singleton_names section.now) ls) }
-    ensures fault { Answers result (option_map load.Twice (repeated_line tree.now.text.items tree.now.block (part.Defuzzify section.now))) }
+    ensures fault { Answers result (option_map load.Twice (first (repeated_lines tree.now.text.items tree.now.block (part.Defuzzify section.now)))) }
 {
     let mut terms = BTreeMap::new(alloc);
     // The other lines, at most one of each kind.
     let mut others: Vec<DefuzzyLine> = Vec::new(alloc);
     'each: for line in &section.lines {
         if let DefuzzyLine::Singleton(singleton) = line {
-            let number = terms.len() + 1;
-            add(&mut terms, tree, singleton.name, number)?;
+            add_term(&mut terms, tree, singleton.name)?;
         } else {
             if has_kind(&others, line) {
                 return Err(LoadFault::Twice(line_at(line)));
@@ -312,7 +322,7 @@ fn terms<'a>(
     part: &Part,
 ) -> Result<BTreeMap<&'a [u8], usize>, LoadFault>
     ensures terms { IfOk result (λ m. (ls : List ℕ) → at_letters m ls ≡ number_in tree.now.text.items (names_in part.now) ls) }
-    ensures fault { Answers result (option_map load.Twice (repeated_line tree.now.text.items tree.now.block part.now)) }
+    ensures fault { Answers result (option_map load.Twice (first (repeated_lines tree.now.text.items tree.now.block part.now))) }
 {
     match part {
         Part::Fuzzify(section) => fuzzy_terms(alloc, tree, section),
@@ -323,7 +333,7 @@ fn terms<'a>(
 // The sections by the letters of their names.
 fn sections(alloc: Global, tree: &Tree) -> Result<BTreeMap<&[u8], Section<'_>>, LoadFault>
     ensures sections { IfOk result (HoldsSections tree.now.text.items tree.now.block.parts.items) }
-    ensures fault { Answers result (option_map load.Twice (first_after (repeated_section tree.now.text.items tree.now.block) [] tree.now.block.parts.items)) }
+    ensures fault { Answers result (option_map load.Twice (first (at_each (repeated_section tree.now.text.items tree.now.block) [] tree.now.block.parts.items))) }
 {
     let mut sections = BTreeMap::new(alloc);
     'each: for part in &tree.block.parts {
@@ -366,7 +376,7 @@ fn rule_line_at(line: &RuleLine) -> u32
 
 // No line is given twice. Lines are compared with at most four before them, one of each kind.
 fn rule_lines(lines: &[RuleLine]) -> Result<(), LoadFault>
-    ensures { Answers result (option_map load.Twice (repeated same_rule_line rule_line_at lines.now)) }
+    ensures { Answers result (option_map load.Twice (first (repeated same_rule_line rule_line_at lines.now))) }
 {
     'each: for (index, line) in lines.iter().enumerate() {
         if has_rule_line(&lines[..index], line) {

@@ -1,28 +1,25 @@
-//! The outputs of a block. They are built of a tree without faults, so that a part which is missing
-//! or does not fit never comes; were it to, the answer is as for want of memory.
+//! The outputs of a block, taken as a tree without load faults has them.
 
-ghost use Rattle.std.specs.Prelude.{◌≡◌, ◌≤◌, ◌||◌, Some, All, filter_map, is_none, not, map, option_map, IfOk, IfSome, length};
+ghost use Rattle.std.specs.Prelude.{◌≡◌, ◌||◌, [], None, Some, filter_map, is_none, not, map, option_map, IfOk};
 ghost use Rattle.std.specs.List.{AllZip};
 ghost use Rattle.fcl_syntax.specs.declared.tree.Direction.TheVariants as side;
-ghost use Rattle.fuzzy_meaning.specs.Blocks.{IsValidOutput, IsWithin};
+ghost use Rattle.fcl_syntax.specs.declared.tree.Part.TheVariants as part;
 ghost use Rattle.fcl_check.specs.Building.{ends_in};
+ghost use Rattle.fcl_check.specs.Faults.{first_fault};
 ghost use Rattle.fcl_check.specs.Known.{Knows};
 ghost use Rattle.fcl_check.specs.Loaded.{IsOutputNamed, IsOutputOf, default_number, given_or, number_of};
 ghost use Rattle.fcl_check.specs.Names.{declared_as, defuzzify_of, letters, singletons_of};
 ghost use Rattle.fcl_check.specs.Places.{first};
-ghost use Rattle.fcl_check.specs.Sections.{default_of, defuzzy_range, fallback_number, hull_of, method_line, number_line, output_numbers, value};
+ghost use Rattle.fcl_check.specs.Sections.{default_of, defuzzy_range, fallback_number, hull_of, incomplete, method_line, number_line, output_numbers, value, without_terms};
 
 use crate::names::Names;
 use crate::numbers::{Span, value};
-use crate::sections::{TERMS, defuzzy_range};
+use crate::sections::defuzzy_range;
 use fcl_syntax::{Defuzzify, DefuzzyLine, Direction, Fallback, FallbackValue, Name, Part, Tree};
 use fuzzy_meaning::Output;
 use fz_list::List;
 use fz_num::Dec;
 use std::alloc::{AllocError, Global};
-
-/// How many outputs a block may have.
-pub const OUTPUTS: usize = 4;
 
 // The DEFAULT line of a section.
 fn fallback(section: &Defuzzify) -> Option<Fallback>
@@ -101,56 +98,37 @@ fn range(section: &Defuzzify) -> Option<Span>
     }
 }
 
-fn singletons(alloc: Global, section: &Defuzzify, span: Span) -> Result<Vec<Dec>, AllocError>
-    ensures valid { IfOk result (λ v. All (IsWithin span.lo span.hi) v.items) }
+fn singletons(alloc: Global, section: &Defuzzify) -> Result<Vec<Dec>, AllocError>
     ensures same { IfOk result (λ v. map (λ d. d.0) v.items ≡ map (λ t. value t.value) (singletons_of section.now)) }
 {
     let mut singletons = Vec::new(alloc);
     'each: for line in &section.lines {
         if let DefuzzyLine::Singleton(singleton) = line {
-            let x = value(singleton.value);
-            if !span.holds(x) {
-                return Err(AllocError);
-            }
-            singletons.push(x)?;
+            singletons.push(value(singleton.value))?;
         }
     }
     Ok(singletons)
 }
 
-fn default(section: &Defuzzify, span: Span) -> Result<Option<Dec>, AllocError>
-    ensures valid { IfOk result (λ d. IfSome d (IsWithin span.lo span.hi)) }
-    ensures same { IfOk result (λ d. Some (number_of d) ≡ option_map default_number (default_of section.now)) }
+fn default(section: &Defuzzify) -> Option<Dec>
+    requires { incomplete (part.Defuzzify section.now) ≡ [] }
+    ensures same { Some (number_of result) ≡ option_map default_number (default_of section.now) }
 {
-    let fallback = fallback(section).ok_or(AllocError)?;
-    let number = fallback_number(fallback.value);
-    if let Some(x) = number
-        && !span.holds(x)
-    {
-        return Err(AllocError);
-    }
-    Ok(number)
+    fallback_number(fallback(section).unwrap().value)
 }
 
 fn output(alloc: Global, section: &Defuzzify) -> Result<Output, AllocError>
-    ensures valid { IfOk result IsValidOutput }
+    requires some { without_terms (part.Defuzzify section.now) ≡ [] }
+    requires complete { incomplete (part.Defuzzify section.now) ≡ [] }
     ensures same { IfOk result (IsOutputOf section.now) }
 {
-    let span = range(section).ok_or(AllocError)?;
-    let span = span.widened();
-    if span.is_empty() {
-        return Err(AllocError);
-    }
-    let singletons = singletons(alloc, section, span)?;
-    let default = default(section, span)?;
-    if singletons.is_empty() || singletons.len() > TERMS {
-        return Err(AllocError);
-    }
+    let span = range(section).unwrap().widened();
+    let singletons = singletons(alloc, section)?;
     Ok(Output {
         lo: span.lo,
         hi: span.hi,
         singletons: List::new(singletons),
-        default,
+        default: default(section),
     })
 }
 
@@ -171,19 +149,16 @@ pub fn outputs<'a>(
     tree: &'a Tree,
     names: &Names<'a>,
 ) -> Result<Vec<Output>, AllocError>
-    requires { Knows tree.now names.now }
-    ensures valid { IfOk result (λ v. (1 ≤ length v.items) × ((length v.items ≤ 4) × All IsValidOutput v.items)) }
+    requires known { Knows tree.now names.now }
+    requires sound { first_fault tree.now.text.items tree.now.block ≡ None }
     ensures same { IfOk result (λ v. AllZip (IsOutputNamed tree.now.text.items tree.now.block) (declared_as side.Output tree.now.block) v.items) }
 {
     let mut outputs = Vec::new(alloc);
     'each: for (direction, name) in &names.declared {
         if *direction == Direction::Output {
-            let section = section_of(tree, names, *name).ok_or(AllocError)?;
+            let section = section_of(tree, names, *name).unwrap();
             outputs.push(output(alloc, section)?)?;
         }
-    }
-    if outputs.is_empty() || outputs.len() > OUTPUTS {
-        return Err(AllocError);
     }
     Ok(outputs)
 }

@@ -1,61 +1,54 @@
 //! The kinds of faults over a whole tree, each at its first place.
 
-ghost use Rattle.std.specs.Prelude.{◌≡◌, List, [], map};
-ghost use Rattle.std.specs.List.{list_any};
+ghost use Rattle.std.specs.Prelude.{◌≡◌, List, [], map, option_map, slice_get};
+ghost use Rattle.std.specs.List.{flat_map, list_any};
 ghost use Rattle.fcl_syntax.specs.declared.tree.Direction.TheVariants as side;
+ghost use Rattle.fcl_syntax.specs.declared.tree.Rule.{Rule};
 ghost use Rattle.fcl_check.specs.Faults.{is_declared_as, is_over, is_whole, mistaken_in, mistaken_section, missing_part, too_many, unknown, unknown_in, unknown_section, weight_outside, without_section, wrong_side};
 ghost use Rattle.fcl_check.specs.Known.{Knows};
 ghost use Rattle.fcl_check.specs.Names.{Declared, declared_in, is_direction};
-ghost use Rattle.fcl_check.specs.Places.{at_if, first_after, first_of};
-ghost use Rattle.fcl_check.specs.Sections.{bad_range, falling_points, incomplete, points_outside, shapeless_term, singleton_outside, term_over_limit, without_terms};
+ghost use Rattle.fcl_check.specs.Places.{at_each, at_if, first};
+ghost use Rattle.fcl_check.specs.Sections.{bad_range, falling_points, incomplete, numbers_outside, points_outside, shapeless_terms, terms_over_limit, without_terms};
 ghost use Rattle.fcl_check.specs.Steps.{room_behind};
 ghost use Rattle.fcl_check.specs.declared.operands.RuleNames.{RuleNames};
 
-use crate::block::RULES;
-use crate::inputs::INPUTS;
 use crate::names::Names;
 use crate::operands::RuleNames;
-use crate::outputs::{OUTPUTS, is_complete};
+use crate::outputs::is_complete;
 use crate::rules::{
     mistaken_name, mistaken_section, unknown_name, unknown_section, weight_outside,
 };
 use crate::sections::{
-    bad_range, falling_points, points_outside, shapeless_term, singleton_outside, term_over_limit,
+    bad_range, falling_point, number_outside, point_outside, shapeless_term, term_over_limit,
     without_terms,
 };
+use crate::walk::first_at;
 use fcl_syntax::{Direction, Name, Part, Rule, Tree};
 
-fn unknown_sections(names: &Names<'_>, tree: &Tree) -> Option<u32>
-    requires { Knows tree.now names.now }
-    ensures { result ≡ first_of (unknown_section tree.now.text.items tree.now.block) tree.now.block.parts.items }
-{
-    for part in &tree.block.parts {
-        if let Some(at) = unknown_section(names, tree, part) {
-            return Some(at);
-        }
-    }
-    None
-}
+// How many inputs, outputs and rules a block may have.
+const INPUTS: usize = 8;
+
+const OUTPUTS: usize = 4;
+
+const RULES: usize = 256;
 
 fn unknown_names(names: &Names<'_>, tree: &Tree, rules: &[RuleNames<'_>]) -> Option<u32>
     requires { Knows tree.now names.now }
-    ensures { result ≡ first_of (unknown_in tree.now.text.items tree.now.block) (map (λ (n : RuleNames). n.rule.now) rules.now) }
+    ensures { result ≡ first (flat_map (unknown_in tree.now.text.items tree.now.block) (map (λ (n : RuleNames). n.rule.now) rules.now)) }
 {
-    for rule in rules {
-        if let Some(at) = unknown_name(names, tree, rule) {
-            return Some(at);
-        }
-    }
-    None
+    first_at(rules, |rule| unknown_name(names, tree, rule))
 }
 
 /// A name of a section or of a rule that is unknown.
+#[tactic(auto, using(crate::proofs::Places::firsts))]
 pub fn unknown(names: &Names<'_>, tree: &Tree, rules: &[RuleNames<'_>]) -> Option<u32>
     requires known { Knows tree.now names.now }
     requires rules { map (λ (n : RuleNames). n.rule.now) rules.now ≡ tree.now.block.rules.rules.items }
-    ensures { result ≡ unknown tree.now.text.items tree.now.block }
+    ensures { result ≡ first (unknown tree.now.text.items tree.now.block) }
 {
-    match unknown_sections(names, tree) {
+    match first_at(&tree.block.parts, |part| {
+        unknown_section(names, tree, part)
+    }) {
         Some(at) => Some(at),
         None => unknown_names(names, tree, rules),
     }
@@ -63,14 +56,9 @@ pub fn unknown(names: &Names<'_>, tree: &Tree, rules: &[RuleNames<'_>]) -> Optio
 
 /// A section without TERM.
 pub fn no_terms(parts: &[Part]) -> Option<u32>
-    ensures { result ≡ first_of without_terms parts.now }
+    ensures { result ≡ first (flat_map without_terms parts.now) }
 {
-    for part in parts {
-        if let Some(at) = without_terms(part) {
-            return Some(at);
-        }
-    }
-    None
+    first_at(parts, without_terms)
 }
 
 // How many more inputs and outputs there may be.
@@ -100,7 +88,7 @@ impl Room {
 
 // The first declared name of a direction past so many of them.
 fn declared_over_limit(declared: &[(Direction, Name)]) -> Option<u32>
-    ensures { result ≡ first_after (λ (before : List Declared) (d : Declared). at_if (is_over before d) d.1.at) [] declared.now }
+    ensures { result ≡ first (at_each (λ (before : List Declared) (d : Declared). at_if (is_over before d) d.1.at) [] declared.now) }
 {
     let mut room = Room {
         inputs: INPUTS,
@@ -116,130 +104,87 @@ fn declared_over_limit(declared: &[(Direction, Name)]) -> Option<u32>
 }
 
 fn terms_over_limit(parts: &[Part]) -> Option<u32>
-    ensures { result ≡ first_of term_over_limit parts.now }
+    ensures { result ≡ first (flat_map terms_over_limit parts.now) }
 {
-    for part in parts {
-        if let Some(at) = term_over_limit(part) {
-            return Some(at);
-        }
-    }
-    None
+    first_at(parts, term_over_limit)
+}
+
+fn rule_over_limit(rules: &[Rule]) -> Option<u32>
+    ensures { result ≡ option_map (λ (r : Rule). r.at) (slice_get rules.now 256) }
+{
+    rules.get(RULES).map(|rule| rule.at)
 }
 
 /// An input, an output, a term or a rule over its limit.
 pub fn too_many(names: &Names<'_>, tree: &Tree) -> Option<u32>
     requires { Knows tree.now names.now }
-    ensures { result ≡ too_many tree.now.text.items tree.now.block }
+    ensures { result ≡ first (too_many tree.now.text.items tree.now.block) }
 {
     declared_over_limit(&names.declared)
         .or_else(|| terms_over_limit(&tree.block.parts))
-        .or_else(|| tree.block.rules.rules.get(RULES).map(|rule| rule.at))
+        .or_else(|| rule_over_limit(&tree.block.rules.rules))
 }
 
 /// A point that lies below the one before it.
 pub fn points_not_ascending(parts: &[Part]) -> Option<u32>
-    ensures { result ≡ first_of falling_points parts.now }
+    ensures { result ≡ first (flat_map falling_points parts.now) }
 {
-    for part in parts {
-        if let Some(at) = falling_points(part) {
-            return Some(at);
-        }
-    }
-    None
+    first_at(parts, falling_point)
 }
 
 /// A term that is no trapezoid.
 pub fn term_shape(parts: &[Part]) -> Option<u32>
-    ensures { result ≡ first_of shapeless_term parts.now }
+    ensures { result ≡ first (flat_map shapeless_terms parts.now) }
 {
-    for part in parts {
-        if let Some(at) = shapeless_term(part) {
-            return Some(at);
-        }
-    }
-    None
+    first_at(parts, shapeless_term)
 }
 
 /// A point outside its RANGE.
 pub fn term_outside(parts: &[Part]) -> Option<u32>
-    ensures { result ≡ first_of points_outside parts.now }
+    ensures { result ≡ first (flat_map points_outside parts.now) }
 {
-    for part in parts {
-        if let Some(at) = points_outside(part) {
-            return Some(at);
-        }
-    }
-    None
+    first_at(parts, point_outside)
 }
 
 /// A range that is empty, or points that are all one.
 pub fn bad_ranges(names: &Names<'_>, tree: &Tree) -> Option<u32>
     requires { Knows tree.now names.now }
-    ensures { result ≡ first_of (bad_range (is_declared_as tree.now.text.items tree.now.block side.Input)) tree.now.block.parts.items }
+    ensures { result ≡ first (flat_map (bad_range (is_declared_as tree.now.text.items tree.now.block side.Input)) tree.now.block.parts.items) }
 {
-    for part in &tree.block.parts {
-        if let Some(at) = bad_range(names, tree, part) {
-            return Some(at);
-        }
-    }
-    None
+    first_at(&tree.block.parts, |part| bad_range(names, tree, part))
 }
 
 /// A singleton or DEFAULT outside its RANGE.
 pub fn singletons_outside(parts: &[Part]) -> Option<u32>
-    ensures { result ≡ first_of singleton_outside parts.now }
+    ensures { result ≡ first (flat_map numbers_outside parts.now) }
 {
-    for part in parts {
-        if let Some(at) = singleton_outside(part) {
-            return Some(at);
-        }
-    }
-    None
+    first_at(parts, number_outside)
 }
 
 /// A weight below 0 or above 1.
 pub fn weights_outside(rules: &[Rule]) -> Option<u32>
-    ensures { result ≡ first_of weight_outside rules.now }
+    ensures { result ≡ first (flat_map weight_outside rules.now) }
 {
-    for rule in rules {
-        if let Some(at) = weight_outside(rule) {
-            return Some(at);
-        }
-    }
-    None
-}
-
-fn mistaken_sections(names: &Names<'_>, tree: &Tree) -> Option<u32>
-    requires { Knows tree.now names.now }
-    ensures { result ≡ first_of (mistaken_section tree.now.text.items tree.now.block) tree.now.block.parts.items }
-{
-    for part in &tree.block.parts {
-        if let Some(at) = mistaken_section(names, tree, part) {
-            return Some(at);
-        }
-    }
-    None
+    first_at(rules, weight_outside)
 }
 
 fn mistaken_names(names: &Names<'_>, tree: &Tree, rules: &[RuleNames<'_>]) -> Option<u32>
     requires { Knows tree.now names.now }
-    ensures { result ≡ first_of (mistaken_in tree.now.text.items tree.now.block) (map (λ (n : RuleNames). n.rule.now) rules.now) }
+    ensures { result ≡ first (flat_map (mistaken_in tree.now.text.items tree.now.block) (map (λ (n : RuleNames). n.rule.now) rules.now)) }
 {
-    for rule in rules {
-        if let Some(at) = mistaken_name(names, tree, rule) {
-            return Some(at);
-        }
-    }
-    None
+    first_at(rules, |rule| mistaken_name(names, tree, rule))
 }
 
 /// An output where an input belongs, or the other way round.
+#[tactic(auto, using(crate::proofs::Places::firsts))]
 pub fn wrong_side(names: &Names<'_>, tree: &Tree, rules: &[RuleNames<'_>]) -> Option<u32>
     requires known { Knows tree.now names.now }
     requires rules { map (λ (n : RuleNames). n.rule.now) rules.now ≡ tree.now.block.rules.rules.items }
-    ensures { result ≡ wrong_side tree.now.text.items tree.now.block }
+    ensures { result ≡ first (wrong_side tree.now.text.items tree.now.block) }
 {
-    match mistaken_sections(names, tree) {
+    match first_at(&tree.block.parts, |part| {
+        mistaken_section(names, tree, part)
+    }) {
         Some(at) => Some(at),
         None => mistaken_names(names, tree, rules),
     }
@@ -247,35 +192,25 @@ pub fn wrong_side(names: &Names<'_>, tree: &Tree, rules: &[RuleNames<'_>]) -> Op
 
 fn without_section(names: &Names<'_>, tree: &Tree) -> Option<u32>
     requires { Knows tree.now names.now }
-    ensures { result ≡ first_of (without_section tree.now.text.items tree.now.block) (declared_in tree.now.block) }
+    ensures { result ≡ first (flat_map (without_section tree.now.text.items tree.now.block) (declared_in tree.now.block)) }
 {
-    for (_, name) in &names.declared {
-        if !names.has_section(tree.letters(*name)) {
-            return Some(name.at);
+    first_at(&names.declared, |(_, name)| {
+        if names.has_section(tree.letters(*name)) {
+            None
+        } else {
+            Some(name.at)
         }
-    }
-    None
+    })
 }
 
 // The END word of an output's section that lacks METHOD or DEFAULT.
 fn incomplete(part: &Part) -> Option<u32>
-    ensures { result ≡ incomplete part.now }
+    ensures { result ≡ first (incomplete part.now) }
 {
     match part {
         Part::Defuzzify(section) if !is_complete(section) => Some(section.end),
         _ => None,
     }
-}
-
-fn incomplete_sections(parts: &[Part]) -> Option<u32>
-    ensures { result ≡ first_of incomplete parts.now }
-{
-    for part in parts {
-        if let Some(at) = incomplete(part) {
-            return Some(at);
-        }
-    }
-    None
 }
 
 fn has_direction(declared: &[(Direction, Name)], wanted: Direction) -> bool
@@ -294,13 +229,16 @@ fn is_whole(names: &Names<'_>, tree: &Tree) -> bool
 }
 
 /// A section, a line of one, an input, an output or a rule that is missing.
+#[tactic(auto, using(crate::proofs::Places::firsts))]
 pub fn missing_part(names: &Names<'_>, tree: &Tree) -> Option<u32>
     requires { Knows tree.now names.now }
-    ensures { result ≡ missing_part tree.now.text.items tree.now.block }
+    ensures { result ≡ first (missing_part tree.now.text.items tree.now.block) }
 {
-    let at = without_section(names, tree).or_else(|| incomplete_sections(&tree.block.parts));
-    if at.is_none() && !is_whole(names, tree) {
-        return Some(tree.block.end);
+    if let Some(at) = without_section(names, tree) {
+        return Some(at);
     }
-    at
+    match first_at(&tree.block.parts, incomplete) {
+        None if !is_whole(names, tree) => Some(tree.block.end),
+        at => at,
+    }
 }

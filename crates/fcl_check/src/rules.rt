@@ -1,17 +1,19 @@
 //! What is wrong with the names and weights of rules.
 
 ghost use Rattle.std.specs.Prelude.{◌≡◌, map, IfOk};
+ghost use Rattle.std.specs.List.{flat_map};
 ghost use Rattle.fcl_syntax.specs.declared.tree.Conclusion.{Conclusion};
 ghost use Rattle.fcl_syntax.specs.declared.tree.Direction.TheVariants as side;
 ghost use Rattle.fcl_check.specs.Faults.{Pair, conclusions_of, direction, mistaken, mistaken_in, mistaken_section, unknown_in, unknown_pair, unknown_section, weight_outside};
 ghost use Rattle.fcl_check.specs.Known.{Knows};
-ghost use Rattle.fcl_check.specs.Places.{first_of};
+ghost use Rattle.fcl_check.specs.Places.{first};
 ghost use Rattle.fcl_check.specs.Steps.{pair_of};
 ghost use Rattle.fcl_check.specs.declared.operands.RuleNames.{RuleNames};
 
 use crate::names::{Names, section_name};
 use crate::numbers::value;
 use crate::operands::RuleNames;
+use crate::walk::first_at;
 use fcl_syntax::{Conclusion, Direction, Name, Operand, Part, Rule, Tree};
 use std::alloc::{AllocError, Global};
 
@@ -38,7 +40,7 @@ fn direction(names: &Names<'_>, tree: &Tree, name: Name) -> Option<Direction>
 /// The name of a section's variable, where it is not declared.
 pub fn unknown_section(names: &Names<'_>, tree: &Tree, part: &Part) -> Option<u32>
     requires { Knows tree.now names.now }
-    ensures { result ≡ unknown_section tree.now.text.items tree.now.block part.now }
+    ensures { result ≡ first (unknown_section tree.now.text.items tree.now.block part.now) }
 {
     let name = section_name(part);
     match direction(names, tree, name) {
@@ -56,7 +58,7 @@ fn unknown_pair(
     term: Name,
 ) -> Option<u32>
     requires { Knows tree.now names.now }
-    ensures { result ≡ unknown_pair tree.now.text.items tree.now.block side variable term }
+    ensures { result ≡ first (unknown_pair tree.now.text.items tree.now.block side variable term) }
 {
     match direction(names, tree, variable) {
         None => Some(variable.at),
@@ -73,45 +75,40 @@ fn unknown_pair(
 
 fn unknown_operand(names: &Names<'_>, tree: &Tree, operands: &[Operand]) -> Option<u32>
     requires { Knows tree.now names.now }
-    ensures { result ≡ first_of (λ (p : Pair). unknown_pair tree.now.text.items tree.now.block side.Input p.variable p.term) (map pair_of operands.now) }
+    ensures { result ≡ first (flat_map (λ (p : Pair). unknown_pair tree.now.text.items tree.now.block side.Input p.variable p.term) (map pair_of operands.now)) }
 {
-    for operand in operands {
+    first_at(operands, |operand| {
         let (variable, term) = (operand.variable, operand.term);
-        if let Some(at) = unknown_pair(names, tree, Direction::Input, variable, term) {
-            return Some(at);
-        }
-    }
-    None
+        unknown_pair(names, tree, Direction::Input, variable, term)
+    })
 }
 
 fn unknown_conclusion(names: &Names<'_>, tree: &Tree, conclusion: &Conclusion) -> Option<u32>
     requires { Knows tree.now names.now }
-    ensures { result ≡ unknown_pair tree.now.text.items tree.now.block side.Output conclusion.now.variable conclusion.now.term }
+    ensures { result ≡ first (unknown_pair tree.now.text.items tree.now.block side.Output conclusion.now.variable conclusion.now.term) }
 {
     let (variable, term) = (conclusion.variable, conclusion.term);
     unknown_pair(names, tree, Direction::Output, variable, term)
 }
 
+#[tactic(auto, using(crate::proofs::Places::firsts))]
 fn unknown_conclusions(names: &Names<'_>, tree: &Tree, rule: &Rule) -> Option<u32>
     requires { Knows tree.now names.now }
-    ensures { result ≡ first_of (λ (c : Conclusion). unknown_pair tree.now.text.items tree.now.block side.Output c.variable c.term) (conclusions_of rule.now) }
+    ensures { result ≡ first (flat_map (λ (c : Conclusion). unknown_pair tree.now.text.items tree.now.block side.Output c.variable c.term) (conclusions_of rule.now)) }
 {
-    let at = unknown_conclusion(names, tree, &rule.first);
-    if at.is_some() {
-        return at;
+    if let Some(at) = unknown_conclusion(names, tree, &rule.first) {
+        return Some(at);
     }
-    for conclusion in &rule.more {
-        if let Some(at) = unknown_conclusion(names, tree, conclusion) {
-            return Some(at);
-        }
-    }
-    None
+    first_at(&rule.more, |conclusion| {
+        unknown_conclusion(names, tree, conclusion)
+    })
 }
 
 /// The first name of a rule that is unknown.
+#[tactic(auto, using(crate::proofs::Places::firsts))]
 pub fn unknown_name(names: &Names<'_>, tree: &Tree, rule: &RuleNames<'_>) -> Option<u32>
     requires { Knows tree.now names.now }
-    ensures { result ≡ unknown_in tree.now.text.items tree.now.block rule.now.rule.now }
+    ensures { result ≡ first (unknown_in tree.now.text.items tree.now.block rule.now.rule.now) }
 {
     match unknown_operand(names, tree, &rule.operands) {
         Some(at) => Some(at),
@@ -121,7 +118,7 @@ pub fn unknown_name(names: &Names<'_>, tree: &Tree, rule: &RuleNames<'_>) -> Opt
 
 /// The WITH of a weight below 0 or above 1.
 pub fn weight_outside(rule: &Rule) -> Option<u32>
-    ensures { result ≡ weight_outside rule.now }
+    ensures { result ≡ first (weight_outside rule.now) }
 {
     let weight = rule.weight?;
     let w = value(weight.num);
@@ -135,7 +132,7 @@ pub fn weight_outside(rule: &Rule) -> Option<u32>
 // The name, where its variable is not of this direction.
 fn mistaken(names: &Names<'_>, tree: &Tree, side: Direction, name: Name) -> Option<u32>
     requires { Knows tree.now names.now }
-    ensures { result ≡ mistaken tree.now.text.items tree.now.block side name }
+    ensures { result ≡ first (mistaken tree.now.text.items tree.now.block side name) }
 {
     if direction(names, tree, name)? == side {
         None
@@ -147,7 +144,7 @@ fn mistaken(names: &Names<'_>, tree: &Tree, side: Direction, name: Name) -> Opti
 /// The name of a section of the wrong sort for its variable.
 pub fn mistaken_section(names: &Names<'_>, tree: &Tree, part: &Part) -> Option<u32>
     requires { Knows tree.now names.now }
-    ensures { result ≡ mistaken_section tree.now.text.items tree.now.block part.now }
+    ensures { result ≡ first (mistaken_section tree.now.text.items tree.now.block part.now) }
 {
     match part {
         Part::Fuzzify(section) => mistaken(names, tree, Direction::Input, section.name),
@@ -157,35 +154,31 @@ pub fn mistaken_section(names: &Names<'_>, tree: &Tree, part: &Part) -> Option<u
 
 fn mistaken_operand(names: &Names<'_>, tree: &Tree, operands: &[Operand]) -> Option<u32>
     requires { Knows tree.now names.now }
-    ensures { result ≡ first_of (λ (p : Pair). mistaken tree.now.text.items tree.now.block side.Input p.variable) (map pair_of operands.now) }
+    ensures { result ≡ first (flat_map (λ (p : Pair). mistaken tree.now.text.items tree.now.block side.Input p.variable) (map pair_of operands.now)) }
 {
-    for operand in operands {
-        if let Some(at) = mistaken(names, tree, Direction::Input, operand.variable) {
-            return Some(at);
-        }
-    }
-    None
+    first_at(operands, |operand| {
+        mistaken(names, tree, Direction::Input, operand.variable)
+    })
 }
 
+#[tactic(auto, using(crate::proofs::Places::firsts))]
 fn mistaken_conclusion(names: &Names<'_>, tree: &Tree, rule: &Rule) -> Option<u32>
     requires { Knows tree.now names.now }
-    ensures { result ≡ first_of (λ (c : Conclusion). mistaken tree.now.text.items tree.now.block side.Output c.variable) (conclusions_of rule.now) }
+    ensures { result ≡ first (flat_map (λ (c : Conclusion). mistaken tree.now.text.items tree.now.block side.Output c.variable) (conclusions_of rule.now)) }
 {
     if let Some(at) = mistaken(names, tree, Direction::Output, rule.first.variable) {
         return Some(at);
     }
-    for conclusion in &rule.more {
-        if let Some(at) = mistaken(names, tree, Direction::Output, conclusion.variable) {
-            return Some(at);
-        }
-    }
-    None
+    first_at(&rule.more, |conclusion| {
+        mistaken(names, tree, Direction::Output, conclusion.variable)
+    })
 }
 
 /// The first variable of a rule that stands on the wrong side.
+#[tactic(auto, using(crate::proofs::Places::firsts))]
 pub fn mistaken_name(names: &Names<'_>, tree: &Tree, rule: &RuleNames<'_>) -> Option<u32>
     requires { Knows tree.now names.now }
-    ensures { result ≡ mistaken_in tree.now.text.items tree.now.block rule.now.rule.now }
+    ensures { result ≡ first (mistaken_in tree.now.text.items tree.now.block rule.now.rule.now) }
 {
     match mistaken_operand(names, tree, &rule.operands) {
         Some(at) => Some(at),

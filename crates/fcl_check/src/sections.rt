@@ -1,28 +1,31 @@
 //! What is wrong with the terms, ranges and singletons of sections.
 
-ghost use Rattle.std.specs.Prelude.{◌≡◌, ℕ, ◌∷◌, List, map, option_map, is_some};
+ghost use Rattle.std.specs.Prelude.{◌≡◌, ℕ, ◌∷◌, List, map, option_map, is_some, not};
+ghost use Rattle.std.specs.Borrow.{Bor};
 ghost use Rattle.fcl_syntax.specs.declared.tree.Direction.TheVariants as side;
-ghost use Rattle.fcl_syntax.specs.declared.tree.Part.TheVariants as part;
 ghost use Rattle.fcl_syntax.specs.declared.tree.Point.{Point};
+ghost use Rattle.fcl_syntax.specs.declared.tree.Singleton.{Singleton};
+ghost use Rattle.fcl_syntax.specs.declared.tree.Term.{Term};
 ghost use Rattle.fz_num.specs.declared.dec.Dec.{Dec};
 ghost use Rattle.fcl_check.specs.Building.{ends_in};
 ghost use Rattle.fcl_check.specs.Steps.{completes, extended};
 ghost use Rattle.fcl_check.specs.Faults.{is_declared_as};
 ghost use Rattle.fcl_check.specs.Known.{Knows};
 ghost use Rattle.fcl_check.specs.Names.{singleton_of, singletons_of, term_of, terms_of};
-ghost use Rattle.fcl_check.specs.Places.{first};
-ghost use Rattle.fcl_check.specs.Sections.{abscissas, bad_range, defuzzy_range, empty_range, falling_point, falling_points, fuzzy_range, has_shape, hull_of, number_line, point_outside, points_of, points_outside, reach, shapeless_term, singleton_outside, term_over_limit, without_terms, x_of};
+ghost use Rattle.fcl_check.specs.Places.{at_if, first};
+ghost use Rattle.fcl_check.specs.Sections.{abscissas, bad_range, defuzzy_range, empty_range, falling_in, falling_points, fuzzy_range, has_shape, hull_of, lies_in, number_line, numbers_outside, outside_in, points_of, points_outside, reach, shapeless_terms, terms_over_limit, without_terms, x_of};
 
 use crate::names::Names;
 use crate::numbers::{Span, is_one, value};
+use crate::walk::first_at;
 use fcl_syntax::{
     Defuzzify, DefuzzyLine, Direction, FallbackValue, Fuzzify, FuzzyLine, Part, Point, Range, Term,
     Tree,
 };
 use fz_num::Dec;
 
-/// How many terms a variable may have.
-pub const TERMS: usize = 15;
+// How many terms a variable may have.
+const TERMS: usize = 15;
 
 /// The RANGE of a section of an input.
 pub fn fuzzy_range(section: &Fuzzify) -> Option<Range>
@@ -48,33 +51,49 @@ pub fn defuzzy_range(section: &Defuzzify) -> Option<Range>
     None
 }
 
-fn is_term(line: &FuzzyLine) -> bool
-    ensures { result ≡ is_some (term_of line.now) }
+fn as_term(line: &FuzzyLine) -> Option<&Term>
+    ensures { option_map (λ (t : Bor Term). t.now) result ≡ term_of line.now }
 {
-    matches!(line, FuzzyLine::Term(_))
+    match line {
+        FuzzyLine::Term(term) => Some(term),
+        FuzzyLine::Range(_) => None,
+    }
 }
 
-fn is_singleton(line: &DefuzzyLine) -> bool
-    ensures { result ≡ is_some (singleton_of line.now) }
+// The place of the name of a term.
+fn term_at(line: &FuzzyLine) -> Option<u32>
+    ensures { result ≡ option_map (λ (t : Term). t.name.at) (term_of line.now) }
 {
-    matches!(line, DefuzzyLine::Singleton(_))
+    as_term(line).map(|term| term.name.at)
+}
+
+fn singleton_at(line: &DefuzzyLine) -> Option<u32>
+    ensures { result ≡ option_map (λ (t : Singleton). t.name.at) (singleton_of line.now) }
+{
+    match line {
+        DefuzzyLine::Singleton(singleton) => Some(singleton.name.at),
+        _ => None,
+    }
 }
 
 fn has_term(section: &Fuzzify) -> bool
     ensures { result ≡ is_some (first (terms_of section.now)) }
 {
-    section.lines.iter().any(is_term)
+    section.lines.iter().any(|line| term_at(line).is_some())
 }
 
 fn has_singleton(section: &Defuzzify) -> bool
     ensures { result ≡ is_some (first (singletons_of section.now)) }
 {
-    section.lines.iter().any(is_singleton)
+    section
+        .lines
+        .iter()
+        .any(|line| singleton_at(line).is_some())
 }
 
 /// The END word of a section without TERM.
 pub fn without_terms(part: &Part) -> Option<u32>
-    ensures { result ≡ without_terms part.now }
+    ensures { result ≡ first (without_terms part.now) }
 {
     let (has_terms, end) = match part {
         Part::Fuzzify(section) => (has_term(section), section.end),
@@ -85,48 +104,18 @@ pub fn without_terms(part: &Part) -> Option<u32>
 
 /// The name of the first term over the limit.
 pub fn term_over_limit(part: &Part) -> Option<u32>
-    ensures { result ≡ term_over_limit part.now }
+    ensures { result ≡ first (terms_over_limit part.now) }
 {
     match part {
-        Part::Fuzzify(section) => fuzzy_term_over_limit(section),
-        Part::Defuzzify(section) => singleton_over_limit(section),
+        Part::Fuzzify(section) => section.lines.iter().filter_map(term_at).nth(TERMS),
+        Part::Defuzzify(section) => section.lines.iter().filter_map(singleton_at).nth(TERMS),
     }
-}
-
-fn fuzzy_term_over_limit(section: &Fuzzify) -> Option<u32>
-    ensures { result ≡ term_over_limit (part.Fuzzify section.now) }
-{
-    let mut room = TERMS;
-    for line in &section.lines {
-        if let FuzzyLine::Term(term) = line {
-            if room == 0 {
-                return Some(term.name.at);
-            }
-            room -= 1;
-        }
-    }
-    None
-}
-
-fn singleton_over_limit(section: &Defuzzify) -> Option<u32>
-    ensures { result ≡ term_over_limit (part.Defuzzify section.now) }
-{
-    let mut room = TERMS;
-    for line in &section.lines {
-        if let DefuzzyLine::Singleton(singleton) = line {
-            if room == 0 {
-                return Some(singleton.name.at);
-            }
-            room -= 1;
-        }
-    }
-    None
 }
 
 // The parenthesis of the first point that lies below the one before it.
-#[tactic(auto, using(crate::proofs::Falling::falling_point_first))]
-fn falling_point(term: &Term) -> Option<u32>
-    ensures { result ≡ falling_point term.now }
+#[tactic(auto, using(crate::proofs::Falling::falling_in_first))]
+fn falling_in(term: &Term) -> Option<u32>
+    ensures { result ≡ first (falling_in term.now) }
 {
     let mut before = value(term.first.x);
     for point in &term.more {
@@ -139,19 +128,22 @@ fn falling_point(term: &Term) -> Option<u32>
     None
 }
 
-// The parenthesis of the first point outside a span.
-fn point_outside(term: &Term, span: Span) -> Option<u32>
-    ensures { result ≡ point_outside (ends_in span) term.now }
+// The parenthesis of a point outside a span.
+fn outside(point: &Point, span: Span) -> Option<u32>
+    ensures { result ≡ first (at_if (not (lies_in (ends_in span) (x_of point.now))) point.now.open_at) }
 {
-    if !span.holds(value(term.first.x)) {
-        return Some(term.first.open_at);
+    if span.holds(value(point.x)) {
+        None
+    } else {
+        Some(point.open_at)
     }
-    for point in &term.more {
-        if !span.holds(value(point.x)) {
-            return Some(point.open_at);
-        }
-    }
-    None
+}
+
+// The first point of a term outside a span.
+fn outside_in(term: &Term, span: Span) -> Option<u32>
+    ensures { result ≡ first (outside_in (ends_in span) term.now) }
+{
+    outside(&term.first, span).or_else(|| first_at(&term.more, |point| outside(point, span)))
 }
 
 // Where the degrees of a term have come to.
@@ -186,55 +178,41 @@ fn has_shape(term: &Term) -> bool
 }
 
 /// The first point of an input's section that lies below the one before it.
-pub fn falling_points(part: &Part) -> Option<u32>
-    ensures { result ≡ falling_points part.now }
+pub fn falling_point(part: &Part) -> Option<u32>
+    ensures { result ≡ first (falling_points part.now) }
 {
     let Part::Fuzzify(section) = part else {
         return None;
     };
-    for line in &section.lines {
-        if let FuzzyLine::Term(term) = line
-            && let Some(at) = falling_point(term)
-        {
-            return Some(at);
-        }
-    }
-    None
+    first_at(&section.lines, |line| falling_in(as_term(line)?))
+}
+
+// A term whose degrees have not the shape of a trapezoid.
+fn shapeless(term: &Term) -> Option<u32>
+    ensures { result ≡ first (at_if (not (has_shape (points_of term.now))) term.now.at) }
+{
+    if has_shape(term) { None } else { Some(term.at) }
 }
 
 /// The first term of an input's section whose degrees have not the shape of a trapezoid.
 pub fn shapeless_term(part: &Part) -> Option<u32>
-    ensures { result ≡ shapeless_term part.now }
+    ensures { result ≡ first (shapeless_terms part.now) }
 {
     let Part::Fuzzify(section) = part else {
         return None;
     };
-    for line in &section.lines {
-        if let FuzzyLine::Term(term) = line
-            && !has_shape(term)
-        {
-            return Some(term.at);
-        }
-    }
-    None
+    first_at(&section.lines, |line| shapeless(as_term(line)?))
 }
 
 /// The first point outside the given RANGE of an input's section.
-pub fn points_outside(part: &Part) -> Option<u32>
-    ensures { result ≡ points_outside part.now }
+pub fn point_outside(part: &Part) -> Option<u32>
+    ensures { result ≡ first (points_outside part.now) }
 {
     let Part::Fuzzify(section) = part else {
         return None;
     };
     let span = Span::of(fuzzy_range(section)?);
-    for line in &section.lines {
-        if let FuzzyLine::Term(term) = line
-            && let Some(at) = point_outside(term, span)
-        {
-            return Some(at);
-        }
-    }
-    None
+    first_at(&section.lines, |line| outside_in(as_term(line)?, span))
 }
 
 fn with_points(span: Span, points: &[Point]) -> Span
@@ -274,7 +252,7 @@ pub fn hull(section: &Fuzzify) -> Option<Span>
 /// A RANGE that is empty, or the name of an input's section whose points are all one.
 pub fn bad_range(names: &Names<'_>, tree: &Tree, part: &Part) -> Option<u32>
     requires { Knows tree.now names.now }
-    ensures { result ≡ bad_range (is_declared_as tree.now.text.items tree.now.block side.Input) part.now }
+    ensures { result ≡ first (bad_range (is_declared_as tree.now.text.items tree.now.block side.Input) part.now) }
 {
     match part {
         Part::Fuzzify(section) => match fuzzy_range(section) {
@@ -294,7 +272,7 @@ pub fn bad_range(names: &Names<'_>, tree: &Tree, part: &Part) -> Option<u32>
 }
 
 fn empty_range(range: Range) -> Option<u32>
-    ensures { result ≡ empty_range range }
+    ensures { result ≡ first (empty_range range) }
 {
     if Span::of(range).is_empty() {
         Some(range.at)
@@ -318,19 +296,15 @@ fn number_line(line: &DefuzzyLine) -> Option<(Dec, u32)>
 }
 
 /// The first singleton or DEFAULT outside the given RANGE of an output's section.
-pub fn singleton_outside(part: &Part) -> Option<u32>
-    ensures { result ≡ singleton_outside part.now }
+pub fn number_outside(part: &Part) -> Option<u32>
+    ensures { result ≡ first (numbers_outside part.now) }
 {
     let Part::Defuzzify(section) = part else {
         return None;
     };
     let span = Span::of(defuzzy_range(section)?);
-    for line in &section.lines {
-        if let Some((x, at)) = number_line(line)
-            && !span.holds(x)
-        {
-            return Some(at);
-        }
-    }
-    None
+    first_at(&section.lines, |line| match number_line(line) {
+        Some((x, at)) if !span.holds(x) => Some(at),
+        _ => None,
+    })
 }

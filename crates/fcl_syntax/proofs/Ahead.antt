@@ -7,7 +7,7 @@ use Rattle.fcl_syntax.specs.declared.fault.Kind.TheVariants.{Unsupported}
 use Rattle.fcl_syntax.specs.declared.token.Token.{Token}
 use Rattle.fcl_syntax.specs.Marks.{sort, Sym, tokens_of, plain, marked, mem}
 use Rattle.fcl_syntax.specs.Form.{◌>>=◌, disjoint, fault_at, Stops, Starts, starts, SameHead, first_mark, answer, one_at, Sound, Fails, Form}
-use Rattle.fcl_syntax.proofs.Laws.{bind_ok, bind_err, ok_is}
+use Rattle.fcl_syntax.proofs.MarkedTexts.{bind_ok, bind_err, ok_is}
 use Rattle.fcl_syntax.proofs.Seq.{Shows-in, Viable-in}
 use Rattle.fcl_syntax.proofs.Small.{Class, one_text, one_sound, one_fails, starts-not, starts-same}
 use Rattle.fcl_syntax.proofs.Dead.{unless}

@@ -7,7 +7,7 @@ use Rattle.fcl_syntax.specs.declared.fault.Kind.TheVariants.{Expected, Deep, Uns
 use Rattle.fcl_syntax.specs.declared.token.Token.{Token}
 use Rattle.fcl_syntax.specs.Marks.{either_text, sort, Sym, tokens_of, IsClean, marked, mem}
 use Rattle.fcl_syntax.specs.Form.{cond_read, ◌>>=◌, disjoint, fault_at, Stops, Starts, starts, looks_on, SameNext, SameHead, first_mark, answer, Sound, Shown, Shows, Fails, Form}
-use Rattle.fcl_syntax.proofs.Laws.{bind_ok, bind_err, ok_is, length-tokens}
+use Rattle.fcl_syntax.proofs.MarkedTexts.{bind_ok, bind_err, ok_is, length-tokens}
 use Rattle.fcl_syntax.proofs.Seq.{Shows-in, Viable-in}
 use Rattle.fcl_syntax.proofs.Small.{to_right, starts-not, starts-same, bool_cases}
 

@@ -9,7 +9,7 @@ use Rattle.fcl_syntax.specs.declared.token.Token.{Token}
 use Rattle.fcl_syntax.specs.Marks.{Sym, tokens_of, IsClean, plain, marked}
 use Rattle.fcl_syntax.specs.Form.{ended, ◌>>=◌, fault_at, Stops, looks_on, SameNext, SameHead, mark_at, first_mark, answer, Sound, Viable, Shown, Fails, Form}
 use Rattle.fcl_syntax.specs.First.{IsMark, Spells, IsPlain, IsPlainMark, Begins, NoTextHas, NoMark, Here, FirstFault}
-use Rattle.fcl_syntax.proofs.Laws.{bind_ok, bind_err, ok_is, tokens_of-append, length-tokens, first_mark-clean}
+use Rattle.fcl_syntax.proofs.MarkedTexts.{bind_ok, bind_err, ok_is, tokens_of-append, length-tokens, first_mark-clean}
 
 abbrev pub whole : {T : Type 0} → Form T → List Token → Result T Fault
 whole p ts = p.read ts >>= ended

@@ -1,4 +1,4 @@
-pub mod Laws
+pub mod MarkedTexts
 pub mod Seq
 pub mod Small
 pub mod Dead
@@ -19,3 +19,4 @@ pub mod Rooms
 pub mod Theorem
 pub mod Cutting
 pub mod Scale
+pub mod Offsets

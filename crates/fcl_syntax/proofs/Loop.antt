@@ -5,7 +5,7 @@ use Rattle.fcl_syntax.specs.declared.fault.Fault.{Fault}
 use Rattle.fcl_syntax.specs.declared.token.Token.{Token}
 use Rattle.fcl_syntax.specs.Marks.{Sym, tokens_of, IsClean}
 use Rattle.fcl_syntax.specs.Form.{◌>>=◌, disjoint, Stops, Starts, starts, first_mark, or_else, answer, with_front, turn, loop, Fails, Form}
-use Rattle.fcl_syntax.proofs.Laws.{bind_ok, bind_err, ok_is, tokens_of-append, length-tokens, IsClean-append, first_mark-append, first_mark-clean, starts-stops}
+use Rattle.fcl_syntax.proofs.MarkedTexts.{bind_ok, bind_err, ok_is, tokens_of-append, length-tokens, IsClean-append, first_mark-append, first_mark-clean, starts-stops}
 use Rattle.fcl_syntax.proofs.Small.{starts-is}
 
 module _ {A : Type 0} (p : Form A) where

@@ -6,7 +6,7 @@ use Rattle.fcl_syntax.specs.declared.fault.Kind.{Kind}
 use Rattle.fcl_syntax.specs.declared.token.Token.{Token}
 use Rattle.fcl_syntax.specs.Marks.{sort, Sym, tokens_of, IsClean, mem}
 use Rattle.fcl_syntax.specs.Form.{◌>>=◌, disjoint, fault_at, Stops, Starts, starts, SameHead, first_mark, or_else, answer, Sound, Fails, Form}
-use Rattle.fcl_syntax.proofs.Laws.{bind_ok, bind_err, ok_is, tokens_of-append, length-tokens, IsClean-append, first_mark-append, first_mark-clean, starts-stops, Stops-same}
+use Rattle.fcl_syntax.proofs.MarkedTexts.{bind_ok, bind_err, ok_is, tokens_of-append, length-tokens, IsClean-append, first_mark-append, first_mark-clean, starts-stops, Stops-same}
 use Rattle.fcl_syntax.proofs.Seq.{Shows-in, Viable-in}
 use Rattle.fcl_syntax.proofs.Small.{starts-not, starts-same}
 use Rattle.fcl_syntax.proofs.Loop.{texts, rep, Settled, all_settled, Ran, FailsIn, rep_runs, rep_again, rep_local, rep_fails, stops_before, starts-Starts}

@@ -7,7 +7,7 @@ use Rattle.fcl_syntax.specs.declared.fault.Kind.TheVariants.{Expected, Deep, Uns
 use Rattle.fcl_syntax.specs.declared.token.Token.{Token}
 use Rattle.fcl_syntax.specs.Marks.{Sym, tokens_of, IsClean, marked}
 use Rattle.fcl_syntax.specs.Form.{◌>>=◌, disjoint, Stops, Starts, SameHead, first_mark, or_else, answer, Sound, Viable, Shown, Shows, Fails, Form}
-use Rattle.fcl_syntax.proofs.Laws.{bind_ok, bind_err, ok_is, tokens_of-append, length-tokens, IsClean-append, first_mark-append, first_mark-clean, starts-stops, Stops-same, SameHead-append}
+use Rattle.fcl_syntax.proofs.MarkedTexts.{bind_ok, bind_err, ok_is, tokens_of-append, length-tokens, IsClean-append, first_mark-append, first_mark-clean, starts-stops, Stops-same, SameHead-append}
 
 -- what is shown of a part is shown of a whole whose text begins and goes on with others
 pub Shown-in : {A B : Type 0} (ta : A → List Sym) (tb : B → List Sym) (k : Kind) (front bad : List Token) (head : List Sym) (b : A → B) (tail : A → List Sym) → ((a : A) → tb (b a) ≡ head ++ (ta a ++ tail a)) → Shown ta k front bad → Shown tb k (tokens_of head ++ front) bad

@@ -7,7 +7,7 @@ use Rattle.fcl_syntax.specs.declared.fault.Kind.TheVariants.{Expected}
 use Rattle.fcl_syntax.specs.declared.token.Token.{Token}
 use Rattle.fcl_syntax.specs.Marks.{either_text, sort, Sym, tokens_of, plain, mem}
 use Rattle.fcl_syntax.specs.Form.{cond_read, ◌>>=◌, disjoint, fault_at, Stops, Starts, starts, SameHead, first_mark, answer, found, one_at, Sound, Shows, Fails, Form}
-use Rattle.fcl_syntax.proofs.Laws.{bind_ok, bind_err, ok_is, disjoint-mem}
+use Rattle.fcl_syntax.proofs.MarkedTexts.{bind_ok, bind_err, ok_is, disjoint-mem}
 use Rattle.fcl_syntax.proofs.Seq.{Shows-in, Viable-in}
 
 -- ---- one token of a class

@@ -8,3 +8,4 @@ pub mod Meanings
 pub mod Lexing
 pub mod Text
 pub mod Scale
+pub mod Offsets

@@ -8,16 +8,17 @@
 mod block;
 mod conditions;
 mod fault;
+mod laws;
 mod lexer;
 mod rules;
 mod single;
-pub mod sizes;
 mod terms;
 mod text;
 mod token;
 mod tree;
 mod variables;
 
+pub use laws::{numbers_in_scale, offsets_ascend};
 pub use text::{SyntaxFault, parse};
 pub use token::{Amount, Word};
 pub use tree::{

@@ -1,4 +1,4 @@
-use Rattle.fcl_check.proofs.Fitting.{valid_block}
+use Rattle.fcl_check.proofs.ValidBlocks.{valid_block}
 use Rattle.fcl_check.proofs.block.block.Goals as goal
 
 pub returns-clause-block : goal.returns-clause-block
@@ -11,4 +11,6 @@ returns-clause-block c = record {
 pub returns-clause-valid : goal.returns-clause-valid
 returns-clause-valid c =
     rw (c.new.ensures, c.new-2.ensures, c.new-3.ensures)
-    (valid_block _ c.in_ok-inputs.inputs.items _ c.in_ok-outputs.outputs.items c.in_ok-rules.rules.items c.deref.ensures.value c.deref-2.ensures.value c.in_ok-inputs.ensures.valid c.in_ok-outputs.ensures.valid c.in_ok-rules.ensures.all c.in_ok-rules.ensures.size c.in_ok-rules.ensures.count)
+    (valid_block c.args.tree.now.text.items c.args.tree.now.block _ c.requires.sound
+    (record { inputs = c.in_ok-inputs.ensures.same; outputs = c.in_ok-outputs.ensures.same; rules = c.in_ok-rules.ensures.same })
+    c.in_ok-rules.ensures.deep c.in_ok-rules.ensures.size)

@@ -1,4 +1,4 @@
-use Rattle.std.proofs.Common.{◌≡◌, ℕ, ◌+◌, ◌*◌, ◌≤◌, [], ◌∷◌, length, map, take, rules, arith, refl, ap, sym, ◌∙◌, length-append}
+use Rattle.std.proofs.Common.{◌≡◌, ℕ, ◌+◌, ◌*◌, ◌≤◌, length, map, take, rules, arith, refl, ap, sym, ◌∙◌}
 use Rattle.std.proofs.lemmas.Bool.{eqb-true, eqb-false}
 use Rattle.std.proofs.lemmas.List.{take_all}
 use Rattle.fuzzy_meaning.specs.declared.block.Cond.{the_lemmas}
@@ -10,10 +10,12 @@ use Rattle.fcl_syntax.specs.declared.tree.And.{out-And}
 use Rattle.fcl_syntax.specs.declared.tree.Or.{out-Or}
 use Rattle.fcl_syntax.specs.declared.tree.Not.{the_lemmas as tree_lemmas}
 use Rattle.fcl_check.specs.Loaded.{literal_of, not_condition, and_condition}
+use Rattle.fcl_check.specs.Faults.{and_pairs, not_pairs}
+use Rattle.fcl_check.proofs.Elements.{parts_of}
 use Rattle.fcl_check.proofs.FirstPlaces.{one_further}
-use Rattle.fcl_check.proofs.ConditionTrees.{all_together, all_alone, any_together, any_alone, parts_more}
+use Rattle.fcl_check.proofs.KnownNames.{pairs_of-alternative, pairs_of-conjunct}
+use Rattle.fcl_check.proofs.ConditionTrees.{all_together, all_alone, any_together, any_alone, greatest_depth-push, parts_more, total_nodes-push}
 use Rattle.fuzzy_meaning.specs.Conditions.{all, any, conditions, condition_of}
-use Rattle.fcl_check.proofs.Fitting.{fit_one, fit_more, fit_all, fit_any, fit_wider}
 use Rattle.fcl_check.proofs.conditions.+condition.Goals as goal
 
 pub and-returns-then-is_empty-clause-same : goal.and-returns-then-is_empty-clause-same
@@ -25,8 +27,8 @@ and-returns-then-is_empty-clause-same t c =
 
 pub and-each-init : goal.and-each-init
 and-each-init t c = record {
-  fit = rw (c.in_ok-push.ensures.items, c.new-parts.ensures.items) (fit_one _ (2 * c.args.room + 2) c.in_ok-first.size c.in_ok-first.first c.in_ok-first.ensures.fits);
-  some = rw (c.in_ok-push.ensures.items, c.new-parts.ensures.items) (omega arith);
+  deep = rw (c.in_ok-push.ensures.items, c.new-parts.ensures.items) (omega (arith, c.in_ok-first.ensures.deep));
+  size = rw (c.in_ok-push.ensures.items, c.new-parts.ensures.items) (omega (arith, c.in_ok-first.ensures.size));
   same = rw (c.in_ok-push.ensures.items, c.new-parts.ensures.items, c.in_ok-first.ensures.same) refl;
 }
 
@@ -39,16 +41,20 @@ and-each-preserved t c =
     let view : view_conjunct x ≡ (x.at, view_not x.not) = search (rules, tree_lemmas) in
     let same = c.in_ok-part.ensures.same ∙ ap (λ (u : ℕ × TNot). not_condition (literal_of c.args.source.now.tree.now.text.items c.args.source.now.tree.now.block) u.1) (sym view) in
     record {
-      fit = rw (c.in_ok-total.ensures, c.in_ok-push-2.ensures.items) (fit_more _ (2 * c.args.room + 2) c.each.total c.in_ok-part.size c.each.parts.items c.in_ok-part.part c.each.invariant.fit c.in_ok-part.ensures.fits);
-      some = rw c.in_ok-push-2.ensures.items (omega (arith, length-append c.each.parts.items (c.in_ok-part.part ∷ [])));
+      deep = rw c.in_ok-push-2.ensures.items (greatest_depth-push c.each.parts.items c.in_ok-part.part (2 * c.args.room + 2) c.each.invariant.deep c.in_ok-part.ensures.deep);
+      size = rw c.in_ok-push-2.ensures.items (omega (arith, total_nodes-push c.each.parts.items c.in_ok-part.part, c.each.invariant.size, c.in_ok-part.ensures.size, c.in_ok-total.ensures));
       same = rw (c.in_ok-push-2.ensures.items, more) (parts_more _ _ (take c.each.conjunct-index node.more.items) x c.each.parts.items c.in_ok-part.part c.each.invariant.same same);
     }
 
-pub and-returns-clause-fits : goal.and-returns-clause-fits
-and-returns-clause-fits t c =
+pub and-returns-clause-deep : goal.and-returns-clause-deep
+and-returns-clause-deep t c =
     let same : condition_of (cond.And c.each.parts) ≡ all (conditions (map condition_of c.each.parts.items)) = search (rules, the_lemmas) in
-    rw c.in_ok-total-2.ensures (fit_wider _ (2 * c.args.room + 2 + 1) (2 * c.args.room + 3) (c.each.total + 1) (c.each.total + 1) _ (omega arith) (omega arith)
-    (fit_all _ (2 * c.args.room + 2) c.each.total c.each.parts.items (cond.And c.each.parts) same c.each.invariant.some c.each.invariant.fit))
+    rw same (omega (arith, c.each.invariant.deep))
+
+pub and-returns-clause-size : goal.and-returns-clause-size
+and-returns-clause-size t c =
+    let same : condition_of (cond.And c.each.parts) ≡ all (conditions (map condition_of c.each.parts.items)) = search (rules, the_lemmas) in
+    rw same (omega (arith, c.each.invariant.size, c.in_ok-total-2.ensures))
 
 pub and-returns-clause-same : goal.and-returns-clause-same
 and-returns-clause-same t c =
@@ -68,8 +74,8 @@ or-returns-then-is_empty-clause-same t c =
 
 pub or-each-init : goal.or-each-init
 or-each-init t c = record {
-  fit = rw (c.in_ok-push.ensures.items, c.new-parts.ensures.items) (fit_one _ (2 * c.args.room + 3) c.in_ok-first.size c.in_ok-first.first c.in_ok-first.ensures.fits);
-  some = rw (c.in_ok-push.ensures.items, c.new-parts.ensures.items) (omega arith);
+  deep = rw (c.in_ok-push.ensures.items, c.new-parts.ensures.items) (omega (arith, c.in_ok-first.ensures.deep));
+  size = rw (c.in_ok-push.ensures.items, c.new-parts.ensures.items) (omega (arith, c.in_ok-first.ensures.size));
   same = rw (c.in_ok-push.ensures.items, c.new-parts.ensures.items, c.in_ok-first.ensures.same) refl;
 }
 
@@ -82,16 +88,20 @@ or-each-preserved t c =
     let view : view_alternative x ≡ ((out-Alternative x).at, view_and (out-Alternative x).and) = search (rules, tree_lemmas) in
     let same = c.in_ok-part.ensures.same ∙ ap (λ (u : ℕ × TAnd). and_condition (literal_of c.args.source.now.tree.now.text.items c.args.source.now.tree.now.block) u.1) (sym view) in
     record {
-      fit = rw (c.in_ok-total.ensures, c.in_ok-push-2.ensures.items) (fit_more _ (2 * c.args.room + 3) c.each.total c.in_ok-part.size c.each.parts.items c.in_ok-part.part c.each.invariant.fit c.in_ok-part.ensures.fits);
-      some = rw c.in_ok-push-2.ensures.items (omega (arith, length-append c.each.parts.items (c.in_ok-part.part ∷ [])));
+      deep = rw c.in_ok-push-2.ensures.items (greatest_depth-push c.each.parts.items c.in_ok-part.part (2 * c.args.room + 3) c.each.invariant.deep c.in_ok-part.ensures.deep);
+      size = rw c.in_ok-push-2.ensures.items (omega (arith, total_nodes-push c.each.parts.items c.in_ok-part.part, c.each.invariant.size, c.in_ok-part.ensures.size, c.in_ok-total.ensures));
       same = rw (c.in_ok-push-2.ensures.items, more) (parts_more _ _ (take c.each.alternative-index node.more.items) x c.each.parts.items c.in_ok-part.part c.each.invariant.same same);
     }
 
-pub or-returns-clause-fits : goal.or-returns-clause-fits
-or-returns-clause-fits t c =
+pub or-returns-clause-deep : goal.or-returns-clause-deep
+or-returns-clause-deep t c =
     let same : condition_of (cond.Or c.each.parts) ≡ any (conditions (map condition_of c.each.parts.items)) = search (rules, the_lemmas) in
-    rw c.in_ok-total-2.ensures (fit_wider _ (2 * c.args.room + 3 + 1) (2 * c.args.room + 4) (c.each.total + 1) (c.each.total + 1) _ (omega arith) (omega arith)
-    (fit_any _ (2 * c.args.room + 3) c.each.total c.each.parts.items (cond.Or c.each.parts) same c.each.invariant.some c.each.invariant.fit))
+    rw same (omega (arith, c.each.invariant.deep))
+
+pub or-returns-clause-size : goal.or-returns-clause-size
+or-returns-clause-size t c =
+    let same : condition_of (cond.Or c.each.parts) ≡ any (conditions (map condition_of c.each.parts.items)) = search (rules, the_lemmas) in
+    rw same (omega (arith, c.each.invariant.size, c.in_ok-total-2.ensures))
 
 pub or-returns-clause-same : goal.or-returns-clause-same
 or-returns-clause-same t c =
@@ -101,3 +111,37 @@ or-returns-clause-same t c =
     let same : condition_of (cond.Or c.each.parts) ≡ any (conditions (map condition_of c.each.parts.items)) = search (rules, the_lemmas) in
     let view : view_or c.args.or.now ≡ or_of (view_and node.first) (ands_of (map view_alternative node.more.items)) = search (rules, tree_lemmas) in
     rw view (any_together (literal_of c.args.source.now.tree.now.text.items c.args.source.now.tree.now.block) view_alternative (view_and node.first) node.more.items c.each.parts.items (cond.Or c.each.parts) some same (rw whole at c.each.invariant.same))
+
+pub and-not-requires : goal.and-not-requires
+and-not-requires t c =
+    let node = out-And c.args.and.now in
+    let view : view_and c.args.and.now ≡ and_of (view_not node.first) (nots_of (map view_conjunct node.more.items)) = search (rules, tree_lemmas) in
+    (search rules, (parts_of _ (not_pairs (view_not node.first)) _ (rw view at c.requires)).0)
+
+pub and-not-requires-in-each : goal.and-not-requires-in-each
+and-not-requires-in-each t c =
+    let node = out-And c.args.and.now in
+    let value = c.deref-conjunct-items.ensures.value in
+    let x = c.conjunct-item.result in
+    let view : view_and c.args.and.now ≡ and_of (view_not node.first) (nots_of (map view_conjunct node.more.items)) = search (rules, tree_lemmas) in
+    let part : view_conjunct x ≡ (x.at, view_not x.not) = search (rules, tree_lemmas) in
+    let here = pairs_of-conjunct _ node.more.items c.each.conjunct-index x (parts_of _ (not_pairs (view_not node.first)) _ (rw view at c.requires)).1 (rw value at c.each-test.true) in
+    let is = rw value at c.conjunct-item.is in
+    (search rules, rw (← is, part) at here)
+
+pub or-and-requires : goal.or-and-requires
+or-and-requires t c =
+    let node = out-Or c.args.or.now in
+    let view : view_or c.args.or.now ≡ or_of (view_and node.first) (ands_of (map view_alternative node.more.items)) = search (rules, tree_lemmas) in
+    (search rules, (parts_of _ (and_pairs (view_and node.first)) _ (rw view at c.requires)).0)
+
+pub or-and-requires-in-each : goal.or-and-requires-in-each
+or-and-requires-in-each t c =
+    let node = out-Or c.args.or.now in
+    let value = c.deref-alternative-items.ensures.value in
+    let x = c.alternative-item.result in
+    let view : view_or c.args.or.now ≡ or_of (view_and node.first) (ands_of (map view_alternative node.more.items)) = search (rules, tree_lemmas) in
+    let part : view_alternative x ≡ ((out-Alternative x).at, view_and (out-Alternative x).and) = search (rules, tree_lemmas) in
+    let here = pairs_of-alternative _ node.more.items c.each.alternative-index x (parts_of _ (and_pairs (view_and node.first)) _ (rw view at c.requires)).1 (rw value at c.each-test.true) in
+    let is = rw value at c.alternative-item.is in
+    (search rules, rw (← is, part) at here)

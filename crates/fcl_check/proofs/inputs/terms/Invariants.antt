@@ -1,12 +1,8 @@
-use Rattle.std.proofs.Common.{All, take}
+use Rattle.std.proofs.Common.{take}
 use Rattle.std.specs.List.{AllZip, filter_map}
-use Rattle.fuzzy_meaning.specs.Blocks.{IsValidTerm}
 use Rattle.fcl_check.specs.Loaded.{IsTermOf}
 use Rattle.fcl_check.specs.Names.{term_of}
 use Rattle.fcl_check.proofs.inputs.terms.Given as goal
 
 abbrev pub invariant-each : goal.invariant-each
-invariant-each l = record {
-  valid : All (IsValidTerm l.span.lo l.span.hi) l.terms.items;
-  same : AllZip IsTermOf (filter_map term_of (take l.line-index l.section.lines.items)) l.terms.items;
-}
+invariant-each l = AllZip IsTermOf (filter_map term_of (take l.line-index l.section.lines.items)) l.terms.items

@@ -1,15 +1,15 @@
-use Rattle.std.proofs.Common.{◌≡◌, Err, rules, ap, ◌+◌, refl, sym, ◌∙◌}
+use Rattle.std.proofs.Common.{◌≡◌, Err, rules, refl, sym, ◌∙◌}
 use Rattle.std.proofs.lemmas.List.{take_more}
 use Rattle.fcl_check.proofs.TermNames.{is_no_singleton, singleton_twice, singleton_once, singleton_numbers, singleton_others, other_twice, other_once, other_numbers, others_more}
 use Rattle.fcl_check.proofs.names.defuzzy_terms.Goals as goal
-use Rattle.fcl_check.proofs.names.defuzzy_terms.Goals.{in-Singleton+in_ok-add, in_default+else-has_kind+in_ok-push}
+use Rattle.fcl_check.proofs.names.defuzzy_terms.Goals.{in-Singleton+in_ok-add_term, in_default+else-has_kind+in_ok-push}
 
-pub returns-in_err-add-clause-fault : goal.returns-in_err-add-clause-fault
-returns-in_err-add-clause-fault c =
-    let passed : c.from_residual.result ≡ Err c.in_err-add.field-0.0 = search rules in
+pub returns-in_err-add_term-clause-fault : goal.returns-in_err-add_term-clause-fault
+returns-in_err-add_term-clause-fault c =
+    let passed : c.from_residual.result ≡ Err c.in_err-add_term.field-0.0 = search rules in
     let more = take_more c.args.section.now.lines.items c.each.line-index _ (rw c.deref-line-items.ensures.value at c.each-test.true) in
     rw passed (singleton_twice c.args.tree.now.text.items c.args.tree.now.block c.args.section.now.lines.items c.each.line-index _ more c.each.invariant.once
-    c.in-Singleton.singleton (rw c.deref-line-items.ensures.value at c.in-Singleton.is) c.each.terms c.each.invariant.numbers c.in_err-add.field-0.0 c.in_err-add.ensures.fault)
+    c.in-Singleton.singleton (rw c.deref-line-items.ensures.value at c.in-Singleton.is) c.each.terms c.each.invariant.numbers c.in_err-add_term.field-0.0 c.in_err-add_term.ensures.fault)
 
 pub returns-then-has_kind : goal.returns-then-has_kind
 returns-then-has_kind c =
@@ -31,10 +31,10 @@ each-preserved c =
     let more = take_more lines i _ (rw value at c.each-test.true) in
     let so_far = c.each.invariant in
     elim c.match-line.branch [
-      | in-Singleton+in_ok-add w ↦ (let is = rw value at w.in-Singleton.is in record {
-        numbers = rw w.terms-is (singleton_numbers text b lines i _ more so_far.once w.in-Singleton.singleton is c.each.terms so_far.numbers _ w.add.new.values (ap (λ n. n + 1) w.len-number.ensures.len) w.in_ok-add.ensures.added w.in_ok-add.ensures.len);
+      | in-Singleton+in_ok-add_term w ↦ (let is = rw value at w.in-Singleton.is in record {
+        numbers = rw w.terms-is (singleton_numbers text b lines i _ more so_far.once w.in-Singleton.singleton is c.each.terms so_far.numbers w.add_term.new.terms w.in_ok-add_term.ensures.added w.in_ok-add_term.ensures.len);
         others = rw (w.others-is, singleton_others text b lines i _ more so_far.once w.in-Singleton.singleton is c.each.terms so_far.numbers) so_far.others;
-        once = singleton_once text b lines i _ more so_far.once w.in-Singleton.singleton is c.each.terms so_far.numbers w.in_ok-add.ensures.fault;
+        once = singleton_once text b lines i _ more so_far.once w.in-Singleton.singleton is c.each.terms so_far.numbers w.in_ok-add_term.ensures.fault;
       })
       | in_default+else-has_kind+in_ok-push w ↦ (let other = is_no_singleton _ (λ t e. w.in_default.not-Singleton t e) in record {
         numbers = rw w.terms-is (other_numbers text b lines i _ more so_far.once (rw value at other) c.each.terms so_far.numbers);

@@ -1,11 +1,11 @@
 use Rattle.std.proofs.Common.{◌≡◌, [], take, None}
 use Rattle.fcl_check.specs.ByLetters.{HoldsSections}
 use Rattle.fcl_check.specs.Faults.{repeated_section}
-use Rattle.fcl_check.specs.Places.{first_after}
+use Rattle.fcl_check.specs.Places.{at_each, first}
 use Rattle.fcl_check.proofs.names.sections.Given as goal
 
 abbrev pub invariant-each : goal.invariant-each
 invariant-each l = record {
   sections : HoldsSections l.tree.text.items (take l.part-index l.tree.block.parts.items) l.sections;
-  once : first_after (repeated_section l.tree.text.items l.tree.block) [] (take l.part-index l.tree.block.parts.items) ≡ None;
+  once : first (at_each (repeated_section l.tree.text.items l.tree.block) [] (take l.part-index l.tree.block.parts.items)) ≡ None;
 }

@@ -2,11 +2,12 @@ use Rattle.std.proofs.Common.{◌≡◌, ℕ, List, length, take, None}
 use Rattle.fcl_syntax.specs.declared.tree.Direction.{Direction}
 use Rattle.fcl_check.specs.ByLetters.{at_letters, variable_in, names_of, count_of}
 use Rattle.fcl_check.specs.Faults.{repeated, same_declared}
+use Rattle.fcl_check.specs.Places.{first}
 use Rattle.fcl_check.proofs.names.variables.Given as goal
 
 abbrev pub invariant-each : goal.invariant-each
 invariant-each l = record {
   variables : (ls : List ℕ) → at_letters l.variables ls ≡ variable_in l.tree.text.items (take l.direction-index l.declared) ls;
   counts : (d : Direction) → count_of d l.counts ≡ length (names_of d (take l.direction-index l.declared));
-  once : repeated (same_declared l.tree.text.items l.tree.block) (λ d. d.1.at) (take l.direction-index l.declared) ≡ None;
+  once : first (repeated (same_declared l.tree.text.items l.tree.block) (λ d. d.1.at) (take l.direction-index l.declared)) ≡ None;
 }

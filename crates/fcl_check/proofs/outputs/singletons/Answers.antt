@@ -1,22 +1,14 @@
-use Rattle.std.proofs.Common.{arith, rules}
-use Rattle.std.proofs.lemmas.List.Elements.{All-push}
-use Rattle.fuzzy_meaning.specs.Blocks.{IsWithin}
+use Rattle.std.proofs.Common.{arith}
 use Rattle.fcl_check.proofs.Lines.{no-singleton}
 use Rattle.fcl_check.proofs.OutputLines.{singletons-more, singletons-passed}
 use Rattle.fcl_check.proofs.outputs.singletons.Goals as goal
-use Rattle.fcl_check.proofs.outputs.singletons.Goals.{in-Singleton+else-not-holds+in_ok-push, in_default}
+use Rattle.fcl_check.proofs.outputs.singletons.Goals.{in-Singleton+in_ok-push, in_default}
 
 pub each-preserved : goal.each-preserved
 each-preserved c =
     let lines = c.args.section.now.lines.items in
     let read = c.deref-line-items in
     elim c.match-line.branch [
-      | in-Singleton+else-not-holds+in_ok-push w ↦ rw (w.singletons-is, w.in_ok-push.ensures.items) (record {
-        valid = All-push (IsWithin c.args.span.lo c.args.span.hi) c.each.singletons.items w.value-x.result c.each.invariant.valid (w.holds.ensures.within (search rules));
-        same = singletons-more lines read.result.now c.each.line-index _ read.ensures.value (omega arith) c.each.singletons.items w.value-x.result w.in-Singleton.singleton w.in-Singleton.is w.value-x.ensures.value c.each.invariant.same;
-      })
-      | in_default w ↦ rw w.singletons-is (record {
-        valid = c.each.invariant.valid;
-        same = singletons-passed lines read.result.now c.each.line-index _ read.ensures.value (omega arith) c.each.singletons.items (no-singleton _ w.in_default.not-Singleton) c.each.invariant.same;
-      })
+      | in-Singleton+in_ok-push w ↦ rw (w.singletons-is, w.in_ok-push.ensures.items) (singletons-more lines read.result.now c.each.line-index _ read.ensures.value (omega arith) c.each.singletons.items w.value.result w.in-Singleton.singleton w.in-Singleton.is w.value.ensures.value c.each.invariant)
+      | in_default w ↦ rw w.singletons-is (singletons-passed lines read.result.now c.each.line-index _ read.ensures.value (omega arith) c.each.singletons.items (no-singleton _ w.in_default.not-Singleton) c.each.invariant)
     ]

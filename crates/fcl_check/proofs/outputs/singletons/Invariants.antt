@@ -1,12 +1,8 @@
-use Rattle.std.proofs.Common.{◌≡◌, All, map, take}
+use Rattle.std.proofs.Common.{◌≡◌, map, take}
 use Rattle.std.specs.List.{filter_map}
-use Rattle.fuzzy_meaning.specs.Blocks.{IsWithin}
 use Rattle.fcl_check.specs.Names.{singleton_of}
 use Rattle.fcl_check.specs.Sections.{value}
 use Rattle.fcl_check.proofs.outputs.singletons.Given as goal
 
 abbrev pub invariant-each : goal.invariant-each
-invariant-each l = record {
-  valid : All (IsWithin l.span.lo l.span.hi) l.singletons.items;
-  same : map (λ d. d.0) l.singletons.items ≡ map (λ t. value t.value) (filter_map singleton_of (take l.line-index l.section.lines.items));
-}
+invariant-each l = map (λ d. d.0) l.singletons.items ≡ map (λ t. value t.value) (filter_map singleton_of (take l.line-index l.section.lines.items))

@@ -1,0 +1,118 @@
+-- The output of a section without faults is valid.
+use Rattle.std.proofs.Common.{◌≡◌, ℕ, not, List, [], ◌∷◌, length, map, Option, Some, None, option_map, refl, sym, subst, ap, ◌∙◌, arith}
+use Rattle.std.specs.Prelude.{IfSome, ℤ, ◌≤ℤ◌, ◌<ℤ◌}
+use Rattle.std.specs.List.{AllByRecursion, cons_option, filter_map, flat_map}
+use Rattle.std.proofs.lemmas.Int.{ints}
+use Rattle.std.proofs.lemmas.List.{length-map}
+use Rattle.std.proofs.lemmas.List.Elements.{All-from_recursion}
+use Rattle.fz_num.specs.declared.dec.Dec.{Dec}
+use Rattle.fuzzy_meaning.specs.declared.block.Output.{Output}
+use Rattle.fuzzy_meaning.specs.Blocks.{IsValidOutput, IsWithin}
+use Rattle.fcl_syntax.specs.declared.tree.Defuzzify.{Defuzzify}
+use Rattle.fcl_syntax.specs.declared.tree.DefuzzyLine.{DefuzzyLine}
+use Rattle.fcl_syntax.specs.declared.tree.DefuzzyLine.TheVariants as defuzzy
+use Rattle.fcl_syntax.specs.declared.tree.Fallback.{Fallback}
+use Rattle.fcl_syntax.specs.declared.tree.FallbackValue.{FallbackValue}
+use Rattle.fcl_syntax.specs.declared.tree.FallbackValue.TheVariants as fallback
+use Rattle.fcl_syntax.specs.declared.tree.FunctionBlock.{FunctionBlock}
+use Rattle.fcl_syntax.specs.declared.tree.Num.{Num}
+use Rattle.fcl_syntax.specs.declared.tree.Part.TheVariants as part
+use Rattle.fcl_syntax.specs.declared.tree.Range.{Range}
+use Rattle.fcl_syntax.specs.declared.tree.Singleton.{Singleton}
+use Rattle.fcl_check.specs.Loaded.{IsOutputOf, default_number, given_or, number_of, widened}
+use Rattle.fcl_check.specs.Names.{singleton_of, singletons_of}
+use Rattle.fcl_check.specs.Places.{at_if, at_some, first}
+use Rattle.fcl_check.specs.Sections.{Ends, default_line, default_of, defuzzy_range, empty_range, ends_of, fallback_number, hull_of, is_empty_range, lies_in, number_line, output_numbers, outside, value}
+use Rattle.fcl_check.proofs.Elements.{all_mapped, all_unmapped, all_weaker, rest_of}
+use Rattle.fcl_check.proofs.Faultless.{IsSoundPart, no_place}
+use Rattle.fcl_check.proofs.Ranges.{In, all_inside, hull-ordered, hull-over, not_empty, widened-ordered, widened-over}
+use Rattle.fcl_check.proofs.Scales.{IsWide, IsWide-widened, output_span, output_span-in}
+use Rattle.fcl_check.proofs.Counts.{few_items, some_item}
+
+-- ---- the numbers of lines
+
+module _ (P : ℤ → Type 0) where
+  abbrev AllNumbers : List DefuzzyLine → Type 0
+  AllNumbers lines = AllByRecursion (λ (n : ℤ × ℕ). P n.0) (filter_map number_line lines)
+
+  fallback_of : (v : FallbackValue) (n : Num) (at : ℕ) (rest : List (ℤ × ℕ)) → fallback_number v ≡ Some n → AllByRecursion (λ (n : ℤ × ℕ). P n.0) (cons_option (option_map (λ (n : Num). (value n, at)) (fallback_number v)) rest) → P (value n)
+  fallback_of (fallback.Number m) n at rest is all = let same : m ≡ n = cc in rw (← same) all.0
+  fallback_of (fallback.Nc x) n at rest is all = absurd cc
+
+  behind : (v : FallbackValue) (at : ℕ) (rest : List (ℤ × ℕ)) → AllByRecursion (λ (n : ℤ × ℕ). P n.0) (cons_option (option_map (λ (n : Num). (value n, at)) (fallback_number v)) rest) → AllByRecursion (λ (n : ℤ × ℕ). P n.0) rest
+  behind v at rest all = rest_of (λ (n : ℤ × ℕ). P n.0) (option_map (λ (n : Num). (value n, at)) (fallback_number v)) rest all
+
+  all_singletons : (lines : List DefuzzyLine) → AllNumbers lines → AllByRecursion (λ (t : Singleton). P (value t.value)) (filter_map singleton_of lines)
+  all_singletons [] all = tt
+  all_singletons (defuzzy.Singleton t ∷ lines) all = (all.0, all_singletons lines all.1)
+  all_singletons (defuzzy.Accu x ∷ lines) all = all_singletons lines all
+  all_singletons (defuzzy.Method x ∷ lines) all = all_singletons lines all
+  all_singletons (defuzzy.Default d ∷ lines) all = all_singletons lines (behind d.value d.at (filter_map number_line lines) all)
+  all_singletons (defuzzy.Range x ∷ lines) all = all_singletons lines all
+
+  at_default : (lines : List DefuzzyLine) (d : Fallback) (n : Num) → AllNumbers lines → first (filter_map default_line lines) ≡ Some d → fallback_number d.value ≡ Some n → P (value n)
+  at_default [] d n all found is = absurd cc
+  at_default (defuzzy.Singleton t ∷ lines) d n all found is = at_default lines d n all.1 found is
+  at_default (defuzzy.Accu x ∷ lines) d n all found is = at_default lines d n all found is
+  at_default (defuzzy.Method x ∷ lines) d n all found is = at_default lines d n all found is
+  at_default (defuzzy.Default c ∷ lines) d n all found is =
+      let same : c ≡ d = cc in
+      fallback_of c.value n c.at (filter_map number_line lines) (rw same is) all
+  at_default (defuzzy.Range x ∷ lines) d n all found is = at_default lines d n all found is
+
+  fallback_in : (o : Option Num) (n : ℤ) → option_map value o ≡ Some n → ((m : Num) → o ≡ Some m → P (value m)) → P n
+  fallback_in None n is all = absurd cc
+  fallback_in (Some m) n is all = let same : value m ≡ n = cc in rw (← same) (all m refl)
+
+  -- the number of DEFAULT, where it has one
+  default_in : (o : Option Fallback) (y : Option Dec) → Some (number_of y) ≡ option_map default_number o → ((d : Fallback) (n : Num) → o ≡ Some d → fallback_number d.value ≡ Some n → P (value n)) → IfSome y (λ d. P d.0)
+  default_in o None is all = tt
+  default_in None (Some y) is all = absurd cc
+  default_in (Some d) (Some y) is all =
+      let same : option_map value (fallback_number d.value) ≡ Some y.0 = cc in
+      fallback_in (fallback_number d.value) y.0 same (λ m found. all d m refl found)
+
+-- ---- the range
+
+range_of : (s : Defuzzify) (o : Option Range) (e : Ends) → Some e ≡ given_or (hull_of (map (λ (n : ℤ × ℕ). n.0) (output_numbers s))) o → outside (λ e. flat_map (λ (n : ℤ × ℕ). at_if (not (lies_in e n.0)) n.1) (output_numbers s)) o ≡ [] → at_some empty_range o ≡ [] → (e.0 ≤ℤ e.1) × AllByRecursion (λ (n : ℤ × ℕ). In e n.0) (output_numbers s)
+range_of s None e is inside range =
+    let numbers = map (λ (n : ℤ × ℕ). n.0) (output_numbers s) in
+    (hull-ordered numbers e is, all_unmapped (In e) (λ (n : ℤ × ℕ). n.0) (output_numbers s) (hull-over numbers e is))
+range_of s (Some r) e is inside range =
+    let same : e ≡ ends_of r = cc in
+    let proper = not_empty (ends_of r) (no_place (is_empty_range (ends_of r)) r.at range) in
+    subst (λ (f : Ends). (f.0 ≤ℤ f.1) × AllByRecursion (λ (n : ℤ × ℕ). In f n.0) (output_numbers s)) (sym same) (omega (arith, ints, proper), all_inside (ends_of r) (λ (n : ℤ × ℕ). n.0) (λ (n : ℤ × ℕ). n.1) (output_numbers s) inside)
+
+widened_from : (o : Option Ends) (e : Ends) → Some e ≡ option_map widened o → (span : Ends) × (Some span ≡ o) × (e ≡ widened span)
+widened_from None e is = absurd cc
+widened_from (Some span) e is = (span, refl, cc)
+
+-- ---- the output
+
+module _ (text : List ℕ) (b : FunctionBlock) where
+  pub valid_output : (s : Defuzzify) (y : Output) → IsSoundPart text b (part.Defuzzify s) → IsOutputOf s y → IsValidOutput y
+  valid_output s y sound of =
+      let e : Ends = (y.lo.0, y.hi.0) in
+      let singles = singletons_of s in
+      let from = widened_from (output_span s) e of.range in
+      let span = from.0 in
+      let range = range_of s (defuzzy_range s) span from.1 sound.numbers sound.range in
+      let wide : IsWide e = subst IsWide (sym from.2) (IsWide-widened span (output_span-in s span from.1)) in
+      let ordered : e.0 <ℤ e.1 = subst (λ (f : Ends). f.0 <ℤ f.1) (sym from.2) (widened-ordered span range.0) in
+      let all : AllByRecursion (λ (n : ℤ × ℕ). In e n.0) (output_numbers s) = subst (λ (f : Ends). AllByRecursion (λ (n : ℤ × ℕ). In f n.0) (output_numbers s)) (sym from.2) (all_weaker (λ (n : ℤ × ℕ). In span n.0) (λ (n : ℤ × ℕ). In (widened span) n.0) (λ (n : ℤ × ℕ) h. widened-over span n.0 h) (output_numbers s) range.1) in
+      let values : AllByRecursion (In e) (map (λ (d : Dec). d.0) y.singletons) = rw (of.singletons) (all_mapped (In e) (λ (t : Singleton). value t.value) singles (all_singletons (In e) s.lines.items all)) in
+      let long : length y.singletons ≡ length singles = sym (length-map y.singletons (λ (d : Dec). d.0)) ∙ ap length of.singletons ∙ length-map singles (λ (t : Singleton). value t.value) in
+      let default : IfSome y.default (λ (d : Dec). In e d.0) = default_in (In e) (default_of s) y.default of.default (λ d n found is. at_default (In e) s.lines.items d n all found is) in
+      record {
+        lo_in = wide.lo;
+        hi_in = wide.hi;
+        range = ordered;
+        some_term = omega (arith, long, some_item singles s.end sound.some);
+        few_terms = omega (arith, long, few_items 15 (λ (t : Singleton). t.name.at) singles sound.few);
+        singletons = All-from_recursion (IsWithin y.lo y.hi) y.singletons (all_weaker (λ (d : Dec). In e d.0) (IsWithin y.lo y.hi) (λ (d : Dec) h. record { low = h.0; high = h.1 }) y.singletons (all_unmapped (In e) (λ (d : Dec). d.0) y.singletons values));
+        default_in = within y.default default;
+      }
+    where
+      within : (o : Option Dec) → IfSome o (λ (d : Dec). In (y.lo.0, y.hi.0) d.0) → IfSome o (IsWithin y.lo y.hi)
+      within None h = tt
+      within (Some d) h = record { low = h.0; high = h.1 }

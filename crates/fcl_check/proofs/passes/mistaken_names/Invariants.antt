@@ -1,8 +1,0 @@
-use Rattle.std.proofs.Common.{◌≡◌, drop, map}
-use Rattle.fcl_check.specs.Faults.{mistaken_in}
-use Rattle.fcl_check.specs.declared.operands.RuleNames.{RuleNames}
-use Rattle.fcl_check.specs.Places.{first_of}
-use Rattle.fcl_check.proofs.passes.mistaken_names.Given as goal
-
-abbrev pub invariant-loop-rule : goal.invariant-loop-rule
-invariant-loop-rule l = first_of (mistaken_in l.tree.text.items l.tree.block) (map (λ (n : RuleNames). n.rule.now) (drop l.rule-index l.rules)) ≡ first_of (mistaken_in l.tree.text.items l.tree.block) (map (λ (n : RuleNames). n.rule.now) l.rules)

@@ -1,0 +1,8 @@
+use Rattle.std.proofs.Common.{◌≡◌, drop}
+use Rattle.fcl_check.specs.Places.{first}
+use Rattle.fcl_check.specs.Sections.{falling_in}
+use Rattle.fcl_check.proofs.Falling.{falling_from}
+use Rattle.fcl_check.proofs.sections.falling_in.Given as goal
+
+abbrev pub invariant-loop-point : goal.invariant-loop-point
+invariant-loop-point l = first (falling_from l.before.0 (drop l.point-index l.term.more.items)) ≡ first (falling_in l.term)

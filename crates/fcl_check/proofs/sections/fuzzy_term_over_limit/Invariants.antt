@@ -1,9 +1,0 @@
-use Rattle.std.proofs.Common.{◌≡◌, drop}
-use Rattle.std.specs.Prelude.{option_map}
-use Rattle.std.specs.List.{filter_map, slice_get}
-use Rattle.fcl_syntax.specs.declared.tree.Term.{Term}
-use Rattle.fcl_check.specs.Names.{term_of, terms_of}
-use Rattle.fcl_check.proofs.sections.fuzzy_term_over_limit.Given as goal
-
-abbrev pub invariant-loop-line : goal.invariant-loop-line
-invariant-loop-line l = option_map (λ (t : Term). t.name.at) (slice_get (filter_map term_of (drop l.line-index l.section.lines.items)) l.room) ≡ option_map (λ (t : Term). t.name.at) (slice_get (terms_of l.section) 15)

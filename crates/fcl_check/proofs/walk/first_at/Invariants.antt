@@ -1,0 +1,8 @@
+use Rattle.std.proofs.Common.{◌≡◌, ℕ, List, Option, drop}
+use Rattle.std.specs.Fn.{FnReturnsAt}
+use Rattle.std.specs.List.{flat_map}
+use Rattle.fcl_check.specs.Places.{first}
+use Rattle.fcl_check.proofs.walk.first_at.Given as goal
+
+abbrev pub invariant-loop-item : goal.invariant-loop-item
+invariant-loop-item g l = (places : g.row.T.Denot → List ℕ) → ((x : g.row.T.Denot) (at : Option ℕ) → FnReturnsAt g.F.Fn l.place x at → at ≡ first (places x)) → first (flat_map places (drop l.item-index l.items)) ≡ first (flat_map places l.items)

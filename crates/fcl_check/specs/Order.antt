@@ -1,0 +1,13 @@
+-- The order of the places of faults.
+use Rattle.std.specs.Prelude.{ℕ, List, All}
+use Rattle.std.specs.Str.{str_to_ascii_lowercase}
+use Rattle.std.specs.List.Sorted.{IsStrictlyIncreasing}
+use Rattle.fcl_syntax.specs.Text.{SpellsTree}
+use Rattle.fcl_syntax.specs.View.{view}
+use Rattle.fcl_syntax.specs.declared.tree.FunctionBlock.{FunctionBlock}
+use Rattle.fcl_check.specs.Faults.{kinds}
+use Rattle.fcl_check.specs.declared.fault.LoadFault.{LoadFault}
+
+-- In a tree that a text spells, the places of each kind ascend: the first is the least offset.
+abbrev pub PlacesAscend : Type 0
+PlacesAscend = (text : List ℕ) (b : FunctionBlock) → SpellsTree text (view b) → All (λ (k : (ℕ → LoadFault) × List ℕ). IsStrictlyIncreasing k.1) (kinds (str_to_ascii_lowercase text) b)

@@ -1,0 +1,31 @@
+-- What the rules of a tree without load faults name.
+use Rattle.std.specs.Prelude.{◌≡◌, ℕ, true, List, [], Some}
+use Rattle.std.specs.List.{AllByRecursion}
+use Rattle.fcl_syntax.specs.declared.tree.Conclusion.{Conclusion}
+use Rattle.fcl_syntax.specs.declared.tree.Direction.{Direction}
+use Rattle.fcl_syntax.specs.declared.tree.Direction.TheVariants.{Input, Output}
+use Rattle.fcl_syntax.specs.declared.tree.FunctionBlock.{FunctionBlock}
+use Rattle.fcl_syntax.specs.declared.tree.Name.{Name}
+use Rattle.fcl_syntax.specs.declared.tree.Rule.{Rule}
+use Rattle.fcl_check.specs.Faults.{Pair, conclusions_of, condition_pairs, is_declared_as, weight_outside}
+use Rattle.fcl_check.specs.Names.{letters, term_number}
+
+module _ (text : List ℕ) (b : FunctionBlock) where
+  -- a variable that is declared on this side, and a term of it
+  pub record IsKnown (side : Direction) (v t : Name) : Type 0 where
+    pub declared : is_declared_as text b side v ≡ true
+    pub number : ℕ
+    pub numbered : term_number text b side (letters text v) (letters text t) ≡ Some number
+
+  -- inputs, each with a term of it
+  abbrev pub AreKnown : List Pair → Type 0
+  AreKnown pairs = AllByRecursion (λ (p : Pair). IsKnown Input p.variable p.term) pairs
+
+  -- outputs, each with a term of it
+  abbrev pub AreConcluded : List Conclusion → Type 0
+  AreConcluded conclusions = AllByRecursion (λ (c : Conclusion). IsKnown Output c.variable c.term) conclusions
+
+  pub record IsSoundRule (r : Rule) : Type 0 where
+    pub condition : AreKnown (condition_pairs r)
+    pub conclusions : AreConcluded (conclusions_of r)
+    pub weight : weight_outside r ≡ []

@@ -1,0 +1,188 @@
+-- The offsets of a text's tokens ascend.
+use Rattle.std.proofs.Common.{◌≡◌, ℕ, zero, suc, ◌+◌, ◌-◌, ◌<◌, ◌≤◌, Bool, true, false, List, [], ◌∷◌, length, take, drop, Option, Some, None, Result, Ok, Err, refl, subst, arith, All, inl, inr, ◌⊎◌, ◌==◌, if◌then◌else◌}
+use Rattle.std.specs.List.Sorted.{IsStrictlyIncreasing}
+use native.Mathlib.Numerals.{add-one}
+use Rattle.std.specs.Prelude.{◌||◌, slice_index}
+use Rattle.std.specs.Char.{is_ascii_digit}
+use Rattle.std.specs.List.{filter_map}
+use Rattle.std.proofs.lemmas.List.{length-drop}
+use Rattle.std.proofs.lemmas.List.Elements.{All-nil, All-cons}
+use Rattle.std.proofs.lemmas.List.Sums.{take_while-cons}
+use Rattle.fz_num.specs.declared.dec.Dec.{Dec}
+use Rattle.fz_num.specs.declared.dec.DecFault.{DecFault}
+use Rattle.fz_num.specs.Decimals.{decimal}
+use Rattle.fcl_syntax.specs.Grammar.{TBlock, block_text}
+use Rattle.fcl_syntax.specs.Lexing.{Lexed, colon_piece, comment_end, comment_piece, decimal_piece, has_fraction, in_front, is_blank, is_name_byte, is_name_start, lexed, mark_piece, meaning_in, next_piece, number_len, number_piece, open_piece, piece_of, point_piece, run, slash_piece, starts_name, token_of, word_token}
+use Rattle.fcl_syntax.specs.Meanings.{meanings}
+use Rattle.fcl_syntax.specs.Offsets.{offset_of, offsets, OffsetsAscend}
+use Rattle.fcl_syntax.specs.Text.{SpellsTree}
+use Rattle.fcl_syntax.specs.declared.lexer.Piece.{Piece}
+use Rattle.fcl_syntax.specs.declared.lexer.Piece.TheVariants as piece
+use Rattle.fcl_syntax.specs.declared.token.Meaning.{Meaning}
+use Rattle.fcl_syntax.specs.declared.token.Meaning.TheVariants as meaning
+use Rattle.fcl_syntax.specs.declared.token.Token.{Token}
+
+-- ---- numbers that ascend from one bound to below another
+
+abbrev pub AscendWithin : ℕ → ℕ → List ℕ → Type 0
+AscendWithin low end [] = Unit {0}
+AscendWithin low end (n ∷ ns) = (low ≤ n) × ((n < end) × AscendWithin (suc n) end ns)
+
+pub AscendWithin-lower : (low from end : ℕ) (ns : List ℕ) → low ≤ from → AscendWithin from end ns → AscendWithin low end ns
+AscendWithin-lower low from end [] h up = tt
+AscendWithin-lower low from end (n ∷ ns) h up = (omega (arith, h, up.0), up.1)
+
+pub increasing_within : (low end : ℕ) (ns : List ℕ) → AscendWithin low end ns → IsStrictlyIncreasing ns
+increasing_within low end [] up = λ k h. absurd (omega (arith, h))
+increasing_within low end (n ∷ []) up = λ k h. absurd (omega (arith, h))
+increasing_within low end (n ∷ m ∷ ns) up = go (increasing_within (suc n) end (m ∷ ns) up.1.1)
+  where
+    go : IsStrictlyIncreasing (m ∷ ns) → IsStrictlyIncreasing (n ∷ m ∷ ns)
+    go rest zero h = up.1.1.0
+    go rest (suc k) h =
+        let next : slice_index (m ∷ ns) k < slice_index (m ∷ ns) (k + 1) = rest k (omega (arith, h)) in
+        rw (add-one (suc k)) (rw (add-one k) at next)
+
+pub below_end : (low end : ℕ) (ns : List ℕ) → AscendWithin low end ns → All (λ n. n < end) ns
+below_end low end [] up = All-nil (λ n. n < end)
+below_end low end (n ∷ ns) up = All-cons (λ n. n < end) n ns up.1.0 (below_end (suc n) end ns up.1.1)
+
+-- there are no more of them than lie between the bounds
+pub few_within : (low end : ℕ) (ns : List ℕ) → AscendWithin low end ns → length ns ≤ end - low
+few_within low end [] up = omega arith
+few_within low end (n ∷ ns) up = let rest = few_within (suc n) end ns up.1.1 in omega (arith, up.0, up.1.0, rest)
+
+-- ---- pieces
+
+-- a piece is not empty, and its token keeps this offset or none
+abbrev IsPieceAt : ℕ → Piece → Type 0
+IsPieceAt at (piece.Skip n) = 0 < n
+IsPieceAt at (piece.Token t n) = (0 < n) × ((offset_of t ≡ None) ⊎ (offset_of t ≡ Some at))
+IsPieceAt at (piece.Fault k) = Unit {0}
+
+either : (at : ℕ) (b : Bool) (p q : Piece) → (b ≡ true → IsPieceAt at p) → IsPieceAt at q → IsPieceAt at (if b then p else q)
+either at true p q h g = h refl
+either at false p q h g = g
+
+some_run : (p : ℕ → Bool) (b : ℕ) (bytes : List ℕ) → p b ≡ true → 0 < run p (b ∷ bytes)
+some_run p b bytes h = rw (take_while-cons p b bytes, h) (omega arith)
+
+or_left : (a b : Bool) → a ≡ true → (a || b) ≡ true
+or_left true b h = refl
+or_left false b h = absurd cc
+
+some_number : (b : ℕ) (bytes : List ℕ) → is_ascii_digit b ≡ true → 0 < number_len (b ∷ bytes)
+unfolding number_len
+some_number b bytes h = go (has_fraction (drop (run is_ascii_digit (b ∷ bytes)) (b ∷ bytes))) (run is_ascii_digit (b ∷ bytes)) _ (some_run is_ascii_digit b bytes h)
+  where
+    go : (c : Bool) (n m : ℕ) → 0 < n → 0 < (if c then n + 1 + m else n)
+    go true n m k = omega (arith, k)
+    go false n m k = k
+
+decimal_at : (at n : ℕ) (whole : Bool) (r : Result Dec DecFault) → 0 < n → IsPieceAt at (decimal_piece at n whole r)
+decimal_at at n whole (Ok d) h = (h, inr refl)
+decimal_at at n whole (Err e) h = tt
+
+number_at : (at b : ℕ) (bytes : List ℕ) → is_ascii_digit b ≡ true → IsPieceAt at (number_piece at (b ∷ bytes))
+unfolding number_piece
+number_at at b bytes h =
+    let n = number_len (b ∷ bytes) in
+    either at (starts_name (drop n (b ∷ bytes))) _ _ (λ k. tt) (decimal_at at n _ (decimal (take n (b ∷ bytes))) (some_number b bytes h))
+
+word_at : (at n : ℕ) (m : Meaning) → 0 < n → IsPieceAt at (piece.Token (token_of at m) n)
+word_at at n (meaning.Keyword k) h = (h, inr refl)
+word_at at n (meaning.Name w) h = (h, inr refl)
+
+comment_at : (at : ℕ) (n : Option ℕ) → IsPieceAt at (comment_piece n)
+comment_at at None = tt
+comment_at at (Some n) = omega arith
+
+one_byte : 0 < 1
+one_byte = omega arith
+
+two_bytes : 0 < 2
+two_bytes = omega arith
+
+open_at : (at : ℕ) (bytes : List ℕ) → IsPieceAt at (open_piece at bytes)
+unfolding open_piece
+open_at at [] = (one_byte, inr refl)
+open_at at (b ∷ bytes) = either at (b == 42) _ _ (λ k. comment_at at (comment_end bytes)) (one_byte, inr refl)
+
+slash_at : (at : ℕ) (bytes : List ℕ) → IsPieceAt at (slash_piece bytes)
+unfolding slash_piece
+slash_at at [] = tt
+slash_at at (b ∷ bytes) = either at (b == 47) _ _ (λ k. omega arith) tt
+
+point_at : (at : ℕ) (bytes : List ℕ) → IsPieceAt at (point_piece bytes)
+unfolding point_piece
+point_at at [] = tt
+point_at at (b ∷ bytes) = either at (b == 46) _ _ (λ k. (two_bytes, inl refl)) tt
+
+colon_at : (at : ℕ) (bytes : List ℕ) → IsPieceAt at (colon_piece bytes)
+unfolding colon_piece
+colon_at at [] = (one_byte, inl refl)
+colon_at at (b ∷ bytes) = either at (b == 61) _ _ (λ k. (two_bytes, inl refl)) (one_byte, inl refl)
+
+mark_at : (at b : ℕ) (bytes : List ℕ) → IsPieceAt at (mark_piece at b bytes)
+unfolding mark_piece
+mark_at at b bytes =
+    either at (b == 40) _ _ (λ k. open_at at bytes)
+    (either at (b == 47) _ _ (λ k. slash_at at bytes)
+    (either at (b == 46) _ _ (λ k. point_at at bytes)
+    (either at (b == 58) _ _ (λ k. colon_at at bytes)
+    (either at (b == 59) _ _ (λ k. (one_byte, inl refl))
+    (either at (b == 44) _ _ (λ k. (one_byte, inl refl))
+    (either at (b == 41) _ _ (λ k. (one_byte, inl refl))
+    (either at (b == 43) _ _ (λ k. (one_byte, inl refl))
+    (either at (b == 45) _ _ (λ k. (one_byte, inl refl)) tt))))))))
+
+piece_at : (at b : ℕ) (bytes : List ℕ) → IsPieceAt at (piece_of at (b ∷ bytes))
+unfolding word_token
+piece_at at b bytes =
+    let n = run is_name_byte (b ∷ bytes) in
+    either at (is_blank b) _ _ (λ k. one_byte)
+    (either at (is_name_start b) _ _ (λ k. word_at at n (meaning_in meanings (take n (b ∷ bytes))) (some_run is_name_byte b bytes (or_left (is_name_start b) (is_ascii_digit b) k)))
+    (either at (is_ascii_digit b) _ _ (number_at at b bytes)
+    (mark_at at b bytes)))
+
+-- ---- the cut
+
+abbrev LexedWithin : ℕ → ℕ → Lexed → Type 0
+LexedWithin low end (Ok l) = AscendWithin low end (filter_map offset_of l.0)
+LexedWithin low end (Err e) = Unit {0}
+
+LexedWithin-lower : (low from end : ℕ) (l : Lexed) → low ≤ from → LexedWithin from end l → LexedWithin low end l
+LexedWithin-lower low from end (Ok l) h up = AscendWithin-lower low from end (filter_map offset_of l.0) h up
+LexedWithin-lower low from end (Err e) h up = tt
+
+fronted_within : (t : Token) (at end : ℕ) (l : Lexed) → at < end → (offset_of t ≡ None) ⊎ (offset_of t ≡ Some at) → LexedWithin (suc at) end l → LexedWithin at end (in_front t at l)
+fronted_within t at end (Ok l) h (inl none) up = rw none (AscendWithin-lower at (suc at) end (filter_map offset_of l.0) (omega arith) up)
+fronted_within t at end (Ok l) h (inr some) up = rw some (omega arith, (h, up))
+fronted_within t at end (Err e) h o up = tt
+
+next_within : (at end : ℕ) (p : Piece) (go : ℕ → Lexed) → at < end → IsPieceAt at p → ((n : ℕ) → LexedWithin (at + n) end (go n)) → LexedWithin at end (next_piece at p go)
+next_within at end (piece.Skip n) go h is up = LexedWithin-lower at (at + n) end (go n) (omega arith) (up n)
+next_within at end (piece.Token t n) go h is up = fronted_within t at end (go n) h is.1 (LexedWithin-lower (suc at) (at + n) end (go n) (omega (arith, is.0)) (up n))
+next_within at end (piece.Fault k) go h is up = tt
+
+lexed_within : (fuel at end : ℕ) (bytes : List ℕ) → length bytes ≤ end - at → LexedWithin at end (lexed fuel at bytes)
+unfolding lexed
+lexed_within zero at end bytes h = tt
+lexed_within (suc fuel) at end [] h = tt
+lexed_within (suc fuel) at end (b ∷ bytes) h =
+    next_within at end (piece_of at (b ∷ bytes)) (λ n. lexed fuel (at + n) (drop n (b ∷ bytes))) (omega (arith, h)) (piece_at at b bytes)
+    (λ n. lexed_within fuel (at + n) end (drop n (b ∷ bytes)) (omega (arith, h, length-drop n (b ∷ bytes))))
+
+-- the offsets in a tree that a text spells
+pub offsets_within : (text : List ℕ) (t : TBlock) → SpellsTree text t → AscendWithin 0 (length text) (offsets (block_text t))
+offsets_within text t s =
+    let cut : LexedWithin 0 (length text) (Ok (s.tokens, s.places)) = subst (LexedWithin 0 (length text)) s.cut (lexed_within (length text) 0 (length text) text (omega arith)) in
+    subst (λ (ts : List Token). AscendWithin 0 (length text) (filter_map offset_of ts)) s.spells.parts cut
+
+pub offsets_ascend_lem : OffsetsAscend
+offsets_ascend_lem text t s =
+    let up = offsets_within text t s in
+    record {
+      ascend = increasing_within 0 (length text) (offsets (block_text t)) up;
+      within = below_end 0 (length text) (offsets (block_text t)) up;
+    }

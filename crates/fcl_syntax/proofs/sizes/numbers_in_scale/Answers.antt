@@ -1,5 +1,0 @@
-use Rattle.fcl_syntax.proofs.Scale.{numbers_in_scale_lem}
-use Rattle.fcl_syntax.proofs.sizes.numbers_in_scale.Goals as goal
-
-pub returns : goal.returns
-returns c = numbers_in_scale_lem

@@ -1,0 +1,30 @@
+-- The offsets of a text's tokens.
+use Rattle.std.specs.Prelude.{ℕ, ◌<◌, List, length, All, Option, Some, None}
+use Rattle.std.specs.List.Sorted.{IsStrictlyIncreasing}
+use Rattle.std.specs.List.{filter_map}
+use Rattle.fcl_syntax.specs.Grammar.{TBlock, block_text}
+use Rattle.fcl_syntax.specs.Marks.{Sym, tokens_of}
+use Rattle.fcl_syntax.specs.Text.{SpellsTree}
+use Rattle.fcl_syntax.specs.declared.token.Token.{Token}
+use Rattle.fcl_syntax.specs.declared.token.Token.TheVariants as tok
+
+-- where a token stands in the text, where it keeps that
+abbrev pub offset_of : Token → Option ℕ
+offset_of (tok.Word at k) = Some at
+offset_of (tok.Name at w) = Some at
+offset_of (tok.Number at n whole) = Some at
+offset_of (tok.Open at) = Some at
+offset_of _ = None
+
+-- in the order of the tokens
+abbrev pub offsets : List Sym → List ℕ
+offsets symbols = filter_map offset_of (tokens_of symbols)
+
+-- the offsets of a text of this length
+pub record AreOffsetsIn (len : ℕ) (ats : List ℕ) : Type 0 where
+  pub ascend : IsStrictlyIncreasing ats
+  pub within : All (λ at. at < len) ats
+
+-- The offsets in a tree that a text spells ascend within the text.
+abbrev pub OffsetsAscend : Type 0
+OffsetsAscend = (text : List ℕ) (t : TBlock) → SpellsTree text t → AreOffsetsIn (length text) (offsets (block_text t))

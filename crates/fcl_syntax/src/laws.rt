@@ -1,0 +1,14 @@
+//! Laws of the trees that texts spell, each the contract of a function that does nothing.
+ghost use Rattle.fcl_syntax.specs.Offsets.{OffsetsAscend};
+ghost use Rattle.fcl_syntax.specs.Scale.{NumbersInScale};
+
+/// No number in the tree of a text is beyond 100000, since a number token that is has a fault.
+pub fn numbers_in_scale()
+    ensures { NumbersInScale }
+{}
+
+/// The offsets in the tree of a text ascend in the order in which the grammar spells its parts, and
+/// they lie within the text.
+pub fn offsets_ascend()
+    ensures { OffsetsAscend }
+{}
