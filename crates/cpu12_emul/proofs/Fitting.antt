@@ -1,10 +1,10 @@
 -- A step leaves what fits.
-use Rattle.std.proofs.Common.{◌≡◌, ℕ, ◌+◌, ◌*◌, ◌%◌, ◌^◌, ◌<◌, Result, Ok, Err, List, [], ◌∷◌, get_or, refl, ap, sym, ◌∙◌, subst, arith, inl, inr, ◌⊎◌}
+use Rattle.std.proofs.Common.{◌≡◌, ℕ, ◌^◌, ◌<◌, Result, Ok, Err, List, get_or, refl, sym, subst, arith, inl, inr}
 use Rattle.cpu12_isa.specs.declared.instr.Regs.{Regs}
 use Rattle.cpu12_isa.specs.declared.instr.Instr.{Instr}
 use Rattle.cpu12_isa.specs.declared.instr.Instr.TheVariants.{Rev, Revw, Wav, Wavr}
 use Rattle.cpu12_isa.specs.Act.{Act, outcome, bind, write_all}
-use Rattle.cpu12_isa.specs.Memory.{plus, from, bytes_at}
+use Rattle.cpu12_isa.specs.Memory.{from, bytes_at}
 use Rattle.cpu12_isa.specs.Code.{FitsOperands, decode_at}
 use Rattle.cpu12_isa.specs.Meaning.{act_of}
 use Rattle.cpu12_isa.specs.Fits.{FitsRegs, FitsWrites, AreBytes}
@@ -15,11 +15,10 @@ use Rattle.cpu12_parts.specs.declared.temps.Temps.TheVariants.{Free, Running, On
 use Rattle.cpu12_parts.specs.State.{State, Outcome}
 use Rattle.cpu12_parts.specs.Parts.{rev_act, revw_act, wav_act}
 use Rattle.cpu12_parts.specs.Sums.{sums_of, wav_pull}
-use Rattle.cpu12_parts.specs.Cuts.{rev, revw, wav, part_of}
 use Rattle.cpu12_parts.specs.Laws.{IsOff, state_of}
 use Rattle.cpu12_parts.specs.Fits.{FitsTemps, FitsState, FitsOutcome}
 use Rattle.cpu12_parts.proofs.PartFits.{rev_fits, revw_fits, wav_fits}
-use Rattle.cpu12_emul.specs.Step.{Left, Next, left_by_part, left_by_plain, instruction_act, step_act, applied, next_of}
+use Rattle.cpu12_emul.specs.Step.{Left, Next, left_by_part, left_by_plain, instruction_act, step_act, applied}
 use Rattle.cpu12_emul.specs.Fits.{StepFits}
 use Rattle.cpu12_emul.proofs.Stepping.{step_by_bytes}
 

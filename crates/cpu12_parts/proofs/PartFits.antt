@@ -1,23 +1,21 @@
 -- Parts leave what fits.
-use Rattle.std.proofs.Common.{◌≡◌, ℕ, ◌+◌, ◌-◌, ◌*◌, ◌/◌, ◌%◌, ◌^◌, ◌<◌, ◌≤◌, ◌==◌, ◌⊎◌, min, max, nat_lt, Bool, true, false, if◌then◌else◌, List, [], ◌∷◌, get_or, refl, ap, sym, ◌∙◌, subst, arith, inl, inr}
+use Rattle.std.proofs.Common.{ℕ, ◌+◌, ◌-◌, ◌*◌, ◌%◌, ◌^◌, ◌<◌, ◌≤◌, ◌==◌, min, max, Bool, true, false, if◌then◌else◌, [], ◌∷◌, arith}
 use Rattle.std.proofs.Math.Nat.{div-lt_iff_lt-mul, mul-le-mul_left}
-use Rattle.std.proofs.lemmas.Bool.{cases_lt}
 use Rattle.cpu12_isa.specs.declared.instr.Regs.{Regs}
 use Rattle.cpu12_isa.specs.declared.instr.Ccr.{Ccr}
-use Rattle.cpu12_isa.specs.Act.{Act, Give, Get, outcome}
+use Rattle.cpu12_isa.specs.Act.{Act, Give, Get}
 use Rattle.cpu12_isa.specs.Memory.{plus, word_of}
 use Rattle.cpu12_isa.specs.Flags.{has, put, opened, carry, overflow, zero_result, hnzc, hnz, hnvc, hnzvc}
-use Rattle.cpu12_isa.specs.Registers.{passed}
-use Rattle.cpu12_isa.specs.Fits.{FitsRegs, FitsWrites, AreBytes, Leaves}
+use Rattle.cpu12_isa.specs.Fits.{FitsRegs, Leaves}
 use Rattle.cpu12_isa.proofs.Bits.{fits_put, fits_opened}
 use Rattle.cpu12_isa.proofs.Fitting.{leaves_outcome}
 use Rattle.cpu12_parts.specs.declared.temps.Temps.{Temps}
 use Rattle.cpu12_parts.specs.declared.temps.Temps.TheVariants.{Free, Running, OnStack}
 use Rattle.cpu12_parts.specs.declared.temps.PartEnd.TheVariants.{More, Done}
-use Rattle.cpu12_parts.specs.State.{State, Outcome}
+use Rattle.cpu12_parts.specs.State.{Outcome}
 use Rattle.cpu12_parts.specs.Parts.{leaving, weighted, met, rev_element, rev_act, revw_element, revw_act, wav_end, wav_from, wav_act}
-use Rattle.cpu12_parts.specs.Cuts.{rev, revw, wav, part_of}
-use Rattle.cpu12_parts.specs.Fits.{FitsTemps, FitsState, FitsOutcome, PartFits}
+use Rattle.cpu12_parts.specs.Cuts.{rev, revw, wav}
+use Rattle.cpu12_parts.specs.Fits.{FitsTemps, FitsOutcome, PartFits}
 
 leaves_if : (b : Bool) (p q : Act Outcome) → Leaves FitsOutcome p → Leaves FitsOutcome q → Leaves FitsOutcome (if b then p else q)
 leaves_if true p q f g = f

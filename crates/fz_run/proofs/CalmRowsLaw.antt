@@ -1,5 +1,5 @@
 -- The rows of all samples go along with the runs without interrupts.
-use Rattle.std.proofs.Common.{◌≡◌, ℕ, zero, suc, ◌+◌, ◌<◌, ◌≤◌, Bool, true, false, ◌&&◌, List, [], ◌∷◌, ◌++◌, refl, ap, ap₂, sym, ◌∙◌, subst, arith, inl, inr, ◌⊎◌}
+use Rattle.std.proofs.Common.{◌≡◌, ℕ, suc, ◌<◌, ◌≤◌, Bool, true, false, ◌&&◌, List, [], ◌∷◌, ◌++◌, refl, ap₂, sym, ◌∙◌, subst, arith, inl, inr, ◌⊎◌}
 use Rattle.std.specs.Prelude.{All}
 use Rattle.cpu12_isa.specs.Memory.{placed, from}
 use Rattle.cpu12_isa.specs.Agreement.{AllShown}
@@ -9,7 +9,7 @@ use Rattle.cpu12_parts.specs.State.{State}
 use Rattle.interrupt_plan.specs.declared.Request.{Request}
 use Rattle.interrupt_plan.specs.Plans.{NotAfter, Ascends, IsGoodRequest, IsGood}
 use Rattle.fz_run.specs.declared.board.Board.{Board}
-use Rattle.fz_run.specs.Runs.{Setting, Ran, run_from}
+use Rattle.fz_run.specs.Runs.{Setting, Ran}
 use Rattle.fz_run.specs.Rows.{given, answers_in, setting_of, is_of, requests_of, RowSeen, row_of, Rows, put_row, rows_from}
 use Rattle.fz_run.specs.Calm.{calm}
 use Rattle.fz_run.specs.Undisturbed.{is_hidden, Before, Same, Sound, AllGood, Ascend}

@@ -1,9 +1,8 @@
 -- A step in a state that stands for one of the run without interrupts.
 use Rattle.std.proofs.Common.{◌≡◌, ℕ, ◌+◌, ◌*◌, ◌/◌, ◌%◌, ◌^◌, ◌<◌, Bool, Result, Ok, List, [], ◌∷◌, get_or, refl, ap, sym, ◌∙◌, subst, arith, inl, inr}
 use Rattle.cpu12_isa.specs.declared.instr.Regs.{Regs}
-use Rattle.cpu12_isa.specs.declared.instr.Instr.{Instr}
 use Rattle.cpu12_isa.specs.Memory.{plus, from, bytes_at}
-use Rattle.cpu12_isa.specs.Act.{Act, outcome, bind, write_all}
+use Rattle.cpu12_isa.specs.Act.{outcome, bind, write_all}
 use Rattle.cpu12_isa.specs.Agreement.{Agree}
 use Rattle.cpu12_isa.specs.Code.{decode_of}
 use Rattle.cpu12_isa.proofs.Acts.{outcome_bind}

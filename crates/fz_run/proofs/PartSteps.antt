@@ -1,5 +1,5 @@
 -- The parts of REV and REVW are steps, before each of which the state keeps the facts.
-use Rattle.std.proofs.Common.{◌≡◌, ◌==◌, ◌||◌, ◌&&◌, ℕ, zero, suc, ◌+◌, ◌%◌, ◌^◌, ◌<◌, ◌≤◌, min, max, ◌*◌, ◌/◌, Bool, true, false, Result, Ok, List, [], ◌∷◌, length, get_or, refl, ap, ap₂, sym, ◌∙◌, subst, arith, inl, inr, ◌⊎◌}
+use Rattle.std.proofs.Common.{◌≡◌, ◌==◌, ◌||◌, ℕ, zero, suc, ◌+◌, ◌^◌, ◌<◌, ◌≤◌, min, max, ◌*◌, Bool, true, false, Result, Ok, List, [], ◌∷◌, get_or, refl, ap, sym, ◌∙◌, subst, arith, inl, inr}
 use Rattle.std.specs.Prelude.{if◌then◌else◌}
 use Rattle.std.proofs.Math.ListN.{set}
 use Rattle.std.proofs.Math.Nat.{div-lt_iff_lt-mul, mul-le-mul_left}
@@ -22,10 +22,10 @@ use Rattle.cpu12_parts.specs.declared.temps.Temps.{Temps}
 use Rattle.cpu12_parts.specs.declared.temps.Temps.TheVariants.{Free}
 use Rattle.cpu12_parts.specs.declared.temps.PartEnd.{PartEnd}
 use Rattle.cpu12_parts.specs.declared.temps.PartEnd.TheVariants.{More, Done}
-use Rattle.cpu12_parts.specs.State.{State, Outcome, state_after}
+use Rattle.cpu12_parts.specs.State.{State, Outcome}
 use Rattle.cpu12_parts.specs.Cuts.{Kind, part_of, after_part}
-use Rattle.cpu12_parts.specs.Laws.{addresses, Touches, PartsTo}
-use Rattle.cpu12_parts.specs.Parts.{leaving, met, rev_element, rev_act, revw_element, revw_act, weighted}
+use Rattle.cpu12_parts.specs.Laws.{addresses, PartsTo}
+use Rattle.cpu12_parts.specs.Parts.{leaving, met, rev_act, revw_act, weighted}
 use Rattle.cpu12_emul.specs.Step.{Left, kind_of, left_by_part, instruction_act, step_act, applied, Next, next_of}
 use Rattle.fz_run.specs.Undisturbed.{is_hidden, Calmed}
 use Rattle.fz_run.specs.Stretches.{Stretch, Kept, Calmly}

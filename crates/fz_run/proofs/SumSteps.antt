@@ -1,9 +1,9 @@
 -- The parts of WAV are steps, before each of which the state keeps the facts.
-use Rattle.std.proofs.Common.{◌≡◌, ◌==◌, ℕ, zero, suc, ◌+◌, ◌-◌, ◌*◌, ◌%◌, ◌^◌, ◌<◌, ◌≤◌, Bool, true, false, Result, Ok, List, [], ◌∷◌, length, get_or, refl, ap, ap₂, sym, ◌∙◌, subst, arith, inl, inr}
+use Rattle.std.proofs.Common.{◌≡◌, ◌==◌, ℕ, zero, suc, ◌+◌, ◌-◌, ◌*◌, ◌%◌, ◌^◌, ◌<◌, ◌≤◌, Bool, false, Result, Ok, List, [], length, get_or, refl, ap, ap₂, sym, ◌∙◌, subst, arith, inl}
 use Rattle.cpu12_isa.specs.declared.instr.Regs.{Regs}
 use Rattle.cpu12_isa.specs.declared.instr.Ccr.{Ccr}
 use Rattle.cpu12_isa.specs.declared.instr.Instr.TheVariants.{Wav}
-use Rattle.cpu12_isa.specs.Act.{Act, Give, Get, outcome, read_by, bind, write_all}
+use Rattle.cpu12_isa.specs.Act.{Act, outcome, read_by, bind, write_all}
 use Rattle.cpu12_isa.specs.Agreement.{AllShown}
 use Rattle.cpu12_isa.specs.Code.{decode_of, decode_at, six_from}
 use Rattle.cpu12_isa.specs.Fits.{FitsRegs, AreBytes, Leaves}

@@ -1,5 +1,5 @@
 -- Interrupts whose handler does listed writes leave the run undisturbed.
-use Rattle.std.proofs.Common.{◌≡◌, ℕ, zero, suc, ◌+◌, ◌-◌, ◌*◌, ◌/◌, ◌%◌, ◌^◌, ◌<◌, ◌≤◌, Bool, true, false, ◌&&◌, nat_lt, nat_le, List, [], ◌∷◌, length, refl, ap, ap₂, sym, ◌∙◌, subst, arith, inl, inr, lit≤}
+use Rattle.std.proofs.Common.{◌≡◌, ℕ, zero, suc, ◌+◌, ◌*◌, ◌/◌, ◌%◌, ◌^◌, ◌<◌, ◌≤◌, true, false, ◌&&◌, nat_lt, nat_le, List, [], ◌∷◌, length, refl, ap, ap₂, sym, ◌∙◌, subst, arith, inl, inr, lit≤}
 use Rattle.std.specs.Prelude.{◌==◌, All}
 use Rattle.std.proofs.lemmas.Bool.{and_parts, or_parts, false≢true, ltb-true}
 use Rattle.std.proofs.lemmas.Bool.Decides.{nat_tests}
@@ -11,19 +11,18 @@ use Rattle.cpu12_isa.specs.Memory.{plus, placed, from, bytes_at}
 use Rattle.cpu12_isa.specs.Flags.{interrupts_masked, put, pulled_flags}
 use Rattle.cpu12_isa.specs.Registers.{frame_bytes, pulled}
 use Rattle.cpu12_isa.specs.Fits.{FitsRegs}
-use Rattle.cpu12_isa.specs.Agreement.{Agree, AllShown, IsWritten}
+use Rattle.cpu12_isa.specs.Agreement.{AllShown, IsWritten}
 use Rattle.cpu12_isa.proofs.Bits.{pulled_again}
 use Rattle.cpu12_isa.proofs.Agreements.{unwritten, length_writes, agree_self}
 use Rattle.cpu12_isa.proofs.Placing.{place_of, read_placed, bytes_unwritten}
 use Rattle.cpu12_parts.specs.State.{State}
-use Rattle.cpu12_emul.specs.Take.{pairs_of, pushed, written, returned, framed, taken}
-use Rattle.interrupt_plan.specs.declared.Request.{Request}
+use Rattle.cpu12_emul.specs.Take.{pairs_of, framed, taken}
 use Rattle.interrupt_plan.specs.Plans.{IsFree, IsGoodRequest}
 use Rattle.fz_run.specs.declared.board.Board.{Board}
-use Rattle.fz_run.specs.Rows.{is_idle, with_writes, rows_from}
+use Rattle.fz_run.specs.Rows.{is_idle}
 use Rattle.fz_run.specs.Undisturbed.{is_hidden, Same, Quiet, LeavesStack, Sound, Calmed}
 use Rattle.fz_run.specs.CalmRows.{is_free, IsLow, RunsCalmly}
-use Rattle.fz_run.proofs.Expected.{Open, open_by}
+use Rattle.fz_run.proofs.Expected.{open_by}
 use Rattle.fz_run.proofs.CalmRowsLaw.{setting, goes_good, all_rows}
 
 leaves_stack : LeavesStack is_free

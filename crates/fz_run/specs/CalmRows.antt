@@ -5,7 +5,7 @@ use Rattle.interrupt_plan.specs.declared.Request.{Request}
 use Rattle.interrupt_plan.specs.Plans.{IsGood}
 use Rattle.codegen.specs.declared.firmware.Firmware.{Firmware}
 use Rattle.fz_run.specs.declared.board.Board.{Board}
-use Rattle.fz_run.specs.Runs.{Setting, run_from}
+use Rattle.fz_run.specs.Runs.{Setting}
 use Rattle.fz_run.specs.Rows.{board_of, given, answers_in, requests_of, with_writes, RowSeen, rows_from, first_state}
 use Rattle.fz_run.specs.Calm.{calm, counted, resumed_of, frames_of}
 use Rattle.fz_run.specs.Undisturbed.{Same, Calmed, Before, AllUndisturbed}

@@ -1,4 +1,4 @@
-use Rattle.std.proofs.Common.{◌≡◌, ◌∙◌, ◌-◌, ℕ, ap, sym, arith}
+use Rattle.std.proofs.Common.{◌∙◌, ◌-◌, ℕ, ap, sym, arith}
 use Rattle.cpu12_emul.specs.Step.{Next}
 use Rattle.fz_run.specs.Rows.{arrival}
 use Rattle.fz_run.proofs.Arrivals.{arrives, arrives_later, arrives_never, arrives_spent}

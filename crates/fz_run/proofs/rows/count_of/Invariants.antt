@@ -1,4 +1,4 @@
-use Rattle.std.proofs.Common.{◌≡◌, ◌≤◌, ◌+◌, length, drop}
+use Rattle.std.proofs.Common.{◌≡◌, ◌+◌, length, drop}
 use Rattle.fz_run.specs.Slices.{requests_first}
 use Rattle.fz_run.proofs.rows.count_of.Given as goal
 

@@ -1,4 +1,4 @@
-use Rattle.std.proofs.Common.{◌≡◌, ◌≤◌, ◌∙◌, ◌+◌, ◌++◌, ◌∷◌, [], ℕ, List, length, length-drop, drop, ap, sym, subst, arith}
+use Rattle.std.proofs.Common.{◌≡◌, ◌∙◌, ◌+◌, ◌++◌, ◌∷◌, [], ℕ, List, length, length-drop, drop, ap, sym, subst, arith}
 use Rattle.std.specs.Prelude.{if◌then◌else◌, is_ok, Vec}
 use Rattle.std.specs.Global.{Global}
 use Rattle.cpu12_emul.specs.declared.ends.Frame.{Frame}

@@ -1,11 +1,11 @@
-use Rattle.std.proofs.Common.{◌≡◌, ◌≤◌, ◌∙◌, ◌+◌, ◌-◌, ◌++◌, ◌∷◌, [], false, ℕ, List, map, length, length-drop, drop, take, drop-cons, get_or, vec_len, suc, refl, ap, sym, subst, arith}
+use Rattle.std.proofs.Common.{◌≡◌, ◌∙◌, ◌+◌, ◌-◌, ◌++◌, ◌∷◌, [], false, ℕ, List, map, length, length-drop, drop, take, vec_len, refl, ap, sym, subst, arith}
 use Rattle.std.specs.Prelude.{if◌then◌else◌, is_ok, Vec}
 use Rattle.std.specs.Global.{Global}
 use Rattle.std.proofs.lemmas.List.{drop_all, map-append}
 use Rattle.cpu12_emul.specs.declared.ends.Frame.{Frame}
 use Rattle.interrupt_plan.specs.declared.Request.{Request}
 use Rattle.fz_run.specs.Runs.{Ran, run_from}
-use Rattle.fz_run.specs.Rows.{given, setting_of, row_seen, row_of, rows_from, input_bytes, Rows}
+use Rattle.fz_run.specs.Rows.{given, setting_of, row_seen, row_of, rows_from, input_bytes}
 use Rattle.fz_run.specs.Slices.{HasRoom, HaveRoom, requests_first}
 use Rattle.fz_run.proofs.PlanSlices.{Follow, follow_good, first_few, later_follow, room_first, slice_first, rest_further, count_there}
 use Rattle.fz_run.proofs.RowSteps.{samples_here, found_start, found_more, found_all}

@@ -1,4 +1,4 @@
-use Rattle.std.proofs.Common.{◌≡◌, ◌≤◌, ◌+◌, ◌-◌, false, length, vec_len, vec_capacity, []}
+use Rattle.std.proofs.Common.{◌≡◌, ◌≤◌, ◌+◌, ◌-◌, false, length, vec_len, vec_capacity}
 use Rattle.fz_run.specs.Runs.{run_from}
 use Rattle.fz_run.specs.Rows.{setting_of}
 use Rattle.fz_run.specs.Rest.{rest_at, brief}
