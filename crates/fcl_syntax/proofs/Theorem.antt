@@ -1,7 +1,8 @@
 -- The reader answers the tree that a text spells, or its first fault.
-use Rattle.std.proofs.Common.{◌≡◌, ℕ, zero, suc, ◌+◌, ◌-◌, List, [], ◌∷◌, ◌++◌, length, drop, Result, Ok, Err, refl, sym, ap, subst, ◌∙◌, arith}
+use Rattle.std.proofs.Common.{◌≡◌, ℕ, zero, suc, ◌+◌, ◌-◌, ◌≤◌, List, [], ◌∷◌, ◌++◌, length, drop, Result, Ok, Err, refl, sym, ap, subst, ◌∙◌, arith}
 use Rattle.std.proofs.lemmas.List.{length-append}
 use Rattle.std.specs.Prelude.{IfOk, IfErr}
+use Rattle.std.specs.Str.{str_to_ascii_lowercase}
 use Rattle.fcl_syntax.specs.declared.fault.Fault.{Fault}
 use Rattle.fcl_syntax.specs.declared.fault.Kind.{Kind}
 use Rattle.fcl_syntax.specs.declared.fault.Kind.TheVariants.{Expected, Deep, Unsupported}
@@ -12,12 +13,14 @@ use Rattle.fcl_syntax.specs.declared.lexer.Piece.TheVariants as piece
 use Rattle.fcl_syntax.specs.declared.text.SyntaxFault.{SyntaxFault}
 use Rattle.fcl_syntax.specs.declared.text.SyntaxFault.TheVariants as faults
 use Rattle.fcl_syntax.specs.declared.token.Token.{Token}
+use Rattle.fcl_syntax.specs.declared.tree.FunctionBlock.{FunctionBlock}
 use Rattle.fcl_syntax.specs.declared.tree.Tree.{Tree}
 use Rattle.fcl_syntax.specs.First.{Spells, FirstFault}
 use Rattle.fcl_syntax.specs.Grammar.{TBlock, block_text}
 use Rattle.fcl_syntax.specs.Lexing.{piece_of, Placed, Lexed, lexed, in_front, next_piece, tokenization}
 use Rattle.fcl_syntax.specs.Reading.{all_of}
-use Rattle.fcl_syntax.specs.Text.{SpellsTree, head_or, HasFault, HasTokenFault, IsFirstFault, OrMemory, GivesTree, GivesFault, of_kind, token_fault, grammar_fault, place_of, located, read_lexed, read_text, Reads}
+use Rattle.fcl_syntax.specs.Text.{IsSpelled, SpellsTree, head_or, HasFault, HasTokenFault, IsFirstFault, OrMemory, of_kind, token_fault, grammar_fault, place_of, located, read_lexed, read_text}
+use Rattle.fcl_syntax.specs.Parsed.{GivesTree, GivesFault, Reads}
 use Rattle.fcl_syntax.specs.View.{view}
 use Rattle.fcl_syntax.proofs.Exact.{whole, whole_spells, spells_whole, whole_faults, faults_whole}
 use Rattle.fcl_syntax.proofs.RuleForms.{block_form}
@@ -172,3 +175,13 @@ fault text (Err e) h = or_memory (λ e. read_text text ≡ Err e) (IsFirstFault 
 pub only_fault : (text : List ℕ) (r : Result Tree SyntaxFault) → Reads r (read_text text) → (e : SyntaxFault) → IsFirstFault text e → GivesFault r e
 only_fault text (Ok tree) h e f = not_both (read_text text) (view tree.block) e h (faults_read text e f)
 only_fault text (Err d) h e f = or_memory (λ d. read_text text ≡ Err d) (λ d. d ≡ e) d (λ c k. same_err (read_text text) c e k (faults_read text e f)) h
+
+-- ---- the tree that is kept
+
+pub kept_tree : (text letters : List ℕ) (tokens : List Token) (places : List ℕ) (b : FunctionBlock) → length text ≤ 1048576 → letters ≡ str_to_ascii_lowercase text → tokenization text ≡ Ok (tokens, places) → all_of tokens ≡ Ok (view b) → IsSpelled letters b
+kept_tree text letters tokens places b small is cut reads = record {
+  text = text;
+  small = small;
+  letters_are = is;
+  spelled = record { tokens = tokens; places = places; cut = cut; spells = all_spells tokens (view b) reads };
+}

@@ -7,5 +7,6 @@ pub mod Reading
 pub mod Meanings
 pub mod Lexing
 pub mod Text
+pub mod Parsed
 pub mod Scale
 pub mod Offsets

@@ -1,5 +1,6 @@
 -- The tree of a text, or its first fault, by the text's bytes.
-use Rattle.std.specs.Prelude.{◌≡◌, ℕ, ◌-◌, List, [], ◌∷◌, length, drop, Result, Ok, Err}
+use Rattle.std.specs.Prelude.{◌≡◌, ℕ, ◌-◌, ◌≤◌, List, [], ◌∷◌, length, drop, Result, Ok, Err}
+use Rattle.std.specs.Str.{str_to_ascii_lowercase}
 use Rattle.fcl_syntax.specs.declared.fault.Fault.{Fault}
 use Rattle.fcl_syntax.specs.declared.fault.Kind.{Kind}
 use Rattle.fcl_syntax.specs.declared.fault.Kind.TheVariants.{Expected, Deep, Unsupported}
@@ -9,7 +10,7 @@ use Rattle.fcl_syntax.specs.declared.lexer.LexKind.TheVariants as kinds
 use Rattle.fcl_syntax.specs.declared.text.SyntaxFault.{SyntaxFault}
 use Rattle.fcl_syntax.specs.declared.text.SyntaxFault.TheVariants as faults
 use Rattle.fcl_syntax.specs.declared.token.Token.{Token}
-use Rattle.fcl_syntax.specs.declared.tree.Tree.{Tree}
+use Rattle.fcl_syntax.specs.declared.tree.FunctionBlock.{FunctionBlock}
 use Rattle.fcl_syntax.specs.First.{Spells, FirstFault}
 use Rattle.fcl_syntax.specs.Grammar.{TBlock, block_text}
 use Rattle.fcl_syntax.specs.Lexing.{Lexed, tokenization}
@@ -22,6 +23,13 @@ pub record SpellsTree (text : List ℕ) (t : TBlock) : Type 0 where
   pub places : List ℕ
   pub cut : tokenization text ≡ Ok (tokens, places)
   pub spells : Spells block_text tokens t
+
+-- a text that can be read spells the block, and these are its bytes in small letters
+pub record IsSpelled (letters : List ℕ) (b : FunctionBlock) : Type 0 where
+  pub text : List ℕ
+  pub small : length text ≤ 1048576
+  pub letters_are : letters ≡ str_to_ascii_lowercase text
+  pub spelled : SpellsTree text (view b)
 
 abbrev pub head_or : List ℕ → ℕ → ℕ
 head_or [] end = end
@@ -60,16 +68,6 @@ OrMemory P (faults.Unsupported at code) = P (faults.Unsupported at code)
 OrMemory P (faults.Deep at) = P (faults.Deep at)
 OrMemory P faults.Memory = Unit {0}
 
--- what is answered is this tree, where memory was found
-abbrev pub GivesTree : Result Tree SyntaxFault → TBlock → Type 0
-GivesTree (Ok tree) t = view tree.block ≡ t
-GivesTree (Err e) t = OrMemory (λ _. ⊥) e
-
--- what is answered is this fault, where memory was found
-abbrev pub GivesFault : Result Tree SyntaxFault → SyntaxFault → Type 0
-GivesFault (Ok tree) e = ⊥
-GivesFault (Err d) e = OrMemory (λ d. d ≡ e) d
-
 -- ---- reading, function by function
 
 abbrev pub of_kind : LexKind → ℕ → SyntaxFault
@@ -99,7 +97,3 @@ read_lexed end (Err e) = Err (token_fault e)
 
 abbrev pub read_text : List ℕ → Result TBlock SyntaxFault
 read_text text = read_lexed (length text) (tokenization text)
-
-abbrev pub Reads : Result Tree SyntaxFault → Result TBlock SyntaxFault → Type 0
-Reads (Ok tree) r = r ≡ Ok (view tree.block)
-Reads (Err e) r = OrMemory (λ e. r ≡ Err e) e

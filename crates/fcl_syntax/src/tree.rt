@@ -6,15 +6,21 @@
 ghost use Rattle.std.specs.Prelude.{◌≡◌, drop};
 ghost use Rattle.std.specs.List.{take_while};
 ghost use Rattle.fcl_syntax.specs.Lexing.{is_name_byte};
+ghost use Rattle.fcl_syntax.specs.Text.{IsSpelled};
 
 use crate::lexer::name_len;
 use crate::token::{Amount, Word};
 
 /// The tree of a text, with a copy of the text in small letters.
+///
+/// There is none but of a text of at most 1048576 bytes that spells it: so no more than 64
+/// parentheses and NOT are open at once in a condition, and all conditions and conclusions are
+/// fewer than the text has bytes.
 #[derive(Drop)]
 pub struct Tree {
     pub text: Vec<u8>,
     pub block: FunctionBlock,
+    pub ghost spelled: { ∥ IsSpelled text.items block ∥₁ },
 }
 
 impl Tree {

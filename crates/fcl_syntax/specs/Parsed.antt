@@ -1,0 +1,22 @@
+-- What `parse` answers: the tree, or the fault.
+use Rattle.std.specs.Prelude.{◌≡◌, Result, Ok, Err}
+use Rattle.fcl_syntax.specs.declared.text.SyntaxFault.{SyntaxFault}
+use Rattle.fcl_syntax.specs.declared.tree.Tree.{Tree}
+use Rattle.fcl_syntax.specs.Grammar.{TBlock}
+use Rattle.fcl_syntax.specs.Text.{OrMemory}
+use Rattle.fcl_syntax.specs.View.{view}
+
+-- what is answered is this tree, where memory was found
+abbrev pub GivesTree : Result Tree SyntaxFault → TBlock → Type 0
+GivesTree (Ok tree) t = view tree.block ≡ t
+GivesTree (Err e) t = OrMemory (λ _. ⊥) e
+
+-- what is answered is this fault, where memory was found
+abbrev pub GivesFault : Result Tree SyntaxFault → SyntaxFault → Type 0
+GivesFault (Ok tree) e = ⊥
+GivesFault (Err d) e = OrMemory (λ d. d ≡ e) d
+
+-- what is answered is what reading gives, where memory was found
+abbrev pub Reads : Result Tree SyntaxFault → Result TBlock SyntaxFault → Type 0
+Reads (Ok tree) r = r ≡ Ok (view tree.block)
+Reads (Err e) r = OrMemory (λ e. r ≡ Err e) e
