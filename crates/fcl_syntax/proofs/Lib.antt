@@ -20,3 +20,7 @@ pub mod Theorem
 pub mod Cutting
 pub mod Scale
 pub mod Offsets
+pub mod KeptLists
+pub mod KeptConditions
+pub mod KeptTerms
+pub mod KeptBlocks

@@ -10,3 +10,4 @@ pub mod Text
 pub mod Parsed
 pub mod Scale
 pub mod Offsets
+pub mod Readings

@@ -1,0 +1,10 @@
+-- What a text is: it spells a tree, or it has a first fault.
+use Rattle.std.specs.Prelude.{ℕ, ◌≤◌, ◌⊎◌, List, length}
+use Rattle.fcl_syntax.specs.Text.{IsFirstFault, SpellsTree}
+use Rattle.fcl_syntax.specs.View.{view}
+use Rattle.fcl_syntax.specs.declared.text.SyntaxFault.{SyntaxFault}
+use Rattle.fcl_syntax.specs.declared.tree.FunctionBlock.{FunctionBlock}
+
+-- Each text of at most 1048576 bytes spells a tree of the program, or has a first fault.
+abbrev pub EachTextIsRead : Type 0
+EachTextIsRead = (text : List ℕ) → length text ≤ 1048576 → ((b : FunctionBlock) × SpellsTree text (view b)) ⊎ ((e : SyntaxFault) × IsFirstFault text e)
