@@ -12,14 +12,6 @@ use Rattle.fcl_check.specs.Loaded.{not_condition, nots_conditions, and_condition
 pub parts_more : {X : Type 0} (g : X → Condition) (first : Condition) (xs : List X) (x : X) (cs : List Cond) (c : Cond) → map condition_of cs ≡ first ∷ map g xs → condition_of c ≡ g x → map condition_of (cs ++ c ∷ []) ≡ first ∷ map g (xs ++ x ∷ [])
 parts_more g first xs x cs c so_far same = rw (map-append condition_of cs (c ∷ []), so_far, map-append g xs (x ∷ []), same) refl
 
-pub greatest_depth-push : (cs : List Cond) (c : Cond) (n : ℕ) → greatest_depth (conditions (map condition_of cs)) ≤ n → depth (condition_of c) ≤ n → greatest_depth (conditions (map condition_of (cs ++ c ∷ []))) ≤ n
-greatest_depth-push [] c n h d = omega arith
-greatest_depth-push (x ∷ cs) c n h d = omega (arith, greatest_depth-push cs c n (omega arith) d)
-
-pub total_nodes-push : (cs : List Cond) (c : Cond) → total_nodes (conditions (map condition_of (cs ++ c ∷ []))) ≡ total_nodes (conditions (map condition_of cs)) + nodes (condition_of c)
-total_nodes-push [] c = omega arith
-total_nodes-push (x ∷ cs) c = omega (arith, total_nodes-push cs c)
-
 module _ (f : Name → Name → Condition) where
   all_parts : {X : Type 0} (view : X → ℕ × TNot) (xs : List X) → nots_conditions f (nots_of (map view xs)) ≡ conditions (map (λ x. not_condition f (view x).1) xs)
   all_parts view [] = refl

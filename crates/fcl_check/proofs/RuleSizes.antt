@@ -16,7 +16,6 @@ use Rattle.fcl_syntax.specs.declared.tree.Rule.{Rule as RuleNode}
 use Rattle.fcl_syntax.specs.Grammar.{behind, block_text, conclusion_text, conclusions_text, each, end_text, key_text, or_text, part_text, rule_item_text, rule_line_text, rulebase_text, section_text, semicolon_text, weight_text}
 use Rattle.fcl_syntax.specs.Marks.{IsClean, Sym, either_text, plain}
 use Rattle.fcl_syntax.specs.View.{view, view_or, view_part, view_rule_item, view_rule_line, view_section, view_weight}
-use Rattle.fcl_check.specs.Building.{IsShallow}
 use Rattle.fcl_check.specs.Faults.{conclusions_of}
 use Rattle.fcl_check.specs.Loaded.{IsRuleOf, conclusion_of, literal_of, or_condition}
 use Rattle.fcl_check.proofs.ConditionSizes.{clean_parts, count, count-append, depth_or, nodes_or}
@@ -97,6 +96,10 @@ module _ (b : FunctionBlock) where
       (clean_parts (rules_text b) (key_text key.EndRuleblock b.rules.end) behind_lines.1).0
 
 -- ---- depths
+
+-- at most 256 conditions lie one in another
+abbrev pub IsShallow : Rule → Type 0
+IsShallow q = depth (condition_of q.cond) ≤ 256
 
 -- the text of each condition is clean
 abbrev HasCleanCondition : RuleNode → Type 0

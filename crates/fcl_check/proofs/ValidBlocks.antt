@@ -1,6 +1,8 @@
 -- The block of a tree without load faults is valid, where it is not too deep and not too large: as it is
 -- where a text spells the tree.
-use Rattle.std.proofs.Common.{◌≡◌, ℕ, ◌≤◌, Bool, true, false, not, ◌&&◌, List, [], length, None, refl, arith}
+use Rattle.std.proofs.Common.{◌≡◌, ℕ, ◌≤◌, Bool, true, false, not, ◌&&◌, List, [], length, None, refl, subst, arith}
+use Rattle.std.proofs.Math.Logic.{∥∥₁_elim}
+use Rattle.std.proofs.Props.{props}
 use Rattle.std.specs.Prelude.{All, is_none, sum_by}
 use Rattle.std.specs.List.{flat_map, slice_get}
 use Rattle.std.specs.Str.{str_to_ascii_lowercase}
@@ -12,6 +14,7 @@ use Rattle.fuzzy_meaning.specs.declared.block.Output.{Output}
 use Rattle.fuzzy_meaning.specs.Blocks.{IsValid, IsValidInput, IsValidOutput, IsValidRule, rule_size}
 use Rattle.fcl_syntax.specs.Grammar.{block_text}
 use Rattle.fcl_syntax.specs.Offsets.{OffsetsAscend, offsets}
+use Rattle.fcl_syntax.specs.Text.{IsSpelled}
 use Rattle.fcl_syntax.specs.View.{view}
 use Rattle.fcl_syntax.specs.declared.tree.Defuzzify.{Defuzzify}
 use Rattle.fcl_syntax.specs.declared.tree.Direction.TheVariants as side
@@ -19,7 +22,6 @@ use Rattle.fcl_syntax.specs.declared.tree.FunctionBlock.{FunctionBlock}
 use Rattle.fcl_syntax.specs.declared.tree.Fuzzify.{Fuzzify}
 use Rattle.fcl_syntax.specs.declared.tree.Name.{Name}
 use Rattle.fcl_syntax.specs.declared.tree.Rule.{Rule as RuleNode}
-use Rattle.fcl_check.specs.Building.{IsShallow}
 use Rattle.fcl_check.specs.Faults.{first_fault, has_direction, is_whole, without_section}
 use Rattle.fcl_check.specs.Loaded.{IsBlockOf, IsInputNamed, IsOutputNamed, IsRuleOf}
 use Rattle.fcl_check.specs.Names.{declared_as, declared_in, letters}
@@ -31,7 +33,7 @@ use Rattle.fcl_check.proofs.ConditionSizes.{few_within}
 use Rattle.fcl_check.proofs.Counts.{few_items, few_names, over, some_at_all, some_names}
 use Rattle.fcl_check.proofs.Elements.{all_images, all_related}
 use Rattle.fcl_check.proofs.Faultless.{IsFaultless, faultless, no_items, no_place, sound_input, sound_output, sound_rules}
-use Rattle.fcl_check.proofs.RuleSizes.{clean-rules, count-rules, rule_sizes, shallow_rules}
+use Rattle.fcl_check.proofs.RuleSizes.{IsShallow, clean-rules, count-rules, rule_sizes, shallow_rules}
 use Rattle.fcl_check.proofs.ValidInputs.{valid_input}
 use Rattle.fcl_check.proofs.ValidOutputs.{valid_output}
 use Rattle.fcl_check.proofs.ValidRules.{valid_rule}
@@ -91,3 +93,11 @@ spelled_blocks offsets_ascend text b block small spelled sound of =
     let sizes = rule_sizes letters b rules block.rules of.rules in
     let deep = shallow_rules letters b rules block.rules (clean-rules b spelled.spells.clean) of.rules in
     valid_block letters b block sound of deep (omega (arith, sizes, count-rules b, few, small))
+
+-- a tree that is kept has a text, and its blocks keep what the law gives to the blocks of that text
+pub kept_block : SpelledBlocksAreValid → (letters : List ℕ) (b : FunctionBlock) (block : Block) → ∥ IsSpelled letters b ∥₁ → first_fault letters b ≡ None → IsBlockOf letters b block → IsValid block
+kept_block valid letters b block kept sound of =
+    let limits : All IsShallow block.rules × (sum_by rule_size block.rules ≤ 1048576) = ∥∥₁_elim kept (hlevel props) (λ (s : IsSpelled letters b).
+        let whole : IsValid block = valid s.text b block s.small s.spelled (subst (λ (l : List ℕ). first_fault l b ≡ None) s.letters_are sound) (subst (λ (l : List ℕ). IsBlockOf l b block) s.letters_are of) in
+        (λ k d h. (whole.rules k d h).deep, whole.size)) in
+    valid_block letters b block sound of limits.0 limits.1

@@ -25,13 +25,13 @@ use Rattle.fcl_syntax.specs.declared.tree.Singleton.{Singleton}
 use Rattle.fcl_syntax.specs.declared.tree.Term.{Term}
 use Rattle.fcl_syntax.specs.declared.tree.Weight.{Weight}
 use Rattle.fcl_syntax.specs.View.{view_or}
-use Rattle.fcl_check.specs.Building.{IsShallow}
 use Rattle.fcl_check.specs.Faults.{Pair, conclusions_of}
 use Rattle.fcl_check.specs.Loaded.{IsBlockOf, IsInputNamed, IsOutputNamed, IsRuleOf, IsTermOf, conclusion_of, literal_of, number_of, or_zero}
 use Rattle.fcl_check.specs.Names.{declared_as, declared_in, defuzzify_of, fuzzify_of, letters, number_in, singleton_names, singletons_of, term_names, term_number, terms_of, variable_number}
 use Rattle.fcl_check.specs.Places.{at_if, at_some}
 use Rattle.fcl_check.specs.Sections.{value}
 use Rattle.fcl_check.specs.Sound.{IsKnown, IsSoundRule}
+use Rattle.fcl_check.proofs.RuleSizes.{IsShallow}
 use Rattle.fcl_check.proofs.Elements.{all_mapped, all_weaker}
 use Rattle.fcl_check.proofs.Faultless.{no_place}
 use Rattle.fcl_check.proofs.NumberedNames.{declared_any, number_within, numbered}

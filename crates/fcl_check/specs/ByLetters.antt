@@ -68,7 +68,3 @@ names_in (part.Defuzzify s) = singleton_names s
 pub record HoldsSections (text : List ℕ) (ps : List Part) (sections : BTreeMap (Bor (List ℕ)) Section) : Type 0 where
   pub parts : (ls : List ℕ) → option_map (λ (s : Section). s.part.now) (at_letters sections ls) ≡ find (λ p. is_named text ls (section_name p)) ps
   pub terms : (ls : List ℕ) → IfSome (at_letters sections ls) (λ (s : Section). (ts : List ℕ) → at_letters s.terms ts ≡ number_in text (names_in s.part.now) ts)
-
--- the numbers of a variable and of a term of it on one side
-abbrev pub numbers_of : List ℕ → FunctionBlock → Direction → Name → Name → ℕ × ℕ
-numbers_of text b side v t = (or_zero (variable_number text b side (letters text v)), or_zero (term_number text b side (letters text v) (letters text t)))

@@ -13,6 +13,7 @@ use Rattle.fcl_syntax.specs.Grammar.{TNot, neg, group, is, lone, TNots, no_nots,
 use Rattle.fcl_syntax.specs.View.{view_or}
 use Rattle.fcl_syntax.specs.declared.tree.Conclusion.{Conclusion}
 use Rattle.fcl_syntax.specs.declared.tree.Defuzzify.{Defuzzify}
+use Rattle.fcl_syntax.specs.declared.tree.Direction.{Direction}
 use Rattle.fcl_syntax.specs.declared.tree.Direction.TheVariants as side
 use Rattle.fcl_syntax.specs.declared.tree.Fallback.{Fallback}
 use Rattle.fcl_syntax.specs.declared.tree.FunctionBlock.{FunctionBlock}
@@ -116,12 +117,15 @@ abbrev mutual
   or_condition f (or_of a items) = any_of (and_condition f a) (ands_conditions f items)
 
 module _ (text : List ℕ) (b : FunctionBlock) where
-  -- inputs, outputs and terms by their numbers
+  -- the numbers of a variable and of a term of it on one side
+  abbrev pub numbers_of : Direction → Name → Name → ℕ × ℕ
+  numbers_of side v t = (or_zero (variable_number text b side (letters text v)), or_zero (term_number text b side (letters text v) (letters text t)))
+
   abbrev pub literal_of : Name → Name → Condition
-  literal_of v t = literal (or_zero (variable_number text b side.Input (letters text v))) (or_zero (term_number text b side.Input (letters text v) (letters text t)))
+  literal_of v t = let n = numbers_of side.Input v t in literal n.0 n.1
 
   abbrev pub conclusion_of : Conclusion → ℕ × ℕ
-  conclusion_of c = (or_zero (variable_number text b side.Output (letters text c.variable)), or_zero (term_number text b side.Output (letters text c.variable) (letters text c.term)))
+  conclusion_of c = numbers_of side.Output c.variable c.term
 
   pub record IsRuleOf (r : RuleNode) (q : Rule) : Type 0 where
     pub condition : condition_of q.cond ≡ or_condition literal_of (view_or r.condition)

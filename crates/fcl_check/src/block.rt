@@ -1,13 +1,11 @@
 //! The block of a tree: its rules, and the whole.
 //!
-//! It is built where no load fault was found, and is valid for that reason: only depth and size are
-//! counted here, and too much of them ends in `AllocError`.
+//! It is built where no load fault was found, and takes what it needs from the tree without asking
+//! again: only memory can be wanting.
 
-ghost use Rattle.std.specs.Prelude.{◌≡◌, ◌≤◌, All, IfOk, None, length, map, option_map, sum_by};
+ghost use Rattle.std.specs.Prelude.{◌≡◌, IfOk, None, map, option_map};
 ghost use Rattle.std.specs.List.{AllZip};
-ghost use Rattle.fuzzy_meaning.specs.Blocks.{IsValid, rule_size};
 ghost use Rattle.fcl_syntax.specs.declared.tree.Weight.{Weight};
-ghost use Rattle.fcl_check.specs.Building.{IsShallow};
 ghost use Rattle.fcl_check.specs.Faults.{conclusions_of, first_fault};
 ghost use Rattle.fcl_check.specs.Known.{Knows};
 ghost use Rattle.fcl_check.specs.Loaded.{number_of, conclusion_of, IsRuleOf, IsBlockOf};
@@ -15,20 +13,17 @@ ghost use Rattle.fcl_check.specs.Sections.{value};
 ghost use Rattle.fcl_check.specs.Sound.{AreConcluded, IsKnown, IsSoundRule};
 ghost use Rattle.fcl_syntax.specs.declared.tree.Direction.TheVariants.{Output as OutputSide};
 
-use crate::conditions::{ROOM, Source, numbers, or, sum};
+use crate::conditions::or;
 use crate::inputs::inputs;
 use crate::names::Names;
 use crate::numbers::value;
 use crate::outputs::outputs;
+use crate::source::{Source, numbers};
 use fcl_syntax::{Conclusion, Direction, Tree};
 use fuzzy_meaning::Block;
 use fz_list::List;
 use fz_num::Dec;
 use std::alloc::{AllocError, Global};
-
-/// How many conditions and conclusions a block may have in all. A text that is short enough to be
-/// read has fewer.
-const SIZE: u32 = 1_048_576;
 
 fn weight(rule: &fcl_syntax::Rule) -> Option<Dec>
     ensures same { number_of result ≡ option_map (λ (w : Weight). value w.num) rule.now.weight }
@@ -63,52 +58,28 @@ fn conclusions(
     Ok(places)
 }
 
-fn count(conclusions: &[(u8, u8)]) -> Result<u32, AllocError>
-    ensures { IfOk result (λ n. n ≡ length conclusions.now) }
-{
-    if conclusions.len() > SIZE as usize {
-        return Err(AllocError);
-    }
-    Ok(conclusions.len() as u32)
-}
-
-// A rule, and how many conditions and conclusions it has.
 fn rule(
     source: &Source<'_, '_>,
     rule: &fcl_syntax::Rule,
-) -> Result<(fuzzy_meaning::Rule, u32), AllocError>
+) -> Result<fuzzy_meaning::Rule, AllocError>
     requires { IsSoundRule source.now.tree.now.text.items source.now.tree.now.block rule.now }
-    ensures deep { IfOk result (λ r. IsShallow r.0) }
-    ensures size { IfOk result (λ r. rule_size r.0 ≡ r.1) }
-    ensures same { IfOk result (λ r. IsRuleOf source.now.tree.now.text.items source.now.tree.now.block rule.now r.0) }
+    ensures { IfOk result (IsRuleOf source.now.tree.now.text.items source.now.tree.now.block rule.now) }
 {
-    let (cond, size) = or(source, &rule.condition, ROOM)?;
+    let cond = or(source, &rule.condition)?;
     let concl = conclusions(source, rule)?;
-    let count = count(&concl)?;
-    let size = sum(size, count)?;
-    Ok((
-        fuzzy_meaning::Rule {
-            cond,
-            weight: weight(rule),
-            concl: List::new(concl),
-        },
-        size,
-    ))
+    Ok(fuzzy_meaning::Rule {
+        cond,
+        weight: weight(rule),
+        concl: List::new(concl),
+    })
 }
 
 fn rules(source: &Source<'_, '_>) -> Result<Vec<fuzzy_meaning::Rule>, AllocError>
-    ensures deep { IfOk result (λ v. All IsShallow v.items) }
-    ensures size { IfOk result (λ v. sum_by rule_size v.items ≤ 1048576) }
-    ensures same { IfOk result (λ v. AllZip (IsRuleOf source.now.tree.now.text.items source.now.tree.now.block) source.now.tree.now.block.rules.rules.items v.items) }
+    ensures { IfOk result (λ v. AllZip (IsRuleOf source.now.tree.now.text.items source.now.tree.now.block) source.now.tree.now.block.rules.rules.items v.items) }
 {
     let mut rules = Vec::new(source.alloc);
-    let mut left = SIZE;
     'each: for next in &source.tree.block.rules.rules {
-        let (next, size) = rule(source, next)?;
-        if size > left {
-            return Err(AllocError);
-        }
-        left -= size;
+        let next = rule(source, next)?;
         rules.push(next)?;
     }
     Ok(rules)
@@ -118,8 +89,7 @@ fn rules(source: &Source<'_, '_>) -> Result<Vec<fuzzy_meaning::Rule>, AllocError
 pub fn block<'a>(alloc: Global, tree: &'a Tree, names: &Names<'a>) -> Result<Block, AllocError>
     requires known { Knows tree.now names.now }
     requires sound { first_fault tree.now.text.items tree.now.block ≡ None }
-    ensures block { IfOk result (IsBlockOf tree.now.text.items tree.now.block) }
-    ensures valid { IfOk result IsValid }
+    ensures { IfOk result (IsBlockOf tree.now.text.items tree.now.block) }
 {
     let inputs = inputs(alloc, tree, names)?;
     let outputs = outputs(alloc, tree, names)?;

@@ -19,6 +19,7 @@ mod outputs;
 mod passes;
 mod rules;
 mod sections;
+mod source;
 mod walk;
 
 pub use fault::LoadFault;

@@ -9,6 +9,7 @@ ghost use Rattle.fcl_check.specs.declared.operands.RuleNames.{RuleNames};
 
 use crate::block::block;
 use crate::fault::LoadFault;
+use crate::laws::spelled_blocks_are_valid;
 use crate::names::Names;
 use crate::operands::RuleNames;
 use crate::passes::{
@@ -66,8 +67,10 @@ pub fn load(alloc: Global, tree: &Tree) -> Result<Block, LoadFault>
 {
     let names = Names::of(alloc, tree)?;
     let rules = operands(alloc, &tree.block.rules.rules)?;
-    match first_fault(&names, tree, &rules) {
-        Some(fault) => Err(fault),
-        None => Ok(block(alloc, tree, &names)?),
+    if let Some(fault) = first_fault(&names, tree, &rules) {
+        return Err(fault);
     }
+    // Nothing is asked of the block that is built: a text spells the tree.
+    spelled_blocks_are_valid();
+    Ok(block(alloc, tree, &names)?)
 }

@@ -1,5 +1,6 @@
 use super::*;
 use fcl_syntax::parse;
+use fuzzy_meaning::Cond;
 use fz_num::Dec;
 use std::alloc::{AllocError, Global};
 use std::test::Fail;
@@ -230,5 +231,66 @@ fn block_is_loaded(rt: HostRuntime) -> Result<(), Fail> {
     let rule = &block.rules.as_slice()[0];
     assert_eq!(rt; rule.weight, Some(Dec(5_000)));
     assert_eq!(rt; rule.concl.as_slice(), [(1, 1), (1, 2)].as_slice());
+    Ok(())
+}
+
+const RULE_HEAD: &[u8] = b"FUNCTION_BLOCK a
+VAR_INPUT t : REAL; END_VAR
+VAR_OUTPUT power : REAL; END_VAR
+FUZZIFY t TERM cold := (0, 1) (256, 0); END_FUZZIFY
+DEFUZZIFY power TERM off := 0; METHOD : COGS; DEFAULT := NC; END_DEFUZZIFY
+RULEBLOCK r RULE 1 : IF ";
+
+/// How many NOT stand around the rest of a condition.
+fn nots(condition: &Cond) -> u32 {
+    match condition {
+        Cond::Not(part) => nots(part).saturating_add(1),
+        _ => 0,
+    }
+}
+
+fn push_times(into: &mut Vec<u8>, word: &[u8], times: u32) -> Result<(), AllocError> {
+    for _ in 0..times {
+        into.extend_from_slice(word)?;
+    }
+    Ok(())
+}
+
+// What opens and what closes, how often, and the NOT that the block has then: 64 are open at once.
+const DEEPEST: [(&[u8], &[u8], u32, u32); 3] = [
+    (b"NOT ", b"", 64, 64),
+    (b"(", b")", 64, 0),
+    (b"NOT (", b")", 32, 32),
+];
+
+fn nots_loaded(
+    alloc: Global,
+    opener: &[u8],
+    closer: &[u8],
+    times: u32,
+) -> Result<Option<u32>, Fail> {
+    let mut text = Vec::from_slice(alloc, RULE_HEAD)?;
+    push_times(&mut text, opener, times)?;
+    text.extend_from_slice(b"t IS cold")?;
+    push_times(&mut text, closer, times)?;
+    text.extend_from_slice(b" THEN power IS off;")?;
+    text.extend_from_slice(TAIL)?;
+    if text.len() > 1_048_576 {
+        return Ok(None);
+    }
+    let tree = parse(alloc, &text)?;
+    let block = load(alloc, &tree)?;
+    match block.rules.as_slice() {
+        [rule] => Ok(Some(nots(&rule.cond))),
+        _ => Ok(None),
+    }
+}
+
+#[test]
+fn deepest_conditions_are_loaded(rt: HostRuntime) -> Result<(), Fail> {
+    for (opener, closer, times, wanted) in DEEPEST {
+        let nots = nots_loaded(rt.alloc(), opener, closer, times)?;
+        assert_eq!(rt; nots, Some(wanted));
+    }
     Ok(())
 }

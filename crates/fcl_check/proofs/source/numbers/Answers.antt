@@ -1,6 +1,6 @@
 use Rattle.std.proofs.Common.{arith, sym, ◌∙◌}
 use Rattle.fcl_check.proofs.KnownNames.{number_few, term_few}
-use Rattle.fcl_check.proofs.conditions.numbers.Goals as goal
+use Rattle.fcl_check.proofs.source.numbers.Goals as goal
 
 pub overflow_cast-result : goal.overflow_cast-result
 overflow_cast-result c =
