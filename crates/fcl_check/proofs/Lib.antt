@@ -34,6 +34,11 @@ pub mod ValidInputs
 pub mod ValidOutputs
 pub mod ValidBlocks
 pub mod Present
+pub mod FoundItems
+pub mod FoundConditions
+pub mod FoundInputs
+pub mod FoundOutputs
+pub mod FoundBlocks
 pub mod KnownNames
 pub mod TextPlaces
 pub mod SectionPlaces

@@ -45,6 +45,11 @@ module _ (text : List ℕ) (b : FunctionBlock) where
       let ends : length q.concl ≡ length (conclusions_of r) = ap length rule.conclusions ∙ length-map (conclusions_of r) (conclusion_of text b) in
       omega (arith, conditions, ends, count-conclusions r, count-append (or_text o 64) (ending r))
 
+  pub condition_size : (r : RuleNode) → nodes (or_condition (literal_of text b) (view_or r.condition)) ≤ count (rule_item_text (view_rule_item r))
+  condition_size r =
+      let o = view_or r.condition in
+      omega (arith, nodes_or (literal_of text b) (λ v t. refl) o 64, count-append (or_text o 64) (ending r))
+
   pub rule_sizes : (rs : List RuleNode) (qs : List Rule) → AllZip (IsRuleOf text b) rs qs → sum_by rule_size qs ≤ count (each rule_item_text (map view_rule_item rs))
   rule_sizes [] [] zip = omega arith
   rule_sizes [] (q ∷ qs) zip = absurd zip

@@ -27,3 +27,7 @@ pub record HasLoadFault (text : List ℕ) (fault : LoadFault) : Type 0 where
 -- A tree that a text of at most 1048576 bytes spells and that has no load fault has only valid blocks.
 abbrev pub SpelledBlocksAreValid : Type 0
 SpelledBlocksAreValid = (text : List ℕ) (b : FunctionBlock) (block : Block) → length text ≤ 1048576 → SpellsTree text (view b) → first_fault (str_to_ascii_lowercase text) b ≡ None → IsBlockOf (str_to_ascii_lowercase text) b block → IsValid block
+
+-- A tree that a text of at most 1048576 bytes spells and that has no load fault has a block.
+abbrev pub SpelledTreesHaveBlocks : Type 0
+SpelledTreesHaveBlocks = (text : List ℕ) (b : FunctionBlock) → length text ≤ 1048576 → SpellsTree text (view b) → first_fault (str_to_ascii_lowercase text) b ≡ None → (block : Block) × IsBlockOf (str_to_ascii_lowercase text) b block

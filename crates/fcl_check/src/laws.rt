@@ -2,7 +2,7 @@
 //! a law that it rests on.
 ghost use Rattle.fcl_check.specs.Courses.{CourseLaw};
 ghost use Rattle.fcl_check.specs.Order.{PlacesAscend};
-ghost use Rattle.fcl_check.specs.Texts.{SpelledBlocksAreValid};
+ghost use Rattle.fcl_check.specs.Texts.{SpelledBlocksAreValid, SpelledTreesHaveBlocks};
 
 use fcl_syntax::offsets_ascend;
 
@@ -18,6 +18,14 @@ pub fn places_ascend()
 /// tree without load faults has only valid blocks.
 pub fn spelled_blocks_are_valid()
     ensures { SpelledBlocksAreValid }
+{
+    offsets_ascend()
+}
+
+/// A tree of a text of at most 1048576 bytes lacks nothing that a block needs unless it has a load
+/// fault: without one it has a block, which [`load`](crate::load) builds.
+pub fn spelled_trees_have_blocks()
+    ensures { SpelledTreesHaveBlocks }
 {
     offsets_ascend()
 }

@@ -1,0 +1,5 @@
+use Rattle.fcl_check.proofs.FoundBlocks.{found_block}
+use Rattle.fcl_check.proofs.laws.spelled_trees_have_blocks.Goals as goal
+
+pub returns : goal.returns
+returns c = found_block c.offsets_ascend.ensures
