@@ -1,8 +1,8 @@
 -- The conditions of a tree as lists of their parts.
-use Rattle.std.proofs.Common.{◌≡◌, ℕ, ◌+◌, ◌≤◌, List, [], ◌∷◌, ◌++◌, length, map, refl, ap, arith}
+use Rattle.std.proofs.Common.{◌≡◌, ℕ, ◌≤◌, List, [], ◌∷◌, ◌++◌, length, map, refl, ap, arith}
 use Rattle.std.proofs.lemmas.List.{map-append}
 use Rattle.fuzzy_meaning.specs.declared.block.Cond.{Cond}
-use Rattle.fuzzy_meaning.specs.Conditions.{Condition, all, any, also, conditions, condition_of, depth, greatest_depth, nodes, total_nodes}
+use Rattle.fuzzy_meaning.specs.Conditions.{Condition, all, any, also, conditions, condition_of}
 use Rattle.fcl_syntax.specs.declared.tree.Name.{Name}
 use Rattle.fcl_syntax.specs.Grammar.{TNot, TAnd, and_of, or_of}
 use Rattle.fcl_syntax.specs.View.{nots_of, ands_of}

@@ -44,3 +44,4 @@ pub mod TextPlaces
 pub mod SectionPlaces
 pub mod RulePlaces
 pub mod TreePlaces
+pub mod JudgedTexts

@@ -98,6 +98,6 @@ spelled_blocks offsets_ascend text b block small spelled sound of =
 pub kept_block : SpelledBlocksAreValid → (letters : List ℕ) (b : FunctionBlock) (block : Block) → ∥ IsSpelled letters b ∥₁ → first_fault letters b ≡ None → IsBlockOf letters b block → IsValid block
 kept_block valid letters b block kept sound of =
     let limits : All IsShallow block.rules × (sum_by rule_size block.rules ≤ 1048576) = ∥∥₁_elim kept (hlevel props) (λ (s : IsSpelled letters b).
-        let whole : IsValid block = valid s.text b block s.small s.spelled (subst (λ (l : List ℕ). first_fault l b ≡ None) s.letters_are sound) (subst (λ (l : List ℕ). IsBlockOf l b block) s.letters_are of) in
-        (λ k d h. (whole.rules k d h).deep, whole.size)) in
+    let whole : IsValid block = valid s.text b block s.small s.spelled (subst (λ (l : List ℕ). first_fault l b ≡ None) s.letters_are sound) (subst (λ (l : List ℕ). IsBlockOf l b block) s.letters_are of) in
+    (λ k d h. (whole.rules k d h).deep, whole.size)) in
     valid_block letters b block sound of limits.0 limits.1

@@ -10,7 +10,6 @@ use Rattle.fcl_syntax.specs.declared.tree.DefuzzyLine.{DefuzzyLine}
 use Rattle.fcl_syntax.specs.declared.tree.DefuzzyLine.TheVariants as defuzzy
 use Rattle.fcl_syntax.specs.declared.tree.Direction.{Direction}
 use Rattle.fcl_syntax.specs.declared.tree.Direction.TheVariants.{Input, Output}
-use Rattle.fcl_syntax.specs.declared.tree.FunctionBlock.{FunctionBlock}
 use Rattle.fcl_syntax.specs.declared.tree.FuzzyLine.{FuzzyLine}
 use Rattle.fcl_syntax.specs.declared.tree.FuzzyLine.TheVariants as fuzzy
 use Rattle.fcl_syntax.specs.declared.tree.Name.{Name}
@@ -22,7 +21,7 @@ use Rattle.fcl_check.specs.declared.names.Counts.{Counts}
 use Rattle.fcl_check.specs.declared.names.Section.{Section}
 use Rattle.fcl_check.specs.declared.names.Variable.{Variable}
 use Rattle.fcl_check.specs.Loaded.{or_zero}
-use Rattle.fcl_check.specs.Names.{Declared, is_direction, is_named, letters, number_in, section_name, singleton_names, singleton_of, term_names, term_number, term_of, variable_number}
+use Rattle.fcl_check.specs.Names.{Declared, is_direction, is_named, number_in, section_name, singleton_names, singleton_of, term_names, term_of}
 
 -- the value at some letters
 abbrev pub at_letters : {X : Type 0} → BTreeMap (Bor (List ℕ)) X → List ℕ → Option X

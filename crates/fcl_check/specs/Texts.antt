@@ -1,10 +1,11 @@
 -- The block of a text, or the load fault that it has instead.
-use Rattle.std.specs.Prelude.{◌≡◌, ℕ, ◌≤◌, List, length, Some, None}
+use Rattle.std.specs.Prelude.{◌≡◌, ℕ, ◌≤◌, ◌⊎◌, List, length, Some, None}
 use Rattle.std.specs.Str.{str_to_ascii_lowercase}
 use Rattle.fuzzy_meaning.specs.Blocks.{IsValid}
 use Rattle.fuzzy_meaning.specs.declared.block.Block.{Block}
-use Rattle.fcl_syntax.specs.Text.{SpellsTree}
+use Rattle.fcl_syntax.specs.Text.{IsFirstFault, SpellsTree}
 use Rattle.fcl_syntax.specs.View.{view}
+use Rattle.fcl_syntax.specs.declared.text.SyntaxFault.{SyntaxFault}
 use Rattle.fcl_syntax.specs.declared.tree.FunctionBlock.{FunctionBlock}
 use Rattle.fcl_check.specs.Faults.{first_fault}
 use Rattle.fcl_check.specs.Loaded.{IsBlockOf}
@@ -31,3 +32,7 @@ SpelledBlocksAreValid = (text : List ℕ) (b : FunctionBlock) (block : Block) �
 -- A tree that a text of at most 1048576 bytes spells and that has no load fault has a block.
 abbrev pub SpelledTreesHaveBlocks : Type 0
 SpelledTreesHaveBlocks = (text : List ℕ) (b : FunctionBlock) → length text ≤ 1048576 → SpellsTree text (view b) → first_fault (str_to_ascii_lowercase text) b ≡ None → (block : Block) × IsBlockOf (str_to_ascii_lowercase text) b block
+
+-- Each text of at most 1048576 bytes has a first fault, or a load fault, or spells a block.
+abbrev pub EachTextIsJudged : Type 0
+EachTextIsJudged = (text : List ℕ) → length text ≤ 1048576 → ((e : SyntaxFault) × IsFirstFault text e) ⊎ (((f : LoadFault) × HasLoadFault text f) ⊎ ((block : Block) × SpellsBlock text block))

@@ -58,10 +58,7 @@ fn conclusions(
     Ok(places)
 }
 
-fn rule(
-    source: &Source<'_, '_>,
-    rule: &fcl_syntax::Rule,
-) -> Result<fuzzy_meaning::Rule, AllocError>
+fn rule(source: &Source<'_, '_>, rule: &fcl_syntax::Rule) -> Result<fuzzy_meaning::Rule, AllocError>
     requires { IsSoundRule source.now.tree.now.text.items source.now.tree.now.block rule.now }
     ensures { IfOk result (IsRuleOf source.now.tree.now.text.items source.now.tree.now.block rule.now) }
 {

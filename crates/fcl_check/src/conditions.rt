@@ -1,4 +1,6 @@
 //! Conditions of a block from those of a tree without load faults.
+//!
+//! The recursion goes down with what is open at once, which is at most 64 in the tree of a text.
 
 ghost use Rattle.std.specs.Prelude.{◌≡◌, IfOk};
 ghost use Rattle.fuzzy_meaning.specs.Conditions.{condition_of, negation};

@@ -49,6 +49,7 @@ pub enum LoadFault {
     /// at END_DEFUZZIFY; no input, no output or no rule, at END_FUNCTION_BLOCK.
     #[error("at {0}: a part is missing")]
     MissingPart(u32),
+    /// Memory was wanting; the tree may have a fault or none.
     #[error("out of memory")]
     Memory,
 }

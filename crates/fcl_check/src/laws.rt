@@ -2,9 +2,9 @@
 //! a law that it rests on.
 ghost use Rattle.fcl_check.specs.Courses.{CourseLaw};
 ghost use Rattle.fcl_check.specs.Order.{PlacesAscend};
-ghost use Rattle.fcl_check.specs.Texts.{SpelledBlocksAreValid, SpelledTreesHaveBlocks};
+ghost use Rattle.fcl_check.specs.Texts.{EachTextIsJudged, SpelledBlocksAreValid, SpelledTreesHaveBlocks};
 
-use fcl_syntax::offsets_ascend;
+use fcl_syntax::{each_text_is_read, offsets_ascend};
 
 /// In a tree that a text spells, the places of each kind of load fault ascend, so that the first
 /// place, which [`load`](crate::load) answers, is the least offset in the text.
@@ -14,8 +14,9 @@ pub fn places_ascend()
     offsets_ascend()
 }
 
-/// What the load faults refuse is all that a block can lack: of a text of at most 1048576 bytes, a
-/// tree without load faults has only valid blocks.
+/// A tree of a text of at most 1048576 bytes has only valid blocks where it has no load fault: its rules
+/// are not too deep since the grammar bounds what is open at once, and not too large since the text
+/// is not.
 pub fn spelled_blocks_are_valid()
     ensures { SpelledBlocksAreValid }
 {
@@ -28,6 +29,16 @@ pub fn spelled_trees_have_blocks()
     ensures { SpelledTreesHaveBlocks }
 {
     offsets_ascend()
+}
+
+/// No text is left out: one of at most 1048576 bytes has a first fault, or a load fault, or spells a
+/// block.
+pub fn each_text_is_judged()
+    ensures { EachTextIsJudged }
+{
+    each_text_is_read();
+    spelled_blocks_are_valid();
+    spelled_trees_have_blocks()
 }
 
 /// Where the points of a term ascend and their degrees are zeros, then ones, then zeros, the degree

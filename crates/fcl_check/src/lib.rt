@@ -23,7 +23,10 @@ mod source;
 mod walk;
 
 pub use fault::LoadFault;
-pub use laws::{course_law, places_ascend, spelled_blocks_are_valid, spelled_trees_have_blocks};
+pub use laws::{
+    course_law, each_text_is_judged, places_ascend, spelled_blocks_are_valid,
+    spelled_trees_have_blocks,
+};
 pub use loading::load;
 
 #[cfg(test)]

@@ -37,6 +37,7 @@ pub enum SyntaxFault {
     /// The 65th parenthesis or NOT that is open at once.
     #[error("at {0}: too deep")]
     Deep(u32),
+    /// Memory was wanting; the text may have a fault or none.
     #[error("out of memory")]
     Memory,
 }

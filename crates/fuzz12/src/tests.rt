@@ -39,6 +39,13 @@ END_RULEBLOCK
 END_FUNCTION_BLOCK
 ";
 
+// From the default of the block to its first condition, and eight NOT, which leave the truth as it is.
+const OPENED: &str = "0; END_DEFUZZIFY\nRULEBLOCK r\nRULE 1 : IF ";
+
+const NOTS: &str = "NOT NOT NOT NOT NOT NOT NOT NOT ";
+
+const COLD: &str = "t IS cold THEN power IS off";
+
 // A block that keeps its answer where no rule fires.
 const LATCH: &str = "FUNCTION_BLOCK n
 VAR_INPUT t : REAL; END_VAR
@@ -57,7 +64,7 @@ END_FUNCTION_BLOCK
 ";
 
 // The parts of a text, a trace, and the lines of its run.
-const ANSWERS: [(&[&str], &str, &str); 9] = [
+const ANSWERS: [(&[&str], &str, &str); 10] = [
     (
         &[BLOCK],
         "0\n256\n",
@@ -75,6 +82,13 @@ sample 2 bytes 64 answers 64 instructions 28
 ",
     ),
     (&[BLOCK], "", FIRST),
+    (
+        &[
+            FRONT, OPENED, NOTS, NOTS, NOTS, NOTS, NOTS, NOTS, NOTS, NOTS, COLD, SECOND, BACK,
+        ],
+        "64\n",
+        LINES,
+    ),
     (
         &[FRONT, "50", MIDDLE, BACK],
         "256",
@@ -131,7 +145,7 @@ sample 3 bytes 240 16 16 16 16 16 16 16 answers 255 0 239 240 instructions 600
 ";
 
 // The parts of a text that is refused, and the line on err.
-const REFUSED: [(&[&str], &str); 6] = [
+const REFUSED: [(&[&str], &str); 7] = [
     (&[], "fcl: at 0: expected\n"),
     (
         &["FUNCTION_BLOCK a VAR_INPUT x : INT;"],
@@ -152,6 +166,12 @@ const REFUSED: [(&[&str], &str); 6] = [
             BACK,
         ],
         "fcl: at 319: load 2\n",
+    ),
+    (
+        &[
+            FRONT, OPENED, NOTS, NOTS, NOTS, NOTS, NOTS, NOTS, NOTS, NOTS, "NOT ", COLD, BACK,
+        ],
+        "fcl: at 529: too deep\n",
     ),
 ];
 
