@@ -1,5 +1,6 @@
 -- What a text is: it spells a tree, or it has a first fault.
-use Rattle.std.specs.Prelude.{ℕ, ◌≤◌, ◌⊎◌, List, length}
+use Rattle.std.specs.Prelude.{◌≡◌, ℕ, ◌≤◌, ◌⊎◌, List, length}
+use Rattle.fcl_syntax.specs.Grammar.{TBlock}
 use Rattle.fcl_syntax.specs.Text.{IsFirstFault, SpellsTree}
 use Rattle.fcl_syntax.specs.View.{view}
 use Rattle.fcl_syntax.specs.declared.text.SyntaxFault.{SyntaxFault}
@@ -8,3 +9,7 @@ use Rattle.fcl_syntax.specs.declared.tree.FunctionBlock.{FunctionBlock}
 -- Each text of at most 1048576 bytes spells a tree of the program, or has a first fault.
 abbrev pub EachTextIsRead : Type 0
 EachTextIsRead = (text : List ℕ) → length text ≤ 1048576 → ((b : FunctionBlock) × SpellsTree text (view b)) ⊎ ((e : SyntaxFault) × IsFirstFault text e)
+
+-- A text spells at most one tree.
+abbrev pub TreesAreOne : Type 0
+TreesAreOne = (text : List ℕ) (t u : TBlock) → SpellsTree text t → SpellsTree text u → t ≡ u

@@ -1,6 +1,6 @@
 //! Laws of the trees that texts spell, each the contract of a function that does nothing.
 ghost use Rattle.fcl_syntax.specs.Offsets.{OffsetsAscend};
-ghost use Rattle.fcl_syntax.specs.Readings.{EachTextIsRead};
+ghost use Rattle.fcl_syntax.specs.Readings.{EachTextIsRead, TreesAreOne};
 ghost use Rattle.fcl_syntax.specs.Scale.{NumbersInScale};
 
 /// No number in the tree of a text is beyond 100000, since a number token that is has a fault.
@@ -14,8 +14,12 @@ pub fn offsets_ascend()
     ensures { OffsetsAscend }
 {}
 
-/// No text is left out: one of at most 1048576 bytes spells a tree, or it has a first fault. (By the
-/// clauses of [`parse`](crate::parse) it has not both, and not two.)
+/// No text is left out: one of at most 1048576 bytes spells a tree, or it has a first fault.
 pub fn each_text_is_read()
     ensures { EachTextIsRead }
+{}
+
+/// A text spells at most one tree.
+pub fn trees_are_one()
+    ensures { TreesAreOne }
 {}

@@ -18,7 +18,7 @@ mod token;
 mod tree;
 mod variables;
 
-pub use laws::{each_text_is_read, numbers_in_scale, offsets_ascend};
+pub use laws::{each_text_is_read, numbers_in_scale, offsets_ascend, trees_are_one};
 pub use text::{SyntaxFault, parse};
 pub use token::{Amount, Word};
 pub use tree::{
