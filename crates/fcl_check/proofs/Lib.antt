@@ -45,3 +45,8 @@ pub mod SectionPlaces
 pub mod RulePlaces
 pub mod TreePlaces
 pub mod JudgedTexts
+pub mod SameImages
+pub mod SameParts
+pub mod SameSections
+pub mod SameNames
+pub mod AlikeBlocks

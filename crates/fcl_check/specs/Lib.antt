@@ -12,3 +12,4 @@ pub mod Steps
 pub mod Corners
 pub mod Courses
 pub mod Order
+pub mod Alike

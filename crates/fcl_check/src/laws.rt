@@ -1,10 +1,11 @@
 //! Laws of load faults and loaded blocks, each the contract of a function that does nothing but call
 //! a law that it rests on.
+ghost use Rattle.fcl_check.specs.Alike.{BlocksAreAlike, SpelledBlocksAreAlike};
 ghost use Rattle.fcl_check.specs.Courses.{CourseLaw};
 ghost use Rattle.fcl_check.specs.Order.{PlacesAscend};
 ghost use Rattle.fcl_check.specs.Texts.{EachTextIsJudged, SpelledBlocksAreValid, SpelledTreesHaveBlocks};
 
-use fcl_syntax::{each_text_is_read, offsets_ascend};
+use fcl_syntax::{each_text_is_read, offsets_ascend, trees_are_one};
 
 /// In a tree that a text spells, the places of each kind of load fault ascend, so that the first
 /// place, which [`load`](crate::load) answers, is the least offset in the text.
@@ -29,6 +30,18 @@ pub fn spelled_trees_have_blocks()
     ensures { SpelledTreesHaveBlocks }
 {
     offsets_ascend()
+}
+
+/// A tree has at most one block: two that it has are the same but for where they lie in memory.
+pub fn blocks_are_alike()
+    ensures { BlocksAreAlike }
+{}
+
+/// A text spells at most one block: two that it spells are the same but for where they lie in memory.
+pub fn spelled_blocks_are_alike()
+    ensures { SpelledBlocksAreAlike }
+{
+    trees_are_one()
 }
 
 /// No text is left out: one of at most 1048576 bytes has a first fault, or a load fault, or spells a
