@@ -50,3 +50,7 @@ pub mod SameParts
 pub mod SameSections
 pub mod SameNames
 pub mod AlikeBlocks
+pub mod SamePlaces
+pub mod SameSectionFaults
+pub mod SameTwice
+pub mod SameFaults

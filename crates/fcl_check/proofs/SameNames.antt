@@ -15,7 +15,7 @@ use Rattle.fcl_syntax.specs.declared.tree.Part.{Part}
 use Rattle.fcl_syntax.specs.declared.tree.Part.TheVariants as part
 use Rattle.fcl_syntax.specs.declared.tree.Vars.{Vars}
 use Rattle.fcl_check.specs.Loaded.{conclusion_of, literal_of}
-use Rattle.fcl_check.specs.Names.{Declared, as_defuzzify, as_fuzzify, declared_as, declared_by, defuzzify_of, fuzzify_of, is_direction, is_named, letters, number_in, section_name, section_of, singleton_names, singleton_of, term_names, term_number, variable_number}
+use Rattle.fcl_check.specs.Names.{Declared, as_defuzzify, as_fuzzify, declared_as, declared_by, declared_in, defuzzify_of, fuzzify_of, is_direction, is_named, letters, number_in, section_name, section_of, singleton_names, singleton_of, term_names, term_number, variable_number}
 use Rattle.fcl_check.proofs.SameImages.{same_find, same_flat_map}
 use Rattle.fcl_check.proofs.SameSections.{same_lines, same_term_names}
 
@@ -39,7 +39,7 @@ same_vars v w h =
 
 -- ---- sections
 
-same_section_name : (p q : Part) → view_part p ≡ view_part q → section_name p ≡ section_name q
+pub same_section_name : (p q : Part) → view_part p ≡ view_part q → section_name p ≡ section_name q
 same_section_name (part.Fuzzify s) (part.Fuzzify t) h =
     let inner : view_fuzzify s ≡ view_fuzzify t = cc in
     ap (λ (x : TFuzzify). x.name) inner
@@ -74,10 +74,13 @@ module _ (text : List ℕ) where
   same_output_term ls o p h = absurd cc
 
   module _ (b c : FunctionBlock) (same : view b ≡ view c) where
-    pub same_declared : (direction : Direction) → declared_as direction b ≡ declared_as direction c
-    same_declared direction = ap (filter_map (λ (d : Declared). if is_direction direction d.0 then Some d.1 else None)) (same_flat_map view_section declared_by same_vars b.vars.items c.vars.items (ap (λ (t : TBlock). t.vars) same))
+    pub same_declarations : declared_in b ≡ declared_in c
+    same_declarations = same_flat_map view_section declared_by same_vars b.vars.items c.vars.items (ap (λ (t : TBlock). t.vars) same)
 
-    same_section : (ls : List ℕ) → option_map view_part (section_of text b ls) ≡ option_map view_part (section_of text c ls)
+    pub same_declared : (direction : Direction) → declared_as direction b ≡ declared_as direction c
+    same_declared direction = ap (filter_map (λ (d : Declared). if is_direction direction d.0 then Some d.1 else None)) same_declarations
+
+    pub same_section : (ls : List ℕ) → option_map view_part (section_of text b ls) ≡ option_map view_part (section_of text c ls)
     same_section ls = same_find view_part (λ (p : Part). is_named text ls (section_name p)) (λ p q h. ap (is_named text ls) (same_section_name p q h)) b.parts.items c.parts.items (ap (λ (t : TBlock). t.parts) same)
 
     pub same_fuzzify : (ls : List ℕ) → option_map view_fuzzify (fuzzify_of text b ls) ≡ option_map view_fuzzify (fuzzify_of text c ls)
@@ -89,7 +92,7 @@ module _ (text : List ℕ) where
     same_variable_number : (direction : Direction) (ls : List ℕ) → variable_number text b direction ls ≡ variable_number text c direction ls
     same_variable_number direction ls = ap (λ (ns : List Name). number_in text ns ls) (same_declared direction)
 
-    same_term_number : (direction : Direction) (v t : List ℕ) → term_number text b direction v t ≡ term_number text c direction v t
+    pub same_term_number : (direction : Direction) (v t : List ℕ) → term_number text b direction v t ≡ term_number text c direction v t
     same_term_number side.Input v t = same_input_term t (fuzzify_of text b v) (fuzzify_of text c v) (same_fuzzify v)
     same_term_number side.Output v t = same_output_term t (defuzzify_of text b v) (defuzzify_of text c v) (same_defuzzify v)
 

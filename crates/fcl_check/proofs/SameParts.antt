@@ -1,9 +1,12 @@
--- Parts of a tree that their views determine: points, ranges, lines of outputs and weights.
+-- Parts of a tree that their views determine: points, ranges, lines of outputs and of rule blocks, weights.
 use Rattle.std.proofs.Common.{◌≡◌, ℕ, List, Option, Some, None, inr, refl, ap}
 use Rattle.std.specs.Prelude.{◌⊎◌}
-use Rattle.fcl_syntax.specs.Grammar.{TFallback, TPoint, TRange, TSetting, TSingleton, TWeight, accu_sorts, method_sorts}
+use Rattle.fcl_syntax.specs.Grammar.{TAct, TFallback, TPoint, TRange, TSetting, TSingleton, TWeight, accu_sorts, and_sorts, method_sorts, or_sorts}
 use Rattle.fcl_syntax.specs.Marks.{Among}
-use Rattle.fcl_syntax.specs.View.{view_coordinate, view_defuzzy_line, view_degree, view_fallback, view_num, view_point, view_range, view_setting, view_singleton, view_value, view_weight, view_with}
+use Rattle.fcl_syntax.specs.View.{view_act, view_act_word, view_coordinate, view_defuzzy_line, view_degree, view_fallback, view_num, view_point, view_range, view_rule_line, view_setting, view_singleton, view_value, view_weight, view_with}
+use Rattle.fcl_syntax.specs.declared.tree.ActWord.{ActWord}
+use Rattle.fcl_syntax.specs.declared.tree.ActWord.TheVariants as act
+use Rattle.fcl_syntax.specs.declared.tree.Activation.{Activation}
 use Rattle.fcl_syntax.specs.declared.tree.DefuzzyLine.{DefuzzyLine}
 use Rattle.fcl_syntax.specs.declared.tree.DefuzzyLine.TheVariants as defuzzy
 use Rattle.fcl_syntax.specs.declared.tree.Degree.{Degree}
@@ -15,6 +18,8 @@ use Rattle.fcl_syntax.specs.declared.tree.Num.{Num}
 use Rattle.fcl_syntax.specs.declared.tree.Num.TheVariants as num
 use Rattle.fcl_syntax.specs.declared.tree.Point.{Point}
 use Rattle.fcl_syntax.specs.declared.tree.Range.{Range}
+use Rattle.fcl_syntax.specs.declared.tree.RuleLine.{RuleLine}
+use Rattle.fcl_syntax.specs.declared.tree.RuleLine.TheVariants as line
 use Rattle.fcl_syntax.specs.declared.tree.Setting.{Setting}
 use Rattle.fcl_syntax.specs.declared.tree.Singleton.{Singleton}
 use Rattle.fcl_syntax.specs.declared.tree.Weight.{Weight}
@@ -90,6 +95,26 @@ same_line (defuzzy.Method s) (defuzzy.Method t) h = let inner = same_setting met
 same_line (defuzzy.Default c) (defuzzy.Default d) h = let inner = same_fallback c d (cc) in cc
 same_line (defuzzy.Range q) (defuzzy.Range r) h = let inner = same_range q r (cc) in cc
 same_line k l h = absurd cc
+
+-- ---- lines of rule blocks
+
+same_act_word : (v w : ActWord) → view_act_word v ≡ view_act_word w → v ≡ w
+same_act_word (act.Min m) (act.Min n) h = cc
+same_act_word (act.Prod m) (act.Prod n) h = cc
+same_act_word v w h = absurd cc
+
+same_activation : (a e : Activation) → view_act a ≡ view_act e → a ≡ e
+same_activation a e h =
+    let at : a.at ≡ e.at = ap (λ (x : TAct). x.at) h in
+    let word = same_act_word a.word e.word (ap (λ (x : TAct). x.word) h) in
+    λ i. record { at = at i; word = word i }
+
+pub same_rulebase_line : (k l : RuleLine) → view_rule_line k ≡ view_rule_line l → k ≡ l
+same_rulebase_line (line.And s) (line.And t) h = let inner = same_setting and_sorts s t (cc) in cc
+same_rulebase_line (line.Or s) (line.Or t) h = let inner = same_setting or_sorts s t (cc) in cc
+same_rulebase_line (line.Act a) (line.Act e) h = let inner = same_activation a e (cc) in cc
+same_rulebase_line (line.Accu s) (line.Accu t) h = let inner = same_setting accu_sorts s t (cc) in cc
+same_rulebase_line k l h = absurd cc
 
 -- ---- weights
 

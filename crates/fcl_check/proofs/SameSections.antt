@@ -32,7 +32,7 @@ same_range_line (fuzzy.Range q) (fuzzy.Range r) h = cc
 same_range_line k l h = absurd cc
 
 module _ (s t : Fuzzify) (same : view_fuzzify s ≡ view_fuzzify t) where
-  same_fuzzy_lines : map view_fuzzy_line s.lines.items ≡ map view_fuzzy_line t.lines.items
+  pub same_fuzzy_lines : map view_fuzzy_line s.lines.items ≡ map view_fuzzy_line t.lines.items
   same_fuzzy_lines = ap (λ (x : TFuzzify). x.lines) same
 
   pub same_terms : map view_term (terms_of s) ≡ map view_term (terms_of t)

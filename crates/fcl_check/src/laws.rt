@@ -3,7 +3,7 @@
 ghost use Rattle.fcl_check.specs.Alike.{BlocksAreAlike, SpelledBlocksAreAlike};
 ghost use Rattle.fcl_check.specs.Courses.{CourseLaw};
 ghost use Rattle.fcl_check.specs.Order.{PlacesAscend};
-ghost use Rattle.fcl_check.specs.Texts.{EachTextIsJudged, SpelledBlocksAreValid, SpelledTreesHaveBlocks};
+ghost use Rattle.fcl_check.specs.Texts.{EachTextIsJudged, LoadFaultsAreOne, SpelledBlocksAreValid, SpelledTreesHaveBlocks};
 
 use fcl_syntax::{each_text_is_read, offsets_ascend, trees_are_one};
 
@@ -40,6 +40,14 @@ pub fn blocks_are_alike()
 /// A text spells at most one block: two that it spells are the same but for where they lie in memory.
 pub fn spelled_blocks_are_alike()
     ensures { SpelledBlocksAreAlike }
+{
+    trees_are_one()
+}
+
+/// A text has at most one load fault, and none where it spells a block: neither hangs on the tree that
+/// is held.
+pub fn load_faults_are_one()
+    ensures { LoadFaultsAreOne }
 {
     trees_are_one()
 }
