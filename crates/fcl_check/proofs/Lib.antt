@@ -44,7 +44,6 @@ pub mod TextPlaces
 pub mod SectionPlaces
 pub mod RulePlaces
 pub mod TreePlaces
-pub mod JudgedTexts
 pub mod SameImages
 pub mod SameParts
 pub mod SameSections
@@ -54,3 +53,4 @@ pub mod SamePlaces
 pub mod SameSectionFaults
 pub mod SameTwice
 pub mod SameFaults
+pub mod JudgedTexts

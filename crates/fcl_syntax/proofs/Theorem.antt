@@ -19,6 +19,7 @@ use Rattle.fcl_syntax.specs.First.{Spells, FirstFault}
 use Rattle.fcl_syntax.specs.Grammar.{TBlock, block_text}
 use Rattle.fcl_syntax.specs.Lexing.{piece_of, Placed, Lexed, lexed, in_front, next_piece, tokenization}
 use Rattle.fcl_syntax.specs.Reading.{all_of}
+use Rattle.fcl_syntax.specs.Readings.{FirstFaultsAreOne, TreesAreOne}
 use Rattle.fcl_syntax.specs.Text.{IsSpelled, SpellsTree, head_or, HasFault, HasTokenFault, IsFirstFault, OrMemory, of_kind, token_fault, grammar_fault, place_of, located, read_lexed, read_text}
 use Rattle.fcl_syntax.specs.Parsed.{GivesTree, GivesFault, Reads}
 use Rattle.fcl_syntax.specs.View.{view}
@@ -175,6 +176,17 @@ fault text (Err e) h = or_memory (λ e. read_text text ≡ Err e) (IsFirstFault 
 pub only_fault : (text : List ℕ) (r : Result Tree SyntaxFault) → Reads r (read_text text) → (e : SyntaxFault) → IsFirstFault text e → GivesFault r e
 only_fault text (Ok tree) h e f = not_both (read_text text) (view tree.block) e h (faults_read text e f)
 only_fault text (Err d) h e f = or_memory (λ d. read_text text ≡ Err d) (λ d. d ≡ e) d (λ c k. same_err (read_text text) c e k (faults_read text e f)) h
+
+-- ---- one reading
+
+pub trees_are_one_lem : TreesAreOne
+trees_are_one_lem text t u p q = same_ok (read_text text) t u (spells_read text t p) (spells_read text u q)
+
+pub first_faults_are_one_lem : FirstFaultsAreOne
+first_faults_are_one_lem text = (
+  λ e f p q. same_err (read_text text) e f (faults_read text e p) (faults_read text f q),
+  λ e t p q. not_both (read_text text) t e (spells_read text t q) (faults_read text e p),
+)
 
 -- ---- the tree that is kept
 

@@ -13,3 +13,7 @@ EachTextIsRead = (text : List ℕ) → length text ≤ 1048576 → ((b : Functio
 -- A text spells at most one tree.
 abbrev pub TreesAreOne : Type 0
 TreesAreOne = (text : List ℕ) (t u : TBlock) → SpellsTree text t → SpellsTree text u → t ≡ u
+
+-- A text has at most one first fault, and none where it spells a tree.
+abbrev pub FirstFaultsAreOne : Type 0
+FirstFaultsAreOne = (text : List ℕ) → ((e f : SyntaxFault) → IsFirstFault text e → IsFirstFault text f → e ≡ f) × ((e : SyntaxFault) (t : TBlock) → IsFirstFault text e → SpellsTree text t → ⊥)

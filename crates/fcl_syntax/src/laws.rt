@@ -1,6 +1,6 @@
 //! Laws of the trees that texts spell, each the contract of a function that does nothing.
 ghost use Rattle.fcl_syntax.specs.Offsets.{OffsetsAscend};
-ghost use Rattle.fcl_syntax.specs.Readings.{EachTextIsRead, TreesAreOne};
+ghost use Rattle.fcl_syntax.specs.Readings.{EachTextIsRead, FirstFaultsAreOne, TreesAreOne};
 ghost use Rattle.fcl_syntax.specs.Scale.{NumbersInScale};
 
 /// No number in the tree of a text is beyond 100000, since a number token that is has a fault.
@@ -22,4 +22,9 @@ pub fn each_text_is_read()
 /// A text spells at most one tree.
 pub fn trees_are_one()
     ensures { TreesAreOne }
+{}
+
+/// A text has at most one first fault, and none where it spells a tree.
+pub fn first_faults_are_one()
+    ensures { FirstFaultsAreOne }
 {}

@@ -18,7 +18,9 @@ mod token;
 mod tree;
 mod variables;
 
-pub use laws::{each_text_is_read, numbers_in_scale, offsets_ascend, trees_are_one};
+pub use laws::{
+    each_text_is_read, first_faults_are_one, numbers_in_scale, offsets_ascend, trees_are_one,
+};
 pub use text::{SyntaxFault, parse};
 pub use token::{Amount, Word};
 pub use tree::{
