@@ -1,6 +1,5 @@
 -- In a tree without load faults each declared input has an input of a block.
-use Rattle.std.proofs.Common.{◌≡◌, ℕ, ◌<◌, true, false, not, List, [], Option, Some, None, get_or, length, option_map, refl, ap, sym}
-use Rattle.std.specs.Prelude.{IsSome}
+use Rattle.std.proofs.Common.{◌≡◌, ℕ, ◌<◌, true, not, List, [], Option, Some, None, get_or, length, option_map, refl, ap, sym}
 use Rattle.std.specs.List.{AllZip, filter, take_while}
 use Rattle.std.proofs.lemmas.List.Elements.{recursion_from_All}
 use Rattle.fz_num.specs.declared.dec.Dec.{Dec}
@@ -20,20 +19,9 @@ use Rattle.fcl_check.specs.Sections.{has_one, has_shape, has_zero, points_of, sh
 use Rattle.fcl_check.proofs.Elements.{all_weaker}
 use Rattle.fcl_check.proofs.Faultless.{faultless, nowhere, shaped, sound_input}
 use Rattle.fcl_check.proofs.FoundItems.{found_items, found_names, found_value, last_there}
-use Rattle.fcl_check.proofs.Present.{input_range_there, input_section_there}
-use Rattle.fcl_check.proofs.Pushes.{drop_while-all, none-passes}
+use Rattle.fcl_check.proofs.Present.{input_range_there, input_section_there, one_there}
 
 -- ---- terms
-
-one_there : (points : List Point) → has_shape points ≡ true → IsSome (first (filter has_one points))
-one_there points shape =
-    elim (first (filter has_one points)) as (λ o. first (filter has_one points) ≡ o → IsSome o) [
-      | None ↦ λ none.
-          let front : drop_while has_zero points ≡ [] = drop_while-all has_zero points (none-passes has_one points none) in
-          let no : false ≡ true = rw front at shape in
-          cc
-      | Some p ↦ λ e. refl
-    ] refl
 
 -- the corner at a point
 abbrev corner_at : Point → Dec

@@ -47,16 +47,23 @@ none_at f g (x ∷ xs) (suc i) d y none within is =
 -- ---- a term
 
 -- the points of a term have one of degree 1
-pub top_there : (points : List Point) (k : Corners) → AreCornersOf points k → has_shape points ≡ true → IsSome k.top
-top_there points k held shape =
-    elim k.top as (λ o. option_map (λ (t : Dec × Dec). t.0.0) o ≡ abscissa_of (first (filter has_one points)) → IsSome o) [
-      | None ↦ λ e.
-          let none = elim (first (filter has_one points)) as (λ o. None ≡ abscissa_of o → o ≡ None) [ None ↦ λ h. refl | Some p ↦ λ h. cc ] e in
+pub one_there : (points : List Point) → has_shape points ≡ true → IsSome (first (filter has_one points))
+one_there points shape =
+    elim (first (filter has_one points)) as (λ o. first (filter has_one points) ≡ o → IsSome o) [
+      | None ↦ λ none.
           let front : drop_while has_zero points ≡ [] = drop_while-all has_zero points (none-passes has_one points none) in
           let no : false ≡ true = rw front at shape in
           cc
-      | Some t ↦ λ e. refl
-    ] held.b
+      | Some p ↦ λ e. refl
+    ] refl
+
+abscissa_there : (o : Option Point) → IsSome o → IsSome (abscissa_of o)
+abscissa_there None there = there
+abscissa_there (Some p) there = refl
+
+-- and so the corners have a top
+pub top_there : (points : List Point) (k : Corners) → AreCornersOf points k → has_shape points ≡ true → IsSome k.top
+top_there points k held shape = mapped_there (λ (t : Dec × Dec). t.0.0) k.top (abscissa_of (first (filter has_one points))) held.b (abscissa_there (first (filter has_one points)) (one_there points shape))
 
 -- ---- ranges
 

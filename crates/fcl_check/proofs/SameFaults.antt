@@ -19,10 +19,10 @@ use Rattle.fcl_check.specs.Faults.{Pair, condition_pairs, conclusions_of, direct
 use Rattle.fcl_check.specs.Names.{Declared, declared_in, is_direction, is_named, letters, section_of}
 use Rattle.fcl_check.specs.Places.{at_each, at_if, at_some, first}
 use Rattle.fcl_check.specs.Sections.{bad_range, falling_points, incomplete, numbers_outside, points_outside, shapeless_terms, terms_over_limit, value, without_terms}
-use Rattle.fcl_check.proofs.SameImages.{same_map}
+use Rattle.fcl_check.proofs.SameImages.{same_flat_maps, same_map}
 use Rattle.fcl_check.proofs.SameNames.{same_declarations, same_section, same_section_name, same_term_number}
 use Rattle.fcl_check.proofs.SameParts.{same_weight}
-use Rattle.fcl_check.proofs.SamePlaces.{same_appended, same_drop, same_flat_maps, same_has_none}
+use Rattle.fcl_check.proofs.SamePlaces.{same_appended, same_drop, same_has_none}
 use Rattle.fcl_check.proofs.SameSectionFaults.{same_bad_range, same_falling_points, same_incomplete, same_numbers_outside, same_over_limit, same_points_outside, same_shapeless_terms, same_without_terms}
 use Rattle.fcl_check.proofs.SameTwice.{same_twice}
 

@@ -30,14 +30,17 @@ module _ {X V : Type 0} (v : X → V) where
       let rest = same_map g same xs us (cc) in
       cc
 
-  pub same_flat_map : {Z : Type 0} (f : X → List Z) → ((x u : X) → v x ≡ v u → f x ≡ f u) → (xs us : List X) → map v xs ≡ map v us → flat_map f xs ≡ flat_map f us
-  same_flat_map f same [] [] h = refl
-  same_flat_map f same [] (u ∷ us) h = absurd cc
-  same_flat_map f same (x ∷ xs) [] h = absurd cc
-  same_flat_map f same (x ∷ xs) (u ∷ us) h =
+  pub same_flat_maps : {Z : Type 0} (f g : X → List Z) → ((x u : X) → v x ≡ v u → f x ≡ g u) → (xs us : List X) → map v xs ≡ map v us → flat_map f xs ≡ flat_map g us
+  same_flat_maps f g same [] [] h = refl
+  same_flat_maps f g same [] (u ∷ us) h = absurd cc
+  same_flat_maps f g same (x ∷ xs) [] h = absurd cc
+  same_flat_maps f g same (x ∷ xs) (u ∷ us) h =
       let here = same x u (cc) in
-      let rest = same_flat_map f same xs us (cc) in
+      let rest = same_flat_maps f g same xs us (cc) in
       cc
+
+  pub same_flat_map : {Z : Type 0} (f : X → List Z) → ((x u : X) → v x ≡ v u → f x ≡ f u) → (xs us : List X) → map v xs ≡ map v us → flat_map f xs ≡ flat_map f us
+  same_flat_map f = same_flat_maps f f
 
   -- what is kept of the items has the same images too
   pub same_filter_map : {Y W : Type 0} (w : Y → W) (f : X → Option Y) → ((x u : X) → v x ≡ v u → option_map w (f x) ≡ option_map w (f u)) → (xs us : List X) → map v xs ≡ map v us → map w (filter_map f xs) ≡ map w (filter_map f us)

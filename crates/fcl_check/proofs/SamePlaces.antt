@@ -1,7 +1,7 @@
 -- Lists have the same places where their items have the same images, place by place.
 use Rattle.std.proofs.Common.{◌≡◌, ℕ, Bool, List, [], ◌∷◌, ◌++◌, map, drop, refl, sym, ap, ap₂, ◌∙◌}
 use Rattle.std.specs.Prelude.{◌||◌, is_none, slice_get}
-use Rattle.std.specs.List.{flat_map, list_any}
+use Rattle.std.specs.List.{list_any}
 use Rattle.std.proofs.lemmas.List.{drop-map}
 use Rattle.fcl_check.specs.Faults.{repeated}
 use Rattle.fcl_check.specs.Places.{at_each, at_if, first}
@@ -33,16 +33,6 @@ module _ {X V : Type 0} (v : X → V) where
       let here = same x u (cc) in
       let rest = same_list_any p q same xs us (cc) in
       ap₂ (λ (a b : Bool). a || b) here rest
-
-  -- as `same_flat_map`, for two functions
-  pub same_flat_maps : {Z : Type 0} (f g : X → List Z) → ((x u : X) → v x ≡ v u → f x ≡ g u) → (xs us : List X) → map v xs ≡ map v us → flat_map f xs ≡ flat_map g us
-  same_flat_maps f g same [] [] h = refl
-  same_flat_maps f g same [] (u ∷ us) h = absurd cc
-  same_flat_maps f g same (x ∷ xs) [] h = absurd cc
-  same_flat_maps f g same (x ∷ xs) (u ∷ us) h =
-      let here = same x u (cc) in
-      let rest = same_flat_maps f g same xs us (cc) in
-      cc
 
   pub same_at_each : (f g : List X → X → List ℕ) → ((before others : List X) (x u : X) → map v before ≡ map v others → v x ≡ v u → f before x ≡ g others u) → (before others xs us : List X) → map v before ≡ map v others → map v xs ≡ map v us → at_each f before xs ≡ at_each g others us
   same_at_each f g same before others [] [] e h = refl

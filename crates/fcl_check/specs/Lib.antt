@@ -1,5 +1,5 @@
 pub mod ByLetters
-pub mod Building
+pub mod Spans
 pub mod Places
 pub mod Names
 pub mod Sections

@@ -70,7 +70,7 @@ pub fn load(alloc: Global, tree: &Tree) -> Result<Block, LoadFault>
     if let Some(fault) = first_fault(&names, tree, &rules) {
         return Err(fault);
     }
-    // Nothing is asked of the block that is built: a text spells the tree.
+    // A text spells the tree, so its block is valid without a test.
     spelled_blocks_are_valid();
     Ok(block(alloc, tree, &names)?)
 }

@@ -2,7 +2,7 @@
 
 ghost use Rattle.std.specs.Prelude.{◌≡◌, pos, ◌≤ℤ◌};
 ghost use Rattle.std.specs.Int.{int_min, int_max};
-ghost use Rattle.fcl_check.specs.Building.{ends_in};
+ghost use Rattle.fcl_check.specs.Spans.{ends_in};
 ghost use Rattle.fcl_check.specs.Loaded.{widened};
 ghost use Rattle.fcl_check.specs.Sections.{magnitude, value, is_one, ends_of, lies_in, is_empty_range};
 

@@ -4,7 +4,7 @@ ghost use Rattle.std.specs.Prelude.{◌≡◌, ◌||◌, [], None, Some, filter_
 ghost use Rattle.std.specs.List.{AllZip};
 ghost use Rattle.fcl_syntax.specs.declared.tree.Direction.TheVariants as side;
 ghost use Rattle.fcl_syntax.specs.declared.tree.Part.TheVariants as part;
-ghost use Rattle.fcl_check.specs.Building.{ends_in};
+ghost use Rattle.fcl_check.specs.Spans.{ends_in};
 ghost use Rattle.fcl_check.specs.Faults.{first_fault};
 ghost use Rattle.fcl_check.specs.Known.{Knows};
 ghost use Rattle.fcl_check.specs.Loaded.{IsOutputNamed, IsOutputOf, default_number, given_or, number_of};

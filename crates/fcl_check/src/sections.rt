@@ -7,7 +7,7 @@ ghost use Rattle.fcl_syntax.specs.declared.tree.Point.{Point};
 ghost use Rattle.fcl_syntax.specs.declared.tree.Singleton.{Singleton};
 ghost use Rattle.fcl_syntax.specs.declared.tree.Term.{Term};
 ghost use Rattle.fz_num.specs.declared.dec.Dec.{Dec};
-ghost use Rattle.fcl_check.specs.Building.{ends_in};
+ghost use Rattle.fcl_check.specs.Spans.{ends_in};
 ghost use Rattle.fcl_check.specs.Steps.{completes, extended};
 ghost use Rattle.fcl_check.specs.Faults.{is_declared_as};
 ghost use Rattle.fcl_check.specs.Known.{Knows};

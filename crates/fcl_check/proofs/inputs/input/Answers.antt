@@ -1,4 +1,4 @@
-use Rattle.fcl_check.specs.Building.{ends_in}
+use Rattle.fcl_check.specs.Spans.{ends_in}
 use Rattle.fcl_check.proofs.Present.{input_range_there, mapped_there}
 use Rattle.fcl_check.proofs.inputs.input.Goals as goal
 

@@ -1,5 +1,5 @@
 use Rattle.std.proofs.Common.{None, Some, ap, arith, ◌∙◌}
-use Rattle.fcl_check.specs.Building.{ends_in}
+use Rattle.fcl_check.specs.Spans.{ends_in}
 use Rattle.fcl_check.proofs.OutputLines.{hull-found, hull-passed}
 use Rattle.fcl_check.proofs.outputs.hull.Goals as goal
 use Rattle.fcl_check.proofs.outputs.hull.Goals.{in-Some+in-Some-hull, in-Some+in-None, in_default}

@@ -1,4 +1,4 @@
-use Rattle.fcl_check.specs.Building.{ends_in}
+use Rattle.fcl_check.specs.Spans.{ends_in}
 use Rattle.fcl_check.proofs.Present.{mapped_there, output_span_there}
 use Rattle.fcl_check.proofs.Scales.{output_span-in}
 use Rattle.fcl_check.proofs.outputs.output.Goals as goal

@@ -1,7 +1,7 @@
 use Rattle.std.proofs.Common.{◌≡◌, drop, map}
 use Rattle.std.specs.Prelude.{option_map}
 use Rattle.std.specs.List.{filter_map, flat_map}
-use Rattle.fcl_check.specs.Building.{ends_in}
+use Rattle.fcl_check.specs.Spans.{ends_in}
 use Rattle.fcl_check.specs.Names.{term_of}
 use Rattle.fcl_check.specs.Sections.{abscissas, hull_of, points_of, x_of}
 use Rattle.fcl_check.specs.Steps.{extended}

@@ -1,5 +1,5 @@
 use Rattle.std.proofs.Common.{◌≡◌, drop, map}
-use Rattle.fcl_check.specs.Building.{ends_in}
+use Rattle.fcl_check.specs.Spans.{ends_in}
 use Rattle.fcl_check.specs.Sections.{reach, x_of}
 use Rattle.fcl_check.proofs.sections.with_points.Given as goal
 
