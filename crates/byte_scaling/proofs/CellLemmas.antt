@@ -5,13 +5,13 @@ use Rattle.std.proofs.lemmas.Bool.Decides.{nat_tests}
 use Rattle.fz_num.specs.Fractions.{Fraction, over}
 use Rattle.std.proofs.lemmas.Nat.{le-div}
 use Rattle.std.proofs.lemmas.Int.{ints}
-use Rattle.std.specs.Prelude.{◌≤ℤ◌, ◌<ℤ◌}
+use Rattle.std.specs.Prelude.{◌≤ℤ◌, ◌<ℤ◌, ◌==◌}
 use Rattle.fz_num.specs.declared.dec.Dec.{Dec}
 use Rattle.fz_num.specs.Decimals.{distance}
 use Rattle.fuzzy_meaning.specs.declared.block.Input.{Input}
 use Rattle.fuzzy_meaning.specs.declared.block.Output.{Output}
 use Rattle.fuzzy_meaning.specs.Blocks.{IsWithin}
-use Rattle.byte_scaling.specs.Cells.{inside, at_end, byte_of, nearest_byte, IsInCell, IsNearest, CellsAreApart}
+use Rattle.byte_scaling.specs.Cells.{IsFromTo, inside, at_end, cell_start, cell_end, byte_of, nearest_byte, IsInCell, IsNearest, CellsAreApart}
 
 -- a place of the range lies in the cell of its part, the high end in the last
 pub IsInCell-part : (w d : ℕ) → 0 < w → d ≤ w → IsInCell w (min 255 (d * 256 / w)) (over d 1)
@@ -20,13 +20,13 @@ IsInCell-part w d h le = ⊎_elim
     let e : d * 256 / w ≡ min 255 (d * 256 / w) = omega arith in
     let from : d * 256 / w * w * 1 ≤ d * 256 = omega arith in
     let to : d * 256 < (d * 256 / w + 1) * w * 1 = omega arith in
-    subst (λ b. IsInCell w b (over d 1)) e (inside (record { cross = from }) (record { cross = to })))
+    subst (λ b. IsInCell w b (over d 1)) e (record { proper = record { pos = omega arith }; place = inside (record { cross = from }) (record { cross = to }) }))
     (λ (l : 256 ≤ d * 256 / w).
     let e : 255 ≡ min 255 (d * 256 / w) = omega arith in
     let many : 256 * w ≤ d * 256 / w * w = mul-le-mul_right w l in
     let from : 255 * w * 1 ≤ d * 256 = omega arith in
     let to : d * 256 ≤ (255 + 1) * w * 1 = omega arith in
-    subst (λ b. IsInCell w b (over d 1)) e (at_end (record { cross = from }) (record { cross = to }) refl))
+    subst (λ b. IsInCell w b (over d 1)) e (record { proper = record { pos = omega arith }; place = at_end (record { cross = from }) (record { cross = to }) refl }))
     (cases_lt (d * 256 / w) 256)
 
 -- the quotient rounded to the nearest, a tie going up
@@ -60,11 +60,14 @@ crossed_cells w b c x lt to from =
     let m : (b + 1) * (w * x.den) ≤ c * (w * x.den) = mul-le-mul_right (w * x.den) (omega arith) in
     omega arith
 
+abbrev IsPlaced : ℕ → ℕ → Fraction → Type 0
+IsPlaced w b x = IsFromTo (cell_start w b) (cell_end w b) (b == 255) x
+
 -- a place of a cell is below every cell after it
-before-next : (w b c : ℕ) (x : Fraction) → c ≤ 255 → b < c → IsInCell w b x → IsInCell w c x → ⊥
+before-next : (w b c : ℕ) (x : Fraction) → c ≤ 255 → b < c → IsPlaced w b x → IsPlaced w c x → ⊥
 before-next w b c x hc lt (at_end from to last) later = let is : b ≡ 255 = grind (arith, nat_tests) in omega arith
 before-next w b c x hc lt (inside from to) (inside from' to') = crossed_cells w b c x lt to.cross from'.cross
 before-next w b c x hc lt (inside from to) (at_end from' to' last) = crossed_cells w b c x lt to.cross from'.cross
 
 pub cells_apart : CellsAreApart
-cells_apart w b c x hb hc in_b in_c = ⊎_elim (λ e. e) (λ less. ⊎_elim (λ (l : b < c). absurd (before-next w b c x hc l in_b in_c)) (λ (l : c < b). absurd (before-next w c b x hb l in_c in_b)) less) (cases_order b c)
+cells_apart w b c x hb hc in_b in_c = ⊎_elim (λ e. e) (λ less. ⊎_elim (λ (l : b < c). absurd (before-next w b c x hc l in_b.place in_c.place)) (λ (l : c < b). absurd (before-next w c b x hb l in_c.place in_b.place)) less) (cases_order b c)

@@ -1,7 +1,7 @@
 -- Bytes of a range, and their cells.
-use Rattle.std.specs.Prelude.{◌≡◌, ℕ, ◌+◌, ◌*◌, ◌/◌, ◌<◌, ◌≤◌, min, Bool, IsTrue, ◌==◌, pos, ◌+ℤ◌, ◌*ℤ◌}
+use Rattle.std.specs.Prelude.{◌≡◌, ℕ, ◌+◌, ◌*◌, ◌/◌, ◌<◌, ◌≤◌, min, Bool, IsTrue, ◌==◌, pos, ◌+ℤ◌, ◌*ℤ◌, ◌≤ℤ◌}
 use Rattle.fz_num.specs.declared.dec.Dec.{Dec}
-use Rattle.fz_num.specs.Fractions.{Fraction, over, AtMost, IsBelow}
+use Rattle.fz_num.specs.Fractions.{Fraction, over, IsProper, AtMost, IsBelow}
 use Rattle.fz_num.specs.Fracs.{Quotient}
 use Rattle.fz_num.specs.Decimals.{distance}
 use Rattle.fuzzy_meaning.specs.declared.block.Input.{Input}
@@ -24,21 +24,31 @@ abbrev pub cell_end : ℕ → ℕ → Fraction
 cell_end w b = over ((b + 1) * w) 256
 
 -- x, measured from the low end, lies in the half-open cell of byte b; the last cell has its high end
-abbrev pub IsInCell : ℕ → ℕ → Fraction → Type 0
-IsInCell w b x = IsFromTo (cell_start w b) (cell_end w b) (b == 255) x
+pub record IsInCell (w b : ℕ) (x : Fraction) : Type 0 where
+  pub proper : IsProper x
+  pub place : IsFromTo (cell_start w b) (cell_end w b) (b == 255) x
 
 -- the number x lies in the cell of byte b of an input's range
-abbrev pub LiesInCell : Input → ℕ → Dec → Type 0
-LiesInCell i b x = IsInCell (distance i.lo i.hi) b (over (distance i.lo x) 1)
+pub record LiesInCell (i : Input) (b : ℕ) (x : Dec) : Type 0 where
+  pub from_low : i.lo.0 ≤ℤ x.0
+  pub cell : IsInCell (distance i.lo i.hi) b (over (distance i.lo x) 1)
 
 -- s/255 is the nearest such fraction to d/w, and of two the higher
 pub record IsNearest (w d s : ℕ) : Type 0 where
   pub above : (2 * s) * w ≤ 510 * d + w
   pub below : 510 * d < (2 * s + 1) * w
 
--- the number that byte q stands for, in units of 1: q/255 of the range above its low end
+-- the number that an answer in h parts to a byte stands for, in units of 1: q/(255 h) of the range above its low end
+abbrev pub value_in : ℕ → Output → ℕ → Quotient
+value_in h o q = record { num = pos (255 * h) *ℤ o.lo.0 +ℤ pos (q * distance o.lo o.hi); den = 10000 * (255 * h) }
+
+-- of a byte
 abbrev pub value_of : Output → ℕ → Quotient
-value_of o q = record { num = pos 255 *ℤ o.lo.0 +ℤ pos (q * distance o.lo o.hi); den = 2550000 }
+value_of o q = value_in 1 o q
+
+-- of 16 bits, from 0 to 65280
+abbrev pub wide_value_of : Output → ℕ → Quotient
+wide_value_of o q = value_in 256 o q
 
 -- the byte nearest to x in an output's range, a tie going up
 abbrev pub nearest_byte : Output → Dec → ℕ

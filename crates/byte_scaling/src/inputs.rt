@@ -1,7 +1,7 @@
 //! Bytes of an input's range.
 ghost use Rattle.std.specs.Prelude.{◌≡◌, ◌↔◌, ◌+◌, IsOk, IfOk};
 ghost use Rattle.fz_num.specs.Fractions.{over};
-ghost use Rattle.fz_num.specs.Fracs.{fraction_of};
+ghost use Rattle.fz_num.specs.Fracs.{fraction_of, IsTruth};
 ghost use Rattle.fuzzy_meaning.specs.Blocks.{IsValidInput, IsWithin};
 ghost use Rattle.byte_scaling.specs.Cells.{byte_of, LiesInCell, CellsAreApart};
 
@@ -41,6 +41,8 @@ pub fn byte_within(input: &Input, x: Dec) -> u8
 pub fn cell(_input: &Input, b: u8) -> (Frac, Frac)
     ensures low { fraction_of result.0 ≡ over b 256 }
     ensures high { fraction_of result.1 ≡ over (b + 1) 256 }
+    ensures low_truth { IsTruth 256 result.0 }
+    ensures high_truth { IsTruth 256 result.1 }
 {
     let low = i128::from(b);
     (

@@ -1,5 +1,6 @@
 //! Numbers as bytes and back: the byte of a number in an input's range and that byte's cell, the
-//! number that an output byte stands for, the byte nearest to a number, and a weight's byte.
+//! number that an output's byte or its answer of 16 bits stands for, the byte nearest to a number,
+//! and a weight's byte.
 //!
 //! A range is cut into 256 half-open cells of one width, the last with its high end: a number lies
 //! in the cell of its byte. Each call gives exactly the value of its definition, and none takes
@@ -11,7 +12,7 @@ mod outputs;
 mod weights;
 
 pub use inputs::{OutOfRange, byte_within, cell, cells_are_apart, to_byte};
-pub use outputs::{near, value};
+pub use outputs::{near, value, value16};
 pub use weights::weight_byte;
 
 #[cfg(test)]

@@ -2,7 +2,7 @@
 ghost use Rattle.std.specs.Prelude.{◌≡◌, pos};
 ghost use Rattle.fz_num.specs.Decimals.{distance};
 ghost use Rattle.fuzzy_meaning.specs.Blocks.{IsValidOutput, IsWithin};
-ghost use Rattle.byte_scaling.specs.Cells.{value_of, nearest_byte, IsNearest};
+ghost use Rattle.byte_scaling.specs.Cells.{value_of, wide_value_of, nearest_byte, IsNearest};
 
 use fuzzy_meaning::Output;
 use fz_num::{Dec, Frac};
@@ -17,6 +17,20 @@ pub fn value(output: &Output, q: u8) -> Frac
     Frac {
         num: 255 * i128::from(output.lo.0) + i128::from(above),
         den: 2_550_000,
+    }
+}
+
+/// The number that an answer of 16 bits stands for: a/65280 of the range above its low end, in units
+/// of 1. An answer is 0 to 65280.
+pub fn value16(output: &Output, a: u16) -> Frac
+    requires { IsValidOutput output.now }
+    ensures num { result.num ≡ (wide_value_of output.now a).num }
+    ensures den { result.den ≡ pos (wide_value_of output.now a).den }
+{
+    let above = u64::from(a) * output.hi.above(output.lo);
+    Frac {
+        num: 65280 * i128::from(output.lo.0) + i128::from(above),
+        den: 652_800_000,
     }
 }
 

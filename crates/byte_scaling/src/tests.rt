@@ -2,7 +2,7 @@
 ghost use Rattle.std.specs.Prelude.{◌≡◌, IfOk, pos, negsuc};
 ghost use Rattle.fuzzy_meaning.specs.Blocks.{IsValidInput, IsValidOutput};
 
-use crate::{OutOfRange, cell, near, to_byte, value, weight_byte};
+use crate::{OutOfRange, cell, near, to_byte, value, value16, weight_byte};
 use fuzzy_meaning::{Input, Output, Trapezoid};
 use fz_list::List;
 use fz_num::Dec;
@@ -81,6 +81,8 @@ fn the_nearest_byte_of_a_tie_is_the_higher(rt: HostRuntime) -> Result<(), Fail> 
     }
     let number = value(&output, 51);
     assert_eq!(rt; number.num, number.den);
+    let number = value16(&output, 51 * 256 + 128);
+    assert_eq!(rt; 2 * number.num, 3 * number.den);
     Ok(())
 }
 

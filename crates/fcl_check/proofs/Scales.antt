@@ -24,6 +24,9 @@ pub record AreInScale (e : Ends) : Type 0 where
   pub lo : IsInScale e.0
   pub hi : IsInScale e.1
 
+pub IsInScale-between : (e : Ends) (z : ℤ) → AreInScale e → (e.0 ≤ℤ z) × (z ≤ℤ e.1) → IsInScale z
+IsInScale-between e z h inside = record { low = (let from = h.lo.low in omega (arith, ints, inside.0)); high = (let to = h.hi.high in omega (arith, ints, inside.1)) }
+
 IsInScale-to_scale : (z : ℤ) → IsInScale (to_scale z)
 IsInScale-to_scale z = record { low = omega (arith, ints, clamps); high = omega (arith, ints, clamps) }
 

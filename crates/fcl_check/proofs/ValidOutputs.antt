@@ -7,7 +7,7 @@ use Rattle.std.proofs.lemmas.List.{length-map}
 use Rattle.std.proofs.lemmas.List.Elements.{All-from_recursion}
 use Rattle.fz_num.specs.declared.dec.Dec.{Dec}
 use Rattle.fuzzy_meaning.specs.declared.block.Output.{Output}
-use Rattle.fuzzy_meaning.specs.Blocks.{IsValidOutput, IsWithin}
+use Rattle.fuzzy_meaning.specs.Blocks.{IsValidOutput, IsInScale, IsWithin}
 use Rattle.fcl_syntax.specs.declared.tree.Defuzzify.{Defuzzify}
 use Rattle.fcl_syntax.specs.declared.tree.DefuzzyLine.{DefuzzyLine}
 use Rattle.fcl_syntax.specs.declared.tree.DefuzzyLine.TheVariants as defuzzy
@@ -26,7 +26,7 @@ use Rattle.fcl_check.specs.Sections.{Ends, default_line, default_of, defuzzy_ran
 use Rattle.fcl_check.proofs.Elements.{all_mapped, all_unmapped, all_weaker, rest_of}
 use Rattle.fcl_check.proofs.Faultless.{IsSoundPart, no_place}
 use Rattle.fcl_check.proofs.Ranges.{In, all_inside, hull-ordered, hull-over, not_empty, widened-ordered, widened-over}
-use Rattle.fcl_check.proofs.Scales.{IsWide, IsWide-widened, output_span, output_span-in}
+use Rattle.fcl_check.proofs.Scales.{IsWide, IsWide-widened, IsInScale-between, output_span, output_span-in}
 use Rattle.fcl_check.proofs.Counts.{few_items, some_item}
 
 -- ---- the numbers of lines
@@ -99,20 +99,32 @@ module _ (text : List ℕ) (b : FunctionBlock) where
       let range = range_of s (defuzzy_range s) span from.1 sound.numbers sound.range in
       let wide : IsWide e = subst IsWide (sym from.2) (IsWide-widened span (output_span-in s span from.1)) in
       let ordered : e.0 <ℤ e.1 = subst (λ (f : Ends). f.0 <ℤ f.1) (sym from.2) (widened-ordered span range.0) in
-      let all : AllByRecursion (λ (n : ℤ × ℕ). In e n.0) (output_numbers s) = subst (λ (f : Ends). AllByRecursion (λ (n : ℤ × ℕ). In f n.0) (output_numbers s)) (sym from.2) (all_weaker (λ (n : ℤ × ℕ). In span n.0) (λ (n : ℤ × ℕ). In (widened span) n.0) (λ (n : ℤ × ℕ) h. widened-over span n.0 h) (output_numbers s) range.1) in
-      let values : AllByRecursion (In e) (map (λ (d : Dec). d.0) y.singletons) = rw (of.singletons) (all_mapped (In e) (λ (t : Singleton). value t.value) singles (all_singletons (In e) s.lines.items all)) in
+      let ends = output_span-in s span from.1 in
+      let all : AllByRecursion (λ (n : ℤ × ℕ). Here n.0) (output_numbers s) =
+      all_weaker (λ (n : ℤ × ℕ). In span n.0) (λ (n : ℤ × ℕ). Here n.0) (λ (n : ℤ × ℕ) h. (subst (λ (f : Ends). In f n.0) (sym from.2) (widened-over span n.0 h), IsInScale-between span n.0 ends h)) (output_numbers s) range.1 in
+      let values : AllByRecursion Here (map (λ (d : Dec). d.0) y.singletons) = rw (of.singletons) (all_mapped Here (λ (t : Singleton). value t.value) singles (all_singletons Here s.lines.items all)) in
       let long : length y.singletons ≡ length singles = sym (length-map y.singletons (λ (d : Dec). d.0)) ∙ ap length of.singletons ∙ length-map singles (λ (t : Singleton). value t.value) in
-      let default : IfSome y.default (λ (d : Dec). In e d.0) = default_in (In e) (default_of s) y.default of.default (λ d n found is. at_default (In e) s.lines.items d n all found is) in
+      let found = all_unmapped Here (λ (d : Dec). d.0) y.singletons values in
+      let default : IfSome y.default (λ (d : Dec). Here d.0) = default_in Here (default_of s) y.default of.default (λ d n found is. at_default Here s.lines.items d n all found is) in
       record {
         lo_in = wide.lo;
         hi_in = wide.hi;
         range = ordered;
         some_term = omega (arith, long, some_item singles s.end sound.some);
         few_terms = omega (arith, long, few_items 15 (λ (t : Singleton). t.name.at) singles sound.few);
-        singletons = All-from_recursion (IsWithin y.lo y.hi) y.singletons (all_weaker (λ (d : Dec). In e d.0) (IsWithin y.lo y.hi) (λ (d : Dec) h. record { low = h.0; high = h.1 }) y.singletons (all_unmapped (In e) (λ (d : Dec). d.0) y.singletons values));
+        singletons = All-from_recursion (IsWithin y.lo y.hi) y.singletons (all_weaker (λ (d : Dec). Here d.0) (IsWithin y.lo y.hi) (λ (d : Dec) h. record { low = h.0.0; high = h.0.1 }) y.singletons found);
+        singletons_in_scale = All-from_recursion (λ (d : Dec). IsInScale d.0) y.singletons (all_weaker (λ (d : Dec). Here d.0) (λ (d : Dec). IsInScale d.0) (λ (d : Dec) h. h.1) y.singletons found);
         default_in = within y.default default;
+        default_in_scale = in_scale y.default default;
       }
     where
-      within : (o : Option Dec) → IfSome o (λ (d : Dec). In (y.lo.0, y.hi.0) d.0) → IfSome o (IsWithin y.lo y.hi)
+      Here : ℤ → Type 0
+      Here n = In (y.lo.0, y.hi.0) n × IsInScale n
+
+      within : (o : Option Dec) → IfSome o (λ (d : Dec). Here d.0) → IfSome o (IsWithin y.lo y.hi)
       within None h = tt
-      within (Some d) h = record { low = h.0; high = h.1 }
+      within (Some d) h = record { low = h.0.0; high = h.0.1 }
+
+      in_scale : (o : Option Dec) → IfSome o (λ (d : Dec). Here d.0) → IfSome o (λ (d : Dec). IsInScale d.0)
+      in_scale None h = tt
+      in_scale (Some d) h = h.1

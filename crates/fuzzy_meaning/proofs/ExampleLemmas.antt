@@ -6,6 +6,7 @@ use Rattle.std.proofs.lemmas.Int.{ints}
 use Rattle.std.proofs.lemmas.List.{length-replicate}
 use Rattle.std.proofs.lemmas.List.Elements.{All-replicate}
 use Rattle.std.proofs.lemmas.List.Folds.{sum_by-replicate}
+use Rattle.fz_num.specs.declared.dec.Dec.{Dec}
 use Rattle.fuzzy_meaning.specs.declared.block.Block.{Block}
 use Rattle.fuzzy_meaning.specs.declared.block.Rule.{Rule}
 use Rattle.fuzzy_meaning.specs.declared.block.Cond.{Cond, Is, Not', the_lemmas}
@@ -58,6 +59,12 @@ one_conclusion b o t h = All-cons (λ (c : ℕ × ℕ). HasSingleton b c.0 c.1) 
 size_of_two : (r s : Rule) → rule_size r ≤ 10 → rule_size s ≤ 10 → sum_by rule_size (r ∷ s ∷ []) ≤ 1048576
 size_of_two r s h k = omega arith
 
+-- the singletons 0 and 100
+ends_in_scale : All (λ (u : Dec). IsInScale u.0) (dec (pos 0) ∷ dec (pos 1000000) ∷ [])
+ends_in_scale =
+    let InScale = λ (u : Dec). IsInScale u.0 in
+    All-cons InScale (dec (pos 0)) (dec (pos 1000000) ∷ []) (scale 0 (omega arith)) (All-cons InScale (dec (pos 1000000)) [] (scale 1000000 (omega arith)) (All-none InScale))
+
 pub heater_valid : IsValid heater
 heater_valid =
     let cold_rule : Rule = record { cond = Is 1 1; weight = None; concl = (1, 1) ∷ [] } in
@@ -70,7 +77,7 @@ heater_valid =
       some_rule = omega arith;
       few_rules = omega arith;
       inputs = All-cons IsValidInput _ [] (record { lo_in = scale 0 (omega arith); hi_in = scale 2560000 (omega arith); range = omega (arith, ints); some_term = omega arith; few_terms = omega arith; terms = All-cons (IsValidTerm (dec (pos 0)) (dec (pos 2560000))) cold (hot ∷ []) cold_valid (All-cons (IsValidTerm (dec (pos 0)) (dec (pos 2560000))) hot [] hot_valid (All-none (IsValidTerm (dec (pos 0)) (dec (pos 2560000))))) }) (All-none IsValidInput);
-      outputs = All-cons IsValidOutput _ [] (record { lo_in = scale 0 (omega arith); hi_in = omega (arith, ints); range = omega (arith, ints); some_term = omega arith; few_terms = omega arith; singletons = All-cons (IsWithin (dec (pos 0)) (dec (pos 1000000))) (dec (pos 0)) (dec (pos 1000000) ∷ []) (within 0 1000000 0 (omega arith) (omega arith)) (All-cons (IsWithin (dec (pos 0)) (dec (pos 1000000))) (dec (pos 1000000)) [] (within 0 1000000 1000000 (omega arith) (omega arith)) (All-none (IsWithin (dec (pos 0)) (dec (pos 1000000))))); default_in = within 0 1000000 0 (omega arith) (omega arith) }) (All-none IsValidOutput);
+      outputs = All-cons IsValidOutput _ [] (record { lo_in = scale 0 (omega arith); hi_in = omega (arith, ints); range = omega (arith, ints); some_term = omega arith; few_terms = omega arith; singletons = All-cons (IsWithin (dec (pos 0)) (dec (pos 1000000))) (dec (pos 0)) (dec (pos 1000000) ∷ []) (within 0 1000000 0 (omega arith) (omega arith)) (All-cons (IsWithin (dec (pos 0)) (dec (pos 1000000))) (dec (pos 1000000)) [] (within 0 1000000 1000000 (omega arith) (omega arith)) (All-none (IsWithin (dec (pos 0)) (dec (pos 1000000))))); singletons_in_scale = ends_in_scale; default_in = within 0 1000000 0 (omega arith) (omega arith); default_in_scale = scale 0 (omega arith) }) (All-none IsValidOutput);
       rules = All-cons (IsValidRule heater) cold_rule (hot_rule ∷ []) (plain_rule heater cold_rule (is 1 1) (condition_of-Is 1 1) (record { input_from = omega arith; term_from = omega arith; term_to = omega arith }) (omega arith) tt (omega arith) (one_conclusion heater 1 1 (record { output_from = omega arith; term_from = omega arith; term_to = omega arith })))
           (All-cons (IsValidRule heater) hot_rule [] (plain_rule heater hot_rule (is 1 2) (condition_of-Is 1 2) (record { input_from = omega arith; term_from = omega arith; term_to = omega arith }) (omega arith) tt (omega arith) (one_conclusion heater 1 2 (record { output_from = omega arith; term_from = omega arith; term_to = omega arith }))) (All-none (IsValidRule heater)));
       size = size_of_two cold_rule hot_rule (let n = ap nodes (condition_of-Is 1 1) in omega (arith, n)) (let n = ap nodes (condition_of-Is 1 2) in omega (arith, n));
@@ -92,7 +99,7 @@ latch_valid p =
       some_rule = omega arith;
       few_rules = omega arith;
       inputs = All-cons IsValidInput _ [] (record { lo_in = scale 0 (omega arith); hi_in = scale 2560000 (omega arith); range = omega (arith, ints); some_term = omega arith; few_terms = omega arith; terms = All-cons IsTerm (step_at 640000) (step_at 1920000 ∷ []) (step_valid 640000 (omega arith)) (All-cons IsTerm (step_at 1920000) [] (step_valid 1920000 (omega arith)) (All-none IsTerm)) }) (All-none IsValidInput);
-      outputs = All-cons IsValidOutput _ [] (record { lo_in = scale 0 (omega arith); hi_in = omega (arith, ints); range = omega (arith, ints); some_term = omega arith; few_terms = omega arith; singletons = All-cons IsPoint (dec (pos 0)) (dec (pos 1000000) ∷ []) (within 0 1000000 0 (omega arith) (omega arith)) (All-cons IsPoint (dec (pos 1000000)) [] (within 0 1000000 1000000 (omega arith) (omega arith)) (All-none IsPoint)); default_in = tt }) (All-none IsValidOutput);
+      outputs = All-cons IsValidOutput _ [] (record { lo_in = scale 0 (omega arith); hi_in = omega (arith, ints); range = omega (arith, ints); some_term = omega arith; few_terms = omega arith; singletons = All-cons IsPoint (dec (pos 0)) (dec (pos 1000000) ∷ []) (within 0 1000000 0 (omega arith) (omega arith)) (All-cons IsPoint (dec (pos 1000000)) [] (within 0 1000000 1000000 (omega arith) (omega arith)) (All-none IsPoint)); singletons_in_scale = ends_in_scale; default_in = tt; default_in_scale = tt }) (All-none IsValidOutput);
       rules = All-cons (IsValidRule b) on_rule (off_rule ∷ []) (plain_rule b on_rule (negation (is 1 1)) not_mid (record { input_from = omega arith; term_from = omega arith; term_to = omega arith }) (omega arith) tt (omega arith) (one_conclusion b 1 2 (record { output_from = omega arith; term_from = omega arith; term_to = omega arith })))
           (All-cons (IsValidRule b) off_rule [] (plain_rule b off_rule (is 1 2) (condition_of-Is 1 2) (record { input_from = omega arith; term_from = omega arith; term_to = omega arith }) (omega arith) tt (omega arith) (one_conclusion b 1 1 (record { output_from = omega arith; term_from = omega arith; term_to = omega arith }))) (All-none (IsValidRule b)));
       size = size_of_two on_rule off_rule (let n = ap nodes not_mid in omega (arith, n)) (let n = ap nodes (condition_of-Is 1 2) in omega (arith, n));
@@ -132,7 +139,9 @@ full_output_valid = record {
   some_term = omega (arith, length-replicate 15 (dec (pos 1000000000)));
   few_terms = omega (arith, length-replicate 15 (dec (pos 1000000000)));
   singletons = All-replicate (IsWithin full_output.lo full_output.hi) 15 (dec (pos 1000000000)) (within 1000000000 1000010000 1000000000 (omega arith) (omega arith));
+  singletons_in_scale = All-replicate (λ (u : Dec). IsInScale u.0) 15 (dec (pos 1000000000)) (scale 1000000000 (omega arith));
   default_in = within 1000000000 1000010000 1000000000 (omega arith) (omega arith);
+  default_in_scale = scale 1000000000 (omega arith);
 }
 
 full_rule_valid : (p : Box (Unit {0})) → IsValidRule (full p) (full_rule p)

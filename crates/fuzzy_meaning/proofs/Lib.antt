@@ -3,3 +3,4 @@ pub mod ConditionLemmas
 pub mod ShareLemmas
 pub mod ExampleLemmas
 pub mod DegreeLemmas
+pub mod PlaceLemmas

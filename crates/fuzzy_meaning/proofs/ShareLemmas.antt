@@ -1,11 +1,10 @@
 -- Sums over shares, and over those alone that have a mass.
-use Rattle.std.proofs.Common.{◌≡◌, ℕ, zero, suc, ◌+◌, ◌-◌, ◌*◌, ◌<◌, ◌≤◌, Bool, true, false, cond, List, [], ◌∷◌, ◌++◌, length, get_or, drop, drop-cons, refl, sym, ap, ap₂, ◌∙◌, subst, arith, mul-pos}
+use Rattle.std.proofs.Common.{◌≡◌, ℕ, zero, suc, ◌+◌, ◌-◌, ◌*◌, ◌<◌, ◌≤◌, Bool, true, false, cond, List, [], ◌∷◌, length, get_or, drop, drop-cons, refl, sym, ap, ap₂, ◌∙◌, subst, arith, mul-pos}
 use Rattle.std.specs.Prelude.{ℤ, pos, ◌+ℤ◌, ◌*ℤ◌, ◌<ℤ◌, unsigned_abs, ◌==◌, Some}
 use Rattle.std.proofs.lemmas.Int.{ints}
 use Rattle.std.proofs.lemmas.Bool.Decides.{nat_tests}
 use borrow.Author.Differences.{up, down}
 use Rattle.std.specs.Option.{option_map_or}
-use Rattle.std.proofs.lemmas.List.Sums.{fold-append}
 use Rattle.fz_num.specs.declared.dec.Dec.{Dec}
 use Rattle.fz_num.specs.declared.frac.Frac.{Frac}
 use Rattle.fz_num.specs.Fractions.{Fraction}
@@ -16,7 +15,7 @@ use Rattle.fuzzy_meaning.specs.declared.answers.Held.{Held}
 use Rattle.fuzzy_meaning.specs.declared.answers.Held.TheVariants.{Nothing, One, Two}
 use Rattle.fuzzy_meaning.specs.Blocks.{output_at}
 use Rattle.fuzzy_meaning.specs.Holding.{shares_of, AreSmall, Reduces}
-use Rattle.fuzzy_meaning.specs.Meaning.{Share, mass, shares, shares_from, common_den, total_mass, weighted_sum, has_mass, heavy_shares, heavy_terms, centre, resting, answer_after, first_answer, exact_answer}
+use Rattle.fuzzy_meaning.specs.Meaning.{Share, mass, shares, shares_from, common_den, total_mass, weighted_sum, has_mass, heavy_shares, heavy_terms, centre, resting, answer_after}
 
 pub Reduces-nil : Reduces [] []
 Reduces-nil = record { scale = 1; positive = omega arith; den = refl; total = refl; weighted = omega (arith, ints) }
@@ -141,11 +140,8 @@ total_mass-held (Two a b) small some =
     let both : 0 < unsigned_abs a.mass.num * unsigned_abs b.mass.den = mul-pos na db in
     omega (arith, both)
 
--- the last sample's answer follows the answers before
-pub exact_answer-last : (b : Block) (o : ℕ) (earlier : List (List Dec)) (xs : List Dec) (x : Output) → output_at b o ≡ Some x → exact_answer b o (earlier ++ xs ∷ []) ≡ centre (shares b xs o x) (resting x (exact_answer b o earlier))
-exact_answer-last b o earlier xs x e =
-    let q = exact_answer b o earlier in
-    fold-append (answer_after b o) (first_answer b o) earlier (xs ∷ []) ∙ ap (λ y. option_map_or (λ x. centre (shares b xs o x) (resting x q)) y q) e
+pub answer_after-found : (b : Block) (o : ℕ) (q : Quotient) (xs : List Dec) (x : Output) → output_at b o ≡ Some x → answer_after b o q xs ≡ centre (shares b xs o x) (resting x q)
+answer_after-found b o q xs x e = ap (λ y. option_map_or (λ x. centre (shares b xs o x) (resting x q)) y q) e
 
 pub heavy_terms-found : (b : Block) (o : ℕ) (xs : List Dec) (x : Output) → output_at b o ≡ Some x → heavy_terms b o xs ≡ length (heavy_shares (shares b xs o x))
 heavy_terms-found b o xs x e = ap (λ y. option_map_or (λ x. length (heavy_shares (shares b xs o x))) y 0) e

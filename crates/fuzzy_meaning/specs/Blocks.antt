@@ -71,7 +71,9 @@ pub record IsValidOutput (x : Output) : Type 0 where
   pub some_term : 1 ≤ length x.singletons
   pub few_terms : length x.singletons ≤ 15
   pub singletons : All (IsWithin x.lo x.hi) x.singletons
+  pub singletons_in_scale : All (λ u. IsInScale u.0) x.singletons
   pub default_in : IfSome x.default (IsWithin x.lo x.hi)
+  pub default_in_scale : IfSome x.default (λ d. IsInScale d.0)
 
 -- each literal names a term of the block, and no list is empty
 abbrev mutual

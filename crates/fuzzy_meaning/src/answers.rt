@@ -1,10 +1,9 @@
 //! Exact answers.
-ghost use Rattle.std.specs.Prelude.{◌≡◌, ◌↔◌, ◌+◌, ◌-◌, ◌*◌, ◌<◌, ◌≤◌, None, Some, IfSome, MatchOption, List, [], ◌∷◌, ◌++◌, length, ◌<ℤ◌, ◌≤ℤ◌, ◌*ℤ◌, pos, neg_ℤ, unsigned_abs};
+ghost use Rattle.std.specs.Prelude.{◌≡◌, ◌↔◌, ◌+◌, ◌-◌, ◌*◌, ◌<◌, ◌≤◌, None, Some, IfSome, MatchOption, [], ◌∷◌, length, ◌<ℤ◌, ◌≤ℤ◌, ◌*ℤ◌, pos, neg_ℤ, unsigned_abs};
 ghost use Rattle.fz_num.specs.Fracs.{Quotient, IsValueOf};
-ghost use Rattle.fz_num.specs.declared.dec.Dec.{Dec as Decimal};
 ghost use Rattle.fuzzy_meaning.specs.Blocks.{IsValid, AreInputs, output_at};
 ghost use Rattle.fuzzy_meaning.specs.Holding.{share_of, shares_of, AreSmall, IsSmall, Reduces};
-ghost use Rattle.fuzzy_meaning.specs.Meaning.{shares, heavy_shares, heavy_terms, exact_answer, weighted_sum, total_mass, resting as resting_answer};
+ghost use Rattle.fuzzy_meaning.specs.Meaning.{shares, heavy_shares, heavy_terms, answer_after, weighted_sum, total_mass, resting as resting_answer};
 
 use crate::block::{Block, Output};
 use crate::masses::mass;
@@ -93,7 +92,7 @@ fn times(at: Dec, n: u128) -> i128
 
 /// The exact answer of an output to a sample `xs`, in units of 1, where `before` is its answer
 /// before: the singletons weighted by their masses; where no term has a mass the DEFAULT, and with
-/// NC `before`. `None` exactly where more than two terms have a mass: their common denominator
+/// NC `before`, whatever it is. `None` exactly where more than two terms have a mass: their common denominator
 /// could pass 128 bits.
 pub fn exact(block: &Block, out: u8, xs: &[Dec], before: Frac) -> Option<Frac>
     requires block { IsValid block.now }
@@ -102,7 +101,7 @@ pub fn exact(block: &Block, out: u8, xs: &[Dec], before: Frac) -> Option<Frac>
     requires xs { AreInputs block.now xs.now }
     requires before { pos 0 <ℤ before.den }
     ensures none { (result ≡ None) ↔ (2 < heavy_terms block.now out xs.now) }
-    ensures answer { IfSome result (λ f. (earlier : List (List Decimal)) → IsValueOf (exact_answer block.now out earlier) before → IsValueOf (exact_answer block.now out (earlier ++ xs.now ∷ [])) f) }
+    ensures answer { IfSome result (λ f. (q : Quotient) → IsValueOf q before → IsValueOf (answer_after block.now out q xs.now) f) }
 {
     let output = &block.outputs.as_slice()[out as usize - 1];
     let held = held_terms(block, out, output, xs)?;

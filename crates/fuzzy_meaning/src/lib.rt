@@ -15,7 +15,7 @@ mod truths;
 
 pub use answers::exact;
 pub use block::{Block, Cond, Input, Output, Rule, Trapezoid};
-pub use degrees::degree;
+pub use degrees::{degree, numbers_have_their_degrees};
 pub use examples::{examples_are_valid, heater};
 pub use masses::{mass, strength};
 pub use truths::truth;

@@ -1,5 +1,5 @@
 -- What the fractions of the code stand for.
-use Rattle.std.specs.Prelude.{◌≡◌, ℕ, ℤ, pos, ◌*ℤ◌, ◌≤ℤ◌, ◌<ℤ◌, unsigned_abs}
+use Rattle.std.specs.Prelude.{◌≡◌, ℕ, ◌*◌, ◌<◌, ◌≤◌, ℤ, pos, ◌-ℤ◌, ◌*ℤ◌, ◌≤ℤ◌, ◌<ℤ◌, unsigned_abs}
 use Rattle.fz_num.specs.Fractions.{Fraction, over}
 use Rattle.fz_num.specs.declared.frac.Frac.{Frac}
 
@@ -23,3 +23,8 @@ pub record Quotient : Type 0 where
 pub record IsValueOf (q : Quotient) (f : Frac) : Type 0 where
   pub den_from : pos 0 <ℤ f.den
   pub cross : f.num *ℤ pos q.den ≡ q.num *ℤ f.den
+
+-- |p - q| is at most e millionths of a range, whose width w is in 1/10000
+pub record IsClose (w e : ℕ) (p q : Quotient) : Type 0 where
+  pub dens : 0 < p.den * q.den
+  pub cross : unsigned_abs (p.num *ℤ pos q.den -ℤ q.num *ℤ pos p.den) * 10000000000 ≤ e * w * (p.den * q.den)

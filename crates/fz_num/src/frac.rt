@@ -25,6 +25,8 @@ impl Frac {
     /// A number over another.
     pub fn over(num: u64, den: u64) -> Frac
         requires { 0 < den }
+        ensures num { result.num ≡ pos num }
+        ensures den { result.den ≡ pos den }
         ensures value { fraction_of result ≡ over num den }
         ensures truth { num ≤ den → IsTruth den result }
     {

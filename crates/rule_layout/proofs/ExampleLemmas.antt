@@ -10,7 +10,7 @@ use Rattle.fuzzy_meaning.specs.declared.block.Output.{Output}
 use Rattle.fuzzy_meaning.specs.declared.block.Rule.{Rule}
 use Rattle.fuzzy_meaning.specs.declared.block.Trapezoid.{Trapezoid}
 use Rattle.fuzzy_meaning.specs.declared.block.Cond.{Cond}
-use Rattle.fuzzy_meaning.specs.Blocks.{IsValid, IsValidInput, IsValidOutput, IsValidRule, IsValidTerm, IsValidCondition, AreValidConditions, AllValidConditions, HasTerm, HasSingleton, IsWithin, IsWeight}
+use Rattle.fuzzy_meaning.specs.Blocks.{IsValid, IsValidInput, IsValidOutput, IsValidRule, IsValidTerm, IsValidCondition, AreValidConditions, AllValidConditions, HasTerm, HasSingleton, IsInScale, IsWithin, IsWeight}
 use Rattle.fuzzy_meaning.specs.Conditions.{Condition, is, negation, all, any, Conditions, end, also, conditions, condition_of}
 use Rattle.rule_layout.specs.Examples.{NamesOneInput, SomeNameOneInput, AllNameOneInput, IsOnOneInput, factor, factors}
 
@@ -75,7 +75,9 @@ module _ (c : Cond) (w : Option Dec) where
     some_term = omega arith;
     few_terms = omega arith;
     singletons = All-cons (IsWithin (dec 0) (dec 1)) (dec 1) [] (record { low = omega (arith, ints); high = omega (arith, ints) }) (All-nil (IsWithin (dec 0) (dec 1)));
+    singletons_in_scale = All-cons (λ (u : Dec). IsInScale u.0) (dec 1) [] (record { low = omega (arith, ints); high = omega (arith, ints) }) (All-nil (λ (u : Dec). IsInScale u.0));
     default_in = tt;
+    default_in_scale = tt;
   }
 
   valid_rule : IsOnOneInput (condition_of c) → IfSome w IsWeight → IsValidRule (block c w) (rule c w)

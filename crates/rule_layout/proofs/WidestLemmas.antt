@@ -11,7 +11,7 @@ use Rattle.fuzzy_meaning.specs.declared.block.Block.{Block}
 use Rattle.fuzzy_meaning.specs.declared.block.Input.{Input}
 use Rattle.fuzzy_meaning.specs.declared.block.Output.{Output}
 use Rattle.fuzzy_meaning.specs.declared.block.Rule.{Rule}
-use Rattle.fuzzy_meaning.specs.Blocks.{IsValid, IsValidInput, IsValidOutput, IsValidRule, IsValidTerm, IsValidCondition, HasTerm, HasSingleton, IsWithin, IsWeight, rule_size}
+use Rattle.fuzzy_meaning.specs.Blocks.{IsValid, IsValidInput, IsValidOutput, IsValidRule, IsValidTerm, IsValidCondition, HasTerm, HasSingleton, IsInScale, IsWithin, IsWeight, rule_size}
 use Rattle.fuzzy_meaning.specs.Conditions.{Condition, depth, nodes}
 use Rattle.rule_layout.specs.Grid.{IsInGrid}
 use Rattle.rule_layout.specs.Widest.{origin, point, term_anywhere, input_of_15, output_of, IsNegatedRule}
@@ -37,7 +37,9 @@ valid_output n from to = record {
   some_term = omega (arith, length-replicate n point);
   few_terms = omega (arith, length-replicate n point);
   singletons = All-replicate (IsWithin origin point) n point (record { low = omega (arith, ints); high = omega (arith, ints) });
+  singletons_in_scale = All-replicate (λ (u : Dec). IsInScale u.0) n point (record { low = omega (arith, ints); high = omega (arith, ints) });
   default_in = tt;
+  default_in_scale = tt;
 }
 
 module _ (b : Block) (n : ℕ) (ei : b.inputs ≡ replicate 8 input_of_15) (eo : b.outputs ≡ (output_of n ∷ [])) where

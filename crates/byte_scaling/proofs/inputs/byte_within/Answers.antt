@@ -13,4 +13,7 @@ returns-clause-cell c =
     let d = distance i.lo c.args.x in
     let q : c.above.result * 256 / c.above-2.result ≡ d * 256 / w = cc in
     let e : c.min.result ≡ min 255 (d * 256 / w) = omega arith in
-    subst (λ b. IsInCell w b (over d 1)) (sym e) (IsInCell-part w d (omega (arith, ints)) (omega (arith, ints)))
+    record {
+      from_low = c.requires.x.low;
+      cell = subst (λ b. IsInCell w b (over d 1)) (sym e) (IsInCell-part w d (omega (arith, ints)) (omega (arith, ints)));
+    }

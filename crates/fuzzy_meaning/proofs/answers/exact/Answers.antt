@@ -2,12 +2,12 @@ use Rattle.std.proofs.Common.{◌≡◌, ◌-◌, ◌<◌, length, get_or, [], r
 use Rattle.std.proofs.lemmas.Option.{slice_get_read}
 use Rattle.fz_num.specs.Fracs.{IsValueOf}
 use Rattle.fuzzy_meaning.specs.Holding.{shares_of, Reduces}
-use Rattle.fuzzy_meaning.specs.Meaning.{shares, heavy_terms, resting, exact_answer}
-use Rattle.fuzzy_meaning.proofs.ShareLemmas.{centre-reduced, centre-massless, total_mass-held, exact_answer-last, heavy_terms-found}
+use Rattle.fuzzy_meaning.specs.Meaning.{shares, heavy_terms, resting}
+use Rattle.fuzzy_meaning.proofs.ShareLemmas.{centre-reduced, centre-massless, total_mass-held, answer_after-found, heavy_terms-found}
 use Rattle.fuzzy_meaning.proofs.answers.exact.Goals as goal
 
 pub returns-in-Some-clause-answer : goal.returns-in-Some-clause-answer
-returns-in-Some-clause-answer c earlier before =
+returns-in-Some-clause-answer c before is_before =
     let b = c.args.block.now in
     let xs = c.args.xs.now in
     let o = c.args.out in
@@ -18,9 +18,9 @@ returns-in-Some-clause-answer c earlier before =
     let found = slice_get_read b.outputs (length b.outputs) (o - 1) x refl within is in
     let some : shares_of h ≡ [] → ⊥ = λ e. (let gone = c.in-Some.ensures.none.1 e in cc) in
     let much = total_mass-held h c.in_ok-held.ensures.small some in
-    let q = resting x (exact_answer b o earlier) in
+    let q = resting x before in
     let centre_is = centre-reduced (shares b xs o x) (shares_of h) q c.in-Some.answer c.in_ok-held.ensures.sums much c.in-Some.ensures.num c.in-Some.ensures.den in
-    subst (λ a. IsValueOf a c.in-Some.answer) (sym (exact_answer-last b o earlier xs x found)) centre_is
+    subst (λ a. IsValueOf a c.in-Some.answer) (sym (answer_after-found b o before xs x found)) centre_is
 
 pub returns-in-None-clause-none : goal.returns-in-None-clause-none
 returns-in-None-clause-none c =
@@ -36,7 +36,7 @@ returns-in-None-clause-none c =
     (λ e. absurd (let z : ⊥ = cc in z), λ many. absurd (omega (arith, few, many)))
 
 pub returns-in-None-clause-answer : goal.returns-in-None-clause-answer
-returns-in-None-clause-answer c earlier before =
+returns-in-None-clause-answer c before is_before =
     let b = c.args.block.now in
     let xs = c.args.xs.now in
     let o = c.args.out in
@@ -46,6 +46,5 @@ returns-in-None-clause-answer c earlier before =
     let found = slice_get_read b.outputs (length b.outputs) (o - 1) x refl within is in
     let none : shares_of c.in_ok-held.held ≡ [] = c.in-None.ensures.none.0 refl in
     let sums = subst (λ hs. Reduces (shares b xs o x) hs) none c.in_ok-held.ensures.sums in
-    let e0 = exact_answer b o earlier in
-    let rests = exact_answer-last b o earlier xs x found ∙ centre-massless (shares b xs o x) (resting x e0) sums in
-    subst (λ a. IsValueOf a c.resting.result) (sym rests) (c.resting.ensures e0 before)
+    let rests = answer_after-found b o before xs x found ∙ centre-massless (shares b xs o x) (resting x before) sums in
+    subst (λ a. IsValueOf a c.resting.result) (sym rests) (c.resting.ensures before is_before)
