@@ -1,5 +1,5 @@
 -- Ways through whole instructions, and what is known at each of them.
-use Rattle.std.specs.Prelude.{◌≡◌, ℕ, suc, ◌+◌, ◌≤◌, ◌⊎◌, min, nat_lt, nat_le, ◌==◌, ◌&&◌, ◌||◌, Bool, false, List, [], ◌∷◌, length, slice_index}
+use Rattle.std.specs.Prelude.{◌≡◌, ℕ, suc, ◌+◌, ◌≤◌, ◌⊎◌, min, ◌==◌, ◌&&◌, Bool, false, List, [], ◌∷◌, length, slice_index}
 use Rattle.cpu12_isa.specs.declared.instr.Instr.{Instr}
 use Rattle.cpu12_isa.specs.declared.instr.Instr.TheVariants.{Rev, Revw}
 use Rattle.cpu12_isa.specs.Act.{read_by}
@@ -8,6 +8,7 @@ use Rattle.cpu12_isa.specs.Code.{six_from}
 use Rattle.cpu12_isa.specs.Fits.{FitsRegs, AreBytes}
 use Rattle.cpu12_isa.specs.Flags.{has, interrupts_masked}
 use Rattle.cpu12_isa.specs.Meaning.{act_of, effect}
+use Rattle.cpu12_isa.specs.Regions.{is_hidden as hidden_with}
 use Rattle.cpu12_parts.specs.declared.temps.Temps.TheVariants.{Free}
 use Rattle.cpu12_parts.specs.State.{State}
 use Rattle.cpu12_parts.specs.Rules.{Rule, Form, rev_form, revw_form, rules_read, rules_written, AreApart}
@@ -15,6 +16,7 @@ use Rattle.cpu12_parts.specs.Averages.{wav_read}
 use Rattle.cpu12_parts.specs.Laws.{addresses}
 use Rattle.cpu12_parts.specs.Whole.{IsPlainStep, IsRulesStep, IsAverageStep}
 use Rattle.codegen.specs.declared.layout.Layout.{Layout}
+pub use Rattle.cpu12_isa.specs.Regions.{is_free}
 
 -- whole instructions one after another, each with the number of its parts beyond the first
 abbrev pub Way : (ℕ → State → State → Type 0) → List ℕ → State → State → Type 0
@@ -26,13 +28,9 @@ abbrev pub all_steps : List ℕ → ℕ
 all_steps [] = 0
 all_steps (d ∷ ds) = suc d + all_steps ds
 
--- the addresses that an interrupt may write
-abbrev pub is_free : ℕ → Bool
-is_free at = nat_le 0x1800 at && nat_lt at 0x1FE0
-
--- what an interrupt may change: those, and the stack's bytes below SP
+-- what an interrupt may change: the free bytes, and the stack's bytes below SP
 abbrev pub is_hidden : ℕ → ℕ → Bool
-is_hidden sp at = is_free at || (nat_le 0x1FE0 at && nat_lt at sp)
+is_hidden = hidden_with is_free
 
 -- PC is where the code waits, and READY is 0
 abbrev pub is_idle : Layout → State → Bool

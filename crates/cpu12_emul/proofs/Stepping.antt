@@ -19,7 +19,8 @@ use Rattle.cpu12_parts.specs.Sums.{sum_bytes, sums_of, wav_pull}
 use Rattle.cpu12_parts.specs.Cuts.{Kind, rev, revw, wav}
 use Rattle.cpu12_parts.specs.Laws.{IsOff}
 use Rattle.cpu12_emul.specs.Step.{Left, Next, step_act, instruction_act, left_by_part, left_by_plain, applied}
-use Rattle.cpu12_emul.specs.Undisturbed.{unseen, IsSame, IsParked, AreSumsReady, HasRoom, IsSeenStep, StepsAlike, StepAgrees, WavrGoesOn, StepKeeps, PlainIsStep, PartIsStep, SumsAreStep, left_of}
+use Rattle.cpu12_isa.specs.Regions.{is_hidden}
+use Rattle.cpu12_emul.specs.Undisturbed.{IsSame, IsParked, AreSumsReady, HasRoom, IsSeenStep, StepsAlike, StepAgrees, WavrGoesOn, StepKeeps, PlainIsStep, PartIsStep, SumsAreStep, left_of}
 
 pub step_agrees : StepAgrees
 step_agrees flags r t m n l hidden later a shown is u = (
@@ -143,7 +144,7 @@ abbrev next_by : Left → List ℕ → Next
 next_by l m = record { state = record { regs = l.regs; temps = l.temps; mem = write_all l.writes m }; kind = l.kind }
 
 alike_by : (open_to : ℕ → Bool) (flags : ℕ) (s t : State) (k : IsSeenStep open_to flags t) → outcome (step_act flags s.regs s.temps) s.mem ≡ Ok k.left
-    → Agree (unseen open_to k.left.regs.sp) (write_all k.left.writes s.mem) (write_all k.left.writes t.mem) → StepsAlike open_to flags s t
+    → Agree (is_hidden open_to k.left.regs.sp) (write_all k.left.writes s.mem) (write_all k.left.writes t.mem) → StepsAlike open_to flags s t
 alike_by open_to flags s t k e a = record {
   next = next_by k.left s.mem;
   goal = next_by k.left t.mem;
@@ -155,7 +156,7 @@ alike_by open_to flags s t k e a = record {
 
 step_same : (open_to : ℕ → Bool) (flags : ℕ) (s t : State) → IsSame open_to s t → IsSeenStep open_to flags t → StepsAlike open_to flags s t
 step_same open_to flags s t l k =
-    let both = step_agrees flags t.regs t.temps s.mem t.mem k.left (unseen open_to t.regs.sp) (unseen open_to k.left.regs.sp) l.mem k.reads k.goes k.covers in
+    let both = step_agrees flags t.regs t.temps s.mem t.mem k.left (is_hidden open_to t.regs.sp) (is_hidden open_to k.left.regs.sp) l.mem k.reads k.goes k.covers in
     alike_by open_to flags s t k
     (ap (λ (r : Regs). outcome (step_act flags r s.temps) s.mem) l.regs ∙ ap (λ (u : Temps). outcome (step_act flags t.regs u) s.mem) l.temps ∙ both.0)
     both.1
@@ -166,7 +167,7 @@ step_parked open_to flags s t l k =
     let room : HasRoom t = k.room in
     let fits = room.fits in
     let code : get_or s.mem t.regs.pc 0 ≡ 60 = l.mem.bytes t.regs.pc good.3 ∙ good.2 in
-    let both = step_agrees flags t.regs t.temps s.mem t.mem k.left (unseen open_to t.regs.sp) (unseen open_to k.left.regs.sp) l.mem k.reads k.goes k.covers in
+    let both = step_agrees flags t.regs t.temps s.mem t.mem k.left (is_hidden open_to t.regs.sp) (is_hidden open_to k.left.regs.sp) l.mem k.reads k.goes k.covers in
     alike_by open_to flags s t k
     (ap (λ (r : Regs). outcome (step_act flags r s.temps) s.mem) l.regs
     ∙ wavr_goes_on flags t.regs s.temps l.product l.weight s.mem l.temps fits.sp good.0 good.1 code l.sums

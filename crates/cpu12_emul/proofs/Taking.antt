@@ -10,6 +10,7 @@ use Rattle.cpu12_isa.specs.Memory.{plus, from, placed, bytes_at}
 use Rattle.cpu12_isa.specs.Flags.{put, pulled_flags, interrupts_masked}
 use Rattle.cpu12_isa.specs.Registers.{frame_bytes, pulled}
 use Rattle.cpu12_isa.specs.Agreement.{Agree, AllShown, IsWritten}
+use Rattle.cpu12_isa.specs.Regions.{stack_start, stack_end, is_hidden, LeavesStack}
 use Rattle.cpu12_isa.specs.Fits.{FitsRegs}
 use Rattle.cpu12_isa.proofs.Agreements.{unwritten, length_writes, agree_with}
 use Rattle.cpu12_isa.proofs.Placing.{place_of, read_placed, bytes_unwritten, bytes_split, same_bytes}
@@ -21,27 +22,27 @@ use Rattle.cpu12_parts.specs.Sums.{sum_bytes}
 use Rattle.cpu12_parts.specs.Cuts.{suspended, wav}
 use Rattle.cpu12_parts.specs.Laws.{IsOff, state_of}
 use Rattle.cpu12_emul.specs.Take.{pairs_of, pushed, written, framed, taken, FrameSeen, frame_size, frame_of, frame_in}
-use Rattle.cpu12_emul.specs.Undisturbed.{unseen, LeavesStack, AreOpen, IsSame, IsParked, HasRoom, TakesQuietly, TakeKeeps, FrameIsOnStack}
+use Rattle.cpu12_emul.specs.Undisturbed.{AreOpen, IsSame, IsParked, HasRoom, TakesQuietly, TakeKeeps, FrameIsOnStack}
 
 -- writes to open bytes
 open_writes : (open_to : ℕ → Bool) (ws : List Write) (at : ℕ) → AreOpen open_to ws → IsWritten (pairs_of ws) at → open_to at ≡ true
 open_writes open_to [] at g w = absurd w
 open_writes open_to (x ∷ ws) at g w = elim w [ inl e ↦ subst (λ (k : ℕ). open_to k ≡ true) (sym e) g.0 | inr k ↦ open_writes open_to ws at g.1 k ]
 
--- what is unseen below a lower SP is so below a higher one
-unseen_less : (open_to : ℕ → Bool) (low high at : ℕ) → low ≤ high → unseen open_to high at ≡ false → unseen open_to low at ≡ false
-unseen_less open_to low high at l h =
-    let p = or_parts (open_to at) (nat_le 8160 at && nat_lt at high) h in
-    let q : (nat_le 8160 at && nat_lt at low) ≡ false = grind (arith, nat_tests, p.1) in
+-- what is is_hidden below a lower SP is so below a higher one
+hidden_less : (open_to : ℕ → Bool) (low high at : ℕ) → low ≤ high → is_hidden open_to high at ≡ false → is_hidden open_to low at ≡ false
+hidden_less open_to low high at l h =
+    let p = or_parts (open_to at) (nat_le stack_start at && nat_lt at high) h in
+    let q : (nat_le stack_start at && nat_lt at low) ≡ false = grind (arith, nat_tests, p.1) in
     rw (p.0, q)
 
-agree_less : (open_to : ℕ → Bool) (low high : ℕ) (m n : List ℕ) → low ≤ high → Agree (unseen open_to low) m n → Agree (unseen open_to high) m n
-agree_less open_to low high m n l a = record { size = a.size; bytes = λ at h. a.bytes at (unseen_less open_to low high at l h) }
+agree_less : (open_to : ℕ → Bool) (low high : ℕ) (m n : List ℕ) → low ≤ high → Agree (is_hidden open_to low) m n → Agree (is_hidden open_to high) m n
+agree_less open_to low high m n l a = record { size = a.size; bytes = λ at h. a.bytes at (hidden_less open_to low high at l h) }
 
 -- a byte of the stack from SP on is seen
-stack_seen : (open_to : ℕ → Bool) (sp at : ℕ) → LeavesStack open_to → 8160 ≤ at → at < 8192 → sp ≤ at → unseen open_to sp at ≡ false
+stack_seen : (open_to : ℕ → Bool) (sp at : ℕ) → LeavesStack open_to → stack_start ≤ at → at < stack_end → sp ≤ at → is_hidden open_to sp at ≡ false
 stack_seen open_to sp at a lo hi le =
-    let q : (nat_le 8160 at && nat_lt at sp) ≡ false = grind (arith, nat_tests) in
+    let q : (nat_le stack_start at && nat_lt at sp) ≡ false = grind (arith, nat_tests) in
     elim (tests (open_to at)) [
       | inl t ↦ absurd (elim (a at t) [ inl k ↦ omega arith | inr k ↦ omega arith ])
       | inr f ↦ rw (f, q)
@@ -51,18 +52,18 @@ stack_seen open_to sp at a lo hi le =
     tests true = inl refl
     tests false = inr refl
 
-seen_from : (open_to : ℕ → Bool) (sp at n : ℕ) → LeavesStack open_to → 8160 ≤ at → at + n ≤ 8192 → sp ≤ at → AllShown (unseen open_to sp) (from at n)
+seen_from : (open_to : ℕ → Bool) (sp at n : ℕ) → LeavesStack open_to → stack_start ≤ at → at + n ≤ stack_end → sp ≤ at → AllShown (is_hidden open_to sp) (from at n)
 seen_from open_to sp at zero a lo hi le = tt
 seen_from open_to sp at (suc n) a lo hi le = (stack_seen open_to sp at a lo (omega arith) le, seen_from open_to sp (plus at 1) n a (omega arith) (omega arith) (omega arith))
 
--- what is written below SP, down to 8160, is not seen
-push_agrees : (open_to : ℕ → Bool) (sp k : ℕ) (vs m : List ℕ) → sp ≤ 8192 → length vs ≡ k → 8160 + k ≤ sp → Agree (unseen open_to sp) (write_all (placed (sp - k) vs) m) m
+-- what is written below SP, down to stack_start, is not seen
+push_agrees : (open_to : ℕ → Bool) (sp k : ℕ) (vs m : List ℕ) → sp ≤ stack_end → length vs ≡ k → stack_start + k ≤ sp → Agree (is_hidden open_to sp) (write_all (placed (sp - k) vs) m) m
 push_agrees open_to sp k vs m hi l lo = record {
   size = length_writes (placed (sp - k) vs) m;
   bytes = λ at h. unwritten (placed (sp - k) vs) m at (λ w.
       (let p = place_of vs (sp - k) at (omega arith) w in
-      let q = or_parts (open_to at) (nat_le 8160 at && nat_lt at sp) h in
-      let t : (nat_le 8160 at && nat_lt at sp) ≡ true = grind (arith, nat_tests, p.1, p.2) in
+      let q = or_parts (open_to at) (nat_le stack_start at && nat_lt at sp) h in
+      let t : (nat_le stack_start at && nat_lt at sp) ≡ true = grind (arith, nat_tests, p.1, p.2) in
       false≢true (sym q.1 ∙ t)));
 }
 
@@ -86,12 +87,12 @@ takes_quietly open_to ws s leaves good z f a b =
     let base : ℕ = plus s.regs.sp 65527 in
     let bytes : List ℕ = frame_bytes s.regs in
     let low : plus s.regs.sp 65527 ≡ s.regs.sp - 9 = omega arith in
-    let wrote : Agree (unseen open_to s.regs.sp) (pushed s).mem s.mem =
-    subst (λ (k : ℕ). Agree (unseen open_to s.regs.sp) (write_all (placed k (frame_bytes s.regs)) s.mem) s.mem) (sym low) (push_agrees open_to s.regs.sp 9 (frame_bytes s.regs) s.mem b refl (omega arith)) in
+    let wrote : Agree (is_hidden open_to s.regs.sp) (pushed s).mem s.mem =
+    subst (λ (k : ℕ). Agree (is_hidden open_to s.regs.sp) (write_all (placed k (frame_bytes s.regs)) s.mem) s.mem) (sym low) (push_agrees open_to s.regs.sp 9 (frame_bytes s.regs) s.mem b refl (omega arith)) in
     let closed : (at : ℕ) → open_to at ≡ false → IsWritten (pairs_of ws) at → ⊥ = λ at h w. false≢true (sym h ∙ open_writes open_to ws at good w) in
-    let after : Agree (unseen open_to s.regs.sp) (written ws (pushed s)).mem (pushed s).mem = record {
+    let after : Agree (is_hidden open_to s.regs.sp) (written ws (pushed s)).mem (pushed s).mem = record {
       size = length_writes (pairs_of ws) (pushed s).mem;
-      bytes = λ at h. unwritten (pairs_of ws) (pushed s).mem at (closed at (or_parts (open_to at) (nat_le 8160 at && nat_lt at s.regs.sp) h).0);
+      bytes = λ at h. unwritten (pairs_of ws) (pushed s).mem at (closed at (or_parts (open_to at) (nat_le stack_start at && nat_lt at s.regs.sp) h).0);
     } in
     let still : bytes_at (written ws (pushed s)).mem (from (plus s.regs.sp 65527) 9) ≡ bytes_at (pushed s).mem (from (plus s.regs.sp 65527) 9) =
     bytes_unwritten (pairs_of ws) (pushed s).mem 9 (plus s.regs.sp 65527) (omega arith) (λ k l w.
@@ -100,7 +101,7 @@ takes_quietly open_to ws s leaves good z f a b =
     record {
       regs = ap (pulled (pushed s).regs) (still ∙ back) ∙ frame_back s.regs f;
       temps = refl;
-      mem = agree_with (unseen open_to s.regs.sp) (written ws (pushed s)).mem (pushed s).mem s.mem after wrote;
+      mem = agree_with (is_hidden open_to s.regs.sp) (written ws (pushed s)).mem (pushed s).mem s.mem after wrote;
     }
 
 -- the state with running sums pushed
@@ -135,12 +136,12 @@ parks open_to ws s t p w leaves good room l run =
     let sp : s.regs.sp ≡ t.regs.sp = ap (λ (r : Regs). r.sp) l.regs in
     let size : length s.mem ≡ 65536 = l.mem.size ∙ room.size in
     let base : plus s.regs.sp 65530 ≡ t.regs.sp - 6 = omega arith in
-    let wrote : Agree (unseen open_to t.regs.sp) (write_all (placed (plus s.regs.sp 65530) (sum_bytes p w)) s.mem) s.mem =
-    subst (λ (k : ℕ). Agree (unseen open_to t.regs.sp) (write_all (placed k (sum_bytes p w)) s.mem) s.mem) (sym base) (push_agrees open_to t.regs.sp 6 (sum_bytes p w) s.mem hi refl (omega arith)) in
+    let wrote : Agree (is_hidden open_to t.regs.sp) (write_all (placed (plus s.regs.sp 65530) (sum_bytes p w)) s.mem) s.mem =
+    subst (λ (k : ℕ). Agree (is_hidden open_to t.regs.sp) (write_all (placed k (sum_bytes p w)) s.mem) s.mem) (sym base) (push_agrees open_to t.regs.sp 6 (sum_bytes p w) s.mem hi refl (omega arith)) in
     let fits_s : FitsRegs s.regs = subst (λ (r : Regs). FitsRegs r) (sym l.regs) fits in
     let u = takes_quietly open_to ws x leaves good (length_writes (placed (plus s.regs.sp 65530) (sum_bytes p w)) s.mem ∙ size) (fits_at s.regs (plus s.regs.sp 65530) fits_s (omega arith)) (omega arith) (omega arith) in
     let got : bytes_at (framed ws x).mem (from (plus s.regs.sp 65530) 6) ≡ bytes_at x.mem (from (plus s.regs.sp 65530) 6) =
-    same_bytes (unseen open_to (plus s.regs.sp 65530)) (framed ws x).mem x.mem u.mem (from (plus s.regs.sp 65530) 6) (seen_from open_to (plus s.regs.sp 65530) (plus s.regs.sp 65530) 6 leaves (omega arith) (omega arith) (omega arith)) in
+    same_bytes (is_hidden open_to (plus s.regs.sp 65530)) (framed ws x).mem x.mem u.mem (from (plus s.regs.sp 65530) 6) (seen_from open_to (plus s.regs.sp 65530) (plus s.regs.sp 65530) 6 leaves (omega arith) (omega arith) (omega arith)) in
     let there : bytes_at x.mem (from (plus s.regs.sp 65530) 6) ≡ sum_bytes p w = read_placed (sum_bytes p w) (plus s.regs.sp 65530) s.mem (omega arith) (lit≤ tt) size in
     let at : plus s.regs.sp 65530 ≡ plus t.regs.sp 65530 = omega arith in
     let parked : IsParked open_to (framed ws x) t = record {
@@ -150,8 +151,8 @@ parks open_to ws s t p w leaves good room l run =
       temps = inr refl;
       regs = u.regs ∙ ap (λ (r : Regs). record r { sp = plus r.sp 65530 }) l.regs;
       sums = subst (λ (k : ℕ). bytes_at (framed ws x).mem (from k 6) ≡ sum_bytes p w) at (got ∙ there);
-      mem = agree_with (unseen open_to t.regs.sp) (framed ws x).mem x.mem t.mem (agree_less open_to (plus s.regs.sp 65530) t.regs.sp (framed ws x).mem x.mem (omega arith) u.mem)
-          (agree_with (unseen open_to t.regs.sp) x.mem s.mem t.mem wrote l.mem);
+      mem = agree_with (is_hidden open_to t.regs.sp) (framed ws x).mem x.mem t.mem (agree_less open_to (plus s.regs.sp 65530) t.regs.sp (framed ws x).mem x.mem (omega arith) u.mem)
+          (agree_with (is_hidden open_to t.regs.sp) x.mem s.mem t.mem wrote l.mem);
     } in
     subst (λ (v : State). IsParked open_to (framed ws v) t) (sym (suspends s p w run)) parked
 
@@ -166,7 +167,7 @@ stays_parked open_to ws s t leaves good room l =
     let fits_s : FitsRegs s.regs = subst (λ (r : Regs). FitsRegs r) (sym l.regs) (fits_at t.regs (plus t.regs.sp 65530) fits (omega arith)) in
     let u = takes_quietly open_to ws s leaves good size fits_s (omega arith) (omega arith) in
     let got : bytes_at (framed ws s).mem (from (plus t.regs.sp 65530) 6) ≡ bytes_at s.mem (from (plus t.regs.sp 65530) 6) =
-    same_bytes (unseen open_to s.regs.sp) (framed ws s).mem s.mem u.mem (from (plus t.regs.sp 65530) 6) (seen_from open_to s.regs.sp (plus t.regs.sp 65530) 6 leaves (omega arith) (omega arith) (omega arith)) in
+    same_bytes (is_hidden open_to s.regs.sp) (framed ws s).mem s.mem u.mem (from (plus t.regs.sp 65530) 6) (seen_from open_to s.regs.sp (plus t.regs.sp 65530) 6 leaves (omega arith) (omega arith) (omega arith)) in
     let parked : IsParked open_to (framed ws s) t = record {
       product = l.product;
       weight = l.weight;
@@ -174,7 +175,7 @@ stays_parked open_to ws s t leaves good room l =
       temps = l.temps;
       regs = u.regs ∙ l.regs;
       sums = got ∙ l.sums;
-      mem = agree_with (unseen open_to t.regs.sp) (framed ws s).mem s.mem t.mem (agree_less open_to s.regs.sp t.regs.sp (framed ws s).mem s.mem (omega arith) u.mem) l.mem;
+      mem = agree_with (is_hidden open_to t.regs.sp) (framed ws s).mem s.mem t.mem (agree_less open_to s.regs.sp t.regs.sp (framed ws s).mem s.mem (omega arith) u.mem) l.mem;
     } in
     subst (λ (v : State). IsParked open_to (framed ws v) t) (sym (suspends_not s l.temps)) parked
 
@@ -189,7 +190,7 @@ stays_same open_to ws s t leaves good room l off =
     let same : IsSame open_to (framed ws s) t = record {
       regs = u.regs ∙ l.regs;
       temps = u.temps ∙ l.temps;
-      mem = agree_with (unseen open_to t.regs.sp) (framed ws s).mem s.mem t.mem (subst (λ (k : ℕ). Agree (unseen open_to k) (framed ws s).mem s.mem) sp u.mem) l.mem;
+      mem = agree_with (is_hidden open_to t.regs.sp) (framed ws s).mem s.mem t.mem (subst (λ (k : ℕ). Agree (is_hidden open_to k) (framed ws s).mem s.mem) sp u.mem) l.mem;
     } in
     subst (λ (v : State). IsSame open_to (framed ws v) t) (sym (suspends_not s off)) same
 

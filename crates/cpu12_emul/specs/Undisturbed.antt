@@ -1,5 +1,5 @@
 -- When a state of a machine under interrupts stands for that of one without.
-use Rattle.std.specs.Prelude.{◌≡◌, ℕ, ◌^◌, ◌<◌, ◌≤◌, ◌⊎◌, ◌&&◌, ◌||◌, nat_le, nat_lt, Bool, true, false, Ok, List, [], ◌∷◌, ◌++◌, length, slice_index}
+use Rattle.std.specs.Prelude.{◌≡◌, ℕ, ◌+◌, ◌^◌, ◌<◌, ◌≤◌, ◌⊎◌, Bool, true, false, Ok, List, [], ◌∷◌, ◌++◌, length, slice_index}
 use Rattle.cpu12_isa.specs.declared.instr.Regs.{Regs}
 use Rattle.cpu12_isa.specs.declared.instr.Write.{Write}
 use Rattle.cpu12_isa.specs.declared.instr.Instr.{Instr}
@@ -8,6 +8,7 @@ use Rattle.cpu12_isa.specs.Memory.{plus, from, bytes_at}
 use Rattle.cpu12_isa.specs.Code.{decode_at, six_from}
 use Rattle.cpu12_isa.specs.Meaning.{act_of, effect, is_plain}
 use Rattle.cpu12_isa.specs.Agreement.{Agree, AllShown, Uncovers}
+use Rattle.cpu12_isa.specs.Regions.{stack_start, stack_end, is_hidden, LeavesStack}
 use Rattle.cpu12_isa.specs.Fits.{FitsRegs}
 use Rattle.cpu12_parts.specs.declared.temps.Temps.{Temps}
 use Rattle.cpu12_parts.specs.declared.temps.Temps.TheVariants.{Free, Running, OnStack}
@@ -19,18 +20,6 @@ use Rattle.cpu12_emul.specs.declared.ends.Stepped.TheVariants.{Plain}
 use Rattle.cpu12_emul.specs.Step.{Left, Next, kind_of, step_act, next_of}
 use Rattle.cpu12_emul.specs.Take.{framed, taken, frame_of, frame_in}
 
--- where handlers may write: $1800 to $1FDF
-abbrev pub is_free : ℕ → Bool
-is_free at = nat_le 6144 at && nat_lt at 8160
-
--- what may differ: what is open to handlers, and the stack's bytes below SP ($1FE0 up to SP)
-abbrev pub unseen : (ℕ → Bool) → ℕ → ℕ → Bool
-unseen open_to sp at = open_to at || (nat_le 8160 at && nat_lt at sp)
-
--- what is open is not the stack ($1FE0 to $1FFF)
-abbrev pub LeavesStack : (ℕ → Bool) → Type 0
-LeavesStack open_to = (at : ℕ) → open_to at ≡ true → (at < 8160) ⊎ (8192 ≤ at)
-
 -- all writes are to open bytes
 abbrev pub AreOpen : (ℕ → Bool) → List Write → Type 0
 AreOpen open_to [] = Unit {0}
@@ -40,7 +29,7 @@ AreOpen open_to (w ∷ ws) = (open_to w.at ≡ true) × AreOpen open_to ws
 pub record IsSame (open_to : ℕ → Bool) (s t : State) : Type 0 where
   pub regs : s.regs ≡ t.regs
   pub temps : s.temps ≡ t.temps
-  pub mem : Agree (unseen open_to t.regs.sp) s.mem t.mem
+  pub mem : Agree (is_hidden open_to t.regs.sp) s.mem t.mem
 
 -- t's sums run; s's lie on the stack, six bytes below t's SP
 pub record IsParked (open_to : ℕ → Bool) (s t : State) : Type 0 where
@@ -50,7 +39,7 @@ pub record IsParked (open_to : ℕ → Bool) (s t : State) : Type 0 where
   pub temps : IsOff s.temps
   pub regs : s.regs ≡ record (t.regs) { sp = plus t.regs.sp 65530 }
   pub sums : bytes_at s.mem (from (plus t.regs.sp 65530) 6) ≡ sum_bytes product weight
-  pub mem : Agree (unseen open_to t.regs.sp) s.mem t.mem
+  pub mem : Agree (is_hidden open_to t.regs.sp) s.mem t.mem
 
 -- s stands for t
 abbrev pub IsUndisturbed : (ℕ → Bool) → State → State → Type 0
@@ -60,21 +49,21 @@ IsUndisturbed open_to s t = IsSame open_to s t ⊎ IsParked open_to s t
 abbrev pub AreSumsReady : (ℕ → Bool) → State → Temps → Type 0
 AreSumsReady open_to t Free = Unit {0}
 AreSumsReady open_to t OnStack = Unit {0}
-AreSumsReady open_to t (Running p w) = (p < 2 ^ 32) × (w < 2 ^ 16) × (slice_index t.mem t.regs.pc ≡ 60) × (unseen open_to t.regs.sp t.regs.pc ≡ false)
+AreSumsReady open_to t (Running p w) = (p < 2 ^ 32) × (w < 2 ^ 16) × (slice_index t.mem t.regs.pc ≡ 60) × (is_hidden open_to t.regs.sp t.regs.pc ≡ false)
 
 -- what an interrupt needs of the state that it comes in: 15 bytes of the stack below SP
 pub record HasRoom (t : State) : Type 0 where
   pub size : length t.mem ≡ 65536
   pub fits : FitsRegs t.regs
-  pub low : 8175 ≤ t.regs.sp
-  pub high : t.regs.sp ≤ 8192
+  pub low : stack_start + 15 ≤ t.regs.sp
+  pub high : t.regs.sp ≤ stack_end
 
 -- a step that reads only what is seen, and writes what it uncovers of the stack
 pub record IsSeenStep (open_to : ℕ → Bool) (flags : ℕ) (t : State) : Type 0 where
   pub left : Left
   pub goes : outcome (step_act flags t.regs t.temps) t.mem ≡ Ok left
-  pub reads : AllShown (unseen open_to t.regs.sp) (read_by (step_act flags t.regs t.temps) t.mem)
-  pub covers : Uncovers (unseen open_to t.regs.sp) left.writes (unseen open_to left.regs.sp)
+  pub reads : AllShown (is_hidden open_to t.regs.sp) (read_by (step_act flags t.regs t.temps) t.mem)
+  pub covers : Uncovers (is_hidden open_to t.regs.sp) left.writes (is_hidden open_to left.regs.sp)
   pub room : HasRoom t
   pub sums : AreSumsReady open_to t t.temps
 
@@ -106,7 +95,7 @@ StepKeeps = (open_to : ℕ → Bool) (flags : ℕ) (s t : State) → IsUndisturb
 
 -- The nine bytes, writes to open bytes, and back change nothing that is seen.
 abbrev pub TakesQuietly : Type 0
-TakesQuietly = (open_to : ℕ → Bool) (ws : List Write) (s : State) → LeavesStack open_to → AreOpen open_to ws → length s.mem ≡ 65536 → FitsRegs s.regs → 8169 ≤ s.regs.sp → s.regs.sp ≤ 8192
+TakesQuietly = (open_to : ℕ → Bool) (ws : List Write) (s : State) → LeavesStack open_to → AreOpen open_to ws → length s.mem ≡ 65536 → FitsRegs s.regs → stack_start + 9 ≤ s.regs.sp → s.regs.sp ≤ stack_end
     → IsSame open_to (framed ws s) s
 
 -- An interrupt that writes open bytes keeps a state undisturbed.

@@ -6,3 +6,4 @@ pub mod Meaning
 pub mod Code
 pub mod Agreement
 pub mod Fits
+pub mod Regions

@@ -17,7 +17,7 @@ use Rattle.cpu12_isa.proofs.Agreements.{unwritten, length_writes, agree_self}
 use Rattle.cpu12_isa.proofs.Placing.{place_of, read_placed, bytes_unwritten}
 use Rattle.cpu12_parts.specs.State.{State}
 use Rattle.cpu12_emul.specs.Take.{pairs_of, framed, taken}
-use Rattle.interrupt_plan.specs.Plans.{IsFree, IsGoodRequest}
+use Rattle.interrupt_plan.specs.Plans.{IsGoodRequest}
 use Rattle.fz_run.specs.declared.board.Board.{Board}
 use Rattle.fz_run.specs.Rows.{is_idle}
 use Rattle.fz_run.specs.Undisturbed.{is_hidden, Same, Quiet, LeavesStack, Sound, Calmed}
@@ -35,14 +35,11 @@ low_shown sp at h =
     let b : (nat_le 8160 at && nat_lt at sp) ≡ false = grind (arith, nat_tests) in
     rw (a, b)
 
-free_true : (at : ℕ) → IsFree at → is_free at ≡ true
-free_true at f = let lo = f.from in let hi = f.to in grind (arith, nat_tests)
-
 -- what a good request writes is free
-good_writes : (ws : List Write) (at : ℕ) → All (λ (w : Write). IsFree w.at) ws → IsWritten (pairs_of ws) at → is_free at ≡ true
+good_writes : (ws : List Write) (at : ℕ) → All (λ (w : Write). is_free w.at ≡ true) ws → IsWritten (pairs_of ws) at → is_free at ≡ true
 good_writes [] at g w = absurd w
 good_writes (x ∷ ws) at g w = elim w [
-  | inl e ↦ subst (λ (k : ℕ). is_free k ≡ true) (sym e) (free_true x.at (g 0 x (omega arith)))
+  | inl e ↦ subst (λ (k : ℕ). is_free k ≡ true) (sym e) (g 0 x (omega arith))
   | inr k ↦ good_writes ws at (λ j d l. g (suc j) d (omega arith)) k
 ]
 
@@ -79,7 +76,7 @@ not_pushed sp at r lo hi h w =
     let t : (nat_le 8160 at && nat_lt at sp) ≡ true = grind (arith, nat_tests) in
     false≢true (sym h ∙ t)
 
-quiet_by : (ws : List Write) (w : State) → All (λ (x : Write). IsFree x.at) ws → length w.mem ≡ 65536 → FitsRegs w.regs → 8169 ≤ w.regs.sp → w.regs.sp ≤ 8192 → Quiet is_free (framed ws w) w
+quiet_by : (ws : List Write) (w : State) → All (λ (x : Write). is_free x.at ≡ true) ws → length w.mem ≡ 65536 → FitsRegs w.regs → 8169 ≤ w.regs.sp → w.regs.sp ≤ 8192 → Quiet is_free (framed ws w) w
 quiet_by ws w good size fits lo hi =
     let base = plus w.regs.sp 65527 in
     let bytes = frame_bytes w.regs in

@@ -1,5 +1,6 @@
 -- What is expected of the rows of a list of samples, by their runs without interrupts.
-use Rattle.std.specs.Prelude.{◌≡◌, ℕ, suc, ◌+◌, ◌<◌, ◌≤◌, ◌&&◌, nat_le, nat_lt, Bool, true, false, List, [], ◌∷◌}
+use Rattle.std.specs.Prelude.{◌≡◌, ℕ, suc, ◌+◌, ◌<◌, ◌≤◌, Bool, true, false, List, [], ◌∷◌}
+use Rattle.cpu12_isa.specs.Regions.{free_start}
 use Rattle.cpu12_parts.specs.State.{State}
 use Rattle.interrupt_plan.specs.declared.Request.{Request}
 use Rattle.interrupt_plan.specs.Plans.{IsGood}
@@ -9,6 +10,7 @@ use Rattle.fz_run.specs.Runs.{Setting}
 use Rattle.fz_run.specs.Rows.{board_of, given, answers_in, requests_of, with_writes, RowSeen, rows_from, first_state}
 use Rattle.fz_run.specs.Calm.{calm, counted, resumed_of, frames_of}
 use Rattle.fz_run.specs.Undisturbed.{Same, Calmed, Before, AllUndisturbed}
+pub use Rattle.cpu12_isa.specs.Regions.{is_free}
 
 -- n is the number of steps without interrupts from a state to the end of its sample, and P holds before each
 pub record Sampled {A : Type 0} (P : State → Type 0) (g : Setting A) (n : ℕ) (s : State) : Type 0 where
@@ -56,14 +58,10 @@ abbrev pub AllWithin : ℕ → List ℕ → Type 0
 AllWithin most [] = Unit {0}
 AllWithin most (n ∷ ns) = (n ≤ most) × AllWithin most ns
 
--- an address from $1800 to $1FDF, which plans may write
-abbrev pub is_free : ℕ → Bool
-is_free at = nat_le 6144 at && nat_lt at 8160
-
 -- the bytes that are read and written from outside stand below
 pub record IsLow (b : Board) : Type 0 where
-  pub ready : b.ready < 6144
-  pub outputs : b.outputs + b.output_count ≤ 6144
+  pub ready : b.ready < free_start
+  pub outputs : b.outputs + b.output_count ≤ free_start
 
 -- what a run of samples gives beside the run without interrupts
 pub record GoesCalmly (flags : ℕ) (b : Board) (most : ℕ) (plan : List Request) (ns : List ℕ) (samples : List (List ℕ)) (s : State) : Type 0 where

@@ -1,9 +1,10 @@
 -- Whole instructions as stretches of steps.
-use Rattle.std.specs.Prelude.{◌≡◌, ℕ, suc, ◌≤◌, Bool, false, List, length}
+use Rattle.std.specs.Prelude.{◌≡◌, ℕ, suc, ◌+◌, ◌≤◌, Bool, false, List, length}
 use Rattle.cpu12_isa.specs.Agreement.{AllShown}
 use Rattle.cpu12_isa.specs.Code.{six_from}
 use Rattle.cpu12_isa.specs.Fits.{FitsRegs, AreBytes}
 use Rattle.cpu12_isa.specs.Flags.{interrupts_masked, has}
+use Rattle.cpu12_isa.specs.Regions.{stack_start, stack_end}
 use Rattle.cpu12_parts.specs.declared.temps.Temps.TheVariants.{Free}
 use Rattle.cpu12_parts.specs.State.{State}
 use Rattle.codegen.specs.Ways.{all_steps}
@@ -32,7 +33,7 @@ pub record Calmly (open_to : ℕ → Bool) (s : State) : Type 0 where
   pub size : length s.mem ≡ 65536
   pub bytes : AreBytes s.mem
   pub fits : FitsRegs s.regs
-  pub low : 8175 ≤ s.regs.sp
-  pub high : s.regs.sp ≤ 8192
+  pub low : stack_start + 15 ≤ s.regs.sp
+  pub high : s.regs.sp ≤ stack_end
   pub unmasked : has s.regs.ccr interrupts_masked ≡ false
   pub code : AllShown (is_hidden open_to s.regs.sp) (six_from s.regs.pc)

@@ -1,8 +1,9 @@
 -- When a state of a run under interrupts is that of the run without.
-use Rattle.std.specs.Prelude.{◌≡◌, ℕ, zero, suc, ◌^◌, ◌<◌, ◌≤◌, ◌&&◌, ◌||◌, nat_le, nat_lt, Bool, true, false, Ok, List, [], ◌∷◌, length, slice_index, ◌⊎◌}
+use Rattle.std.specs.Prelude.{◌≡◌, ℕ, zero, suc, ◌^◌, ◌<◌, ◌≤◌, ◌+◌, Bool, true, false, Ok, List, [], ◌∷◌, length, slice_index, ◌⊎◌}
 use Rattle.cpu12_isa.specs.Memory.{plus, from, bytes_at}
 use Rattle.cpu12_isa.specs.Flags.{interrupts_masked, has}
 use Rattle.cpu12_isa.specs.Agreement.{Agree, AllShown, Uncovers}
+use Rattle.cpu12_isa.specs.Regions.{stack_start, stack_end}
 use Rattle.cpu12_parts.specs.declared.temps.Temps.{Temps}
 use Rattle.cpu12_parts.specs.declared.temps.Temps.TheVariants.{Free, Running, OnStack}
 use Rattle.cpu12_parts.specs.Sums.{sum_bytes}
@@ -14,10 +15,7 @@ use Rattle.cpu12_isa.specs.Act.{outcome, read_by}
 use Rattle.cpu12_emul.specs.Step.{Left, step_act}
 use Rattle.fz_run.specs.Runs.{Setting}
 use Rattle.fz_run.specs.Calm.{stepped}
-
--- what may differ: where handlers may write, and the stack's bytes below SP
-abbrev pub is_hidden : (ℕ → Bool) → ℕ → ℕ → Bool
-is_hidden open_to sp at = open_to at || (nat_le 8160 at && nat_lt at sp)
+pub use Rattle.cpu12_isa.specs.Regions.{is_hidden, LeavesStack}
 
 pub record Same (open_to : ℕ → Bool) (w s : State) : Type 0 where
   pub regs : w.regs ≡ s.regs
@@ -51,8 +49,8 @@ pub record Keeps (open_to : ℕ → Bool) (flags : ℕ) (s : State) : Type 0 whe
   pub covers : Uncovers (is_hidden open_to s.regs.sp) left.writes (is_hidden open_to left.regs.sp)
   pub size : length s.mem ≡ 65536
   pub fits : FitsRegs s.regs
-  pub low : 8175 ≤ s.regs.sp
-  pub high : s.regs.sp ≤ 8192
+  pub low : stack_start + 15 ≤ s.regs.sp
+  pub high : s.regs.sp ≤ stack_end
   pub sums : GoodSums open_to s s.temps
 
 -- such a state in which an interrupt may come
@@ -70,10 +68,6 @@ abbrev pub AllUndisturbed : (ℕ → Bool) → ℕ → List State → State → 
 AllUndisturbed open_to flags [] s = Unit {0}
 AllUndisturbed open_to flags (w ∷ ws) s = Undisturbed open_to w s × AllUndisturbed open_to flags ws (stepped flags s)
 
--- what handlers may write is not the stack
-abbrev pub LeavesStack : (ℕ → Bool) → Type 0
-LeavesStack open_to = (at : ℕ) → open_to at ≡ true → (at < 8160) ⊎ (8192 ≤ at)
-
 -- what an interrupt leaves: registers as they were, the sums as they were or none, and the bytes that are not open and not below the stack
 pub record Quiet (open_to : ℕ → Bool) (v w : State) : Type 0 where
   pub regs : v.regs ≡ w.regs
@@ -87,7 +81,7 @@ pub record Sound {A : Type 0} (open_to : ℕ → Bool) (g : Setting A) (P : Stat
   pub keeps : (s : State) → P s → Keeps open_to g.flags s
   pub handle : A → State → State
   pub takes_by : (a : A) (w : State) → g.take a w ≡ handle a (suspended wav w)
-  pub quiet : (a : A) (w s : State) → Good a → P s → Agree (is_hidden open_to s.regs.sp) w.mem s.mem → FitsRegs w.regs → 8169 ≤ w.regs.sp → w.regs.sp ≤ 8192 → IsOff w.temps
+  pub quiet : (a : A) (w s : State) → Good a → P s → Agree (is_hidden open_to s.regs.sp) w.mem s.mem → FitsRegs w.regs → stack_start + 9 ≤ w.regs.sp → w.regs.sp ≤ stack_end → IsOff w.temps
       → Quiet open_to (handle a w) w
   pub stops : (w s : State) → Same open_to w s → g.stops w ≡ g.stops s
 

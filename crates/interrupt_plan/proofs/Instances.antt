@@ -1,15 +1,16 @@
 -- A good plan with two requests, so that plans other than the empty one meet the definition.
-use Rattle.std.proofs.Common.{[], ◌∷◌, All, arith, inr, refl}
+use Rattle.std.proofs.Common.{◌≡◌, true, [], ◌∷◌, All, arith, inr, refl}
 use Rattle.std.proofs.lemmas.List.Elements.{All-cons}
 use Rattle.cpu12_isa.specs.declared.instr.Write.{Write}
+use Rattle.cpu12_isa.specs.Regions.{is_free}
 use Rattle.interrupt_plan.specs.declared.Request.{Request}
-use Rattle.interrupt_plan.specs.Plans.{IsFree, IsGood, IsGoodRequest}
+use Rattle.interrupt_plan.specs.Plans.{IsGood, IsGoodRequest}
 
 abbrev lowest : Write
-lowest = record { at = 6144; value = 255 }
+lowest = record { at = 0x1800; value = 255 }
 
 abbrev highest : Write
-highest = record { at = 8159; value = 1 }
+highest = record { at = 0x1FDF; value = 1 }
 
 abbrev early : Request
 early = record { sample = 1; moment = 17; writes = lowest ∷ highest ∷ [] }
@@ -21,11 +22,11 @@ none : {X : Type 0} (P : X → Type 0) → All P []
 none P = λ k d lt. absurd (omega arith)
 
 abbrev IsFreeWrite : Write → Type 0
-IsFreeWrite w = IsFree w.at
+IsFreeWrite w = is_free w.at ≡ true
 
 early_free : All IsFreeWrite (lowest ∷ highest ∷ [])
-early_free = All-cons IsFreeWrite lowest (highest ∷ []) (record { from = omega arith; to = omega arith })
-    (All-cons IsFreeWrite highest [] (record { from = omega arith; to = omega arith }) (none IsFreeWrite))
+early_free = All-cons IsFreeWrite lowest (highest ∷ []) refl
+    (All-cons IsFreeWrite highest [] refl (none IsFreeWrite))
 
 early_good : IsGoodRequest early
 early_good = record {

@@ -1,11 +1,7 @@
 -- Good plans.
-use Rattle.std.specs.Prelude.{◌≡◌, ◌<◌, ◌≤◌, ◌⊎◌, ℕ, List, [], ◌∷◌, length, All}
+use Rattle.std.specs.Prelude.{◌≡◌, ◌<◌, ◌≤◌, ◌⊎◌, ℕ, true, List, [], ◌∷◌, length, All}
+use Rattle.cpu12_isa.specs.Regions.{is_free}
 use Rattle.interrupt_plan.specs.declared.Request.{Request}
-
--- an address from $1800 to $1FDF, which the firmware neither reads nor writes
-pub record IsFree (at : ℕ) : Type 0 where
-  pub from : 6144 ≤ at
-  pub to : at ≤ 8159
 
 -- a request writes at most eight bytes, each of them free
 pub record IsGoodRequest (r : Request) : Type 0 where
@@ -13,7 +9,7 @@ pub record IsGoodRequest (r : Request) : Type 0 where
   pub sample_to : r.sample ≤ 999999999
   pub moment_to : r.moment ≤ 999999999
   pub few_writes : length r.writes ≤ 8
-  pub free : All (λ w. IsFree w.at) r.writes
+  pub free : All (λ w. is_free w.at ≡ true) r.writes
 
 -- by sample and then by moment, a does not come after b
 abbrev pub NotAfter : Request → Request → Type 0
