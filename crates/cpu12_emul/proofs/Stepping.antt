@@ -18,7 +18,7 @@ use Rattle.cpu12_parts.specs.Parts.{wav_act}
 use Rattle.cpu12_parts.specs.Sums.{sum_bytes, sums_of, wav_pull}
 use Rattle.cpu12_parts.specs.Cuts.{Kind, rev, revw, wav}
 use Rattle.cpu12_parts.specs.Laws.{IsOff}
-use Rattle.cpu12_emul.specs.Step.{Left, Next, step_act, instruction_act, left_by_part, left_by_plain, applied}
+use Rattle.cpu12_emul.specs.Step.{Left, Next, step_act, instruction_act, left_by_part, left_by_plain, applied, next_of}
 use Rattle.cpu12_isa.specs.Regions.{is_hidden}
 use Rattle.cpu12_emul.specs.Undisturbed.{IsSame, IsParked, AreSumsReady, HasRoom, IsSeenStep, StepsAlike, StepAgrees, WavrGoesOn, StepKeeps, PlainIsStep, PartIsStep, SumsAreStep, left_of}
 
@@ -61,6 +61,11 @@ plain_act_is flags r t Revw p = absurd (let e : false ≡ true = p in cc)
 plain_act_is flags r t Wav p = absurd (let e : false ≡ true = p in cc)
 plain_act_is flags r t Wavr p = absurd (let e : false ≡ true = p in cc)
 plain_act_is flags r t i p = refl
+
+-- the step of the instruction that is decoded
+pub next_of-decoded : (flags : ℕ) (s : State) (i : Instr) (next : Result Next ℕ) → IsOff s.temps → decode_at s.mem s.regs.pc ≡ Ok i → applied (outcome (instruction_act flags s.regs s.temps (Ok i)) s.mem) s.mem ≡ next → next_of flags s ≡ next
+next_of-decoded flags s i next off d e =
+    ap (λ (o : Result Left ℕ). applied o s.mem) (step_by_bytes flags s.regs s.temps s.mem off ∙ ap (λ (k : Result Instr ℕ). outcome (instruction_act flags s.regs s.temps k) s.mem) d) ∙ e
 
 pub plain_is_step : PlainIsStep
 plain_is_step flags i s off d p =

@@ -1,5 +1,5 @@
 -- Steps until PC is at a branch to itself.
-use Rattle.std.specs.Prelude.{◌≡◌, ℕ, zero, suc, ◌+◌, ◌<◌, ◌≤◌, ◌==◌, ◌&&◌, Bool, true, false, if◌then◌else◌, Result, Ok, Err, slice_index}
+use Rattle.std.specs.Prelude.{◌≡◌, ℕ, zero, suc, ◌+◌, ◌<◌, ◌≤◌, ◌==◌, ◌&&◌, Bool, true, false, Ok, Err, slice_index}
 use Rattle.cpu12_isa.specs.Memory.{plus}
 use Rattle.cpu12_parts.specs.State.{State}
 use Rattle.cpu12_emul.specs.declared.ends.RunEnd.{RunEnd}
@@ -8,23 +8,7 @@ use Rattle.cpu12_emul.specs.Step.{Next, next_of}
 
 -- PC is at 20 FE
 abbrev pub is_at_rest : State → Bool
-is_at_rest s = (slice_index s.mem s.regs.pc == 32) && (slice_index s.mem (plus s.regs.pc 1) == 254)
-
--- how a run ended, and the state there
-pub record Ended : Type 0 where
-  pub end : RunEnd
-  pub state : State
-
-abbrev pub then_run : ℕ → State → (State → Ended) → Result Next ℕ → Ended
-then_run steps s rest (Ok next) = rest next.state
-then_run steps s rest (Err byte) = record { end = Trap s.regs.pc byte; state = s }
-
--- at most n steps more, after some steps: arrival is looked for first, then the budget, then a trap
-unfoldable pub run_of : ℕ → ℕ → ℕ → State → Ended
-run_of flags zero steps s = if is_at_rest s then record { end = Arrived steps; state = s } else record { end = Budget steps; state = s }
-run_of flags (suc n) steps s =
-    if is_at_rest s then record { end = Arrived steps; state = s }
-    else then_run steps s (run_of flags n (steps + 1)) (next_of flags s)
+is_at_rest s = (slice_index s.mem s.regs.pc == 0x20) && (slice_index s.mem (plus s.regs.pc 1) == 0xFE)
 
 -- k steps lead from s to t, and none of the states before t is at rest
 abbrev pub StepsTo : ℕ → ℕ → State → State → Type 0
@@ -37,6 +21,3 @@ abbrev pub EndsRun : ℕ → ℕ → State → RunEnd → State → Type 0
 EndsRun flags n s (Arrived k) t = (k ≤ n) × StepsTo flags k s t × (is_at_rest t ≡ true)
 EndsRun flags n s (Budget k) t = (k ≡ n) × StepsTo flags k s t × (is_at_rest t ≡ false)
 EndsRun flags n s (Trap pc byte) t = (k : ℕ) × ((k < n) × StepsTo flags k s t × (is_at_rest t ≡ false) × (t.regs.pc ≡ pc) × (next_of flags t ≡ Err byte))
-
-abbrev pub RunEnds : Type 0
-RunEnds = (flags n : ℕ) (s : State) → EndsRun flags n s (run_of flags n 0 s).end (run_of flags n 0 s).state

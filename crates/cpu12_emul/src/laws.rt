@@ -3,17 +3,11 @@ ghost use Rattle.cpu12_isa.specs.declared.instr.Instr.TheVariants.{Rev, Revw, Wa
 ghost use Rattle.cpu12_parts.specs.Cuts.{rev, revw, wav};
 ghost use Rattle.cpu12_emul.specs.Fits.{StepFits};
 ghost use Rattle.cpu12_emul.specs.Image.{HoldsImage};
-ghost use Rattle.cpu12_emul.specs.Run.{RunEnds};
 ghost use Rattle.cpu12_emul.specs.Undisturbed.{StepAgrees, WavrGoesOn, StepKeeps, TakesQuietly, TakeKeeps, FrameIsOnStack, PlainIsStep, PartIsStep, SumsAreStep};
 
 /// A memory made from an image holds just its bytes.
 pub fn holds_image()
     ensures { HoldsImage }
-{}
-
-/// A run ends at the first state at a branch to itself, at a trap before it, or with its budget.
-pub fn run_ends()
-    ensures { RunEnds }
 {}
 
 /// A plain instruction is one step.

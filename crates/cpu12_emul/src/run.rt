@@ -1,9 +1,8 @@
 // Runs to a branch to itself.
 ghost use Rattle.std.specs.Prelude.{ℕ, ◌≡◌};
-ghost use Rattle.cpu12_emul.specs.Run.{run_of, is_at_rest, EndsRun};
+ghost use Rattle.cpu12_emul.specs.Run.{is_at_rest, EndsRun};
 
 use crate::ends::RunEnd;
-use crate::laws::run_ends;
 use crate::machine::Machine;
 use cpu12_isa::mem::Mem;
 
@@ -20,36 +19,19 @@ impl<M: Mem> Machine<M> {
     /// steps were done without arriving. The machine is then as those steps left it.
     pub fn run(&mut self, budget: u32) -> RunEnd
         ensures ends { EndsRun self.old.flags budget self.old.state result self.new.state }
-        ensures run { record { end = result; state = self.new.state } ≡ run_of self.old.flags budget 0 self.old.state }
         ensures flags { self.new.flags ≡ self.old.flags }
     {
-        run_ends();
-        self.run_steps(budget)
-    }
-
-    /// The steps of a run.
-    #[tactic(auto, using(crate::proofs::Runs::runs))]
-    fn run_steps(&mut self, budget: u32) -> RunEnd
-        ensures run { record { end = result; state = self.new.state } ≡ run_of self.old.flags budget 0 self.old.state }
-        ensures flags { self.new.flags ≡ self.old.flags }
-    {
-        let mut left = budget;
         let mut steps = 0;
-        while left > 0 {
-            if self.is_at_rest() {
-                return RunEnd::Arrived(steps);
+        while !self.is_at_rest() {
+            if steps == budget {
+                return RunEnd::Budget(steps);
             }
             match self.step() {
                 Ok(_) => {}
                 Err(trap) => return RunEnd::Trap(trap.pc, trap.byte),
             }
-            left -= 1;
             steps += 1;
         }
-        if self.is_at_rest() {
-            RunEnd::Arrived(steps)
-        } else {
-            RunEnd::Budget(steps)
-        }
+        RunEnd::Arrived(steps)
     }
 }

@@ -10,11 +10,12 @@ use Rattle.std.proofs.lemmas.Nat.{widths}
 use Rattle.cpu12_isa.specs.declared.instr.Regs.{Regs}
 use Rattle.cpu12_isa.specs.declared.instr.Instr.{Instr}
 use Rattle.cpu12_isa.specs.declared.instr.Instr.TheVariants.{LdaaImmediate, Fdiv}
+use Rattle.cpu12_isa.specs.declared.form.Page.TheVariants.{One, Two, Transfer, AddIndexed}
 use Rattle.cpu12_isa.specs.Act.{Act, Give, Get, outcome}
 use Rattle.cpu12_isa.specs.Memory.{plus, word_of, bytes_at}
 use Rattle.cpu12_isa.specs.Flags.{put, carry, overflow, zero_result}
 use Rattle.cpu12_isa.specs.Registers.{divided_fraction}
-use Rattle.cpu12_isa.specs.Code.{FitsOperands, entry, page_18, page_b7, page_eb, page_first, decode_of, six_from}
+use Rattle.cpu12_isa.specs.Code.{FitsOperands, entry, page_of, decode_of, six_from}
 use Rattle.cpu12_isa.specs.Meaning.{act_of}
 use Rattle.cpu12_isa.specs.Fits.{FitsRegs, FitsWrites, AreBytes, Leaves, StaysFit, BytesStay, DecodedFits}
 
@@ -135,17 +136,17 @@ choice_cases false p q i e = inr e
 word_fits : (bs : List ℕ) (k : ℕ) → AreBytes bs → word_of (get_or bs k 0) (get_or bs (k + 1) 0) < 2 ^ 16
 word_fits bs k b = let h : get_or bs k 0 < 2 ^ 8 = b k in let l : get_or bs (k + 1) 0 < 2 ^ 8 = b (k + 1) in omega (arith, h, l)
 
-page_first_fits : (bs : List ℕ) → AreBytes bs → AllFit (page_first bs)
-page_first_fits bs b = (b 1, (word_fits bs 1 b, (b 1, (word_fits bs 1 b, (word_fits bs 1 b, (word_fits bs 1 b, (word_fits bs 1 b, (word_fits bs 1 b, (word_fits bs 1 b, (word_fits bs 1 b, (tt, (word_fits bs 1 b, (b 1, (b 1, (b 1, (b 1, (b 1, (word_fits bs 1 b, (tt, (b 1, (b 1, (tt, (tt, (tt, (word_fits bs 1 b, (word_fits bs 1 b, (b 1, (word_fits bs 1 b, (b 1, (word_fits bs 1 b, (b 1, (b 1, (word_fits bs 1 b, (b 1, (word_fits bs 1 b, (b 1, (word_fits bs 1 b, (b 1, (word_fits bs 1 b, (tt, (tt, (tt, (tt, (tt, (tt, (tt, (tt, tt)))))))))))))))))))))))))))))))))))))))))))))))
+page_one_fits : (bs : List ℕ) → AreBytes bs → AllFit (page_of One bs)
+page_one_fits bs b = (b 1, (word_fits bs 1 b, (b 1, (word_fits bs 1 b, (word_fits bs 1 b, (word_fits bs 1 b, (word_fits bs 1 b, (word_fits bs 1 b, (word_fits bs 1 b, (word_fits bs 1 b, (tt, (word_fits bs 1 b, (b 1, (b 1, (b 1, (b 1, (b 1, (word_fits bs 1 b, (tt, (b 1, (b 1, (tt, (tt, (tt, (word_fits bs 1 b, (word_fits bs 1 b, (b 1, (word_fits bs 1 b, (b 1, (word_fits bs 1 b, (b 1, (b 1, (word_fits bs 1 b, (b 1, (word_fits bs 1 b, (b 1, (word_fits bs 1 b, (b 1, (word_fits bs 1 b, (tt, (tt, (tt, (tt, (tt, (tt, (tt, (tt, tt)))))))))))))))))))))))))))))))))))))))))))))))
 
-page_18_fits : (bs : List ℕ) → AreBytes bs → AllFit (page_18 bs)
-page_18_fits bs b = (tt, ((b 2, word_fits bs 3 b), ((word_fits bs 2 b, word_fits bs 4 b), (tt, (tt, (tt, tt))))))
+page_two_fits : (bs : List ℕ) → AreBytes bs → AllFit (page_of Two bs)
+page_two_fits bs b = (tt, ((b 2, word_fits bs 3 b), ((word_fits bs 2 b, word_fits bs 4 b), (tt, (tt, (tt, tt))))))
 
-page_b7_fits : (bs : List ℕ) → AreBytes bs → AllFit (page_b7 bs)
-page_b7_fits bs b = (tt, (tt, tt))
+page_transfer_fits : (bs : List ℕ) → AreBytes bs → AllFit (page_of Transfer bs)
+page_transfer_fits bs b = (tt, (tt, tt))
 
-page_eb_fits : (bs : List ℕ) → AreBytes bs → AllFit (page_eb bs)
-page_eb_fits bs b = (tt, tt)
+page_add_fits : (bs : List ℕ) → AreBytes bs → AllFit (page_of AddIndexed bs)
+page_add_fits bs b = (tt, tt)
 
 pub bytes_at_fit : (mem ats : List ℕ) → AreBytes mem → AreBytes (bytes_at mem ats)
 bytes_at_fit mem [] b at = omega arith
@@ -153,13 +154,13 @@ bytes_at_fit mem (x ∷ ats) b zero = b x
 bytes_at_fit mem (x ∷ ats) b (suc at) = bytes_at_fit mem ats b at
 
 decode_fits : (bs : List ℕ) (i : Instr) → AreBytes bs → decode_of bs ≡ Ok i → FitsOperands i
-decode_fits bs i b e = elim (choice_cases (get_or bs 0 0 == 24) (entry (page_18 bs) (get_or bs 1 0)) (if get_or bs 0 0 == 183 then entry (page_b7 bs) (get_or bs 1 0) else (if get_or bs 0 0 == 235 then entry (page_eb bs) (get_or bs 1 0) else entry (page_first bs) (get_or bs 0 0))) i e) [
-  | inl h ↦ entry_fits (page_18 bs) (get_or bs 1 0) i (page_18_fits bs b) h
-  | inr f ↦ elim (choice_cases (get_or bs 0 0 == 183) (entry (page_b7 bs) (get_or bs 1 0)) (if get_or bs 0 0 == 235 then entry (page_eb bs) (get_or bs 1 0) else entry (page_first bs) (get_or bs 0 0)) i f) [
-    | inl h ↦ entry_fits (page_b7 bs) (get_or bs 1 0) i (page_b7_fits bs b) h
-    | inr g ↦ elim (choice_cases (get_or bs 0 0 == 235) (entry (page_eb bs) (get_or bs 1 0)) (entry (page_first bs) (get_or bs 0 0)) i g) [
-      | inl h ↦ entry_fits (page_eb bs) (get_or bs 1 0) i (page_eb_fits bs b) h
-      | inr h ↦ entry_fits (page_first bs) (get_or bs 0 0) i (page_first_fits bs b) h
+decode_fits bs i b e = elim (choice_cases (get_or bs 0 0 == 0x18) (entry (page_of Two bs) (get_or bs 1 0)) (if get_or bs 0 0 == 0xB7 then entry (page_of Transfer bs) (get_or bs 1 0) else (if get_or bs 0 0 == 0xEB then entry (page_of AddIndexed bs) (get_or bs 1 0) else entry (page_of One bs) (get_or bs 0 0))) i e) [
+  | inl h ↦ entry_fits (page_of Two bs) (get_or bs 1 0) i (page_two_fits bs b) h
+  | inr f ↦ elim (choice_cases (get_or bs 0 0 == 0xB7) (entry (page_of Transfer bs) (get_or bs 1 0)) (if get_or bs 0 0 == 0xEB then entry (page_of AddIndexed bs) (get_or bs 1 0) else entry (page_of One bs) (get_or bs 0 0)) i f) [
+    | inl h ↦ entry_fits (page_of Transfer bs) (get_or bs 1 0) i (page_transfer_fits bs b) h
+    | inr g ↦ elim (choice_cases (get_or bs 0 0 == 0xEB) (entry (page_of AddIndexed bs) (get_or bs 1 0)) (entry (page_of One bs) (get_or bs 0 0)) i g) [
+      | inl h ↦ entry_fits (page_of AddIndexed bs) (get_or bs 1 0) i (page_add_fits bs b) h
+      | inr h ↦ entry_fits (page_of One bs) (get_or bs 0 0) i (page_one_fits bs b) h
     ]
   ]
 ]

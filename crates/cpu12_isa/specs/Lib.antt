@@ -3,6 +3,8 @@ pub mod Act
 pub mod Flags
 pub mod Registers
 pub mod Meaning
+pub mod Mnemonics
+pub mod Forms
 pub mod Code
 pub mod Agreement
 pub mod Fits

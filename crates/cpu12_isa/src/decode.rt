@@ -91,7 +91,7 @@ pub fn decode<M: Mem>(m: &M, pc: u16) -> Result<(Instr, u8), Trap>
 
 /// The instruction at `pc`, whose first byte is `$18`.
 fn decode_page_18<M: Mem>(m: &M, pc: u16) -> Result<(Instr, u8), Trap>
-    requires { slice_index (M.bytes m.now) pc ≡ 24 }
+    requires { slice_index (M.bytes m.now) pc ≡ 0x18 }
     ensures found { MatchResult result (λ x. decode_at (M.bytes m.now) pc ≡ Ok x.0) (λ t. decode_at (M.bytes m.now) pc ≡ Err t.byte) }
     ensures size { IfOk result (λ x. x.1 ≡ length (encode_of x.0)) }
     ensures stands { IfOk result (λ x. StandsAt (M.bytes m.now) pc x.0) }
@@ -112,7 +112,7 @@ fn decode_page_18<M: Mem>(m: &M, pc: u16) -> Result<(Instr, u8), Trap>
 
 /// The instruction at `pc`, whose first byte is `$B7`.
 fn decode_page_b7<M: Mem>(m: &M, pc: u16) -> Result<(Instr, u8), Trap>
-    requires { slice_index (M.bytes m.now) pc ≡ 183 }
+    requires { slice_index (M.bytes m.now) pc ≡ 0xB7 }
     ensures found { MatchResult result (λ x. decode_at (M.bytes m.now) pc ≡ Ok x.0) (λ t. decode_at (M.bytes m.now) pc ≡ Err t.byte) }
     ensures size { IfOk result (λ x. x.1 ≡ length (encode_of x.0)) }
     ensures stands { IfOk result (λ x. StandsAt (M.bytes m.now) pc x.0) }
@@ -129,7 +129,7 @@ fn decode_page_b7<M: Mem>(m: &M, pc: u16) -> Result<(Instr, u8), Trap>
 
 /// The instruction at `pc`, whose first byte is `$EB`.
 fn decode_page_eb<M: Mem>(m: &M, pc: u16) -> Result<(Instr, u8), Trap>
-    requires { slice_index (M.bytes m.now) pc ≡ 235 }
+    requires { slice_index (M.bytes m.now) pc ≡ 0xEB }
     ensures found { MatchResult result (λ x. decode_at (M.bytes m.now) pc ≡ Ok x.0) (λ t. decode_at (M.bytes m.now) pc ≡ Err t.byte) }
     ensures size { IfOk result (λ x. x.1 ≡ length (encode_of x.0)) }
     ensures stands { IfOk result (λ x. StandsAt (M.bytes m.now) pc x.0) }

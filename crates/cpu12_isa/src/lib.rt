@@ -13,9 +13,11 @@ pub mod ccr;
 pub mod decode;
 pub mod encode;
 pub mod exec;
+pub mod form;
 pub mod instr;
 pub mod laws;
 pub mod mem;
+pub mod mnemonic;
 pub mod regs;
 pub mod stack;
 #[cfg(test)]

@@ -1,8 +1,18 @@
-use Rattle.std.proofs.Common.{subst, sym}
-use Rattle.cpu12_emul.specs.Run.{Ended, EndsRun}
+use Rattle.std.proofs.Common.{◌≡◌, ℕ, false, Ok, Result, rules, arith, ap, sym, ◌∙◌}
+use Rattle.cpu12_emul.specs.Step.{Next, next_of}
+use Rattle.cpu12_emul.specs.Run.{is_at_rest}
+use Rattle.cpu12_emul.proofs.Runs.{StepsTo-more}
 use Rattle.cpu12_emul.proofs.machine.Machine.run.Goals as goal
 
-pub returns-clause-ends : goal.returns-clause-ends
-returns-clause-ends g c =
+pub loop-budget-preserved : goal.loop-budget-preserved
+loop-budget-preserved g c =
     let s = c.args.self.now in
-    subst (λ (e : Ended). EndsRun s.flags c.args.budget s.state e.end e.state) (sym c.run_steps.ensures.run) (c.run_ends.ensures s.flags c.args.budget s.state)
+    let before = c.loop-budget.self in
+    let next : Next = record { state = c.step.new.self.state; kind = c.in-Ok.field-0 } in
+    let free : is_at_rest before.state ≡ false = sym c.loop-budget-test.ensures in
+    let step : next_of s.flags before.state ≡ Ok next = ap (λ (f : ℕ). next_of f before.state) (sym c.loop-budget.invariant.flags) ∙ c.in-Ok.ensures.next in
+    record {
+      to = StepsTo-more s.flags c.loop-budget.steps s.state before.state next c.loop-budget.invariant.to free step;
+      flags = c.step.ensures.flags ∙ c.loop-budget.invariant.flags;
+      within = omega arith;
+    }

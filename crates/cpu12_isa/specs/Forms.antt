@@ -1,0 +1,167 @@
+-- The table of instruction forms (CPU12 Reference Manual, appendix A).
+use Rattle.std.specs.Prelude.{ℕ, ◌^◌, ◌<◌, List, [], ◌∷◌}
+use Rattle.cpu12_isa.specs.declared.instr.Instr.{Instr}
+use Rattle.cpu12_isa.specs.declared.instr.Instr.TheVariants.{LdaaImmediate, LdaaExtended, LdabImmediate, LdabExtended, LdxImmediate, LdyImmediate, LdsImmediate, StaaExtended, StabExtended, ClrExtended, Coma, CpxImmediate, Beq, Bne, Bcc, Bcs, Bra, JsrExtended, Rts, Andcc, Orcc, TransferXD, TransferYD, Ediv, Fdiv, Rti, Nop, IncExtended, DecExtended, AddaImmediate, AddaExtended, AddbImmediate, AddbExtended, AddbPostIncrementX, AdcaImmediate, SubaImmediate, SubaExtended, CmpaImmediate, CmpaExtended, AndaImmediate, AndaExtended, OraaImmediate, OraaExtended, Inx, Dex, Iny, Dey, Psha, Pula, MovbImmediate, MovbExtended, Mem, Rev, Revw, Wav, Wavr}
+use Rattle.cpu12_isa.specs.declared.form.Form.{Form}
+use Rattle.cpu12_isa.specs.declared.mnemonic.Mnemonic.{Mnemonic}
+use Rattle.cpu12_isa.specs.declared.mnemonic.Mnemonic.TheVariants as mnemonic
+use Rattle.cpu12_isa.specs.declared.form.Page.{Page}
+use Rattle.cpu12_isa.specs.declared.form.Page.TheVariants.{One, Two, Transfer, AddIndexed}
+use Rattle.cpu12_isa.specs.declared.form.Operand.{Operand}
+use Rattle.cpu12_isa.specs.declared.form.Operand.TheVariants.{Inherent, Byte, Word, Address, Offset, ByteToAddress, AddressToAddress, XToD, YToD, PostIncrementX}
+use Rattle.cpu12_isa.specs.Memory.{high_of, low_of}
+
+abbrev row : Mnemonic → Page → ℕ → Operand → Form
+row mnemonic page opcode operand = record { mnemonic = mnemonic; page = page; opcode = opcode; operand = operand }
+
+-- the form of an instruction: its mnemonic, its page and opcode, and its operand
+abbrev pub form_of : Instr → Form
+form_of (LdaaImmediate v) = row mnemonic.Ldaa One 0x86 (Byte v)
+form_of (LdaaExtended v) = row mnemonic.Ldaa One 0xB6 (Address v)
+form_of (LdabImmediate v) = row mnemonic.Ldab One 0xC6 (Byte v)
+form_of (LdabExtended v) = row mnemonic.Ldab One 0xF6 (Address v)
+form_of (LdxImmediate v) = row mnemonic.Ldx One 0xCE (Word v)
+form_of (LdyImmediate v) = row mnemonic.Ldy One 0xCD (Word v)
+form_of (LdsImmediate v) = row mnemonic.Lds One 0xCF (Word v)
+form_of (StaaExtended v) = row mnemonic.Staa One 0x7A (Address v)
+form_of (StabExtended v) = row mnemonic.Stab One 0x7B (Address v)
+form_of (ClrExtended v) = row mnemonic.Clr One 0x79 (Address v)
+form_of Coma = row mnemonic.Coma One 0x41 Inherent
+form_of (CpxImmediate v) = row mnemonic.Cpx One 0x8E (Word v)
+form_of (Beq v) = row mnemonic.Beq One 0x27 (Offset v)
+form_of (Bne v) = row mnemonic.Bne One 0x26 (Offset v)
+form_of (Bcc v) = row mnemonic.Bcc One 0x24 (Offset v)
+form_of (Bcs v) = row mnemonic.Bcs One 0x25 (Offset v)
+form_of (Bra v) = row mnemonic.Bra One 0x20 (Offset v)
+form_of (JsrExtended v) = row mnemonic.Jsr One 0x16 (Address v)
+form_of Rts = row mnemonic.Rts One 0x3D Inherent
+form_of (Andcc v) = row mnemonic.Andcc One 0x10 (Byte v)
+form_of (Orcc v) = row mnemonic.Orcc One 0x14 (Byte v)
+form_of TransferXD = row mnemonic.Tfr Transfer 0x54 XToD
+form_of TransferYD = row mnemonic.Tfr Transfer 0x64 YToD
+form_of Ediv = row mnemonic.Ediv One 0x11 Inherent
+form_of Fdiv = row mnemonic.Fdiv Two 0x11 Inherent
+form_of Rti = row mnemonic.Rti One 0x0B Inherent
+form_of Nop = row mnemonic.Nop One 0xA7 Inherent
+form_of (IncExtended v) = row mnemonic.Inc One 0x72 (Address v)
+form_of (DecExtended v) = row mnemonic.Dec One 0x73 (Address v)
+form_of (AddaImmediate v) = row mnemonic.Adda One 0x8B (Byte v)
+form_of (AddaExtended v) = row mnemonic.Adda One 0xBB (Address v)
+form_of (AddbImmediate v) = row mnemonic.Addb One 0xCB (Byte v)
+form_of (AddbExtended v) = row mnemonic.Addb One 0xFB (Address v)
+form_of AddbPostIncrementX = row mnemonic.Addb AddIndexed 0x30 PostIncrementX
+form_of (AdcaImmediate v) = row mnemonic.Adca One 0x89 (Byte v)
+form_of (SubaImmediate v) = row mnemonic.Suba One 0x80 (Byte v)
+form_of (SubaExtended v) = row mnemonic.Suba One 0xB0 (Address v)
+form_of (CmpaImmediate v) = row mnemonic.Cmpa One 0x81 (Byte v)
+form_of (CmpaExtended v) = row mnemonic.Cmpa One 0xB1 (Address v)
+form_of (AndaImmediate v) = row mnemonic.Anda One 0x84 (Byte v)
+form_of (AndaExtended v) = row mnemonic.Anda One 0xB4 (Address v)
+form_of (OraaImmediate v) = row mnemonic.Oraa One 0x8A (Byte v)
+form_of (OraaExtended v) = row mnemonic.Oraa One 0xBA (Address v)
+form_of Inx = row mnemonic.Inx One 0x08 Inherent
+form_of Dex = row mnemonic.Dex One 0x09 Inherent
+form_of Iny = row mnemonic.Iny One 0x02 Inherent
+form_of Dey = row mnemonic.Dey One 0x03 Inherent
+form_of Psha = row mnemonic.Psha One 0x36 Inherent
+form_of Pula = row mnemonic.Pula One 0x32 Inherent
+form_of (MovbImmediate v at) = row mnemonic.Movb Two 0x0B (ByteToAddress v at)
+form_of (MovbExtended source at) = row mnemonic.Movb Two 0x0C (AddressToAddress source at)
+form_of Mem = row mnemonic.Mem One 0x01 Inherent
+form_of Rev = row mnemonic.Rev Two 0x3A Inherent
+form_of Revw = row mnemonic.Revw Two 0x3B Inherent
+form_of Wav = row mnemonic.Wav Two 0x3C Inherent
+form_of Wavr = row mnemonic.Wavr One 0x3C Inherent
+
+-- an instruction as a function of its operands
+pub data Made : Type 0 where
+  Alone : Instr → Made
+  Of : (ℕ → Instr) → Made
+  OfBoth : (ℕ → ℕ → Instr) → Made
+
+-- each form once
+abbrev pub every_form : List Made
+every_form =
+    Of LdaaImmediate
+    ∷ Of LdaaExtended
+    ∷ Of LdabImmediate
+    ∷ Of LdabExtended
+    ∷ Of LdxImmediate
+    ∷ Of LdyImmediate
+    ∷ Of LdsImmediate
+    ∷ Of StaaExtended
+    ∷ Of StabExtended
+    ∷ Of ClrExtended
+    ∷ Alone Coma
+    ∷ Of CpxImmediate
+    ∷ Of Beq
+    ∷ Of Bne
+    ∷ Of Bcc
+    ∷ Of Bcs
+    ∷ Of Bra
+    ∷ Of JsrExtended
+    ∷ Alone Rts
+    ∷ Of Andcc
+    ∷ Of Orcc
+    ∷ Alone TransferXD
+    ∷ Alone TransferYD
+    ∷ Alone Ediv
+    ∷ Alone Fdiv
+    ∷ Alone Rti
+    ∷ Alone Nop
+    ∷ Of IncExtended
+    ∷ Of DecExtended
+    ∷ Of AddaImmediate
+    ∷ Of AddaExtended
+    ∷ Of AddbImmediate
+    ∷ Of AddbExtended
+    ∷ Alone AddbPostIncrementX
+    ∷ Of AdcaImmediate
+    ∷ Of SubaImmediate
+    ∷ Of SubaExtended
+    ∷ Of CmpaImmediate
+    ∷ Of CmpaExtended
+    ∷ Of AndaImmediate
+    ∷ Of AndaExtended
+    ∷ Of OraaImmediate
+    ∷ Of OraaExtended
+    ∷ Alone Inx
+    ∷ Alone Dex
+    ∷ Alone Iny
+    ∷ Alone Dey
+    ∷ Alone Psha
+    ∷ Alone Pula
+    ∷ OfBoth MovbImmediate
+    ∷ OfBoth MovbExtended
+    ∷ Alone Mem
+    ∷ Alone Rev
+    ∷ Alone Revw
+    ∷ Alone Wav
+    ∷ Alone Wavr ∷ []
+
+-- the bytes before an opcode
+abbrev pub prebytes : Page → List ℕ
+prebytes One = []
+prebytes Two = 0x18 ∷ []
+prebytes Transfer = 0xB7 ∷ []
+prebytes AddIndexed = 0xEB ∷ []
+
+-- the bytes of an operand, behind the opcode
+abbrev pub operand_bytes : Operand → List ℕ
+operand_bytes (Byte v) = v ∷ []
+operand_bytes (Offset v) = v ∷ []
+operand_bytes (Word v) = high_of v ∷ low_of v ∷ []
+operand_bytes (Address v) = high_of v ∷ low_of v ∷ []
+operand_bytes (ByteToAddress v at) = v ∷ high_of at ∷ low_of at ∷ []
+operand_bytes (AddressToAddress source at) = high_of source ∷ low_of source ∷ high_of at ∷ low_of at ∷ []
+operand_bytes _ = []
+
+-- an operand of bytes and words
+abbrev pub FitsOperand : Operand → Type 0
+FitsOperand (Byte v) = v < 2 ^ 8
+FitsOperand (Offset v) = v < 2 ^ 8
+FitsOperand (Word v) = v < 2 ^ 16
+FitsOperand (Address v) = v < 2 ^ 16
+FitsOperand (ByteToAddress v at) = (v < 2 ^ 8) × (at < 2 ^ 16)
+FitsOperand (AddressToAddress source at) = (source < 2 ^ 16) × (at < 2 ^ 16)
+FitsOperand _ = Unit {0}
