@@ -5,7 +5,7 @@ use Rattle.cpu12_isa.specs.declared.form.Form.{Form}
 use Rattle.cpu12_isa.specs.declared.form.Page.{Page}
 use Rattle.cpu12_isa.specs.declared.form.Page.TheVariants.{One, Two, Transfer, AddIndexed}
 use Rattle.cpu12_isa.specs.declared.form.Operand.{Operand}
-use Rattle.cpu12_isa.specs.declared.form.Operand.TheVariants.{Inherent, Byte, Word, Address, Offset, ByteToAddress, AddressToAddress, XToD, YToD, PostIncrementX}
+use Rattle.cpu12_isa.specs.declared.form.Operand.TheVariants.{Word, Address, AddressToAddress}
 use Rattle.cpu12_isa.specs.Memory.{plus, word_of, bytes_at}
 use Rattle.cpu12_isa.specs.Forms.{form_of, Made, Alone, Of, OfBoth, every_form, prebytes, operand_bytes, FitsOperand}
 
@@ -99,3 +99,12 @@ StandsAt mem pc i = Begins (bytes_at mem (six_from pc)) (encode_of i)
 -- what stands encoded at an address is what is decoded there
 abbrev pub DecodesEncoded : Type 0
 DecodesEncoded = (mem : List ℕ) (pc : ℕ) (i : Instr) → FitsOperands i → StandsAt mem pc i → decode_at mem pc ≡ Ok i
+
+-- bytes stand in a list from a place on
+abbrev pub StandFrom : List ℕ → ℕ → List ℕ → Type 0
+StandFrom bytes k [] = Unit {0}
+StandFrom bytes k (v ∷ vs) = (slice_index bytes k ≡ v) × StandFrom bytes (k + 1) vs
+
+-- what is decoded has its opcode there, and its page's byte before it
+abbrev pub DecodedHasOpcode : Type 0
+DecodedHasOpcode = (bytes : List ℕ) (i : Instr) → decode_of bytes ≡ Ok i → StandFrom bytes 0 (prebytes (form_of i).page ++ ((form_of i).opcode ∷ []))

@@ -1,5 +1,6 @@
 // Laws of instructions and memories.
 ghost use Rattle.cpu12_isa.specs.Meaning.{Effect};
+ghost use Rattle.cpu12_isa.specs.Code.{DecodedHasOpcode};
 ghost use Rattle.cpu12_isa.specs.Fits.{StaysFit, BytesStay, DecodedFits};
 ghost use Rattle.cpu12_isa.specs.Agreement.{ReadsAlone, WritesAgree, WritesStay};
 
@@ -31,4 +32,9 @@ pub fn bytes_stay()
 /// What is decoded has operands that fit.
 pub fn decoded_fits()
     ensures { DecodedFits }
+{}
+
+/// What is decoded has its opcode there, and its page's byte before it.
+pub fn decoded_has_opcode()
+    ensures { DecodedHasOpcode }
 {}
