@@ -4,5 +4,7 @@
 #![tactic(auto)]
 
 mod cert;
+mod nodes;
+mod text;
 
 pub use cert::{Cert, CertFault, Node};
