@@ -1,5 +1,6 @@
 -- The numbers of a line, one by one.
-use Rattle.std.proofs.Common.{◌≡◌, ◌≢◌, ◌≤◌, ◌<◌, ◌+◌, ℕ, List, [], ◌∷◌, ◌++◌, length, All, decimal, refl, sym, ◌∙◌, ap, subst, arith, append_assoc, length-append}
+use Rattle.std.proofs.Common.{◌≡◌, ◌≢◌, ◌≤◌, ◌<◌, ◌+◌, ℕ, List, [], ◌∷◌, ◌++◌, length, All, decimal, refl, sym, ◌∙◌, ap, subst, arith, append_assoc, length-append, take, get_or, add-one}
+use Rattle.std.proofs.Math.Seq.{take-suc}
 use Rattle.std.specs.Prelude.{codes}
 use Rattle.std.proofs.Math.Seq.{get_or-append_seam}
 use Rattle.std.proofs.lemmas.List.{append_cancel_left, append-nil}
@@ -87,3 +88,18 @@ so_far_more word text read rest digits rest' read' n so_far blank is added =
 
 pub small_more : (read read' : List ℕ) (n : ℕ) → All IsSmall read → n ≤ 1000000 → read' ≡ read ++ n ∷ [] → All IsSmall read'
 small_more read read' n small n_small added = subst (All IsSmall) (sym added) (All-append IsSmall read (n ∷ []) small (All-cons IsSmall n [] n_small (All-nil IsSmall)))
+
+regroup : (before word ns blank digits : List ℕ) → ((before ++ (word ++ ns)) ++ blank) ++ digits ≡ before ++ (word ++ (ns ++ (blank ++ digits)))
+regroup before word ns blank digits = simp append_assoc
+
+numbers-take : (ns : List ℕ) (i n : ℕ) → i < length ns → n ≡ get_or ns i 0 → numbers (take (i + 1) ns) ≡ numbers (take i ns) ++ (codes " " ++ decimal n)
+numbers-take ns i n lt is =
+    ap numbers (ap (λ (k : ℕ). take k ns) (add-one i) ∙ take-suc ns i 0 lt ∙ ap (λ (m : ℕ). take i ns ++ m ∷ []) (sym is))
+    ∙ sym (append-nil (numbers (take i ns ++ n ∷ []))) ∙ numbers-snoc (take i ns) n [] ∙ ap (λ (t : List ℕ). numbers (take i ns) ++ 32 ∷ t) (append-nil (decimal n))
+
+-- what is written, one number more
+pub numbers_more : (ns : List ℕ) (i n : ℕ) (text with_blank text' before word : List ℕ) → i < length ns → n ≡ get_or ns i 0 → text ≡ before ++ (word ++ numbers (take i ns)) → with_blank ≡ text ++ codes " " → text' ≡ with_blank ++ decimal n
+    → text' ≡ before ++ (word ++ numbers (take (i + 1) ns))
+numbers_more ns i n text with_blank text' before word lt is so_far blank added =
+    added ∙ ap (λ (t : List ℕ). t ++ decimal n) (blank ∙ ap (λ (t : List ℕ). t ++ codes " ") so_far) ∙ regroup before word (numbers (take i ns)) (codes " ") (decimal n)
+    ∙ ap (λ (t : List ℕ). before ++ (word ++ t)) (sym (numbers-take ns i n lt is))

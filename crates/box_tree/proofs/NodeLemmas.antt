@@ -1,5 +1,5 @@
 -- The node of a line.
-use Rattle.std.proofs.Common.{◌≡◌, ◌≢◌, ◌≤◌, ◌<◌, ◌+◌, ◌*◌, ℕ, List, [], ◌∷◌, ◌++◌, length, get_or, All, decimal, refl, sym, ◌∙◌, ap, subst, arith, append_assoc}
+use Rattle.std.proofs.Common.{◌≡◌, ◌≢◌, ◌≤◌, ℕ, List, [], ◌∷◌, ◌++◌, length, get_or, All, decimal, refl, sym, ◌∙◌, ap, arith, append_assoc}
 use Rattle.std.specs.Prelude.{codes}
 use Rattle.std.proofs.lemmas.List.{append_cancel_left}
 use Rattle.std.proofs.lemmas.List.Elements.{All-cons, All-nil, All-head, All-tail}
@@ -11,7 +11,7 @@ use Rattle.box_tree.proofs.NumberLemmas.{one_number}
 use Rattle.box_tree.proofs.LineLemmas.{IsSmall, line_rest, rest_ends}
 use Rattle.box_tree.proofs.PairLemmas.{length-pair_numbers}
 
-abbrev AreSmall : List ℕ → Type 0
+abbrev pub AreSmall : List ℕ → Type 0
 AreSmall ns = All IsSmall ns
 
 line_behind : (word ns behind : List ℕ) → line word ns ++ behind ≡ word ++ line_rest ns behind

@@ -1,14 +1,13 @@
 -- The number at the front of a text.
-use Rattle.std.proofs.Common.{◌≡◌, ◌≢◌, ◌≤◌, ◌<◌, ◌+◌, ◌*◌, ◌-◌, ◌^◌, ℕ, suc, Bool, true, false, cond, eqb, List, [], ◌∷◌, ◌++◌, length, take, drop, get_or, min, refl, sym, ◌∙◌, ap, subst, arith, rules, decimal, inl, inr, take-append-drop, zero}
+use Rattle.std.proofs.Common.{◌≡◌, ◌≢◌, ◌≤◌, ◌<◌, ◌+◌, ℕ, suc, Bool, true, false, cond, List, [], ◌∷◌, ◌++◌, length, take, drop, get_or, min, refl, sym, ◌∙◌, ap, subst, arith, rules, decimal, inl, inr, take-append-drop, zero}
 use Rattle.std.specs.Prelude.{not, ◌&&◌, ◌⊎◌}
 use Rattle.std.specs.Char.{is_ascii_digit}
 use Rattle.std.specs.Str.{all_ascii_digits}
 use Rattle.std.proofs.lemmas.Bool.Decides.{nat_tests}
-use Rattle.std.proofs.lemmas.Grind.{common_steps}
 use Rattle.std.proofs.Math.Seq.{take-append_seam, drop-append_seam}
-use Rattle.std.proofs.lemmas.Str.Parse.{IsNumeralModel, numerals_by_fold, IsDigitsTest, FoldsDigits, tells_all_ascii_digits}
+use Rattle.std.proofs.lemmas.Str.Parse.{IsNumeralModel, numerals_by_fold, FoldsDigits, tells_all_ascii_digits}
 use Rattle.std.proofs.lemmas.Fmt.{decimal-digits_value, digits_decimal, digits_value-decimal, first_decimal, decimal_nonempty, decimal_digit}
-use Rattle.box_tree.specs.Numbers.{is_no_digit, digits_len_of, EndsNumber, number_behind, is_plain_numeral}
+use Rattle.box_tree.specs.Numbers.{digits_len_of, EndsNumber, number_behind, is_plain_numeral}
 
 abbrev AreDigits : List ℕ → Type 0
 AreDigits ds = all_ascii_digits ds ≡ true
@@ -112,13 +111,12 @@ pub number_read : (text digits rest : List ℕ) (value : ℕ) → digits ≡ fro
     → (value ≤ 1000000) × EndsNumber rest × (text ≡ decimal value ++ rest)
 number_read text digits rest value digits_are rest_is value_is plain small =
     let small_all : number_behind 0 digits ≤ 1000000 = omega arith in
-    let exact : number_behind 0 digits ≡ value = omega arith in
-    (
+    let exact : number_behind 0 digits ≡ value = omega arith in (
       small,
       subst EndsNumber (sym rest_is) (behind_ends text),
       number_found text (ap is_plain_numeral (sym digits_are) ∙ plain) (subst (λ (ds : List ℕ). number_behind 0 ds ≤ 1000000) digits_are small_all)
-      ∙ ap (λ (ds : List ℕ). decimal (number_behind 0 ds) ++ behind text) (sym digits_are)
-      ∙ ap (λ (n : ℕ). decimal n ++ behind text) exact ∙ ap (λ (r : List ℕ). decimal value ++ r) (sym rest_is),
+          ∙ ap (λ (ds : List ℕ). decimal (number_behind 0 ds) ++ behind text) (sym digits_are)
+          ∙ ap (λ (n : ℕ). decimal n ++ behind text) exact ∙ ap (λ (r : List ℕ). decimal value ++ r) (sym rest_is),
     )
 
 pub no_number : (text digits : List ℕ) (value : ℕ) → digits ≡ front text → value ≡ min (number_behind 0 digits) 1000001 → ((is_plain_numeral digits ≡ true) × (1000000 < value)) ⊎ (is_plain_numeral digits ≡ false)

@@ -1,5 +1,6 @@
 -- Which text has which certificate, and the first fault of a text that has none.
-use Rattle.std.specs.Prelude.{◌≡◌, ◌≢◌, ◌↔◌, ℕ, suc, ◌+◌, ◌<◌, ◌≤◌, List, [], ◌∷◌, ◌++◌, length, All, Some}
+use Rattle.std.specs.Prelude.{◌≡◌, ◌≢◌, ◌↔◌, ℕ, ◌+◌, ◌<◌, ◌≤◌, List, [], ◌++◌, length, All, Some}
+use Rattle.arrayvec.specs.ArrayVec.{ArrayVec}
 use Rattle.box_tree.specs.declared.cert.Node.{Node}
 use Rattle.box_tree.specs.declared.cert.Node.TheVariants.{Split, Leaf}
 use Rattle.box_tree.specs.declared.cert.Cert.{Cert}
@@ -72,5 +73,5 @@ pub data HasFault (version : ℕ) (text : List ℕ) : CertFault → Type 0 where
   left_open : (claims : List ℕ) (nodes : List Node) (n : ℕ) → Begins version text claims nodes n [] → 0 < n → HasFault version text Early
   late : (claims : List ℕ) (nodes : List Node) (node : Node) (behind : List ℕ) → Begins version text claims nodes 0 (node_line node ++ behind) → IsNode (length claims) node
       → HasFault version text (Late (line_behind nodes))
-  many_leaves : (claims : List ℕ) (nodes : List Node) (n : ℕ) (leaf : Node) (behind : List ℕ) → Begins version text claims nodes n (node_line leaf ++ behind)
-      → IsNode (length claims) leaf → 0 < n → leaf_count nodes ≡ 4096 → leaf_count (leaf ∷ []) ≡ 1 → HasFault version text (TooManyLeaves (line_behind nodes))
+  many_leaves : (claims : List ℕ) (nodes : List Node) (n : ℕ) (pairs : ArrayVec (ℕ × ℕ)) (behind : List ℕ) → Begins version text claims nodes n (node_line (Leaf pairs) ++ behind)
+      → IsNode (length claims) (Leaf pairs) → 0 < n → leaf_count nodes ≡ 4096 → HasFault version text (TooManyLeaves (line_behind nodes))

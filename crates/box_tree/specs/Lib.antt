@@ -2,4 +2,4 @@ pub mod Numbers
 pub mod Texts
 pub mod Trees
 pub mod Certificates
-
+pub mod Reading

@@ -4,7 +4,14 @@
 #![tactic(auto)]
 
 mod cert;
+mod header;
+mod lines;
 mod nodes;
+mod reader;
 mod text;
+mod writer;
 
 pub use cert::{Cert, CertFault, Node};
+pub use lines::Lines;
+pub use reader::{read, read16};
+pub use writer::{write, write16};

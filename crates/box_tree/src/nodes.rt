@@ -1,5 +1,5 @@
 //! The node of a line.
-ghost use Rattle.std.specs.Prelude.{◌≡◌, ◌≢◌, ◌↔◌, ◌≤◌, ℕ, List, [], ◌∷◌, ◌++◌, length, MatchOption, All, IsTrue};
+ghost use Rattle.std.specs.Prelude.{◌≡◌, ◌≢◌, ◌↔◌, ◌≤◌, ◌<◌, ℕ, List, [], ◌∷◌, ◌++◌, length, MatchOption, IfSome, All, IsTrue};
 ghost use Rattle.box_tree.specs.declared.cert.Node.{Node as TheNode};
 ghost use Rattle.box_tree.specs.Certificates.{IsCut, IsNode, IsPair};
 ghost use Rattle.box_tree.specs.Texts.{node_line, pair_numbers};
@@ -13,7 +13,10 @@ fn cut_of(numbers: &[u32]) -> Option<(u8, u8)>
     ensures { MatchOption result ((input cut : ℕ) → IsCut input cut → numbers.now ≢ input ∷ cut ∷ []) (λ r. IsCut r.0 r.1 × (numbers.now ≡ r.0 ∷ r.1 ∷ [])) }
 {
     match numbers {
-        [input, cut] if *input >= 1 && *input <= 8 && *cut <= 255 => Some((*input as u8, *cut as u8)),
+        [input, cut] if *input >= 1 && *input <= 8 && *cut <= 255 => Some((
+            *input as u8,
+            *cut as u8,
+        )),
         _ => None,
     }
 }
@@ -48,7 +51,8 @@ fn pairs_of(numbers: &[u32], width: usize) -> Option<ArrayVec<(u16, u8), 4>>
 /// The node whose line stands at the front of a text, and what follows it.
 pub(crate) fn node_at(text: &[u8], width: usize) -> Option<(Node, &[u8])>
     requires { width ≤ 4 }
-    ensures { MatchOption result ((node : TheNode) (behind : List ℕ) → IsNode width node → text.now ≢ node_line node ++ behind)
+    ensures shorter { IfSome result (λ r. length r.1.now < length text.now) }
+    ensures node { MatchOption result ((node : TheNode) (behind : List ℕ) → IsNode width node → text.now ≢ node_line node ++ behind)
         (λ r. IsNode width r.0 × (text.now ≡ node_line r.0 ++ r.1.now)) }
 {
     match numbers_of(b"split", text) {

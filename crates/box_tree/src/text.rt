@@ -6,7 +6,7 @@ ghost use Rattle.box_tree.specs.Texts.{line};
 use arrayvec::ArrayVec;
 
 /// The greatest number of a line.
-const GREATEST: u32 = 1_000_000;
+pub(crate) const GREATEST: u32 = 1_000_000;
 
 /// The most numbers of a line.
 const MOST_NUMBERS: usize = 8;

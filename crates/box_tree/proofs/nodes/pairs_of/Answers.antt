@@ -1,4 +1,4 @@
-use Rattle.std.proofs.Common.{◌≡◌, true, false, ap, ◌∙◌, sym, arith, length, refl}
+use Rattle.std.proofs.Common.{◌≡◌, true, false, ap, arith, length, refl}
 use Rattle.box_tree.proofs.PairLemmas.{length-pair_numbers, pair_there, pairs_more, pairs_so_far}
 use Rattle.box_tree.proofs.nodes.pairs_of.Goals as goal
 

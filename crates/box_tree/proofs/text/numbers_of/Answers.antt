@@ -1,7 +1,6 @@
-use Rattle.std.proofs.Common.{[], All, ap, ◌∙◌, ◌≡◌, sym, subst, arith, List, ℕ, ◌++◌, refl}
+use Rattle.std.proofs.Common.{arith}
 use Rattle.std.proofs.lemmas.List.Elements.{All-nil}
-use Rattle.box_tree.specs.Texts.{numbers}
-use Rattle.box_tree.proofs.LineLemmas.{GoesOn, IsSmall, at_first, next_of, next_is_small, next_is_within, goes_on, so_far_more, small_more, rest_ends, line_rest, digits_are}
+use Rattle.box_tree.proofs.LineLemmas.{IsSmall, at_first, next_of, next_is_small, goes_on, so_far_more, small_more, rest_ends, line_rest, digits_are}
 use Rattle.box_tree.proofs.text.numbers_of.Goals as goal
 
 pub loop-behind-init : goal.loop-behind-init
