@@ -17,9 +17,14 @@ pub no_version : (text ns behind : List ℕ) (version : ℕ) → version ≤ 2 �
 no_version text ns behind version small found ns_small other rest same =
     other ((line_is_one (codes "FZC") ns (version ∷ []) behind rest ns_small (version_is_small version small) (sym found ∙ same)).0)
 
-pub one_version : (version other : ℕ) (a b : List ℕ) → version ≤ 2 → other ≤ 2 → version_line version ++ a ≡ version_line other ++ b → a ≡ b
+pub one_version : (version other : ℕ) (a b : List ℕ) → version ≤ 2 → other ≤ 2 → version_line version ++ a ≡ version_line other ++ b → (version ≡ other) × (a ≡ b)
 one_version version other a b small other_small same =
-    (line_is_one (codes "FZC") (version ∷ []) (other ∷ []) a b (version_is_small version small) (version_is_small other other_small) same).1
+    let one = line_is_one (codes "FZC") (version ∷ []) (other ∷ []) a b (version_is_small version small) (version_is_small other other_small) same in
+    let numbers : version ∷ [] ≡ other ∷ [] = one.0 in
+    (cc, one.1)
+
+pub one_claim_line : (claims others a b : List ℕ) → AreClaims claims → AreClaims others → claim_line claims ++ a ≡ claim_line others ++ b → (claims ≡ others) × (a ≡ b)
+one_claim_line claims others a b are others_are same = line_is_one (codes "claim") claims others a b are.millionths others_are.millionths same
 
 pub one_claims : (text ns behind : List ℕ) (claims rest : List ℕ) → text ≡ line (codes "claim") ns ++ behind → AreSmall ns → AreClaims claims → text ≡ claim_line claims ++ rest → (ns ≡ claims) × (behind ≡ rest)
 one_claims text ns behind claims rest found small are same = line_is_one (codes "claim") ns claims behind rest small are.millionths (sym found ∙ same)

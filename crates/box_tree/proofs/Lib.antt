@@ -6,3 +6,4 @@ pub mod NodeLemmas
 pub mod HeaderLemmas
 pub mod TreeLemmas
 pub mod ReadLemmas
+pub mod LawLemmas

@@ -3,3 +3,4 @@ pub mod Texts
 pub mod Trees
 pub mod Certificates
 pub mod Reading
+pub mod Laws

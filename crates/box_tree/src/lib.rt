@@ -5,6 +5,7 @@
 
 mod cert;
 mod header;
+mod laws;
 mod lines;
 mod nodes;
 mod reader;
@@ -12,6 +13,7 @@ mod text;
 mod writer;
 
 pub use cert::{Cert, CertFault, Node};
+pub use laws::certs_are_one;
 pub use lines::Lines;
 pub use reader::{read, read16};
 pub use writer::{write, write16};
