@@ -17,3 +17,6 @@ pub use laws::certs_are_one;
 pub use lines::Lines;
 pub use reader::{read, read16};
 pub use writer::{write, write16};
+
+#[cfg(test)]
+mod tests;
