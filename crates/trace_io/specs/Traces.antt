@@ -1,9 +1,6 @@
 -- What a trace spells, and its first fault.
 use Rattle.std.specs.Prelude.{◌≡◌, ◌≢◌, ◌⊎◌, ◌<◌, ◌+◌, ℕ, List, [], ◌∷◌, ◌++◌, length, Option, Some, None, option_map, Result, Ok, Err}
-use Rattle.csv.specs.Machine.{next_record}
-use Rattle.csv.specs.Reading.{Reached, default_config, strip_bom}
-use Rattle.csv.specs.declared.parser.State.{State}
-use Rattle.csv.specs.declared.parser.State.TheVariants as st
+pub use Rattle.fz_rows.specs.FirstRows.{Fields, AreFirstRows}
 use Rattle.fz_num.specs.declared.dec.Dec.{Dec}
 use Rattle.fz_num.specs.Decimals.{decimal}
 use Rattle.fuzzy_meaning.specs.Blocks.{IsWithin}
@@ -12,17 +9,6 @@ use Rattle.byte_scaling.specs.Cells.{byte_of}
 use Rattle.trace_io.specs.declared.sample.Sample.{Sample}
 use Rattle.trace_io.specs.declared.sample.TraceFault.{TraceFault}
 use Rattle.trace_io.specs.declared.sample.TraceFault.TheVariants.{TooMany, BadRow, OutOfRange}
-
--- the fields of a row
-abbrev pub Fields : Type 0
-Fields = List (List ℕ)
-
--- the first rows that csv cuts a text into by its defaults: all of them, or 10001 of more
-pub record AreFirstRows (text : List ℕ) (rows : List Fields) : Type 0 where
-  pub state : State
-  pub rest : List ℕ
-  pub cut : Reached default_config st.StartRecord (strip_bom text) rows state rest
-  pub enough : (next_record default_config state [] [] rest ≡ None) ⊎ (length rows ≡ 10001)
 
 -- the decimals that fields spell, where each spells one
 abbrev pub with_decimal : {E : Type 0} → Result Dec E → Option (List Dec) → Option (List Dec)

@@ -5,7 +5,6 @@
 //! exactly the samples that the first rows spell, or the fault of the first row that fails.
 #![tactic(auto)]
 
-mod rows;
 mod sample;
 mod trace;
 

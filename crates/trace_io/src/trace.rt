@@ -5,7 +5,6 @@ ghost use Rattle.csv.specs.Records.{fields_of};
 ghost use Rattle.fuzzy_meaning.specs.Blocks.{IsValid, IsValidInput};
 ghost use Rattle.trace_io.specs.Traces.{decimals, AreWithin, bytes_of, IsFirstOutside, RowFails, SpellsSample, FirstFault, SpellSamples, Spells, HasFault};
 
-use crate::rows::first_rows;
 use crate::{Sample, TraceFault};
 use arrayvec::ArrayVec;
 use byte_scaling::to_byte;
@@ -13,6 +12,7 @@ use csv::ByteRecord;
 use fuzzy_meaning::{Block, Input};
 use fz_list::List;
 use fz_num::Dec;
+use fz_rows::first_rows;
 use std::alloc::{AllocError, Global};
 
 /// The most samples of a trace.

@@ -4,7 +4,7 @@ use Rattle.csv.specs.Reading.{Reached, default_config, strip_bom}
 use Rattle.csv.specs.Records.{fields_of}
 use Rattle.csv.specs.declared.parser.State.TheVariants as st
 use Rattle.csv.proofs.ReadFacts.{rows-end, rows-more}
-use Rattle.trace_io.proofs.rows.first_rows.Goals as goal
+use Rattle.fz_rows.proofs.rows.first_rows.Goals as goal
 
 pub loop-row-init : goal.loop-row-init
 unfolding Reached

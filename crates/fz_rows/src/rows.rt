@@ -1,16 +1,16 @@
 //! Rows of comma-separated text.
 ghost use Rattle.std.specs.Prelude.{◌≡◌, IfOk, map};
 ghost use Rattle.csv.specs.Records.{fields_of};
-ghost use Rattle.trace_io.specs.Traces.{AreFirstRows};
+ghost use Rattle.fz_rows.specs.FirstRows.{AreFirstRows};
 
 use csv::{ByteRecord, ReaderBuilder};
 use std::alloc::{AllocError, Global};
 
-/// One row more than a trace may have.
+/// One row more than a caller takes.
 const MOST: usize = 10001;
 
 /// The rows of a text without a header row, at most 10001 of them.
-pub(crate) fn first_rows(alloc: Global, text: &[u8]) -> Result<Vec<ByteRecord>, AllocError>
+pub fn first_rows(alloc: Global, text: &[u8]) -> Result<Vec<ByteRecord>, AllocError>
     ensures { IfOk result (λ rows. AreFirstRows text.now (map fields_of rows.items)) }
 {
     let reader = ReaderBuilder::new()

@@ -1,0 +1,6 @@
+pub mod Numbers
+pub mod Texts
+pub mod Trees
+pub mod Certificates
+pub mod Reading
+pub mod Laws

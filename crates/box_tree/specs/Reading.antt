@@ -1,0 +1,40 @@
+-- A reader of lines, and how far it has come.
+use Rattle.std.specs.Prelude.{◌≡◌, ℕ, ◌+◌, ◌<◌, List, [], ◌∷◌, ◌++◌, length, Some, None}
+use Rattle.box_tree.specs.declared.cert.Node.{Node}
+use Rattle.box_tree.specs.declared.cert.Cert.{Cert}
+use Rattle.box_tree.specs.declared.cert.CertFault.{CertFault}
+use Rattle.box_tree.specs.declared.lines.Lines.{Lines}
+use Rattle.box_tree.specs.Trees.{leaf_count}
+use Rattle.box_tree.specs.Certificates.{Begins, IsNode}
+use Rattle.box_tree.specs.Texts.{node_line}
+
+-- the claims that the reader read
+abbrev pub claims_of : Lines → List ℕ
+claims_of lines = lines.claims.items
+
+-- how many bytes are not read yet
+abbrev pub unread_len : Lines → ℕ
+unread_len lines = length lines.rest.now
+
+-- the certificate of these nodes under the claims that the reader read
+abbrev pub cert_of : Lines → List Node → Cert
+cert_of lines nodes = record { claims = claims_of lines; nodes = nodes }
+
+-- the reader has read these nodes of the text, and has met no fault
+pub record HasRead (version : ℕ) (text : List ℕ) (nodes : List Node) (lines : Lines) : Type 0 where
+  pub begins : Begins version text (claims_of lines) nodes lines.open_boxes lines.rest.now
+  pub count : lines.read ≡ length nodes + 2
+  pub leaves : lines.leaves ≡ leaf_count nodes
+  pub no_fault : lines.fault ≡ None
+
+-- the reader has met this fault, and tells it again
+abbrev pub HasFailed : CertFault → Lines → Type 0
+HasFailed fault lines = lines.fault ≡ Some fault
+
+-- the next line is that of a node that may stand there, and this is behind it
+pub record StandsBefore (node : Node) (behind : List ℕ) (lines : Lines) : Type 0 where
+  pub good : IsNode (length (claims_of lines)) node
+  pub line : lines.rest.now ≡ node_line node ++ behind
+  pub shorter : length behind < length lines.rest.now
+  pub box_open : 0 < lines.open_boxes
+  pub few_leaves : lines.leaves + leaf_count (node ∷ []) < 4097

@@ -1,0 +1,58 @@
+//! The first two lines of a certificate's text.
+ghost use Rattle.std.specs.Prelude.{◌≡◌, ◌≢◌, ◌≤◌, ◌<◌, ◌↔◌, ℕ, List, [], ◌∷◌, ◌++◌, length, MatchOption, IfSome, IsTrue};
+ghost use Rattle.box_tree.specs.Certificates.{AreClaims};
+ghost use Rattle.box_tree.specs.Texts.{version_line, claim_line};
+
+use crate::text::numbers_of;
+use arrayvec::ArrayVec;
+
+/// The most claims of a certificate.
+const MOST_CLAIMS: usize = 4;
+
+/// What follows the line of this version at the front of a text.
+pub(crate) fn behind_version(text: &[u8], version: u32) -> Option<&[u8]>
+    requires { version ≤ 2 }
+    ensures shorter { IfSome result (λ rest. length rest.now < length text.now) }
+    ensures line { MatchOption result ((rest : List ℕ) → text.now ≢ version_line version ++ rest) (λ rest. text.now ≡ version_line version ++ rest.now) }
+{
+    let (numbers, rest) = numbers_of(b"FZC", text)?;
+    if is_just(numbers.as_slice(), version) {
+        Some(rest)
+    } else {
+        None
+    }
+}
+
+fn is_just(numbers: &[u32], number: u32) -> bool
+    ensures { IsTrue result ↔ (numbers.now ≡ number ∷ []) }
+{
+    match numbers {
+        [only] => *only == number,
+        _ => false,
+    }
+}
+
+/// The claims of the line at the front of a text, and what follows it.
+pub(crate) fn claims_at(text: &[u8]) -> Option<(ArrayVec<u32, 4>, &[u8])>
+    ensures shorter { IfSome result (λ r. length r.1.now < length text.now) }
+    ensures claims { MatchOption result ((claims behind : List ℕ) → AreClaims claims → text.now ≢ claim_line claims ++ behind)
+        (λ r. AreClaims r.0.items × (text.now ≡ claim_line r.0.items ++ r.1.now)) }
+{
+    let (numbers, rest) = numbers_of(b"claim", text)?;
+    if numbers.is_empty() || numbers.len() > MOST_CLAIMS {
+        return None;
+    }
+    Some((copy_of(numbers.as_slice()), rest))
+}
+
+/// Claims, in a vector of their own.
+pub(crate) fn copy_of(claims: &[u32]) -> ArrayVec<u32, 4>
+    requires { length claims.now ≤ MOST_CLAIMS }
+    ensures { result.items ≡ claims.now }
+{
+    let mut copy = ArrayVec::new();
+    for claim in claims {
+        copy.push(*claim);
+    }
+    copy
+}

@@ -1,0 +1,150 @@
+//! A certificate's text, node by node.
+ghost use Rattle.std.specs.Prelude.{◌≡◌, ◌≢◌, ◌≤◌, ◌<◌, ◌+◌, ℕ, List, [], ◌∷◌, ◌++◌, length, MatchOption, IfSome, IfOk, IfErr, Err};
+ghost use Rattle.box_tree.specs.declared.cert.Node.{Node as TheNode};
+ghost use Rattle.box_tree.specs.declared.cert.CertFault.{CertFault as TheFault};
+
+use crate::cert::{CertFault, Node};
+use crate::header::{behind_version, claims_at, copy_of};
+use crate::nodes::node_at;
+use arrayvec::ArrayVec;
+
+/// The most leaves of a certificate.
+const MOST_LEAVES: u32 = 4096;
+
+/// Reads a certificate's text node by node. It takes no memory.
+#[derive(Drop)]
+pub struct Lines<'a> {
+    /// What is not read yet.
+    rest: &'a [u8],
+    claims: ArrayVec<u32, 4>,
+    /// How many lines are read.
+    read: u32,
+    /// How many boxes have no part yet.
+    open_boxes: u32,
+    leaves: u32,
+    /// The fault that was met.
+    fault: Option<CertFault>,
+    ghost short: { read + length rest.now ≤ 1048578 },
+    ghost few_open: { open_boxes ≤ read },
+    ghost few_leaves: { leaves ≤ 4096 },
+}
+
+impl<'a> Lines<'a> {
+    ghost use Rattle.box_tree.specs.Certificates.{CertText, HasFault, IsNode};
+    ghost use Rattle.box_tree.specs.Reading.{HasRead, HasFailed, claims_of, cert_of, StandsBefore, unread_len};
+
+    /// The reader of a text of version 1, behind its claims.
+    pub fn new(text: &'a [u8]) -> Result<Lines<'a>, CertFault>
+        requires { length text.now ≤ 1048576 }
+        ensures begun { IfOk result (HasRead 1 text.now []) }
+        ensures fault { IfErr result (HasFault 1 text.now) }
+    {
+        Lines::of_version(text, 1)
+    }
+
+    /// The reader of a text of version 2, which is that of a certificate for answers of 16 bits.
+    pub fn new16(text: &'a [u8]) -> Result<Lines<'a>, CertFault>
+        requires { length text.now ≤ 1048576 }
+        ensures begun { IfOk result (HasRead 2 text.now []) }
+        ensures fault { IfErr result (HasFault 2 text.now) }
+    {
+        Lines::of_version(text, 2)
+    }
+
+    fn of_version(text: &'a [u8], version: u32) -> Result<Lines<'a>, CertFault>
+        requires short { length text.now ≤ 1048576 }
+        requires version { version ≤ 2 }
+        ensures begun { IfOk result (HasRead version text.now []) }
+        ensures fault { IfErr result (HasFault version text.now) }
+    {
+        if text.is_empty() {
+            return Err(CertFault::Early);
+        }
+        let claim_text = match behind_version(text, version) {
+            Some(rest) => rest,
+            None => return Err(CertFault::BadLine(1)),
+        };
+        if claim_text.is_empty() {
+            return Err(CertFault::Early);
+        }
+        match claims_at(claim_text) {
+            Some((claims, rest)) => Ok(Lines {
+                rest,
+                claims,
+                read: 2,
+                open_boxes: 1,
+                leaves: 0,
+                fault: None,
+            }),
+            None => Err(CertFault::BadLine(2)),
+        }
+    }
+
+    /// The claims of the text's second line.
+    pub fn claims(&self) -> ArrayVec<u32, 4>
+        ensures { result.items ≡ claims_of self.now }
+    {
+        copy_of(self.claims.as_slice())
+    }
+
+    /// The next node, or `None` exactly at the end of a text without a fault. After a fault it
+    /// answers the same fault again.
+    pub fn next(&mut self) -> Result<Option<Node>, CertFault>
+        ensures less { IfOk result (λ next. IfSome next (λ _. unread_len self.new < unread_len self.old)) }
+        ensures claims { claims_of self.new ≡ claims_of self.old }
+        ensures node { (version : ℕ) (text : List ℕ) (nodes : List TheNode) → HasRead version text nodes self.old
+            → IfOk result (λ next. MatchOption next (CertText version text (cert_of self.old nodes) × (self.new ≡ self.old)) (λ node. HasRead version text (nodes ++ node ∷ []) self.new)) }
+        ensures fault { (version : ℕ) (text : List ℕ) (nodes : List TheNode) → HasRead version text nodes self.old → IfErr result (λ fault. HasFault version text fault × HasFailed fault self.new) }
+        ensures again { (fault : TheFault) → HasFailed fault self.old → (result ≡ Err fault) × (self.new ≡ self.old) }
+    {
+        if let Some(fault) = self.fault {
+            return Err(fault);
+        }
+        match self.node_here() {
+            Ok(Some((node, behind))) => {
+                self.rest = behind;
+                self.read += 1;
+                match node {
+                    Node::Split(_, _) => self.open_boxes += 1,
+                    Node::Leaf(_) => {
+                        self.open_boxes -= 1;
+                        self.leaves += 1;
+                    }
+                }
+                Ok(Some(node))
+            }
+            Ok(None) => Ok(None),
+            Err(fault) => {
+                self.fault = Some(fault);
+                Err(fault)
+            }
+        }
+    }
+
+    /// The node of the next line with what follows that, `None` at the end of the text, or the
+    /// fault that stands here.
+    fn node_here(&self) -> Result<Option<(Node, &'a [u8])>, CertFault>
+        ensures node { IfOk result (λ next. MatchOption next ((self.now.rest.now ≡ []) × (self.now.open_boxes ≡ 0)) (λ r. StandsBefore r.0 r.1.now self.now)) }
+        ensures fault { (version : ℕ) (text : List ℕ) (nodes : List TheNode) → HasRead version text nodes self.now → IfErr result (HasFault version text) }
+    {
+        if self.rest.is_empty() {
+            return if self.open_boxes == 0 {
+                Ok(None)
+            } else {
+                Err(CertFault::Early)
+            };
+        }
+        let line = self.read + 1;
+        let (node, behind) = match node_at(self.rest, self.claims.len()) {
+            Some(found) => found,
+            None => return Err(CertFault::BadLine(line)),
+        };
+        if self.open_boxes == 0 {
+            return Err(CertFault::Late(line));
+        }
+        match node {
+            Node::Leaf(_) if self.leaves == MOST_LEAVES => Err(CertFault::TooManyLeaves(line)),
+            _ => Ok(Some((node, behind))),
+        }
+    }
+}

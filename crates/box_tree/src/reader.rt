@@ -1,0 +1,66 @@
+//! Whole certificates from texts.
+ghost use Rattle.std.specs.Prelude.{◌≡◌, ◌≢◌, ◌≤◌, ℕ, List as Items, [], length, IfOk, IfErr};
+ghost use Rattle.box_tree.specs.Certificates.{CertText, HasFault};
+ghost use Rattle.box_tree.specs.Reading.{HasRead};
+
+use crate::cert::{Cert, CertFault, Node};
+use crate::lines::Lines;
+use arrayvec::ArrayVec;
+use fz_list::List;
+use std::alloc::Global;
+
+/// The certificate of a text of version 1, or the text's first fault.
+pub fn read(alloc: Global, text: &[u8]) -> Result<Cert, CertFault>
+    requires { length text.now ≤ 1048576 }
+    ensures cert { IfOk result (CertText 1 text.now) }
+    ensures fault { IfErr result (λ fault. fault ≢ CertFault.Memory → HasFault 1 text.now fault) }
+{
+    match Lines::new(text) {
+        Ok(lines) => cert_behind(alloc, lines),
+        Err(fault) => Err(fault),
+    }
+}
+
+/// The certificate of a text of version 2, which is for answers of 16 bits, or the text's first
+/// fault.
+pub fn read16(alloc: Global, text: &[u8]) -> Result<Cert, CertFault>
+    requires { length text.now ≤ 1048576 }
+    ensures cert { IfOk result (CertText 2 text.now) }
+    ensures fault { IfErr result (λ fault. fault ≢ CertFault.Memory → HasFault 2 text.now fault) }
+{
+    match Lines::new16(text) {
+        Ok(lines) => cert_behind(alloc, lines),
+        Err(fault) => Err(fault),
+    }
+}
+
+/// The certificate of a text of which the first two lines are read.
+fn cert_behind(alloc: Global, mut lines: Lines<'_>) -> Result<Cert, CertFault>
+    ensures cert { (version : ℕ) (text : Items ℕ) → HasRead version text [] lines.entry → IfOk result (CertText version text) }
+    ensures fault { (version : ℕ) (text : Items ℕ) → HasRead version text [] lines.entry → IfErr result (λ fault. fault ≢ CertFault.Memory → HasFault version text fault) }
+{
+    let mut nodes = Vec::new(alloc);
+    loop {
+        match lines.next() {
+            Ok(Some(node)) => match nodes.push(node) {
+                Ok(()) => {}
+                Err(_) => return Err(CertFault::Memory),
+            },
+            Ok(None) => return cert_of(alloc, &lines.claims(), nodes),
+            Err(fault) => return Err(fault),
+        }
+    }
+}
+
+fn cert_of(alloc: Global, claims: &ArrayVec<u32, 4>, nodes: Vec<Node>) -> Result<Cert, CertFault>
+    ensures cert { IfOk result (λ cert. (cert.claims ≡ claims.now.items) × (cert.nodes ≡ nodes.items)) }
+    ensures memory { IfErr result (λ fault. fault ≡ CertFault.Memory) }
+{
+    match Vec::from_slice(alloc, claims.as_slice()) {
+        Ok(claims) => Ok(Cert {
+            claims: List::new(claims),
+            nodes: List::new(nodes),
+        }),
+        Err(_) => Err(CertFault::Memory),
+    }
+}

@@ -1,0 +1,17 @@
+-- The rows of comma-separated text.
+use Rattle.std.specs.Prelude.{◌≡◌, ◌⊎◌, ℕ, List, [], length, None}
+use Rattle.csv.specs.Machine.{next_record}
+use Rattle.csv.specs.Reading.{Reached, default_config, strip_bom}
+use Rattle.csv.specs.declared.parser.State.{State}
+use Rattle.csv.specs.declared.parser.State.TheVariants as st
+
+-- the fields of a row
+abbrev pub Fields : Type 0
+Fields = List (List ℕ)
+
+-- the first rows that csv cuts a text into by its defaults: all of them, or 10001 of more
+pub record AreFirstRows (text : List ℕ) (rows : List Fields) : Type 0 where
+  pub state : State
+  pub rest : List ℕ
+  pub cut : Reached default_config st.StartRecord (strip_bom text) rows state rest
+  pub enough : (next_record default_config state [] [] rest ≡ None) ⊎ (length rows ≡ 10001)
