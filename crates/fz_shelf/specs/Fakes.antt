@@ -1,5 +1,5 @@
 -- What a shelf and a sink in memory are told to do.
-use Rattle.std.specs.Prelude.{ℕ, List}
+use Rattle.std.specs.Prelude.{◌≡◌, ℕ, List}
 use Rattle.fz_shelf.specs.declared.mem_shelf.MemShelf.{MemShelf}
 use Rattle.fz_shelf.specs.declared.mem_sink.MemSink.{MemSink}
 
@@ -18,3 +18,17 @@ failing_puts_of s = s.failing
 -- the most bytes that one put takes, 0 being 1
 abbrev pub most_of : MemSink → ℕ
 most_of s = s.most
+
+-- how many calls of a kind were made, as far as they are numbered
+abbrev pub reads_of : MemShelf → ℕ
+reads_of s = s.reads
+
+abbrev pub writes_of : MemShelf → ℕ
+writes_of s = s.writes
+
+abbrev pub puts_of : MemSink → ℕ
+puts_of s = s.puts
+
+-- the shelf goes on failing where it was told to
+abbrev pub AreKept : MemShelf → MemShelf → Type 0
+AreKept old new = (new.failing_reads ≡ old.failing_reads) × (new.failing_writes ≡ old.failing_writes)

@@ -34,8 +34,8 @@ Fits untold n = ⊥
 Fits absent n = ⊥
 Fits (known b room) n = n ≤ room
 
--- the file after a write that is Ok
+-- the file after a write that is Ok: the bytes are within its room
 abbrev pub Written : File → List ℕ → File → Type 0
 Written untold bytes new = Unit {0}
 Written absent bytes new = ⊥
-Written (known b room) bytes new = new ≡ known bytes room
+Written (known b room) bytes new = (length bytes ≤ room) × (new ≡ known bytes room)

@@ -1,3 +1,4 @@
+pub mod Calls
 pub mod Fakes
 pub mod Faults
 pub mod Files

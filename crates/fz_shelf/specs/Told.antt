@@ -20,6 +20,11 @@ abbrev pub HasRoom : Option Taken → ℕ → Type 0
 HasRoom None n = ⊥
 HasRoom (Some t) n = n ≤ t.room
 
+-- so many bytes are no more than the room, where the sink tells it
+abbrev pub IsWithinRoom : Option Taken → ℕ → Type 0
+IsWithinRoom None n = Unit {0}
+IsWithinRoom (Some t) n = n ≤ t.room
+
 -- a nonempty prefix of a piece that is not empty
 pub record IsPart (n len : ℕ) : Type 0 where
   pub within : n ≤ len

@@ -1,8 +1,10 @@
 //! A shelf in memory.
-ghost use Rattle.std.specs.Prelude.{◌≡◌, ◌≤◌, ◌<◌, [], length, IfOk, MatchOption, false, position};
+ghost use Rattle.std.specs.Prelude.{◌≡◌, ◌≢◌, ◌⊎◌, ◌↔◌, ◌≤◌, ◌<◌, [], ℕ, List, length, IfOk, IsErr, IsErrOf, IsOk, IsTrue, MatchOption, OnOk, false, position};
 ghost use Rattle.std.specs.List.{All};
-ghost use Rattle.fz_shelf.specs.Files.{absent};
-ghost use Rattle.fz_shelf.specs.Log.{asked_of};
+ghost use Rattle.fz_shelf.specs.Calls.{IsListed, one_more};
+ghost use Rattle.fz_shelf.specs.Files.{Fits, IsThere, Written, absent};
+ghost use Rattle.fz_shelf.specs.Log.{asked_after, asked_of};
+ghost use Rattle.fz_shelf.specs.Reading.{ReadCounts, ReadTells, WriteCounts};
 ghost use Rattle.fz_shelf.specs.MemFiles.{file_in, is_named, IsPlace};
 
 use crate::log::{entry_for, record};
@@ -39,7 +41,8 @@ pub struct MemShelf {
 
 /// Whether the call after so many is to fail.
 pub(crate) fn is_listed(failing: &[u32], made: u32) -> bool
-    ensures { All (λ n. n ≤ made) failing.now → result ≡ false }
+    ensures listed { IsTrue result ↔ IsListed failing.now made }
+    ensures past { All (λ n. n ≤ made) failing.now → result ≡ false }
 {
     made < u32::MAX && failing.contains(&(made + 1))
 }
@@ -75,7 +78,7 @@ fn store(alloc: Global, files: List<MemFile>) -> Result<Vec<Stored>, Memory>
 }
 
 impl MemShelf {
-    ghost use Rattle.fz_shelf.specs.Fakes.{failing_reads_of, failing_writes_of};
+    ghost use Rattle.fz_shelf.specs.Fakes.{failing_reads_of, failing_writes_of, reads_of, writes_of};
 
     /// A shelf with these files, whose reads and writes with these numbers fail.
     pub fn new(
@@ -87,6 +90,7 @@ impl MemShelf {
         ensures files { IfOk result (λ s. ⟦<MemShelf as Shelf>⟧.files s ≡ file_in files) }
         ensures asked { IfOk result (λ s. ⟦<MemShelf as Shelf>⟧.asked s ≡ []) }
         ensures counts { IfOk result (λ s. ⟦<MemShelf as Shelf>⟧.counts s ≡ record { reads = 0; longs = 0; writes = 0 }) }
+        ensures numbers { IfOk result (λ s. (reads_of s ≡ 0) × (writes_of s ≡ 0)) }
         ensures failing_reads { IfOk result (λ s. failing_reads_of s ≡ failing_reads) }
         ensures failing_writes { IfOk result (λ s. failing_writes_of s ≡ failing_writes) }
         ensures sound { All (λ n. n ≤ 0) failing_reads → All (λ n. n ≤ 0) failing_writes → IfOk result (λ s. ⟦<MemShelf as Shelf>⟧.sound s) }
@@ -118,6 +122,8 @@ impl MemShelf {
 }
 
 impl Shelf for MemShelf {
+    ghost use Rattle.fz_shelf.specs.Fakes.{AreKept, failing_reads_of, failing_writes_of, reads_of, writes_of};
+
     ghost files = { λ s. file_in s.files.items };
 
     ghost counts = { λ s. record { reads = s.failed_reads; longs = s.too_long; writes = s.failed_writes } };
@@ -126,7 +132,23 @@ impl Shelf for MemShelf {
 
     ghost sound = { λ s. All (λ n. n ≤ s.reads) s.failing_reads × All (λ n. n ≤ s.writes) s.failing_writes };
 
-    fn read(&mut self, name: &str, into: &mut Vec<u8>) -> Result<(), ReadError> {
+    /// A read that is listed fails, and no other of a file that is there.
+    fn read(&mut self, name: &str, into: &mut Vec<u8>) -> Result<(), ReadError>
+        requires { into.old.items ≡ [] }
+        ensures files { ⟦<MemShelf as Shelf>⟧.files self.new ≡ ⟦<MemShelf as Shelf>⟧.files self.old }
+        ensures tells { ReadTells (⟦<MemShelf as Shelf>⟧.files self.old name.now) result into.new.items }
+        ensures counts { ReadCounts (⟦<MemShelf as Shelf>⟧.counts self.old) (⟦<MemShelf as Shelf>⟧.counts self.new) result }
+        ensures asked { ⟦<MemShelf as Shelf>⟧.asked self.new ≡ asked_after (⟦<MemShelf as Shelf>⟧.asked self.old) name.now result }
+        ensures sound { ⟦<MemShelf as Shelf>⟧.sound self.old → ⟦<MemShelf as Shelf>⟧.sound self.new }
+        ensures steady { ⟦<MemShelf as Shelf>⟧.sound self.old → IsThere (⟦<MemShelf as Shelf>⟧.files self.old name.now)
+            → IsErrOf result ReadError.Failed → ⊥ }
+
+        ensures listed { IsListed (failing_reads_of self.old) (reads_of self.old) → IsErrOf result ReadError.Failed ⊎ IsErrOf result ReadError.Memory }
+        ensures unlisted { (IsListed (failing_reads_of self.old) (reads_of self.old) → ⊥) → IsThere (⟦<MemShelf as Shelf>⟧.files self.old name.now)
+            → IsErrOf result ReadError.Failed → ⊥ }
+        ensures numbered { (IsErrOf result ReadError.Memory → ⊥) → reads_of self.new ≡ one_more (reads_of self.old) }
+        ensures orders { AreKept self.old self.new × (writes_of self.new ≡ writes_of self.old) }
+    {
         let entry = match entry_for(self.alloc, &mut self.asked, name) {
             Ok(entry) => entry,
             Err(_) => return Err(ReadError::Memory),
@@ -142,8 +164,9 @@ impl Shelf for MemShelf {
                     record(&mut self.asked, entry, Answer::Long);
                     return Err(ReadError::TooLong);
                 }
-                if into.extend_from_slice(file.bytes()).is_err() {
-                    return Err(ReadError::Memory);
+                match into.extend_from_slice(file.bytes()) {
+                    Ok(()) => {}
+                    Err(_) => return Err(ReadError::Memory),
                 }
                 self.reads = self.reads.saturating_add(1);
                 record(&mut self.asked, entry, Answer::Whole);
@@ -158,7 +181,22 @@ impl Shelf for MemShelf {
         }
     }
 
-    fn write(&mut self, name: &str, bytes: &[u8]) -> Result<(), Failed> {
+    /// A write that is listed fails, and of the others those to a file that is not there and those
+    /// of more bytes than its room.
+    fn write(&mut self, name: &str, bytes: &[u8]) -> Result<(), Failed>
+        ensures written { OnOk result (Written (⟦<MemShelf as Shelf>⟧.files self.old name.now) bytes.now (⟦<MemShelf as Shelf>⟧.files self.new name.now)) }
+        ensures others { (other : List ℕ) → other ≢ name.now → ⟦<MemShelf as Shelf>⟧.files self.new other ≡ ⟦<MemShelf as Shelf>⟧.files self.old other }
+        ensures counts { WriteCounts (⟦<MemShelf as Shelf>⟧.counts self.old) (⟦<MemShelf as Shelf>⟧.counts self.new) result }
+        ensures asked { ⟦<MemShelf as Shelf>⟧.asked self.new ≡ ⟦<MemShelf as Shelf>⟧.asked self.old }
+        ensures sound { ⟦<MemShelf as Shelf>⟧.sound self.old → ⟦<MemShelf as Shelf>⟧.sound self.new }
+        ensures steady { ⟦<MemShelf as Shelf>⟧.sound self.old → Fits (⟦<MemShelf as Shelf>⟧.files self.old name.now) (length bytes.now) → IsOk result }
+
+        ensures listed { IsListed (failing_writes_of self.old) (writes_of self.old) → IsErr result }
+        ensures unlisted { (IsListed (failing_writes_of self.old) (writes_of self.old) → ⊥)
+            → Fits (⟦<MemShelf as Shelf>⟧.files self.old name.now) (length bytes.now) → IsOk result }
+        ensures numbered { writes_of self.new ≡ one_more (writes_of self.old) }
+        ensures orders { AreKept self.old self.new × (reads_of self.new ≡ reads_of self.old) }
+    {
         let is_listed = is_listed(self.failing_writes.as_slice(), self.writes);
         self.writes = self.writes.saturating_add(1);
         let place = place_of(&self.files, name);

@@ -1,6 +1,9 @@
 //! A sink in memory.
-ghost use Rattle.std.specs.Prelude.{◌≡◌, ◌≤◌, ◌+◌, [], Some, IfOk, option_map, vec_len, vec_capacity};
+ghost use Rattle.std.specs.Prelude.{◌≡◌, ◌≤◌, ◌+◌, [], Some, IfOk, IsErr, IsOk, length, max, min, option_map, vec_len, vec_capacity};
 ghost use Rattle.std.specs.List.{All};
+ghost use Rattle.fz_shelf.specs.Calls.{IsListed, one_more};
+ghost use Rattle.fz_shelf.specs.Faults.{HasCause};
+ghost use Rattle.fz_shelf.specs.Told.{after_put, HasRoom, IsPart, IsWithinRoom};
 
 use crate::mem_shelf::is_listed;
 use crate::{Failed, Memory, Sink};
@@ -22,7 +25,7 @@ pub struct MemSink {
 }
 
 impl MemSink {
-    ghost use Rattle.fz_shelf.specs.Fakes.{failing_puts_of, most_of};
+    ghost use Rattle.fz_shelf.specs.Fakes.{failing_puts_of, most_of, puts_of};
 
     /// A sink that has taken nothing. One put takes at most `most` bytes, and 1 where `most`
     /// is 0.
@@ -34,6 +37,7 @@ impl MemSink {
     ) -> Result<MemSink, Memory>
         ensures told { IfOk result (λ s. ⟦<MemSink as Sink>⟧.told s ≡ Some (record { bytes = []; room = room })) }
         ensures faults { IfOk result (λ s. ⟦<MemSink as Sink>⟧.faults s ≡ 0) }
+        ensures numbers { IfOk result (λ s. puts_of s ≡ 0) }
         ensures failing { IfOk result (λ s. failing_puts_of s ≡ failing_puts) }
         ensures most { IfOk result (λ s. most_of s ≡ most) }
         ensures sound { All (λ n. n ≤ 0) failing_puts → IfOk result (λ s. ⟦<MemSink as Sink>⟧.sound s) }
@@ -61,13 +65,31 @@ impl MemSink {
 }
 
 impl Sink for MemSink {
+    ghost use Rattle.fz_shelf.specs.Fakes.{failing_puts_of, most_of, puts_of};
+
     ghost told = { λ s. Some (record { bytes = s.bytes.items; room = s.room }) };
 
     ghost faults = { λ s. s.faults };
 
     ghost sound = { λ s. All (λ n. n ≤ s.puts) s.failing };
 
-    fn put(&mut self, bytes: &[u8]) -> Result<usize, Failed> {
+    /// A put that is listed fails, and of the others those of a piece longer than the room left.
+    fn put(&mut self, bytes: &[u8]) -> Result<usize, Failed>
+        ensures part { IfOk result (λ n. IsPart n (length bytes.now)) }
+        ensures fits { IfOk result (IsWithinRoom (⟦<MemSink as Sink>⟧.told self.old)) }
+        ensures told { ⟦<MemSink as Sink>⟧.told self.new ≡ after_put (⟦<MemSink as Sink>⟧.told self.old) bytes.now result }
+        ensures cause { HasCause (⟦<MemSink as Sink>⟧.faults self.old) (⟦<MemSink as Sink>⟧.faults self.new) result }
+        ensures sound { ⟦<MemSink as Sink>⟧.sound self.old → ⟦<MemSink as Sink>⟧.sound self.new }
+        ensures steady { ⟦<MemSink as Sink>⟧.sound self.old → HasRoom (⟦<MemSink as Sink>⟧.told self.old) (length bytes.now) → IsOk result }
+
+        ensures listed { IsListed (failing_puts_of self.old) (puts_of self.old) → IsErr result }
+        ensures over { IfOk result (λ n. IsWithinRoom (⟦<MemSink as Sink>⟧.told self.old) (length bytes.now)) }
+        ensures unlisted { (IsListed (failing_puts_of self.old) (puts_of self.old) → ⊥)
+            → HasRoom (⟦<MemSink as Sink>⟧.told self.old) (length bytes.now) → IsOk result }
+        ensures most { IfOk result (λ n. n ≡ min (length bytes.now) (max (most_of self.old) 1)) }
+        ensures numbered { puts_of self.new ≡ one_more (puts_of self.old) }
+        ensures orders { (failing_puts_of self.new ≡ failing_puts_of self.old) × (most_of self.new ≡ most_of self.old) }
+    {
         let is_listed = is_listed(self.failing.as_slice(), self.puts);
         self.puts = self.puts.saturating_add(1);
         if is_listed || bytes.len() as u64 > self.room {

@@ -36,8 +36,9 @@ pub trait Shelf {
         ensures sound { sound self.old → sound self.new }
         ensures steady { sound self.old → IsThere (files self.old name.now) → IsErrOf result ReadError.Failed → ⊥ };
 
-    /// Puts these bytes in the place of the file's. After a fault that file's contents are not
-    /// known, and every other file is as before. Takes no memory.
+    /// Puts these bytes, which are within the file's room, in the place of the file's. After a
+    /// fault that file's contents are not known, and every other file is as before. Takes no
+    /// memory.
     fn write(&mut self, name: &str, bytes: &[u8]) -> Result<(), Failed>
         ensures written { OnOk result (Written (files self.old name.now) bytes.now (files self.new name.now)) }
         ensures others { (other : List ℕ) → other ≢ name.now → files self.new other ≡ files self.old other }

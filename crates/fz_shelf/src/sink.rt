@@ -1,7 +1,7 @@
 //! Sinks that take bytes.
 ghost use Rattle.std.specs.Prelude.{◌≡◌, ℕ, Option, length, IfOk, IsOk};
 ghost use Rattle.fz_shelf.specs.Faults.{HasCause};
-ghost use Rattle.fz_shelf.specs.Told.{Taken, after_put, HasRoom, IsPart};
+ghost use Rattle.fz_shelf.specs.Told.{Taken, after_put, HasRoom, IsPart, IsWithinRoom};
 
 use crate::Failed;
 
@@ -16,10 +16,11 @@ pub trait Sink {
     /// While it holds, a put within the room left does not fail. Every call keeps it.
     ghost sound: { Self → Type 0 };
 
-    /// Takes a nonempty prefix of a piece that is not empty, and answers its length. A put of an
-    /// empty piece that is `Ok` answers 0. Takes no memory.
+    /// Takes a nonempty prefix of a piece that is not empty, no longer than the room left, and
+    /// answers its length. A put of an empty piece that is `Ok` answers 0. Takes no memory.
     fn put(&mut self, bytes: &[u8]) -> Result<usize, Failed>
         ensures part { IfOk result (λ n. IsPart n (length bytes.now)) }
+        ensures fits { IfOk result (IsWithinRoom (told self.old)) }
         ensures told { told self.new ≡ after_put (told self.old) bytes.now result }
         ensures cause { HasCause (faults self.old) (faults self.new) result }
         ensures sound { sound self.old → sound self.new }

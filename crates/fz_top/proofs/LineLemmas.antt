@@ -6,7 +6,8 @@ use Rattle.std.proofs.Math.Seq.{take-suc}
 use Rattle.std.proofs.lemmas.List.{append-nil, length-map, length-take-le, map-append}
 use Rattle.fz_shelf.specs.Lines.{text_of}
 use Rattle.fz_run.specs.Rows.{row_seen}
-use Rattle.fz_top.specs.Lines.{Answered, answered, lines_of, newline, numbers, sample_line, sample_lines, shown}
+use Rattle.fz_top.specs.Lines.{newline}
+use Rattle.fz_top.specs.Run.{Answered, answered, numbers, run_lines, sample_line, sample_lines, shown}
 use Rattle.fz_run.specs.declared.rows.Row.{Row}
 
 pub numbers-snoc : (ns : List ℕ) (n : ℕ) → numbers (ns ++ n ∷ []) ≡ numbers ns ++ (codes " " ++ decimal n)
@@ -65,6 +66,6 @@ map_answered : (rows : List Row) → map answered rows ≡ map shown (map row_se
 map_answered [] = refl
 map_answered (r ∷ rows) = ap (λ (l : List Answered). answered r ∷ l) (map_answered rows)
 
-pub run_text : (bound bound' : ℕ) (rows shows : List Row) (text : List ℕ) → text ≡ lines_of bound (map answered shows) → bound ≡ bound' → shows ≡ rows → text ≡ lines_of bound' (map shown (map row_seen rows))
+pub run_text : (bound bound' : ℕ) (rows shows : List Row) (text : List ℕ) → text ≡ run_lines bound (map answered shows) → bound ≡ bound' → shows ≡ rows → text ≡ run_lines bound' (map shown (map row_seen rows))
 run_text bound bound' rows shows text written bound_is shows_are =
-    written ∙ ap (λ (b : ℕ). lines_of b (map answered shows)) bound_is ∙ ap (λ (rs : List Row). lines_of bound' (map answered rs)) shows_are ∙ ap (lines_of bound') (map_answered rows)
+    written ∙ ap (λ (b : ℕ). run_lines b (map answered shows)) bound_is ∙ ap (λ (rs : List Row). run_lines bound' (map answered rs)) shows_are ∙ ap (run_lines bound') (map_answered rows)

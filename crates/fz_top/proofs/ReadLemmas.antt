@@ -1,7 +1,7 @@
 -- How the reads of a list of files go on.
-use Rattle.std.proofs.Common.{◌≡◌, ◌≤◌, ◌<◌, ◌+◌, ℕ, zero, suc, List, [], ◌∷◌, ◌++◌, length, take, drop, get_or, refl, sym, ◌∙◌, ap, subst, arith, append_assoc, add-one, drop-cons, take-append-drop}
+use Rattle.std.proofs.Common.{◌≡◌, ◌≤◌, ◌<◌, ◌+◌, ℕ, zero, suc, List, [], ◌∷◌, ◌++◌, length, take, drop, get_or, sym, ◌∙◌, ap, subst, arith, append_assoc, add-one, drop-cons, take-append-drop}
 use Rattle.std.proofs.Math.Seq.{take-suc}
-use Rattle.std.proofs.lemmas.List.{map-append, take_all, length-map}
+use Rattle.std.proofs.lemmas.List.{map-append}
 use Rattle.std.specs.List.{All}
 use Rattle.fz_shelf.specs.Files.{Names, Holds, IsThere, IsLong}
 use Rattle.fz_shelf.specs.Log.{Log}
@@ -82,18 +82,6 @@ pub there_later : (files files' : Names) (words : List Text) (places : List ℕ)
     → IsThere (files' (word_at words (get_or places i d)))
 there_later files files' words places i d lt same there =
     subst (λ (f : Names). IsThere (f (word_at words (get_or places i d)))) (sym same) (there_at files words places i d lt there)
-
-held-length : (files : Names) (ns : List Text) (cs : List (List ℕ)) → AreHeld files ns cs → length cs ≡ length ns
-held-length files [] [] h = refl
-held-length files [] (x ∷ cs) h = absurd h
-held-length files (m ∷ ns) [] h = absurd h
-held-length files (m ∷ ns) (x ∷ cs) h = omega (arith, held-length files ns cs h.2)
-
-pub held_many : (files : Names) (words : List Text) (places : List ℕ) (i : ℕ) (items : List (Vec ℕ Global)) → length places ≤ i → AreHeld files (names_at words (take i places)) (bytes_of items) → length items ≡ length places
-held_many files words places i items le held =
-    let all : take i places ≡ places = take_all i places le in
-    let h : length (bytes_of items) ≡ length (names_at words (take i places)) = held-length files (names_at words (take i places)) (bytes_of items) held in
-    omega (arith, simp length-map at h, ap length all)
 
 held_each : (files : Names) (ns : List Text) (cs : List (Vec ℕ Global)) → AreHeld files ns (bytes_of cs) → (k : ℕ) (d : Vec ℕ Global) → k < length cs → length (get_or cs k d).items ≤ 1048576
 held_each files ns [] h k d lt = absurd (omega arith)

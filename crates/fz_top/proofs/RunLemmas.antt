@@ -9,9 +9,9 @@ use Rattle.fz_shelf.specs.Reading.{Counts}
 use Rattle.std.specs.declared.alloc.Global.{Global}
 use Rattle.std.specs.declared.vec.Vec.{Vec}
 use Rattle.fz_top.specs.Texts.{Text, word_at, bytes_of}
-use Rattle.fz_top.specs.Commands.{command_in, inputs_of}
+use Rattle.fz_top.specs.Commands.{Makes, command_in, inputs_of}
 use Rattle.fz_top.specs.Reads.{ReadsWhole, AreHeld, AreThere, names_at, StopsBy}
-use Rattle.fz_top.specs.Works.{Deed, IsFaultOf, Makes}
+use Rattle.fz_top.specs.Deeds.{Deed, IsFaultOf}
 use Rattle.fz_top.specs.Runs.{Faulted, IsMade, Untouched, IsReadFault, IsTooLong, IsWriteFault, Settles, status_of, IsReady, AreKnown, FileFits, World, world, Worked, Delivered, WriteFailed, PutFailed, ChangesOnly, IsWritten, Runs}
 use Rattle.fz_top.specs.declared.command.Command.{Command}
 use Rattle.fz_top.specs.declared.reading.Stop.TheVariants as stop

@@ -1,8 +1,11 @@
 pub mod Codes
 pub mod Commands
+pub mod Deeds
 pub mod Errors
+pub mod Firmwares
 pub mod Lines
 pub mod Reads
+pub mod Run
 pub mod Runs
 pub mod Texts
-pub mod Works
+pub mod Words

@@ -16,3 +16,7 @@ bytes_of = map (λ v. v.items)
 
 abbrev pub word_at : List Text → ℕ → Text
 word_at words i = slice_index_or words i []
+
+-- the content of a file, and nothing where there is none
+abbrev pub content_at : List (List ℕ) → ℕ → List ℕ
+content_at contents i = slice_index_or contents i []

@@ -1,74 +1,82 @@
-//! What the program is asked for.
-ghost use Rattle.std.specs.Prelude.{◌≡◌, ◌<◌, ◌↔◌, IfOk, IsErr, IsErrOf, Some, None, Err, length, option_map};
+//! The commands: the one table of them, and every match on which command it is.
+//!
+//! A command is a file of its own beside this one, with the form of its words, the files that it
+//! reads and what it makes of them; the file of the same name in `specs/` defines these. Here
+//! each has a row of the table and an arm of each match.
+ghost use Rattle.std.specs.Prelude.{◌≡◌, ◌↔◌, ◌≤◌, length, IfOk, IsErrOf, Some, None};
 ghost use Rattle.std.specs.List.{All};
-ghost use Rattle.fz_top.specs.Texts.{texts_of};
-ghost use Rattle.fz_top.specs.Commands.{command_in, flags_of, run_in, words_of, IsUsage};
+ghost use Rattle.fz_top.specs.Texts.{bytes_of, texts_of};
+ghost use Rattle.fz_top.specs.Commands.{IsUsage, Makes, command_in, form_of, inputs_of};
+ghost use Rattle.fz_top.specs.Deeds.{IsResultOf};
 
-use fz_words::{Name, Refusal, name_of};
+use crate::Status;
+use crate::reading::content;
+use crate::run::{self, Run};
+use crate::work::Work;
+use fz_words::Refusal;
 use std::alloc::Global;
+
+/// A command by its name alone.
+#[derive(Clone, Copy)]
+pub(crate) enum Name {
+    Run,
+}
+
+/// The commands by their names on the command line, each with the number of words that follow.
+static COMMANDS: [(&str, usize, Name); 1] = [("run", 3, Name::Run)];
 
 /// A command with what its words give beside the names of files.
 #[derive(Clone, Copy, Debug, PartialEq, Eq)]
 pub enum Command {
-    /// `run FCL TRACE FLAGS`, with FLAGS.
-    Run(u8),
+    /// `run FCL TRACE FLAGS`
+    Run(Run),
 }
 
-/// The words FCL and TRACE.
-static RUN: [u32; 2] = [2, 3];
+/// The command of this name that the words ask for.
+#[tactic(auto, unfolding(crate::specs::Commands::form_of))]
+fn formed(name: Name, words: &[String]) -> Option<Command>
+    ensures { result ≡ form_of name (texts_of words.now) }
+{
+    match name {
+        Name::Run => Run::of(words).map(Command::Run),
+    }
+}
 
 impl Command {
-    ghost use Rattle.fz_top.specs.Commands.{inputs_of, words_of};
-
     /// The words that name the files to read, in order.
     #[tactic(auto, unfolding(crate::specs::Commands::inputs_of))]
-    pub fn inputs(&self) -> &'static [u32]
-        ensures value { result.now ≡ inputs_of self.now }
-        ensures placed { All (λ p. p < words_of self.now) result.now }
+    pub(crate) fn inputs(&self) -> &'static [u32]
+        ensures { result.now ≡ inputs_of self.now }
     {
         match self {
-            Command::Run(_) => RUN.as_slice(),
+            Command::Run(_) => run::INPUTS.as_slice(),
         }
     }
-}
 
-/// Two hexadecimal digits, in either case.
-pub(crate) fn flags(text: &str) -> Option<u8>
-    ensures { result ≡ flags_of text.now }
-{
-    let mut out = [0u8; 1];
-    match hex::decode_to_slice(text, &mut out) {
-        Ok(()) => Some(out[0]),
-        Err(_) => None,
-    }
-}
-
-fn run_command(words: &[String]) -> Option<Command>
-    requires { length words.now ≡ 5 }
-    ensures { result ≡ run_in (texts_of words.now) }
-{
-    match flags(words[4].as_str()) {
-        Some(flags) => Some(Command::Run(flags)),
-        None => None,
+    /// What the command makes of its files' contents.
+    #[tactic(auto, unfolding(crate::specs::Commands::Makes))]
+    pub(crate) fn work(self, alloc: Global, contents: &[Vec<u8>]) -> Result<Work, Status>
+        requires { All (λ c. length c.items ≤ 1048576) contents.now }
+        ensures { IsResultOf (Makes self (bytes_of contents.now)) result }
+    {
+        match self {
+            Command::Run(run) => run.work(alloc, content(contents, 0), content(contents, 1)),
+        }
     }
 }
 
 /// The command of the words, the program's name first.
 pub(crate) fn command_of<'a>(alloc: Global, words: &'a [String]) -> Result<Command, Refusal>
     ensures value { IfOk result (λ c. command_in (texts_of words.now) ≡ Some c) }
-    ensures counted { IfOk result (λ c. length words.now ≡ words_of c) }
     ensures usage { IsErrOf result Refusal.Usage → command_in (texts_of words.now) ≡ None }
     ensures law { (command_in (texts_of words.now) ≡ None) ↔ IsUsage (texts_of words.now) }
 {
-    let name = match name_of(alloc, words) {
+    let name = match fz_words::command_of(alloc, COMMANDS.as_slice(), words) {
         Ok(name) => name,
         Err(Refusal::Usage) => return Err(Refusal::Usage),
         Err(Refusal::Memory) => return Err(Refusal::Memory),
     };
-    let command = match name {
-        Name::Run => run_command(words),
-    };
-    match command {
+    match formed(name, words) {
         Some(command) => Ok(command),
         None => Err(Refusal::Usage),
     }

@@ -1,11 +1,11 @@
 //! Writing the file and putting the lines: the one place where anything leaves the program.
-ghost use Rattle.std.specs.Prelude.{◌≡◌, ◌<◌, ◌⊎◌, length, OnOk, OnErr, IsOk};
-ghost use Rattle.std.specs.Option.{ForSome};
+ghost use Rattle.std.specs.Prelude.{◌≡◌, ◌⊎◌, length, OnOk, OnErr, IsOk};
 ghost use Rattle.fz_shelf.specs.Told.{HasRoom};
 ghost use Rattle.fz_top.specs.Texts.{texts_of};
-ghost use Rattle.fz_top.specs.Works.{deed_of};
+ghost use Rattle.fz_top.specs.Deeds.{deed_of};
 ghost use Rattle.fz_top.specs.Runs.{world, ChangesOnly, FileFits, Delivered, WriteFailed, PutFailed};
 
+use crate::words::word;
 use crate::work::Work;
 use fz_shelf::{Failed, Shelf, Sink, put_lines};
 
@@ -16,7 +16,6 @@ pub(crate) fn deliver<S: Shelf, O: Sink>(
     shelf: &mut S,
     out: &mut O,
 ) -> Result<(), Failed>
-    requires { ForSome work.now.file (λ f. f.0 < length words.now) }
     ensures others { ChangesOnly (texts_of words.now) (deed_of work.now).file (S.files shelf.old) (S.files shelf.new) }
     ensures asked { S.asked shelf.new ≡ S.asked shelf.old }
     ensures done { OnOk result (Delivered (texts_of words.now) (deed_of work.now)
@@ -34,7 +33,7 @@ pub(crate) fn deliver<S: Shelf, O: Sink>(
         → HasRoom (O.told out.old) (length (deed_of work.now).text) → IsOk result }
 {
     match &work.file {
-        Some((place, bytes)) => match shelf.write(words[*place as usize].as_str(), bytes) {
+        Some((place, bytes)) => match shelf.write(word(words, *place), bytes) {
             Ok(()) => put_lines(out, &work.lines),
             Err(failed) => Err(failed),
         },

@@ -1,10 +1,11 @@
 //! The one line on err, put in pieces that take no memory.
 ghost use Rattle.std.specs.Prelude.{◌≡◌, ◌++◌, length};
 ghost use Rattle.fz_shelf.specs.Told.{gained, HasRoom};
-ghost use Rattle.fz_top.specs.Texts.{texts_of, word_at};
+ghost use Rattle.fz_top.specs.Texts.{texts_of};
 ghost use Rattle.fz_top.specs.Lines.{newline};
 ghost use Rattle.fz_top.specs.Errors.{Puts, Complains, with_name, with_number, with_two, syntax_line, load_line, load_kind, layout_line, fcl_line, trace_line, error_line_of};
 
+use crate::words::word;
 use crate::{FclFault, Status};
 use fcl_check::LoadFault;
 use fcl_syntax::SyntaxFault;
@@ -13,26 +14,16 @@ use itoa::Buffer;
 use rule_layout::LayoutFault;
 use trace_io::TraceFault;
 
-/// The word at this place, or nothing.
-fn word(words: &[String], place: u32) -> &[u8]
-    ensures { result.now ≡ word_at (texts_of words.now) place }
-{
-    match words.get(place as usize) {
-        Some(word) => word.as_bytes(),
-        None => b"",
-    }
-}
-
 fn put_text<F: Sink>(err: &mut F, text: &[u8]) -> Result<(), Failed>
     ensures { Puts (text.now ++ newline) (F.told err.old) (F.told err.new) (F.faults err.old) (F.faults err.new) (F.sound err.old) (F.sound err.new) result }
 {
     put_pieces(err, &[text, b"\n"])
 }
 
-fn put_name<F: Sink>(err: &mut F, label: &[u8], name: &[u8]) -> Result<(), Failed>
+fn put_name<F: Sink>(err: &mut F, label: &[u8], name: &str) -> Result<(), Failed>
     ensures { Puts (with_name label.now name.now) (F.told err.old) (F.told err.new) (F.faults err.old) (F.faults err.new) (F.sound err.old) (F.sound err.new) result }
 {
-    put_pieces(err, &[label, name, b"\n"])
+    put_pieces(err, &[label, name.as_bytes(), b"\n"])
 }
 
 fn put_number<F: Sink>(err: &mut F, label: &[u8], n: u32, rest: &[u8]) -> Result<(), Failed>

@@ -1,9 +1,9 @@
 //! The program's one call, [`fuzz12`]: words to a command, files to its contents, contents to
 //! lines, and one line on err where something is wrong.
 //!
-//! It is generic in the shelf and in both sinks. The commands stand in the table of `fz_words`
-//! with their names and numbers of words; here each is a case of [`Command`], of the files that
-//! it reads and of what it makes of them, and the call itself knows none of them.
+//! It is generic in the shelf and in both sinks. Each command is one file, with the form of its
+//! words, the files that it reads and what it makes of them; [`Command`] has a case for each, and
+//! the call itself knows none of them.
 //!
 //! The contract, in short: each [`Status`] comes only from its cause, nothing is written or put
 //! before all input is accepted, and with `Ok` out has gained exactly the command's lines.
@@ -12,15 +12,18 @@
 mod command;
 mod delivery;
 mod errors;
+mod firmware;
 mod lines;
 mod program;
 mod reading;
 mod run;
 mod status;
+mod words;
 mod work;
 
 pub use command::Command;
 pub use program::fuzz12;
+pub use run::Run;
 pub use status::{FclFault, Status};
 
 #[cfg(test)]

@@ -2,9 +2,8 @@
 ghost use Rattle.std.specs.Prelude.{◌≡◌, ◌⊎◌, ◌↔◌, length, None, Some, List, ℕ};
 ghost use Rattle.fz_shelf.specs.Told.{gained, HasRoom};
 ghost use Rattle.fz_top.specs.Texts.{texts_of};
-ghost use Rattle.fz_top.specs.Commands.{command_in, inputs_of, IsUsage};
+ghost use Rattle.fz_top.specs.Commands.{command_in, inputs_of, IsUsage, Makes};
 ghost use Rattle.fz_top.specs.Reads.{names_at, AreThere};
-ghost use Rattle.fz_top.specs.Works.{Makes};
 ghost use Rattle.fz_top.specs.Runs.{world, Runs, IsReady, IsReadFault, IsWriteFault, IsTooLong, AreKnown, IsMade, Settles};
 ghost use Rattle.fz_top.specs.Errors.{error_line_of, Complains};
 ghost use Rattle.fz_top.specs.declared.command.Command.{Command};
@@ -14,7 +13,6 @@ use crate::delivery::deliver;
 use crate::errors::report;
 use crate::reading::{Stop, read_all};
 use crate::status::Status;
-use crate::work::do_work;
 use fz_shelf::{Shelf, Sink};
 use fz_words::Refusal;
 use std::alloc::Global;
@@ -44,7 +42,7 @@ fn run<S: Shelf, O: Sink>(alloc: Global, words: &[String], shelf: &mut S, out: &
         Err(Stop::TooLong(place)) => return Status::TooLong(place),
         Err(Stop::Memory) => return Status::Memory,
     };
-    let work = match do_work(alloc, command, &contents) {
+    let work = match command.work(alloc, &contents) {
         Ok(work) => work,
         Err(status) => return status,
     };

@@ -2,9 +2,10 @@
 ghost use Rattle.std.specs.Prelude.{◌≡◌, ◌<◌, ◌≤◌, length, IfOk, IfErr};
 ghost use Rattle.std.specs.List.{All};
 ghost use Rattle.fz_shelf.specs.Files.{IsThere};
-ghost use Rattle.fz_top.specs.Texts.{texts_of, bytes_of, word_at};
+ghost use Rattle.fz_top.specs.Texts.{texts_of, bytes_of, content_at, word_at};
 ghost use Rattle.fz_top.specs.Reads.{ReadsWhole, StopsBy, AreThere, IsFailedRead, names_at, ReadsOne, StopsAt};
 
+use crate::words::word;
 use fz_shelf::{ReadError, Shelf};
 use std::alloc::Global;
 
@@ -23,7 +24,6 @@ fn read_one<S: Shelf>(
     words: &[String],
     place: u32,
 ) -> Result<Vec<u8>, Stop>
-    requires { place < length words.now }
     ensures files { S.files shelf.new ≡ S.files shelf.old }
     ensures whole { IfOk result (λ bytes. ReadsOne (texts_of words.now) place (S.files shelf.old)
         (S.counts shelf.old) (S.counts shelf.new) (S.asked shelf.old) (S.asked shelf.new) bytes.items) }
@@ -34,7 +34,7 @@ fn read_one<S: Shelf>(
         → IfErr result (λ s. IsFailedRead s → ⊥) }
 {
     let mut bytes = Vec::new(alloc);
-    match shelf.read(words[place as usize].as_str(), &mut bytes) {
+    match shelf.read(word(words, place), &mut bytes) {
         Ok(()) => Ok(bytes),
         Err(ReadError::Failed) => Err(Stop::Failed(place)),
         Err(ReadError::TooLong) => Err(Stop::TooLong(place)),
@@ -49,11 +49,9 @@ pub(crate) fn read_all<S: Shelf>(
     words: &[String],
     places: &[u32],
 ) -> Result<Vec<Vec<u8>>, Stop>
-    requires { All (λ p. p < length words.now) places.now }
     ensures files { S.files shelf.new ≡ S.files shelf.old }
     ensures whole { IfOk result (λ contents. ReadsWhole (texts_of words.now) places.now (S.files shelf.old)
         (S.counts shelf.old) (S.counts shelf.new) (S.asked shelf.old) (S.asked shelf.new) (bytes_of contents.items)) }
-    ensures many { IfOk result (λ contents. length contents.items ≡ length places.now) }
     ensures small { IfOk result (λ contents. All (λ c. length c.items ≤ 1048576) contents.items) }
     ensures stops { IfErr result (StopsBy (texts_of words.now) places.now (S.files shelf.old)
         (S.counts shelf.old) (S.counts shelf.new) (S.asked shelf.old) (S.asked shelf.new)) }
@@ -73,4 +71,16 @@ pub(crate) fn read_all<S: Shelf>(
         }
     }
     Ok(contents)
+}
+
+/// The content of the file at this place of the list, or nothing.
+pub(crate) fn content(contents: &[Vec<u8>], at: usize) -> &[u8]
+    requires { All (λ c. length c.items ≤ 1048576) contents.now }
+    ensures value { result.now ≡ content_at (bytes_of contents.now) at }
+    ensures small { length result.now ≤ 1048576 }
+{
+    match contents.get(at) {
+        Some(content) => content.as_slice(),
+        None => b"",
+    }
 }

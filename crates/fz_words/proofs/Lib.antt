@@ -1,4 +1,5 @@
+pub mod UpToNine
 pub mod Plain
 pub mod Rows
-pub mod Words3
+pub mod Counts
 pub mod Tops

@@ -1,44 +1,42 @@
--- The commands, and which of them words name.
-use Rattle.std.specs.Prelude.{◌==◌, ℕ, Bool, false, List, [], ◌∷◌, length, codes, drop, find, option_and_then, option_map, if◌then◌else◌, Option, Some, None}
+-- Tables of commands, and which row words are of.
+use Rattle.std.specs.Prelude.{◌==◌, ◌≤◌, ℕ, Bool, false, List, [], ◌∷◌, length, drop, find, map, option_and_then, option_map, if◌then◌else◌, Option, Some, None}
+use Rattle.std.specs.Borrow.{Bor}
 use Rattle.std.specs.List.{list_any}
 use Rattle.std.specs.Str.{bytes_eq}
-use Rattle.fz_words.specs.declared.Name.{Name}
-use Rattle.fz_words.specs.declared.Name.TheVariants.{Run}
 
 abbrev pub Text : Type 0
 Text = List ℕ
 
--- a command's name on the command line, and the command
-pub record Row : Type 0 where
+-- a command's name on the command line, how many words follow it, and what the caller calls it
+pub record Row (T : Type 0) : Type 0 where
   pub word : Text
-  pub name : Name
+  pub count : ℕ
+  pub command : T
 
-abbrev pub row : Text → Name → Row
-row word name = record { word = word; name = name }
+abbrev pub row : {T : Type 0} → Text → ℕ → T → Row T
+row word count command = record { word = word; count = count; command = command }
 
--- the commands
-abbrev pub table : List Row
-table = row (codes "run") Run ∷ []
+-- the rows of a table as the code keeps it
+abbrev pub rows_of : {T : Type 0} → List (Bor Text × ℕ × T) → List (Row T)
+rows_of = map (λ r. row r.0.now r.1 r.2)
 
--- how many words follow a command's name
-abbrev pub count_of : Name → ℕ
-count_of Run = 3
+-- no command takes more than nine words
+abbrev pub AreFew : {T : Type 0} → List (Row T) → Type 0
+AreFew [] = Unit {0}
+AreFew (r ∷ rows) = (r.count ≤ 9) × AreFew rows
 
-abbrev pub row_with : List Row → Text → Option Row
+abbrev pub row_with : {T : Type 0} → List (Row T) → Text → Option (Row T)
 row_with rows w = find (λ r. bytes_eq r.word w) rows
 
-abbrev pub command_named : Text → Option Name
-command_named w = option_map (λ r. r.name) (row_with table w)
-
--- the command, where it takes so many words
-abbrev pub with_count : ℕ → Name → Option Name
-with_count n name = if count_of name == n then Some name else None
+-- the row, where it takes so many words
+abbrev pub with_count : {T : Type 0} → ℕ → Row T → Option (Row T)
+with_count n r = if r.count == n then Some r else None
 
 -- the program's name, a command's name, and as many words as it takes
-abbrev pub name_by_form : List Text → Option Name
-name_by_form [] = None
-name_by_form (p ∷ []) = None
-name_by_form (p ∷ w ∷ ws) = option_and_then (with_count (length ws)) (command_named w)
+abbrev pub row_by_form : {T : Type 0} → List (Row T) → List Text → Option (Row T)
+row_by_form rows [] = None
+row_by_form rows (p ∷ []) = None
+row_by_form rows (p ∷ w ∷ ws) = option_and_then (with_count (length ws)) (row_with rows w)
 
 abbrev pub has_hyphen : Text → Bool
 has_hyphen [] = false
@@ -48,6 +46,10 @@ has_hyphen (b ∷ bs) = b == 45
 abbrev pub any_hyphen : List Text → Bool
 any_hyphen words = list_any has_hyphen (drop 1 words)
 
+-- the row that the words are of
+abbrev pub row_in : {T : Type 0} → List (Row T) → List Text → Option (Row T)
+row_in rows words = if any_hyphen words then None else row_by_form rows words
+
 -- the command that the words name
-abbrev pub name_in : List Text → Option Name
-name_in words = if any_hyphen words then None else name_by_form words
+abbrev pub command_in : {T : Type 0} → List (Row T) → List Text → Option T
+command_in rows words = option_map (λ r. r.command) (row_in rows words)

@@ -1,45 +1,22 @@
 //! The words of the command line: which command they name, by `clap`.
 //!
-//! The commands stand in one table, each with the number of words that follow its name, and
-//! every word after the program's own is taken as it stands, so none may begin with a hyphen.
-//! [`name_of`] answers the command exactly where the words are the program's name, a name of the
-//! table and as many words as it takes; it refuses them exactly where `clap` does, or where a
-//! word begins with a hyphen.
+//! The caller gives a table of the commands, each with its name, the number of words that follow
+//! it, nine at most, and what the caller calls it. Every word after the program's own is taken as
+//! it stands, so none may begin with a hyphen. [`command_of`] answers the command of a row exactly
+//! where the words are the program's name, the row's name and as many words as the row has; it
+//! refuses exactly the words that `clap` refuses, or of which one begins with a hyphen.
 #![tactic(auto)]
 
-ghost use Rattle.std.specs.Prelude.{◌≡◌, ◌≢◌, ◌↔◌, ◌+◌, [], length, map, string_bytes, false, IfOk, OnOk, IsErrOf, None, Some};
+ghost use Rattle.std.specs.Prelude.{◌≡◌, ◌≢◌, ◌↔◌, ◌+◌, ◌<◌, [], length, map, string_bytes, false, IfOk, OnOk, IsErrOf, None, Some, option_map};
 ghost use Rattle.std.specs.List.{list_any};
 ghost use Rattle.clap.specs.Words.{app_of, with_rule, fault_of};
 ghost use Rattle.clap.specs.declared.Command.TheViews.{out-Command as fields_of};
-ghost use Rattle.fz_words.specs.App.{IsRefused, app, leaf_app, positional};
-ghost use Rattle.fz_words.specs.Table.{has_hyphen, any_hyphen, command_named, count_of, name_by_form, name_in};
+ghost use Rattle.fz_words.specs.App.{IsRefused, app_with, leaf_app, positional};
+ghost use Rattle.fz_words.specs.Table.{AreFew, has_hyphen, any_hyphen, command_in, row_by_form, row_with, rows_of};
 
 use clap::error::ErrorKind;
 use clap::{Arg, Command};
 use std::alloc::{AllocError, Global};
-
-/// A command of the program.
-#[derive(Clone, Copy, Debug, PartialEq, Eq)]
-pub enum Name {
-    /// `run FCL TRACE FLAGS`
-    Run,
-}
-
-impl Name {
-    ghost use Rattle.fz_words.specs.Table.{count_of};
-
-    /// How many words follow the command's name.
-    fn count(self) -> usize
-        ensures { result ≡ count_of self }
-    {
-        match self {
-            Name::Run => 3,
-        }
-    }
-}
-
-/// The commands by their names on the command line.
-static COMMANDS: [(&str, Name); 1] = [("run", Name::Run)];
 
 /// What `clap` calls the words after a command's name.
 static IDS: [&str; 9] = ["1", "2", "3", "4", "5", "6", "7", "8", "9"];
@@ -77,26 +54,37 @@ fn subcommand<'a>(alloc: Global, name: &'a str, count: usize) -> Result<Command<
 }
 
 /// The command line as `clap` sees it: one level of subcommands with required words, and no help.
-fn command<'a>(alloc: Global) -> Result<Command<'a>, AllocError>
-    ensures { IfOk result (λ c. app_of c ≡ app) }
+fn command<'a, T: Copy>(
+    alloc: Global,
+    rows: &'a [(&'a str, usize, T)],
+) -> Result<Command<'a>, AllocError>
+    requires some { 0 < length rows.now }
+    requires few { AreFew (rows_of rows.now) }
+    ensures { IfOk result (λ c. app_of c ≡ app_with (rows_of rows.entry.now)) }
 {
     let mut command = Command::new(alloc, "fuzz12")
         .disable_help_flag(true)
         .disable_help_subcommand(true)
         .subcommand_required(true);
-    for row in COMMANDS.iter() {
-        let sub = subcommand(alloc, row.0, row.1.count())?;
+    for row in rows.iter() {
+        let sub = subcommand(alloc, row.0, row.1)?;
         command = command.subcommand(sub)?;
     }
     Ok(command)
 }
 
 /// Whether `clap` takes the words.
-fn takes_words<'a>(alloc: Global, words: &'a [String]) -> Result<(), Refusal>
-    ensures taken { OnOk result (fault_of app (map string_bytes words.now) ≡ []) }
-    ensures refused { IsErrOf result Refusal.Usage → fault_of app (map string_bytes words.now) ≢ [] }
+fn takes_words<'a, T: Copy>(
+    alloc: Global,
+    rows: &'a [(&'a str, usize, T)],
+    words: &'a [String],
+) -> Result<(), Refusal>
+    requires some { 0 < length rows.now }
+    requires few { AreFew (rows_of rows.now) }
+    ensures taken { OnOk result (fault_of (app_with (rows_of rows.now)) (map string_bytes words.now) ≡ []) }
+    ensures refused { IsErrOf result Refusal.Usage → fault_of (app_with (rows_of rows.now)) (map string_bytes words.now) ≢ [] }
 {
-    let command = match command(alloc) {
+    let command = match command(alloc, rows) {
         Ok(command) => command,
         Err(_) => return Err(Refusal::Memory),
     };
@@ -136,50 +124,55 @@ fn any_after_first(words: &[String]) -> bool
     }
 }
 
-/// The command with this name.
-fn command_with(word: &str) -> Option<Name>
-    ensures { result ≡ command_named word.now }
+/// The command with this name, and how many words it takes.
+fn command_with<T: Copy>(rows: &[(&str, usize, T)], word: &str) -> Option<(usize, T)>
+    ensures { result ≡ option_map (λ r. (r.count, r.command)) (row_with (rows_of rows.now) word.now) }
 {
-    for row in COMMANDS.iter() {
+    for row in rows.iter() {
         if row.0 == word {
-            return Some(row.1);
+            return Some((row.1, row.2));
         }
     }
     None
 }
 
-fn name_in_words(words: &[String]) -> Option<Name>
-    ensures { result ≡ name_by_form (map string_bytes words.now) }
+fn command_by_form<T: Copy>(rows: &[(&str, usize, T)], words: &[String]) -> Option<T>
+    ensures { result ≡ option_map (λ r. r.command) (row_by_form (rows_of rows.now) (map string_bytes words.now)) }
 {
     let [_, word, rest @ ..] = words else {
         return None;
     };
-    match command_with(word.as_str()) {
-        Some(name) if name.count() == rest.len() => Some(name),
+    match command_with(rows, word.as_str()) {
+        Some((count, command)) if count == rest.len() => Some(command),
         _ => None,
     }
 }
 
-/// The command that the words name, the program's own name first. It is `Usage` exactly where a
-/// word after the first begins with a hyphen or `clap` does not take the words.
-pub fn name_of<'a>(alloc: Global, words: &'a [String]) -> Result<Name, Refusal>
-    ensures named { IfOk result (λ n. name_in (map string_bytes words.now) ≡ Some n) }
-    ensures counted { IfOk result (λ n. length words.now ≡ count_of n + 2) }
-    ensures usage { IsErrOf result Refusal.Usage → name_in (map string_bytes words.now) ≡ None }
+/// The command of the row that the words, the program's own name first, are of. It is `Usage`
+/// exactly where a word after the first begins with a hyphen or `clap` does not take the words.
+pub fn command_of<'a, T: Copy>(
+    alloc: Global,
+    rows: &'a [(&'a str, usize, T)],
+    words: &'a [String],
+) -> Result<T, Refusal>
+    requires some { 0 < length rows.now }
+    requires few { AreFew (rows_of rows.now) }
+    ensures named { IfOk result (λ c. command_in (rows_of rows.now) (map string_bytes words.now) ≡ Some c) }
+    ensures usage { IsErrOf result Refusal.Usage → command_in (rows_of rows.now) (map string_bytes words.now) ≡ None }
 
-    // words name a command exactly where clap takes them
-    ensures clap { (name_in (map string_bytes words.now) ≡ None) ↔ IsRefused (map string_bytes words.now) }
+    // words are of a row exactly where clap takes them
+    ensures clap { (command_in (rows_of rows.now) (map string_bytes words.now) ≡ None) ↔ IsRefused (rows_of rows.now) (map string_bytes words.now) }
 {
     if any_after_first(words) {
         return Err(Refusal::Usage);
     }
-    match takes_words(alloc, words) {
+    match takes_words(alloc, rows, words) {
         Ok(()) => {}
         Err(Refusal::Usage) => return Err(Refusal::Usage),
         Err(Refusal::Memory) => return Err(Refusal::Memory),
     }
-    match name_in_words(words) {
-        Some(name) => Ok(name),
+    match command_by_form(rows, words) {
+        Some(command) => Ok(command),
         None => unreachable!(),
     }
 }

@@ -1,7 +1,8 @@
 use Rattle.std.proofs.Common.{◌≡◌, drop}
-use Rattle.fz_words.specs.Table.{command_named, row_with}
-use Rattle.fz_words.proofs.Rows.{name_of, rows_of}
+use Rattle.std.specs.Prelude.{option_map}
+use Rattle.fz_words.specs.Table.{row_with, rows_of}
+use Rattle.fz_words.proofs.Rows.{taking}
 use Rattle.fz_words.proofs.command_with.Given as goal
 
 abbrev pub invariant-loop-row : goal.invariant-loop-row
-invariant-loop-row l = command_named l.word ≡ name_of (row_with (rows_of (drop l.row-index l.row-items)) l.word)
+invariant-loop-row g l = option_map taking (row_with (rows_of l.rows) l.word) ≡ option_map taking (row_with (rows_of (drop l.row-index l.rows)) l.word)

@@ -1,5 +1,5 @@
 use Rattle.std.proofs.Common.{◌∙◌}
-use Rattle.fz_top.proofs.ReadLemmas.{read_more, stops_later, there_later, held_many, held_small}
+use Rattle.fz_top.proofs.ReadLemmas.{read_more, stops_later, there_later, held_small}
 use Rattle.fz_top.proofs.reading.read_all.Goals as goal
 
 pub returns-in-Err-clause-stops : goal.returns-in-Err-clause-stops
@@ -17,9 +17,6 @@ loop-place-preserved g c =
       whole = read_more _ _ _ _ _ _ _ _ _ c.loop-place.place-index _ c.loop-place-test.true _ _ _ _ c.loop-place.invariant.whole c.loop-place.invariant.files c.in-Ok.ensures.whole c.in-Ok-push.ensures.items;
       sound = λ s. c.in-Ok.ensures.sound (c.loop-place.invariant.sound s);
     }
-
-pub returns-clause-many : goal.returns-clause-many
-returns-clause-many g c = held_many _ _ _ c.loop-place.place-index _ c.loop-place-test.false c.loop-place.invariant.whole.held
 
 pub returns-clause-small : goal.returns-clause-small
 returns-clause-small g c = held_small _ _ _ c.loop-place.invariant.whole.held

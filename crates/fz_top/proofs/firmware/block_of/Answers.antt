@@ -2,7 +2,7 @@ use Rattle.std.proofs.Common.{rules, ◌≡◌, ◌≢◌, ℕ, List, Some, None
 use Rattle.fcl_check.specs.declared.fault.LoadFault.TheVariants as load
 use Rattle.fcl_check.specs.Faults.{first_fault}
 use Rattle.fcl_check.specs.Loaded.{IsBlockOf}
-use Rattle.fz_top.proofs.run.block_of.Goals as goal
+use Rattle.fz_top.proofs.firmware.block_of.Goals as goal
 
 pub returns-in-Ok-load-clause-block : goal.returns-in-Ok-load-clause-block
 returns-in-Ok-load-clause-block c =

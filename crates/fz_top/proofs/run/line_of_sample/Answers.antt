@@ -1,5 +1,5 @@
 use Rattle.fz_top.proofs.LineLemmas.{sample_text}
-use Rattle.fz_top.proofs.lines.line_of_sample.Goals as goal
+use Rattle.fz_top.proofs.run.line_of_sample.Goals as goal
 
 pub returns : goal.returns
 returns c = sample_text c.args.k c.args.row.now.instrs c.args.row.now.bytes.items c.args.row.now.answers.items _ _ _ _ _ _

@@ -1,0 +1,32 @@
+-- The block and the firmware of a text.
+use Rattle.std.specs.Prelude.{◌≢◌, ℕ, List}
+use Rattle.fuzzy_meaning.specs.declared.block.Block.{Block}
+use Rattle.rule_layout.specs.Layouts.{IsWithinLimits, IsFaultOf as IsLayoutFault}
+use Rattle.codegen.specs.Firmwares.{IsFirmwareOf}
+use Rattle.codegen.specs.declared.firmware.Firmware.{Firmware}
+use Rattle.fcl_syntax.specs.Text.{IsFirstFault}
+use Rattle.fcl_check.specs.Texts.{SpellsBlock, HasLoadFault}
+use Rattle.fcl_check.specs.declared.fault.LoadFault.TheVariants as load
+use Rattle.rule_layout.specs.declared.flat.LayoutFault.TheVariants as layout
+use Rattle.fz_top.specs.declared.status.FclFault.{FclFault}
+use Rattle.fz_top.specs.declared.status.FclFault.TheVariants as fcl
+use Rattle.fz_top.specs.declared.status.Status.{Status}
+use Rattle.fz_top.specs.declared.status.Status.TheVariants as status
+
+-- the block is the text's, it can be laid out, and the firmware is the block's
+pub record GivesFirmware (text : List ℕ) (block : Block) (firmware : Firmware) : Type 0 where
+  pub spelled : SpellsBlock text block
+  pub limits : IsWithinLimits block
+  pub compiled : IsFirmwareOf block firmware
+
+-- why a text gives no firmware; none is for want of memory
+abbrev pub RefusesText : List ℕ → FclFault → Type 0
+RefusesText text (fcl.Syntax f) = IsFirstFault text f
+RefusesText text (fcl.Load f) = (f ≢ load.Memory) × HasLoadFault text f
+RefusesText text (fcl.Layout f) = (f ≢ layout.Memory) × (block : Block) × SpellsBlock text block × IsLayoutFault block f
+
+-- a fault of the text, or want of memory
+abbrev pub IsFclFault : (FclFault → Type 0) → Status → Type 0
+IsFclFault refuses status.Memory = Unit {0}
+IsFclFault refuses (status.Fcl f) = refuses f
+IsFclFault refuses _ = ⊥

@@ -1,0 +1,55 @@
+//! From a text to its block, and to the block's firmware.
+ghost use Rattle.std.specs.Prelude.{◌≡◌, ◌≤◌, length, IfOk, IfErr};
+ghost use Rattle.fcl_check.specs.Texts.{SpellsBlock};
+ghost use Rattle.fz_top.specs.Firmwares.{GivesFirmware, IsFclFault, RefusesText};
+
+use crate::{FclFault, Status};
+use codegen::{Firmware, compile};
+use fcl_check::{LoadFault, load};
+use fcl_syntax::{SyntaxFault, parse};
+use fuzzy_meaning::Block;
+use rule_layout::LayoutFault;
+use std::alloc::Global;
+
+/// A block with its firmware.
+#[derive(Drop)]
+pub(crate) struct Compiled {
+    pub(crate) block: Block,
+    pub(crate) firmware: Firmware,
+}
+
+/// The block that the text spells, and that block's firmware. The faults come in their order:
+/// of the grammar, of the block, of the layout.
+pub(crate) fn firmware_of(alloc: Global, text: &[u8]) -> Result<Compiled, Status>
+    requires { length text.now ≤ 1048576 }
+    ensures gives { IfOk result (λ c. GivesFirmware text.now c.block c.firmware) }
+    ensures fault { IfErr result (IsFclFault (RefusesText text.now)) }
+{
+    let block = match block_of(alloc, text) {
+        Ok(block) => block,
+        Err(status) => return Err(status),
+    };
+    match compile(alloc, &block) {
+        Ok(firmware) => Ok(Compiled { block, firmware }),
+        Err(LayoutFault::Memory) => Err(Status::Memory),
+        Err(fault) => Err(Status::Fcl(FclFault::Layout(fault))),
+    }
+}
+
+/// The block that the text spells.
+fn block_of(alloc: Global, text: &[u8]) -> Result<Block, Status>
+    requires { length text.now ≤ 1048576 }
+    ensures block { IfOk result (SpellsBlock text.now) }
+    ensures fault { IfErr result (IsFclFault (RefusesText text.now)) }
+{
+    let tree = match parse(alloc, text) {
+        Ok(tree) => tree,
+        Err(SyntaxFault::Memory) => return Err(Status::Memory),
+        Err(fault) => return Err(Status::Fcl(FclFault::Syntax(fault))),
+    };
+    match load(alloc, &tree) {
+        Ok(block) => Ok(block),
+        Err(LoadFault::Memory) => Err(Status::Memory),
+        Err(fault) => Err(Status::Fcl(FclFault::Load(fault))),
+    }
+}
