@@ -1,0 +1,65 @@
+//! The node of a line.
+ghost use Rattle.std.specs.Prelude.{◌≡◌, ◌≢◌, ◌↔◌, ◌≤◌, ℕ, List, [], ◌∷◌, ◌++◌, length, MatchOption, All, IsTrue};
+ghost use Rattle.box_tree.specs.declared.cert.Node.{Node as TheNode};
+ghost use Rattle.box_tree.specs.Certificates.{IsCut, IsNode, IsPair};
+ghost use Rattle.box_tree.specs.Texts.{node_line, pair_numbers};
+
+use crate::cert::Node;
+use crate::text::numbers_of;
+use arrayvec::ArrayVec;
+
+/// The cut of two numbers: an input and a byte.
+fn cut_of(numbers: &[u32]) -> Option<(u8, u8)>
+    ensures { MatchOption result ((input cut : ℕ) → IsCut input cut → numbers.now ≢ input ∷ cut ∷ []) (λ r. IsCut r.0 r.1 × (numbers.now ≡ r.0 ∷ r.1 ∷ [])) }
+{
+    match numbers {
+        [input, cut] if *input >= 1 && *input <= 8 && *cut <= 255 => Some((*input as u8, *cut as u8)),
+        _ => None,
+    }
+}
+
+fn is_pair(rule: u32, part: u32) -> bool
+    ensures { IsTrue result ↔ IsPair (rule, part) }
+{
+    rule <= 256 && part <= 255 && (rule == 0) == (part == 0)
+}
+
+/// The pairs that numbers are, if there are as many as claims.
+fn pairs_of(numbers: &[u32], width: usize) -> Option<ArrayVec<(u16, u8), 4>>
+    requires { width ≤ 4 }
+    ensures { MatchOption result ((pairs : List (ℕ × ℕ)) → length pairs ≡ width → All IsPair pairs → numbers.now ≢ pair_numbers pairs)
+        (λ pairs. (length pairs.items ≡ width) × All IsPair pairs.items × (numbers.now ≡ pair_numbers pairs.items)) }
+{
+    if numbers.len() != 2 * width {
+        return None;
+    }
+    let mut pairs = ArrayVec::new();
+    for i in 0..width {
+        let rule = numbers[2 * i];
+        let part = numbers[2 * i + 1];
+        if !is_pair(rule, part) {
+            return None;
+        }
+        pairs.push((rule as u16, part as u8));
+    }
+    Some(pairs)
+}
+
+/// The node whose line stands at the front of a text, and what follows it.
+pub(crate) fn node_at(text: &[u8], width: usize) -> Option<(Node, &[u8])>
+    requires { width ≤ 4 }
+    ensures { MatchOption result ((node : TheNode) (behind : List ℕ) → IsNode width node → text.now ≢ node_line node ++ behind)
+        (λ r. IsNode width r.0 × (text.now ≡ node_line r.0 ++ r.1.now)) }
+{
+    match numbers_of(b"split", text) {
+        Some((numbers, behind)) => {
+            let (input, cut) = cut_of(numbers.as_slice())?;
+            Some((Node::Split(input, cut), behind))
+        }
+        None => {
+            let (numbers, behind) = numbers_of(b"leaf", text)?;
+            let pairs = pairs_of(numbers.as_slice(), width)?;
+            Some((Node::Leaf(pairs), behind))
+        }
+    }
+}
