@@ -1,0 +1,109 @@
+-- Under an accepted certificate each answer is within the error.
+use Rattle.std.proofs.Common.{◌≡◌, ℕ, zero, suc, ◌≤◌, List, [], ◌∷◌, length, map, Bool, true, Option, Some, None, refl, sym, ap, ap₂, ◌∙◌, subst, arith, mul-pos}
+use Rattle.std.specs.Prelude.{◌≢◌, nat_le, ◌&&◌, slice_get, fold, All, ◌<ℤ◌, ◌≤ℤ◌}
+use Rattle.std.proofs.lemmas.Int.{ints}
+use Rattle.std.proofs.lemmas.Bool.Decides.{nat_tests}
+use Rattle.fz_num.specs.declared.dec.Dec.{Dec}
+use Rattle.fz_num.specs.Decimals.{distance}
+use Rattle.fz_num.specs.Fracs.{Quotient, IsClose}
+use Rattle.fuzzy_meaning.specs.declared.block.Block.{Block}
+use Rattle.fuzzy_meaning.specs.declared.block.Input.{Input}
+use Rattle.fuzzy_meaning.specs.declared.block.Output.{Output}
+use Rattle.fuzzy_meaning.specs.Blocks.{IsValid, IsValidInput, AreInputs, output_at}
+use Rattle.fuzzy_meaning.specs.Meaning.{answer_after, first_answer}
+use Rattle.fuzzy_meaning.proofs.BlockLemmas.{All-slice_get}
+use Rattle.byte_scaling.specs.Cells.{byte_of, LiesInCell, value_in}
+use Rattle.byte_scaling.proofs.CellLemmas.{IsInCell-part}
+use Rattle.point_slope.specs.Bytes.{answer_in}
+use Rattle.error_bound.specs.declared.boxes.Leaf.{Leaf}
+use Rattle.error_bound.specs.Boxes.{LieInCells}
+use Rattle.error_bound.specs.Answers.{Follows, IsOnLeaf}
+use Rattle.error_bound.proofs.Closeness.{IsClose-more}
+use Rattle.error_bound.proofs.AnswerLemmas.{answers_near}
+use Rattle.box_tree.specs.declared.cert.Cert.{Cert}
+use Rattle.cert_check.specs.Trees.{Part, IsTree, lies, whole}
+use Rattle.cert_check.specs.Acceptance.{HasBound, IsGreatestBound}
+use Rattle.cert_check.specs.Laws.{bytes_of, AcceptedAnswersAreNear}
+use Rattle.cert_check.proofs.TreeLemmas.{one_leaf, leaf_with, LieIn-lies}
+
+-- the bytes of numbers within their ranges
+byte_of-le : (i : Input) (x : Dec) → byte_of i x ≤ 255
+byte_of-le i x = omega arith
+
+bytes-count : (is : List Input) (xs : List Dec) → length xs ≡ length is → length (bytes_of is xs) ≡ length is
+bytes-count [] xs h = refl
+bytes-count (i ∷ is) [] h = absurd (omega arith)
+bytes-count (i ∷ is) (x ∷ xs) h = ap suc (bytes-count is xs (omega arith))
+
+in_whole : (n : ℕ) (k : Bool) → n ≤ 255 → k ≡ true → (nat_le 0 n && (nat_le n 255 && k)) ≡ true
+in_whole n k h e = grind (arith, nat_tests)
+
+bytes-lie : (is : List Input) (xs : List Dec) → length xs ≡ length is → lies (bytes_of is xs) (map (λ _. record { from = 0; to = 255 }) is) ≡ true
+bytes-lie [] xs h = refl
+bytes-lie (i ∷ is) [] h = absurd (omega arith)
+bytes-lie (i ∷ is) (x ∷ xs) h = in_whole (byte_of i x) (lies (bytes_of is xs) (map (λ _. record { from = 0; to = 255 }) is)) (byte_of-le i x) (bytes-lie is xs (omega arith))
+
+bytes-at : (is : List Input) (xs : List Dec) (k : ℕ) (i : Input) (n : ℕ) (x : Dec) → slice_get is k ≡ Some i → slice_get (bytes_of is xs) k ≡ Some n → slice_get xs k ≡ Some x → byte_of i x ≡ n
+bytes-at [] xs k i n x ei en ex = absurd (let z : ⊥ = cc in z)
+bytes-at (j ∷ is) [] k i n x ei en ex = absurd (let z : ⊥ = cc in z)
+bytes-at (j ∷ is) (y ∷ xs) (suc k) i n x ei en ex = bytes-at is xs k i n x ei en ex
+bytes-at (j ∷ is) (y ∷ xs) zero i n x ei en ex =
+    let e1 : j ≡ i = cc in
+    let e2 : y ≡ x = cc in
+    let e3 : byte_of j y ≡ n = cc in
+    ap₂ byte_of (sym e1) (sym e2) ∙ e3
+
+part-place : (i : Input) (x : Dec) → i.lo.0 <ℤ i.hi.0 → i.lo.0 ≤ℤ x.0 → x.0 ≤ℤ i.hi.0 → LiesInCell i (byte_of i x) x
+part-place i x range from to = record { from_low = from; cell = IsInCell-part (distance i.lo i.hi) (distance i.lo x) (omega (arith, ints)) (omega (arith, ints)) }
+
+bytes-cells : (b : Block) (xs : List Dec) → IsValid b → AreInputs b xs → LieInCells b (bytes_of b.inputs xs) xs
+bytes-cells b xs v a = record {
+  inputs = a;
+  count = bytes-count b.inputs xs a.count;
+  cell = λ k i n x ei en ex.
+      let vi : IsValidInput i = All-slice_get IsValidInput b.inputs k i v.inputs ei in
+      let w = a.within k i x ei ex in
+      subst (λ m. LiesInCell i m x) (bytes-at b.inputs xs k i n x ei en ex) (part-place i x vi.range w.low w.high);
+}
+
+-- what stays near stays so where both answers are kept
+still_near : (x : Output) (leaf : Leaf) (n e q q' : ℕ) (value : ℕ → Quotient) (before after : Quotient) → n ≤ e → Follows x leaf n q q' (value q') before after → IsClose (distance x.lo x.hi) e (value q) before → IsClose (distance x.lo x.hi) e (value q') after
+still_near x leaf n e q q' value before after h f c = by_k leaf.k refl x.default refl
+  where
+    near : (leaf.k ≡ 0 → x.default ≢ None) → IsClose (distance x.lo x.hi) e (value q') after
+    near d = IsClose-more (distance x.lo x.hi) n e (value q') after h (f.near d)
+
+    by_k : (k : ℕ) → leaf.k ≡ k → (d : Option Dec) → x.default ≡ d → IsClose (distance x.lo x.hi) e (value q') after
+    by_k (suc k) ek d ed = near (λ z. absurd (omega arith))
+    by_k zero ek (Some d) ed = near (λ _ z. absurd (let w : ⊥ = cc in w))
+    by_k zero ek None ed =
+        let p = f.kept ek ed in
+        subst (λ a. IsClose (distance x.lo x.hi) e (value q') a) (sym p.1) (subst (λ m. IsClose (distance x.lo x.hi) e (value m) before) (sym p.0) c)
+
+first_close : (b : Block) (h o : ℕ) (x : Output) (e : ℕ) → 1 ≤ h → output_at b o ≡ Some x → IsClose (distance x.lo x.hi) e (value_in h x 0) (first_answer b o)
+first_close b h o x e some ex = rw ex (record { dens = mul-pos (mul-pos (omega arith) (mul-pos (omega arith) some)) (omega arith); cross = omega (arith, ints) })
+
+module _ (b : Block) (h : ℕ) (some : 1 ≤ h) (valid : IsValid b) (cert : Cert) (parts : List Part) (tree : IsTree (whole b) cert.nodes parts []) where
+  next : (o : ℕ) (x : Output) (e : ℕ) → output_at b o ≡ Some x → IsGreatestBound b o x h parts e → (xs : List Dec) → AreInputs b xs → (before : Quotient) (q : ℕ) → IsClose (distance x.lo x.hi) e (value_in h x q) before
+      → IsClose (distance x.lo x.hi) e (value_in h x (answer_in h b o (bytes_of b.inputs xs) q)) (answer_after b o before xs)
+  next o x e ex g xs a before q c =
+      let bytes = bytes_of b.inputs xs in
+      let one = one_leaf (whole b) cert.nodes [] parts bytes tree (bytes-lie b.inputs xs a.count) in
+      let p = leaf_with bytes parts (λ p. (n : ℕ) × HasBound b o x h p n × (n ≤ e)) (omega arith) g.each in
+      let n : ℕ = p.2.0 in
+      let hb : HasBound b o x h p.0 n = p.2.1 in
+      let on : IsOnLeaf b p.0.box o x h hb.leaf n bytes xs = record { valid = valid; output_is = ex; parts = some; cells = bytes-cells b xs valid a; box_is = LieIn-lies bytes p.0.box p.1; holds = hb.holds; bound_is = hb.bound_is } in
+      still_near x hb.leaf n e q (answer_in h b o bytes q) (value_in h x) before (answer_after b o before xs) p.2.2 (answers_near b p.0.box o x h hb.leaf n bytes xs before q on) c
+
+  on_and_on : (o : ℕ) (x : Output) (e : ℕ) → output_at b o ≡ Some x → IsGreatestBound b o x h parts e → (samples : List (List Dec)) → All (AreInputs b) samples → (before : Quotient) (q : ℕ) → IsClose (distance x.lo x.hi) e (value_in h x q) before
+      → IsClose (distance x.lo x.hi) e (value_in h x (fold (λ before xs. answer_in h b o (bytes_of b.inputs xs) before) q samples)) (fold (answer_after b o) before samples)
+  on_and_on o x e ex g [] all before q c = c
+  on_and_on o x e ex g (xs ∷ samples) all before q c = on_and_on o x e ex g samples (λ k d l. all (suc k) d (omega arith)) (answer_after b o before xs) (answer_in h b o (bytes_of b.inputs xs) q) (next o x e ex g xs (all 0 xs (omega arith)) before q c)
+
+  -- before the first sample both are the low end
+  pub all_near : (o : ℕ) (x : Output) (e : ℕ) → output_at b o ≡ Some x → IsGreatestBound b o x h parts e → (samples : List (List Dec)) → All (AreInputs b) samples
+      → IsClose (distance x.lo x.hi) e (value_in h x (fold (λ before xs. answer_in h b o (bytes_of b.inputs xs) before) 0 samples)) (fold (answer_after b o) (first_answer b o) samples)
+  all_near o x e ex g samples all = on_and_on o x e ex g samples all (first_answer b o) 0 (first_close b h o x e some ex)
+
+pub accepted_near : AcceptedAnswersAreNear
+accepted_near b h cert errors o x e samples valid some acc from ex ee all = all_near b h some valid cert acc.parts acc.tree o x e ex (acc.greatest o x e from ex ee) samples all

@@ -1,0 +1,135 @@
+-- A certificate that is accepted for bytes is accepted for 16 bits.
+use Rattle.std.proofs.Common.{◌≡◌, ⊎_elim, ℕ, zero, suc, ◌+◌, ◌-◌, ◌<◌, ◌≤◌, List, [], ◌∷◌, ◌++◌, length, Option, Some, refl, ap, subst, arith}
+use Rattle.std.specs.Prelude.{All, slice_get, ◌<ℤ◌}
+use Rattle.std.proofs.lemmas.Bool.{cases_lt}
+use Rattle.fuzzy_meaning.specs.declared.block.Block.{Block}
+use Rattle.fuzzy_meaning.specs.declared.block.Output.{Output}
+use Rattle.fuzzy_meaning.specs.Blocks.{output_at}
+use Rattle.fuzzy_meaning.proofs.BlockLemmas.{IsValidOutput-at}
+use Rattle.error_bound.specs.declared.boxes.Interval.{Interval}
+use Rattle.error_bound.specs.Bounds.{bound}
+use Rattle.error_bound.proofs.Literals.{some_at}
+use Rattle.error_bound.proofs.WideLemmas.{wide_bound-le}
+use Rattle.box_tree.specs.declared.cert.Node.{Node}
+use Rattle.cert_check.specs.Trees.{Part, IsTree, leaf, split, whole}
+use Rattle.cert_check.specs.Acceptance.{HasBound, IsGreatestBound}
+use Rattle.cert_check.specs.Laws.{WideIsAccepted}
+use Rattle.cert_check.proofs.Determined.{within_list}
+
+at_most : {a c d : ℕ} → a ≤ c → d ≡ c → a ≤ d
+at_most h e = omega arith
+
+wide_has : (b : Block) (o : ℕ) (x : Output) (p : Part) (n : ℕ) → x.lo.0 <ℤ x.hi.0 → HasBound b o x 1 p n → (m : ℕ) × HasBound b o x 256 p m × (m ≤ n)
+wide_has b o x p n range h =
+    let e = h.bound_is.errors in
+    (bound b e o x 256 h.leaf, record { leaf = h.leaf; pair_is = h.pair_is; holds = h.holds; bound_is = record { errors = e; are_errors = h.bound_is.are_errors; is = refl } }, at_most (wide_bound-le b e o x 256 h.leaf range (omega arith)) h.bound_is.is)
+
+All-join : {X : Type 0} (P : X → Type 0) (x : X) (xs : List X) → P x → All P xs → All P (x ∷ xs)
+All-join P x xs h t zero d l = h
+All-join P x xs h t (suc k) d l = t k d (omega arith)
+
+All-nil : {X : Type 0} (P : X → Type 0) → All P []
+All-nil P k d l = absurd (omega arith)
+
+at_least : {a c d : ℕ} → a ≤ c → c ≤ d → a ≤ d
+at_least h k = omega arith
+
+module _ (b : Block) (o : ℕ) (x : Output) (range : x.lo.0 <ℤ x.hi.0) where
+  joined : (p : Part) (ps : List Part) (m f e : ℕ) → HasBound b o x 256 p m → m ≤ e → IsGreatestBound b o x 256 ps f → f ≤ e → (g : ℕ) × IsGreatestBound b o x 256 (p ∷ ps) g × (g ≤ e)
+  joined p ps m f e hb me g fe = ⊎_elim
+      (λ (l : f < m). (
+        m,
+        record {
+          each = All-join (λ (q : Part). (n : ℕ) × HasBound b o x 256 q n × (n ≤ m)) p ps (m, hb, omega arith) (λ k d i. let w = g.each k d i in (w.0, w.1, at_least w.2 (omega arith)));
+          some = (0, p, omega arith, refl, hb);
+        },
+        me,
+      ))
+      (λ (l : m ≤ f). (
+        f,
+        record {
+          each = All-join (λ (q : Part). (n : ℕ) × HasBound b o x 256 q n × (n ≤ f)) p ps (m, hb, l) g.each;
+          some = (suc g.some.0, g.some.1, (let z = g.some.2 in omega arith), g.some.3, g.some.4);
+        },
+        fe,
+      ))
+      (cases_lt f m)
+
+  greatest_of : (ps : List Part) (e : ℕ) → 0 < length ps → All (λ p. (n : ℕ) × HasBound b o x 1 p n × (n ≤ e)) ps → (f : ℕ) × IsGreatestBound b o x 256 ps f × (f ≤ e)
+  greatest_of [] e l h = absurd (omega arith)
+  greatest_of (p ∷ []) e l h =
+      let n = h 0 p (omega arith) in
+      let w = wide_has b o x p n.0 range n.1 in
+      (w.0, record { each = All-join (λ (q : Part). (n : ℕ) × HasBound b o x 256 q n × (n ≤ w.0)) p [] (w.0, w.1, omega arith) (All-nil (λ (q : Part). (n : ℕ) × HasBound b o x 256 q n × (n ≤ w.0))); some = (0, p, omega arith, refl, w.1) }, at_least w.2 n.2)
+  greatest_of (p ∷ q ∷ ps) e l h =
+      let n = h 0 p (omega arith) in
+      let w = wide_has b o x p n.0 range n.1 in
+      let g = greatest_of (q ∷ ps) e (omega arith) (λ k d i. h (suc k) d (omega arith)) in
+      joined p (q ∷ ps) w.0 g.0 e w.1 (at_least w.2 n.2) g.1 g.2
+
+-- a tree has a leaf
+some_leaf : (box : List Interval) (ns r : List Node) (ps : List Part) → IsTree box ns ps r → 0 < length ps
+some_leaf box ns r ps (leaf x pairs rest) = omega arith
+some_leaf box ns r ps (split x i c m mid rest left right h cut tl tq) = appended left right (some_leaf _ _ _ left tl)
+  where
+    appended : {X : Type 0} (xs ys : List X) → 0 < length xs → 0 < length (xs ++ ys)
+    appended [] ys h = absurd (omega arith)
+    appended (x ∷ xs) ys h = omega arith
+
+-- a number for each element
+choice : {X : Type 0} (Q : ℕ → X → ℕ → Type 0) (xs : List X) → ((k : ℕ) (x : X) → slice_get xs k ≡ Some x → (f : ℕ) × Q k x f) → (fs : List ℕ) × (length fs ≡ length xs) × ((k : ℕ) (x : X) (f : ℕ) → slice_get xs k ≡ Some x → slice_get fs k ≡ Some f → Q k x f)
+choice Q [] h = ([], refl, λ k x f e g. absurd (let z : ⊥ = cc in z))
+choice {X} Q (x ∷ xs) h = step (h 0 x refl) (choice (λ k. Q (suc k)) xs (λ k y e. h (suc k) y e))
+  where
+    step : ((f : ℕ) × Q 0 x f) → ((fs : List ℕ) × (length fs ≡ length xs) × ((k : ℕ) (y : X) (f : ℕ) → slice_get xs k ≡ Some y → slice_get fs k ≡ Some f → Q (suc k) y f)) → (fs : List ℕ) × (length fs ≡ length (x ∷ xs)) × ((k : ℕ) (y : X) (f : ℕ) → slice_get (x ∷ xs) k ≡ Some y → slice_get fs k ≡ Some f → Q k y f)
+    step head tail = (head.0 ∷ tail.0, ap suc tail.1, at)
+      where
+        at : (k : ℕ) (y : X) (f : ℕ) → slice_get (x ∷ xs) k ≡ Some y → slice_get (head.0 ∷ tail.0) k ≡ Some f → Q k y f
+        at zero y f e g = let e1 : x ≡ y = cc in let e2 : head.0 ≡ f = cc in subst (λ z. Q 0 z f) e1 (subst (λ n. Q 0 x n) e2 head.1)
+        at (suc k) y f e g = tail.2 k y f e g
+
+pub wide_accepted : WideIsAccepted
+wide_accepted b cert es v a = (
+  fs,
+  record {
+    claims_count = a.claims_count;
+    errors_count = c.1;
+    parts = a.parts;
+    tree = a.tree;
+    greatest = λ o x f from ex ef.
+        let eo : o - 1 + 1 ≡ o = omega arith in
+        subst (λ q. IsGreatestBound b q x 256 a.parts f) eo (c.2 (o - 1) x f ex ef).0;
+    claimed = λ k f d ef ed.
+        let l = within_list fs k f ef in
+        let n1 = c.1 in
+        let n2 = a.errors_count in
+        let x = some_at b.outputs k (omega arith) in
+        let e = some_at es k (omega arith) in
+        at_least ((c.2 k x.0 f x.1 ef).1 e.0 e.1) (a.claimed k e.0 d e.1 ed);
+  },
+  λ k e f ee ef.
+      let l = within_list es k e ee in
+      let n2 = a.errors_count in
+      let x = some_at b.outputs k (omega arith) in
+      (c.2 k x.0 f x.1 ef).1 e ee,
+)
+  where
+    pick : (k : ℕ) (x : Output) → slice_get b.outputs k ≡ Some x → (f : ℕ) × IsGreatestBound b (k + 1) x 256 a.parts f × ((e : ℕ) → slice_get es k ≡ Some e → f ≤ e)
+    pick k x ex =
+        let l = within_list b.outputs k x ex in
+        let n2 = a.errors_count in
+        let e = some_at es k (omega arith) in
+        let ek : k ≡ k + 1 - 1 = omega arith in
+        let ex' : output_at b (k + 1) ≡ Some x = subst (λ j. slice_get b.outputs j ≡ Some x) ek ex in
+        let g = a.greatest (k + 1) x e.0 (omega arith) ex' (subst (λ j. slice_get es j ≡ Some e.0) ek e.1) in
+        let w = greatest_of b (k + 1) x (IsValidOutput-at b (k + 1) x v ex').range a.parts e.0 (some_leaf (whole b) cert.nodes [] a.parts a.tree) g.each in
+        (w.0, w.1, λ d ed. same_le w.2 e.1 ed)
+      where
+        same_le : {p q r : ℕ} {s : Option ℕ} → p ≤ q → s ≡ Some q → s ≡ Some r → p ≤ r
+        same_le {p} {q} {r} h e f = let z : q ≡ r = cc in omega arith
+
+    c : (fs : List ℕ) × (length fs ≡ length b.outputs) × ((k : ℕ) (x : Output) (f : ℕ) → slice_get b.outputs k ≡ Some x → slice_get fs k ≡ Some f → IsGreatestBound b (k + 1) x 256 a.parts f × ((e : ℕ) → slice_get es k ≡ Some e → f ≤ e))
+    c = choice (λ k x f. IsGreatestBound b (k + 1) x 256 a.parts f × ((e : ℕ) → slice_get es k ≡ Some e → f ≤ e)) b.outputs (λ k x ex. let w = pick k x ex in (w.0, (w.1, w.2)))
+
+    fs : List ℕ
+    fs = c.0

@@ -1,0 +1,5 @@
+use Rattle.cert_check.proofs.WideAccepted.{wide_accepted}
+use Rattle.cert_check.proofs.laws.wide_is_accepted.Goals as goal
+
+pub returns : goal.returns
+returns c = wide_accepted

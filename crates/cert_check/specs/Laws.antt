@@ -1,0 +1,45 @@
+-- What an accepted certificate says.
+use Rattle.std.specs.Prelude.{◌≡◌, ℕ, ◌-◌, ◌≤◌, true, List, [], ◌∷◌, fold, All, Some, slice_get}
+use Rattle.fz_num.specs.declared.dec.Dec.{Dec}
+use Rattle.fz_num.specs.Decimals.{distance}
+use Rattle.fz_num.specs.Fracs.{IsClose}
+use Rattle.fuzzy_meaning.specs.declared.block.Block.{Block}
+use Rattle.fuzzy_meaning.specs.declared.block.Input.{Input}
+use Rattle.fuzzy_meaning.specs.declared.block.Output.{Output}
+use Rattle.fuzzy_meaning.specs.Blocks.{IsValid, AreInputs, output_at}
+use Rattle.fuzzy_meaning.specs.Meaning.{exact_answer}
+use Rattle.byte_scaling.specs.Cells.{byte_of, value_in}
+use Rattle.point_slope.specs.Bytes.{answer_in}
+use Rattle.error_bound.specs.declared.boxes.Interval.{Interval}
+use Rattle.box_tree.specs.declared.cert.Node.{Node}
+use Rattle.box_tree.specs.declared.cert.Cert.{Cert}
+use Rattle.cert_check.specs.Trees.{Part, IsTree, lies, leaves_with}
+use Rattle.cert_check.specs.Acceptance.{IsAccepted}
+
+-- each list of bytes of the box lies in exactly one leaf
+abbrev pub OneLeafHasTheBytes : Type 0
+OneLeafHasTheBytes = (box : List Interval) (nodes rest : List Node) (parts : List Part) (bytes : List ℕ) → IsTree box nodes parts rest → lies bytes box ≡ true → leaves_with bytes parts ≡ 1
+
+-- the byte of each number in its input's range
+abbrev pub bytes_of : List Input → List Dec → List ℕ
+bytes_of [] xs = []
+bytes_of (i ∷ is) [] = []
+bytes_of (i ∷ is) (x ∷ xs) = byte_of i x ∷ bytes_of is xs
+
+-- the last answer to a list of samples, each the numbers of the inputs, in h parts to a byte
+abbrev pub answer_to : ℕ → Block → ℕ → List (List Dec) → ℕ
+answer_to h b o samples = fold (λ before xs. answer_in h b o (bytes_of b.inputs xs) before) 0 samples
+
+-- for every list of samples in range the last answer over bytes, in one part or in 256, is within the output's error of the exact one
+abbrev pub AcceptedAnswersAreNear : Type 0
+AcceptedAnswersAreNear = (b : Block) (h : ℕ) (cert : Cert) (errors : List ℕ) (o : ℕ) (x : Output) (e : ℕ) (samples : List (List Dec)) →
+    IsValid b → 1 ≤ h → IsAccepted b h cert errors → 1 ≤ o → output_at b o ≡ Some x → slice_get errors (o - 1) ≡ Some e → All (AreInputs b) samples →
+    IsClose (distance x.lo x.hi) e (value_in h x (answer_to h b o samples)) (exact_answer b o samples)
+
+-- a certificate is accepted with one list of errors
+abbrev pub ErrorsAreDetermined : Type 0
+ErrorsAreDetermined = (b : Block) (h : ℕ) (cert : Cert) (es fs : List ℕ) → IsValid b → IsAccepted b h cert es → IsAccepted b h cert fs → es ≡ fs
+
+-- one that is accepted for bytes is accepted for 16 bits, and no error rises
+abbrev pub WideIsAccepted : Type 0
+WideIsAccepted = (b : Block) (cert : Cert) (es : List ℕ) → IsValid b → IsAccepted b 1 cert es → (fs : List ℕ) × IsAccepted b 256 cert fs × ((k e f : ℕ) → slice_get es k ≡ Some e → slice_get fs k ≡ Some f → f ≤ e)

@@ -1,0 +1,4 @@
+pub mod Trees
+pub mod Acceptance
+pub mod Laws
+pub mod Examples

@@ -1,0 +1,70 @@
+-- Laws of boxes and their errors.
+use Rattle.std.proofs.Common.{ℕ, ◌+◌, ◌-◌, ◌*◌, ◌<◌, ◌≤◌, List, arith, mul-le-mul_right}
+use Rattle.std.specs.Prelude.{◌==◌}
+use Rattle.fz_num.specs.Decimals.{distance}
+use Rattle.fz_num.specs.Fractions.{IsProper}
+use Rattle.fuzzy_meaning.specs.declared.block.Block.{Block}
+use Rattle.fuzzy_meaning.specs.declared.block.Input.{Input}
+use Rattle.fuzzy_meaning.specs.declared.block.Trapezoid.{Trapezoid}
+use Rattle.fuzzy_meaning.specs.Blocks.{IsValid, IsValidInput, IsValidTerm}
+use Rattle.fuzzy_meaning.proofs.BlockLemmas.{All-slice_get}
+use Rattle.byte_scaling.specs.Cells.{cell_start, cell_end}
+use Rattle.point_slope.specs.Tables.{row_of, grade_of}
+use Rattle.error_bound.specs.declared.boxes.Interval.{Interval}
+use Rattle.fuzzy_meaning.specs.Places.{points_of}
+use Rattle.error_bound.specs.Boxes.{at_literal}
+use Rattle.error_bound.specs.Errors.{billion, IsTermError, AreTermErrors}
+use Rattle.error_bound.specs.Laws.{CellsHaveBounds, IsBox, TermErrorsAre}
+use Rattle.error_bound.proofs.Sides.{low_bounds, high_bounds}
+use Rattle.error_bound.proofs.Limits.{low_greatest, high_least}
+use Rattle.error_bound.proofs.CellErrors.{cells_error, cells_bounds, cells_least}
+use Rattle.error_bound.proofs.Literals.{width_pos}
+use Rattle.error_bound.proofs.PlaceLemmas.{IsPeaked-points}
+
+start_below : (w p q : ℕ) → 0 < w → p ≤ q → p * w < (q + 1) * w
+start_below w p q hw h = let m : p * w ≤ q * w = mul-le-mul_right w h in omega arith
+
+pub cells_bounded : CellsHaveBounds
+cells_bounded i t v vi vt h =
+    let w = distance i.lo i.hi in
+    let k = points_of i t in
+    let s = cell_start w v.from in
+    let f = cell_end w v.to in
+    let c = v.to == 255 in
+    let ps : IsProper s = record { pos = omega arith } in
+    let pf : IsProper f = record { pos = omega arith } in
+    let lt = start_below w v.from v.to (width_pos i vi) h in
+    record {
+      lower = λ x px inn. low_bounds k s f x c ps pf px inn;
+      greatest = λ u pu g. low_greatest k (v.from * w) ((v.to + 1) * w) 256 c u (omega arith) lt pu g;
+      upper = λ x px inn. high_bounds k s f x c ps pf px inn;
+      least = λ u pu g. high_least k (v.from * w) ((v.to + 1) * w) 256 c u (IsPeaked-points i t vt) (omega arith) lt pu g;
+    }
+
+-- the greatest gap at the bounds of the cells
+abbrev pub term_error : Input → Trapezoid → Interval → ℕ
+term_error i t v = cells_error billion (points_of i t) (distance i.lo i.hi) (grade_of (row_of i t)) v.from (v.to - v.from)
+
+pub term_error-is : (i : Input) (t : Trapezoid) (v : Interval) → IsValidInput i → IsValidTerm i.lo i.hi t → v.from ≤ v.to → IsTermError i t v (term_error i t v)
+term_error-is i t v vi vt h =
+    let w = distance i.lo i.hi in
+    let g = grade_of (row_of i t) in
+    let m = v.to - v.from in
+    record {
+      covers = λ n h1 h2 x c. cells_bounds billion w (points_of i t) g v.from m n h1 (omega arith) x c;
+      least = λ f c. cells_least billion w (points_of i t) g v.from m f (IsPeaked-points i t vt) (width_pos i vi) (omega arith) (λ n h1 h2 x inn. c n h1 (omega arith) x inn);
+    }
+
+abbrev pub term_errors : Block → List Interval → ℕ → ℕ → ℕ
+term_errors b box i t = at_literal term_error 0 b box i t
+
+pub term_errors-are : (b : Block) (box : List Interval) → IsValid b → IsBox box → AreTermErrors b box (term_errors b box)
+term_errors-are b box valid some = record {
+  error = λ i t x term v ex et ev.
+      let vx : IsValidInput x = All-slice_get IsValidInput b.inputs (i - 1) x valid.inputs ex in
+      let vt : IsValidTerm x.lo x.hi term = All-slice_get (IsValidTerm x.lo x.hi) x.terms (t - 1) term vx.terms et in
+      rw (ex, et, ev) (term_error-is x term v vx vt (some.some (i - 1) v ev).0);
+}
+
+pub term_errors_found : TermErrorsAre
+term_errors_found b box valid some = (term_errors b box, term_errors-are b box valid some)

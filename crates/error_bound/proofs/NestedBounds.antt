@@ -1,0 +1,104 @@
+-- On a smaller box no eps rises, and no Bound.
+use Rattle.std.proofs.Common.{◌≡◌, ℕ, zero, suc, ◌+◌, ◌-◌, ◌*◌, ◌<◌, ◌≤◌, max, Bool, true, false, List, [], ◌∷◌, length, arith, mul-le-mul_right, mul-pos}
+use Rattle.std.specs.Prelude.{All, slice_get, ◌==◌, if◌then◌else◌, ◌<ℤ◌}
+use Rattle.std.proofs.lemmas.Int.{ints}
+use Rattle.fz_num.specs.declared.dec.Dec.{Dec}
+use Rattle.fz_num.specs.Fractions.{Fraction, over, AtMost}
+use Rattle.fz_num.specs.Decimals.{distance}
+use Rattle.fuzzy_meaning.specs.declared.block.Block.{Block}
+use Rattle.fuzzy_meaning.specs.declared.block.Output.{Output}
+use Rattle.fuzzy_meaning.specs.declared.block.Rule.{Rule}
+use Rattle.fuzzy_meaning.specs.Blocks.{IsValid, IsValidRule, HasTerm, IsValidCondition, AllValidConditions}
+use Rattle.fuzzy_meaning.specs.Conditions.{Condition, is, negation, all, any, Conditions, end, also, condition_of}
+use Rattle.fuzzy_meaning.specs.Rules.{concludes}
+use Rattle.fuzzy_meaning.proofs.BlockLemmas.{IsValidOutput-at, IsSomeAnd-some, IsSomeAnd-within}
+use Rattle.fuzzy_meaning.proofs.ConditionLemmas.{all_parts}
+use Rattle.error_bound.specs.declared.boxes.Interval.{Interval}
+use Rattle.error_bound.specs.declared.boxes.Leaf.{Leaf}
+use Rattle.error_bound.specs.Spans.{greatest_literal, greatest_among}
+use Rattle.error_bound.specs.Errors.{billion, AreTermErrors, rule_error, weight_error, floor_error, output_error_among}
+use Rattle.error_bound.specs.Bounds.{plus, errors_from, IsBound, greatest_offset, silent_bound, strong_bound}
+use Rattle.error_bound.proofs.Literals.{some_at}
+use Rattle.error_bound.proofs.AnswerLemmas.{bound_strong}
+use Rattle.error_bound.proofs.WideLemmas.{in_millionths-mono}
+use Rattle.error_bound.specs.Laws.{IsInside, BoundsFallInside}
+
+max-mono : (a b c d : ℕ) → a ≤ c → b ≤ d → max a b ≤ max c d
+max-mono a b c d h k = omega arith
+
+module _ (b : Block) (small box : List Interval) (e f : ℕ → ℕ → ℕ) (count : length box ≡ length b.inputs) (ins : IsInside small box) (es : AreTermErrors b small e) (fs : AreTermErrors b box f) where
+  less_literal : (i t : ℕ) → HasTerm b i t → e i t ≤ f i t
+  less_literal i t has =
+      let in_block : i - 1 < length b.inputs = IsSomeAnd-within (λ x. t ≤ length x.terms) b.inputs (i - 1) has.term_to in
+      let x = some_at b.inputs (i - 1) in_block in
+      let few : t ≤ length x.0.terms = IsSomeAnd-some (λ y. t ≤ length y.terms) (slice_get b.inputs (i - 1)) x.0 x.1 has.term_to in
+      let from = has.term_from in
+      let c = ins.count in
+      let term = some_at x.0.terms (t - 1) (omega arith) in
+      let u = some_at small (i - 1) (omega arith) in
+      let v = some_at box (i - 1) (omega arith) in
+      let n = ins.within (i - 1) u.0 v.0 u.1 v.1 in
+      let n0 = n.0 in
+      let n1 = n.1 in
+      let p = es.error i t x.0 term.0 u.0 x.1 term.1 u.1 in
+      let q = fs.error i t x.0 term.0 v.0 x.1 term.1 v.1 in
+      p.least (f i t) (λ m l h y inn. q.covers m (omega arith) (omega arith) y inn)
+
+  mutual
+    less_greatest : (c : Condition) → IsValidCondition b c → greatest_literal e c ≤ greatest_literal f c
+    less_greatest (is i t) h = less_literal i t h
+    less_greatest (negation c) h = less_greatest c h
+    less_greatest (all cs) h = less_among cs (all_parts b cs h)
+    less_greatest (any cs) h = less_among cs (all_parts b cs h)
+
+    less_among : (cs : Conditions) → AllValidConditions b cs → greatest_among e cs ≤ greatest_among f cs
+    less_among end h = omega arith
+    less_among (also c cs) h = max-mono (greatest_literal e c) (greatest_among e cs) (greatest_literal f c) (greatest_among f cs) (less_greatest c h.0) (less_among cs h.1)
+
+  less_output : (o t : ℕ) (rs : List Rule) → All (IsValidRule b) rs → output_error_among e o t rs ≤ output_error_among f o t rs
+  less_output o t [] h = omega arith
+  less_output o t (r ∷ rs) h = by_bool (more (weight_error r) (floor_error r) (less_greatest (condition_of r.cond) (h 0 r (omega arith)).condition)) (less_output o t rs (λ k d l. h (suc k) d (omega arith))) (concludes r o t)
+    where
+      more : {p q : ℕ} (w z : ℕ) → p ≤ q → p + w + z ≤ q + w + z
+      more w z h = omega arith
+
+      by_bool : rule_error e r ≤ rule_error f r → output_error_among e o t rs ≤ output_error_among f o t rs → (c : Bool) → (if c then max (rule_error e r) (output_error_among e o t rs) else output_error_among e o t rs) ≤ (if c then max (rule_error f r) (output_error_among f o t rs) else output_error_among f o t rs)
+      by_bool h k true = max-mono (rule_error e r) (output_error_among e o t rs) (rule_error f r) (output_error_among f o t rs) h k
+      by_bool h k false = k
+
+  less_errors : (valid : IsValid b) (o t : ℕ) (us : List Dec) → errors_from b e o t us ≤ errors_from b f o t us
+  less_errors valid o t [] = omega arith
+  less_errors valid o t (u ∷ us) = sum (less_output o t b.rules valid.rules) (less_errors valid o (t + 1) us)
+    where
+      sum : {p q w z : ℕ} → p ≤ q → w ≤ z → p + w ≤ q + z
+      sum h k = omega arith
+
+plus-less : (f g h : Fraction) → AtMost f g → AtMost (plus f h) (plus g h)
+plus-less f g h l =
+    let m : (f.num * g.den) * (h.den * h.den) ≤ (g.num * f.den) * (h.den * h.den) = mul-le-mul_right (h.den * h.den) l.cross in
+    record { cross = omega arith }
+
+strong-less : (x : Output) (h s r k : ℕ) → x.lo.0 <ℤ x.hi.0 → 1 ≤ h → 1 ≤ k → s ≤ r → strong_bound x h s k ≤ strong_bound x h r k
+strong-less x h s r k range hh hk le =
+    let w = distance x.lo x.hi in
+    let wp : 0 < w = omega (arith, ints) in
+    let f : Fraction = plus (over (greatest_offset x x.singletons) (255 * w)) (over 1 (255 * h)) in
+    let kp : 0 < billion * k = mul-pos (omega arith) hk in
+    let fp : 0 < 255 * w * (255 * h) = mul-pos (mul-pos (omega arith) wp) (mul-pos (omega arith) hh) in
+    let m : s * (255 * (billion * k)) ≤ r * (255 * (billion * k)) = mul-le-mul_right (255 * (billion * k)) le in
+    in_millionths-mono (plus (over (s * 255) (billion * k)) f) (plus (over (r * 255) (billion * k)) f) (record { pos = mul-pos kp fp }) (record { pos = mul-pos kp fp }) (plus-less (over (s * 255) (billion * k)) (over (r * 255) (billion * k)) f (record { cross = omega arith }))
+
+moved : {a b c d : ℕ} → a ≡ c → b ≡ d → c ≤ d → a ≤ b
+moved e f h = omega arith
+
+pub bound_inside : (b : Block) (small box : List Interval) (o : ℕ) (x : Output) (h : ℕ) (leaf : Leaf) (n m : ℕ) → IsValid b → x.lo.0 <ℤ x.hi.0 → 1 ≤ h → length box ≡ length b.inputs → IsInside small box → IsBound b small o x h leaf n → IsBound b box o x h leaf m → n ≤ m
+bound_inside b small box o x h leaf n m valid range hh count ins p q =
+    let s = less_errors b small box p.errors q.errors count ins p.are_errors q.are_errors valid o 1 x.singletons in
+    moved p.is q.is (by_k leaf.k s)
+  where
+    by_k : {s r : ℕ} → (k : ℕ) → s ≤ r → (if k == 0 then silent_bound x else strong_bound x h s k) ≤ (if k == 0 then silent_bound x else strong_bound x h r k)
+    by_k zero l = omega arith
+    by_k {s} {r} (suc k) l = moved (bound_strong x h (suc k) s (omega arith)) (bound_strong x h (suc k) r (omega arith)) (strong-less x h s r (suc k) range hh (omega arith) l)
+
+pub bounds_fall : BoundsFallInside
+bounds_fall b small box o x h leaf n m valid ex hh count ins p q = bound_inside b small box o x h leaf n m valid (IsValidOutput-at b o x valid ex).range hh count ins p q

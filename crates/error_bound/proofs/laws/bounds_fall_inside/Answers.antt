@@ -1,0 +1,5 @@
+use Rattle.error_bound.proofs.NestedBounds.{bounds_fall}
+use Rattle.error_bound.proofs.laws.bounds_fall_inside.Goals as goal
+
+pub returns : goal.returns
+returns c = bounds_fall

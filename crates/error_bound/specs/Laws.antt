@@ -1,0 +1,47 @@
+-- Laws of boxes and their errors.
+use Rattle.std.specs.Prelude.{length, ◌≡◌, ℕ, ◌≤◌, ◌==◌, List, slice_get, Some}
+use Rattle.fz_num.specs.Decimals.{distance}
+use Rattle.fuzzy_meaning.specs.declared.block.Block.{Block}
+use Rattle.fuzzy_meaning.specs.declared.block.Input.{Input}
+use Rattle.fuzzy_meaning.specs.declared.block.Trapezoid.{Trapezoid}
+use Rattle.fuzzy_meaning.specs.Blocks.{IsValid, IsValidInput, IsValidTerm, output_at}
+use Rattle.byte_scaling.specs.Cells.{cell_start, cell_end}
+use Rattle.error_bound.specs.declared.boxes.Interval.{Interval}
+use Rattle.fuzzy_meaning.specs.Places.{points_of}
+use Rattle.error_bound.specs.Places.{AreBounds}
+use Rattle.error_bound.specs.Boxes.{degrees_over}
+use Rattle.error_bound.specs.Errors.{AreTermErrors}
+use Rattle.error_bound.specs.Leaves.{Holds}
+use Rattle.error_bound.specs.Bounds.{IsBound}
+use Rattle.error_bound.specs.declared.boxes.Leaf.{Leaf}
+use Rattle.fuzzy_meaning.specs.declared.block.Output.{Output}
+
+abbrev pub CellsHaveBounds : Type 0
+CellsHaveBounds = (i : Input) (t : Trapezoid) (v : Interval) → IsValidInput i → IsValidTerm i.lo i.hi t → v.from ≤ v.to →
+    let w = distance i.lo i.hi in
+    AreBounds (points_of i t) (cell_start w v.from) (cell_end w v.to) (v.to == 255) (degrees_over i t v).low (degrees_over i t v).high
+
+-- each interval has at least one byte
+pub record IsBox (box : List Interval) : Type 0 where
+  pub some : (k : ℕ) (v : Interval) → slice_get box k ≡ Some v → (v.from ≤ v.to) × (v.to ≤ 255)
+
+-- there is an eps of each term over a box
+abbrev pub TermErrorsAre : Type 0
+TermErrorsAre = (b : Block) (box : List Interval) → IsValid b → IsBox box → (e : ℕ → ℕ → ℕ) × AreTermErrors b box e
+
+-- each interval of the first lies within that of the second
+pub record IsInside (small box : List Interval) : Type 0 where
+  pub count : length small ≡ length box
+  pub within : (k : ℕ) (u v : Interval) → slice_get small k ≡ Some u → slice_get box k ≡ Some v → (v.from ≤ u.from) × (u.to ≤ v.to)
+
+-- a leaf that holds on a box holds on each box inside it
+abbrev pub LeavesHoldInside : Type 0
+LeavesHoldInside = (b : Block) (small box : List Interval) (o : ℕ) (leaf : Leaf) → IsValid b → length box ≡ length b.inputs → IsInside small box → IsBox small → Holds b box o leaf → Holds b small o leaf
+
+-- and its Bound there is no greater
+abbrev pub BoundsFallInside : Type 0
+BoundsFallInside = (b : Block) (small box : List Interval) (o : ℕ) (x : Output) (h : ℕ) (leaf : Leaf) (n m : ℕ) → IsValid b → output_at b o ≡ Some x → 1 ≤ h → length box ≡ length b.inputs → IsInside small box → IsBound b small o x h leaf n → IsBound b box o x h leaf m → n ≤ m
+
+-- a leaf has one Bound on a box
+abbrev pub BoundsAreDetermined : Type 0
+BoundsAreDetermined = (b : Block) (box : List Interval) (o : ℕ) (x : Output) (h : ℕ) (leaf : Leaf) (n m : ℕ) → IsValid b → length box ≡ length b.inputs → IsBound b box o x h leaf n → IsBound b box o x h leaf m → n ≡ m

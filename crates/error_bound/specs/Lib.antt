@@ -1,0 +1,10 @@
+pub mod Places
+pub mod Spans
+pub mod Boxes
+pub mod Errors
+pub mod Leaves
+pub mod Bounds
+pub mod Answers
+pub mod Laws
+pub mod CellErrors
+pub mod Reaches

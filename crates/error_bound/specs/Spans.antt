@@ -1,0 +1,65 @@
+-- From the least to the greatest truth of conditions, where spans of the literals are given.
+use Rattle.std.specs.Prelude.{ℕ, ◌-◌, min, max}
+use Rattle.fz_num.specs.Fractions.{Fraction, lesser, greater, one_minus, one, none}
+use Rattle.fuzzy_meaning.specs.Conditions.{Condition, is, negation, all, any, Conditions, end, also}
+
+-- of degrees
+pub record Span : Type 0 where
+  pub low : Fraction
+  pub high : Fraction
+
+abbrev pub one_minus_span : Span → Span
+one_minus_span s = record { low = one_minus s.high; high = one_minus s.low }
+
+abbrev pub lesser_span : Span → Span → Span
+lesser_span s r = record { low = lesser s.low r.low; high = lesser s.high r.high }
+
+abbrev pub greater_span : Span → Span → Span
+greater_span s r = record { low = greater s.low r.low; high = greater s.high r.high }
+
+abbrev mutual
+  pub span : (ℕ → ℕ → Span) → Condition → Span
+  span s (is i t) = s i t
+  span s (negation c) = one_minus_span (span s c)
+  span s (all cs) = least_span s cs
+  span s (any cs) = greatest_span s cs
+
+  pub least_span : (ℕ → ℕ → Span) → Conditions → Span
+  least_span s end = record { low = one; high = one }
+  least_span s (also c cs) = lesser_span (span s c) (least_span s cs)
+
+  pub greatest_span : (ℕ → ℕ → Span) → Conditions → Span
+  greatest_span s end = record { low = none; high = none }
+  greatest_span s (also c cs) = greater_span (span s c) (greatest_span s cs)
+
+-- of grades
+pub record ByteSpan : Type 0 where
+  pub low : ℕ
+  pub high : ℕ
+
+abbrev mutual
+  pub byte_span : (ℕ → ℕ → ByteSpan) → Condition → ByteSpan
+  byte_span s (is i t) = s i t
+  byte_span s (negation c) = let r = byte_span s c in record { low = 255 - r.high; high = 255 - r.low }
+  byte_span s (all cs) = least_byte_span s cs
+  byte_span s (any cs) = greatest_byte_span s cs
+
+  pub least_byte_span : (ℕ → ℕ → ByteSpan) → Conditions → ByteSpan
+  least_byte_span s end = record { low = 255; high = 255 }
+  least_byte_span s (also c cs) = let r = byte_span s c in let q = least_byte_span s cs in record { low = min r.low q.low; high = min r.high q.high }
+
+  pub greatest_byte_span : (ℕ → ℕ → ByteSpan) → Conditions → ByteSpan
+  greatest_byte_span s end = record { low = 0; high = 0 }
+  greatest_byte_span s (also c cs) = let r = byte_span s c in let q = greatest_byte_span s cs in record { low = max r.low q.low; high = max r.high q.high }
+
+-- the greatest number of a literal
+abbrev mutual
+  pub greatest_literal : (ℕ → ℕ → ℕ) → Condition → ℕ
+  greatest_literal e (is i t) = e i t
+  greatest_literal e (negation c) = greatest_literal e c
+  greatest_literal e (all cs) = greatest_among e cs
+  greatest_literal e (any cs) = greatest_among e cs
+
+  pub greatest_among : (ℕ → ℕ → ℕ) → Conditions → ℕ
+  greatest_among e end = 0
+  greatest_among e (also c cs) = max (greatest_literal e c) (greatest_among e cs)
