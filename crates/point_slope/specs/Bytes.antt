@@ -51,18 +51,27 @@ total_mass shares = sum_by (λ s. s.mass) shares
 abbrev pub weighted_sum : List ByteShare → ℕ
 weighted_sum shares = sum_by (λ s. s.byte * s.mass) shares
 
+-- Answers come in h parts to a byte: one, or 256 for those of 16 bits.
 -- the singletons' bytes weighted by their masses, rounded down, or what stands in for it where there is no mass
-abbrev pub centre : List ByteShare → ℕ → ℕ
-centre shares otherwise = if total_mass shares == 0 then otherwise else weighted_sum shares / total_mass shares
+abbrev pub centre : ℕ → List ByteShare → ℕ → ℕ
+centre h shares otherwise = if total_mass shares == 0 then otherwise else h * weighted_sum shares / total_mass shares
 
--- the default's byte, or with NC the byte before
-abbrev pub resting_byte : Output → ℕ → ℕ
-resting_byte x before = option_map_or (nearest_byte x) x.default before
+-- the default's byte, or with NC the answer before
+abbrev pub resting_answer : ℕ → Output → ℕ → ℕ
+resting_answer h x before = option_map_or (λ d. h * nearest_byte x d) x.default before
 
--- what output o answers to the bytes of the inputs, after the byte before
+-- what output o answers to the bytes of the inputs, after the answer before
+abbrev pub answer_in : ℕ → Block → ℕ → List ℕ → ℕ → ℕ
+answer_in h b o bytes before = option_map_or (λ x. centre h (byte_shares b bytes o x) (resting_answer h x before)) (output_at b o) before
+
+-- as a byte
 abbrev pub byte_answer : Block → ℕ → List ℕ → ℕ → ℕ
-byte_answer b o bytes before = option_map_or (λ x. centre (byte_shares b bytes o x) (resting_byte x before)) (output_at b o) before
+byte_answer b o bytes before = answer_in 1 b o bytes before
 
--- for a valid block it is a byte
-abbrev pub ByteAnswerIsByte : Type 0
-ByteAnswerIsByte = (b : Block) (o : ℕ) (bytes : List ℕ) (before : ℕ) → IsValid b → before ≤ 255 → byte_answer b o bytes before ≤ 255
+-- in 16 bits, from 0 to 65280
+abbrev pub wide_answer : Block → ℕ → List ℕ → ℕ → ℕ
+wide_answer b o bytes before = answer_in 256 b o bytes before
+
+-- no answer of a valid block is above 255 bytes
+abbrev pub AnswersAreInRange : Type 0
+AnswersAreInRange = (h : ℕ) (b : Block) (o : ℕ) (bytes : List ℕ) (before : ℕ) → IsValid b → before ≤ 255 * h → answer_in h b o bytes before ≤ 255 * h

@@ -9,7 +9,7 @@ mod answers;
 mod grades;
 mod rows;
 
-pub use answers::byte_answer_is_byte;
+pub use answers::answers_are_in_range;
 pub use grades::grade;
 pub use rows::{Memory, row, slope, table};
 

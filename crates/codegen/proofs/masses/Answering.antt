@@ -9,7 +9,7 @@ use Rattle.fz_num.specs.declared.dec.Dec.{Dec}
 use Rattle.fuzzy_meaning.specs.declared.block.Block.{Block}
 use Rattle.fuzzy_meaning.specs.declared.block.Output.{Output}
 use Rattle.byte_scaling.specs.Cells.{nearest_byte}
-use Rattle.point_slope.specs.Bytes.{ByteShare, byte_mass, byte_shares_from, byte_shares, total_mass, weighted_sum, centre, resting_byte, byte_answer}
+use Rattle.point_slope.specs.Bytes.{ByteShare, byte_mass, byte_shares_from, byte_shares, total_mass, weighted_sum, centre, resting_answer, byte_answer}
 use Rattle.rule_layout.specs.Slots.{terms_from, singleton_count, output_terms}
 use Rattle.cpu12_parts.specs.Averages.{dot, total}
 use Rattle.codegen.specs.Data.{singleton_bytes_of}
@@ -29,20 +29,23 @@ sums_dot b bytes i x t (u ∷ us) =
     let s : ByteShare = record { byte = nearest_byte x u; mass = byte_mass b bytes i t } in
     omega (arith, sums_dot b bytes i x (t + 1) us, sum_by-cons (λ (s : ByteShare). s.byte * s.mass) s (byte_shares_from b bytes i x (t + 1) us))
 
-default_is : (x : Output) (d : Option Dec) (before : ℕ) → or_before (option_map (nearest_byte x) d) before ≡ option_map_or (nearest_byte x) d before
+default_is : (x : Output) (d : Option Dec) (before : ℕ) → or_before (option_map (nearest_byte x) d) before ≡ option_map_or (λ d. 1 * nearest_byte x d) d before
 default_is x None before = refl
-default_is x (Some d) before = refl
+default_is x (Some d) before = omega arith
+
+one_part : (n : ℕ) → n ≡ 1 * n
+one_part n = omega arith
 
 -- one output's byte from the masses of its terms
 abbrev own_masses : Block → List ℕ → ℕ → Output → List ℕ
 own_masses b bytes i x = map (λ t. byte_mass b bytes i t) (range_with_len 1 (length x.singletons))
 
-byte_is : (b : Block) (bytes : List ℕ) (i : ℕ) (x : Output) (before : ℕ) → output_byte x (own_masses b bytes i x) before ≡ centre (byte_shares b bytes i x) (resting_byte x before)
+byte_is : (b : Block) (bytes : List ℕ) (i : ℕ) (x : Output) (before : ℕ) → output_byte x (own_masses b bytes i x) before ≡ centre 1 (byte_shares b bytes i x) (resting_answer 1 x before)
 byte_is b bytes i x before =
     let et = sums_total b bytes i x 1 x.singletons in
     let ed = sums_dot b bytes i x 1 x.singletons in
     ap (λ (n : ℕ). quotient_of (total (own_masses b bytes i x)) (dot (singleton_bytes_of x) (own_masses b bytes i x)) n) (default_is x x.default before)
-    ∙ ap₂ (λ (w n : ℕ). quotient_of w n (resting_byte x before)) et ed
+    ∙ ap₂ (λ (w n : ℕ). quotient_of w n (resting_answer 1 x before)) et (ed ∙ one_part (weighted_sum (byte_shares b bytes i x)))
 
 map_pairs : (f : ℕ × ℕ → ℕ) (i : ℕ) (ts : List ℕ) → map f (map (λ t. (i, t)) ts) ≡ map (λ t. f (i, t)) ts
 map_pairs f i [] = refl
@@ -81,7 +84,7 @@ bytes_from b bytes (v ∷ bs) front (x ∷ os) i e en el k lt = by_place k lt (�
         let n = length x.singletons in
         let t : take n (map (mass_of b bytes) (terms_from i (map singleton_count (x ∷ os)))) ≡ own_masses b bytes i x = ap (take n) cut ∙ take_at (own_masses b bytes i x) _ n size in
         let z : i + 0 ≡ i = omega arith in
-        ap (λ l. output_byte x l v) t ∙ byte_is b bytes i x v ∙ sym (ap (λ (o : Option Output). option_map_or (λ (y : Output). centre (byte_shares b bytes i y) (resting_byte y v)) o v) found) ∙ ap (λ o. byte_answer b o bytes v) (sym z)
+        ap (λ l. output_byte x l v) t ∙ byte_is b bytes i x v ∙ sym (ap (λ (o : Option Output). option_map_or (λ (y : Output). centre 1 (byte_shares b bytes i y) (resting_answer 1 y v)) o v) found) ∙ ap (λ o. byte_answer b o bytes v) (sym z)
     by_place (suc j) lt go =
         let n = length x.singletons in
         let d : drop n (map (mass_of b bytes) (terms_from i (map singleton_count (x ∷ os)))) ≡ map (mass_of b bytes) (terms_from (i + 1) (map singleton_count os)) = ap (drop n) cut ∙ drop_at (own_masses b bytes i x) _ n size in
