@@ -1,8 +1,9 @@
 -- What the commands make of their files.
-use Rattle.std.specs.Prelude.{◌≡◌, ◌≢◌, ℕ, List, [], ◌∷◌, map, Option, None, option_map, Result, Ok, Err}
+use Rattle.std.specs.Prelude.{◌≡◌, ◌≢◌, ℕ, List, [], ◌∷◌, map, Option, None, option_map, Result, Ok, Err, false}
 use Rattle.fz_shelf.specs.Lines.{text_of}
 use Rattle.fuzzy_meaning.specs.declared.block.Block.{Block}
 use Rattle.rule_layout.specs.Layouts.{IsWithinLimits, IsFaultOf as IsLayoutFault}
+use Rattle.codegen.specs.declared.width.Width.TheVariants.{Byte}
 use Rattle.codegen.specs.Bounds.{instruction_bound}
 use Rattle.codegen.specs.Firmwares.{IsFirmwareOf}
 use Rattle.codegen.specs.declared.firmware.Firmware.{Firmware}
@@ -42,12 +43,13 @@ pub record RunGives (flags : ℕ) (text samples : List ℕ) (deed : Deed) : Type
   pub limits : IsWithinLimits block
   pub firmware : Firmware
   pub compiled : IsFirmwareOf block firmware
+  pub narrow : firmware.wide ≡ false
   pub values : List Sample
   pub trace : Spells block.inputs samples values
   pub rows : List RowSeen
   pub ran : rows ≡ (firmware_rows firmware (map input_bytes values) [] flags).rows
   pub answers : AreAnswersOf block firmware flags (map input_bytes values) rows
-  pub deed_is : deed ≡ record { text = lines_of (instruction_bound block) (map shown rows); file = None }
+  pub deed_is : deed ≡ record { text = lines_of (instruction_bound Byte block) (map shown rows); file = None }
 
 -- why a text gives no firmware; none is for want of memory
 abbrev pub FclRefuses : List ℕ → FclFault → Type 0

@@ -1,5 +1,7 @@
-use Rattle.std.proofs.Common.{rules, ◌≢◌, ℕ, List, ap}
+use Rattle.std.proofs.Common.{rules, ◌≢◌, ℕ, Bool, List, ap, ◌∙◌}
 use Rattle.std.specs.Prelude.{None, map}
+use Rattle.codegen.specs.Widths.{width_of}
+use Rattle.codegen.specs.Bounds.{instruction_bound}
 use Rattle.trace_io.specs.declared.sample.TraceFault.TheVariants as trace
 use Rattle.fz_run.specs.Rows.{row_seen}
 use Rattle.fz_top.specs.Works.{Deed}
@@ -25,12 +27,13 @@ returns-in-Ok-run_lines-clause-ok c =
       limits = compiled.limits;
       firmware = firmware;
       compiled = compiled.firmware;
+      narrow = compiled.narrow;
       values = values;
       trace = spells;
       rows = rows;
       ran = ran_alone firmware c.args.flags values _ _ rows c.in-Ok-run.ensures.rows c.deref.ensures.value c.no_interrupts-plan.ensures.empty;
-      answers = answers_trace block firmware c.args.flags _ values _ rows c.in-Ok-run.ensures.answers c.deref.ensures.value spelled.valid compiled.limits compiled.firmware spells;
-      deed_is = ap only_text (run_text firmware.instr_bound _ c.in-Ok-run.rows.items _ _ c.in-Ok-run_lines.ensures compiled.firmware.instructions c.deref-2.ensures.value);
+      answers = answers_trace block firmware c.args.flags _ values _ rows c.in-Ok-run.ensures.answers c.deref.ensures.value spelled.valid compiled.limits compiled.firmware compiled.narrow spells;
+      deed_is = ap only_text (run_text firmware.instr_bound _ c.in-Ok-run.rows.items _ _ c.in-Ok-run_lines.ensures (compiled.firmware.instructions ∙ ap (λ (wide : Bool). instruction_bound (width_of wide) block) compiled.narrow) c.deref-2.ensures.value);
     }
 
 pub returns-in-Err-read_trace : goal.returns-in-Err-read_trace
