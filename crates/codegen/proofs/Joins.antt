@@ -15,7 +15,8 @@ use Rattle.rule_layout.specs.declared.flat.Slot.{Slot}
 use Rattle.rule_layout.specs.Slots.{slots_of, term_count}
 use Rattle.rule_layout.specs.Layouts.{flat_of, form_of, weights_of, conjunctions_of}
 use Rattle.codegen.specs.declared.layout.Layout.{Layout}
-use Rattle.codegen.specs.Code.{frame_code, eval_code_over, eval_code}
+use Rattle.codegen.specs.declared.width.Width.{Width}
+use Rattle.codegen.specs.Code.{eval_code_over, eval_code, whole_code}
 use Rattle.codegen.specs.Data.{table_bytes, singleton_bytes, weight_bytes_by, weight_bytes, rule_bytes_by, rule_bytes}
 use Rattle.codegen.specs.Images.{bytes_at, vector_items, firmware_items}
 
@@ -28,14 +29,17 @@ next_piece : (start later last : List Item) (a b : List Instr) → later ≡ sta
 next_piece start later last a b h k =
     k ∙ ap (λ xs. xs ++ map Op b) h ∙ append_assoc start (map Op a) (map Op b) ∙ ap (λ xs. start ++ xs) (sym (map-append (λ i. Op i) a b))
 
--- six pieces of code
-pub six_pieces : (start i1 i2 i3 i4 i5 i6 : List Item) (a b c d e f : List Instr) → i1 ≡ start ++ map Op a → i2 ≡ i1 ++ map Op b → i3 ≡ i2 ++ map Op c → i4 ≡ i3 ++ map Op d → i5 ≡ i4 ++ map Op e → i6 ≡ i5 ++ map Op f → i6 ≡ start ++ map Op (a ++ (b ++ (c ++ (d ++ (e ++ f)))))
-six_pieces start i1 i2 i3 i4 i5 i6 a b c d e f h1 h2 h3 h4 h5 h6 =
-    let last = next_piece i4 i5 i6 e f h5 h6 in
-    let last2 = next_piece i3 i4 i6 d (e ++ f) h4 last in
-    let last3 = next_piece i2 i3 i6 c (d ++ (e ++ f)) h3 last2 in
-    let last4 = next_piece i1 i2 i6 b (c ++ (d ++ (e ++ f))) h2 last3 in
-    next_piece start i1 i6 a (b ++ (c ++ (d ++ (e ++ f)))) h1 last4
+-- five pieces of code
+pub five_pieces : (start i1 i2 i3 i4 i5 : List Item) (a b c d e : List Instr) → i1 ≡ start ++ map Op a → i2 ≡ i1 ++ map Op b → i3 ≡ i2 ++ map Op c → i4 ≡ i3 ++ map Op d → i5 ≡ i4 ++ map Op e → i5 ≡ start ++ map Op (a ++ (b ++ (c ++ (d ++ e))))
+five_pieces start i1 i2 i3 i4 i5 a b c d e h1 h2 h3 h4 h5 =
+    let last = next_piece i3 i4 i5 d e h4 h5 in
+    let last2 = next_piece i2 i3 i5 c (d ++ e) h3 last in
+    let last3 = next_piece i1 i2 i5 b (c ++ (d ++ e)) h2 last2 in
+    next_piece start i1 i5 a (b ++ (c ++ (d ++ e))) h1 last3
+
+-- three of them
+pub three_pieces : (start i1 i2 i3 : List Item) (a b c : List Instr) → i1 ≡ start ++ map Op a → i2 ≡ i1 ++ map Op b → i3 ≡ i2 ++ map Op c → i3 ≡ start ++ map Op (a ++ (b ++ c))
+three_pieces start i1 i2 i3 a b c h1 h2 h3 = next_piece start i1 i3 a (b ++ c) h1 (next_piece i1 i2 i3 b c h2 h3)
 
 -- the layout of a block's rules, field by field
 pub slots-flat_of : (flat : Flat) (b : Block) → flat ≡ flat_of b → flat.slots ≡ slots_of b
@@ -61,12 +65,12 @@ sum_by-term_count inputs few valid =
     omega (arith, sum_by-le term_count 15 inputs few_terms)
 
 -- the parts of a firmware in their order
-pub arranged : (p f e t s b w v i1 i2 i3 i4 i5 i6 i7 i8 : List Item) → i1 ≡ [] ++ p → i2 ≡ i1 ++ f → i3 ≡ i2 ++ e → i4 ≡ i3 ++ t → i5 ≡ i4 ++ s → i6 ≡ i5 ++ b → i7 ≡ i6 ++ w → i8 ≡ i7 ++ v → i8 ≡ (p ++ (f ++ e)) ++ (t ++ ((s ++ b) ++ (w ++ v)))
-arranged p f e t s b w v i1 i2 i3 i4 i5 i6 i7 i8 h1 h2 h3 h4 h5 h6 h7 h8 = simp (h8, h7, h6, h5, h4, h3, h2, h1, append_assoc)
+pub arranged : (p e t s b w v i1 i3 i4 i5 i6 i7 i8 : List Item) → i1 ≡ [] ++ p → i3 ≡ i1 ++ e → i4 ≡ i3 ++ t → i5 ≡ i4 ++ s → i6 ≡ i5 ++ b → i7 ≡ i6 ++ w → i8 ≡ i7 ++ v → i8 ≡ (p ++ e) ++ (t ++ ((s ++ b) ++ (w ++ v)))
+arranged p e t s b w v i1 i3 i4 i5 i6 i7 i8 h1 h3 h4 h5 h6 h7 h8 = simp (h8, h7, h6, h5, h4, h3, h1, append_assoc)
 
 -- the code over the parts of a block and its rules' layout
-pub eval_code_over-flat : (l : Layout) (b : Block) (flat : Flat) (inputs : List Input) (outputs : List Output) (slots : List Slot) → flat ≡ flat_of b → inputs ≡ b.inputs → outputs ≡ b.outputs → slots ≡ flat.slots → eval_code_over l inputs outputs slots flat.form ≡ eval_code l b
-eval_code_over-flat l b flat inputs outputs slots h i o s =
+pub eval_code_over-flat : (l : Layout) (b : Block) (w : Width) (flat : Flat) (inputs : List Input) (outputs : List Output) (slots : List Slot) → flat ≡ flat_of b → inputs ≡ b.inputs → outputs ≡ b.outputs → slots ≡ flat.slots → eval_code_over l w inputs outputs slots flat.form ≡ eval_code l b w
+eval_code_over-flat l b w flat inputs outputs slots h i o s =
     let e = slots-flat_of flat b h in
     let f = form-flat_of flat b h in
     let same_slots : slots ≡ slots_of b = s ∙ e in
@@ -81,8 +85,9 @@ rule_data-flat l b flat h =
     rw (f, w, c)
 
 -- the parts of a firmware, put one behind the other, are its items
-pub firmware_items-parts : (l : Layout) (b : Block) (i1 i2 i3 i4 i5 i6 i7 i8 : List Item) → i1 ≡ [] ++ Place l.code ∷ [] → i2 ≡ i1 ++ map Op (frame_code l) → i3 ≡ i2 ++ map Op (eval_code l b) → i4 ≡ i3 ++ bytes_at l.tables (table_bytes b) → i5 ≡ i4 ++ Place l.singletons ∷ [] → i6 ≡ i5 ++ map Byte (singleton_bytes b) → i7 ≡ i6 ++ (bytes_at l.weights (weight_bytes b) ++ bytes_at l.rules (rule_bytes l.slots b)) → i8 ≡ i7 ++ vector_items l → i8 ≡ firmware_items l b
+pub firmware_items-parts : (l : Layout) (b : Block) (w : Width) (i1 i3 i4 i5 i6 i7 i8 : List Item) → i1 ≡ [] ++ Place l.code ∷ [] → i3 ≡ i1 ++ map Op (whole_code l b w) → i4 ≡ i3 ++ bytes_at l.tables (table_bytes b) → i5 ≡ i4 ++ Place l.singletons ∷ [] → i6 ≡ i5 ++ map Byte (singleton_bytes b)
+    → i7 ≡ i6 ++ (bytes_at l.weights (weight_bytes b) ++ bytes_at l.rules (rule_bytes l.slots b)) → i8 ≡ i7 ++ vector_items l → i8 ≡ firmware_items l b w
 unfolding firmware_items
-firmware_items-parts l b i1 i2 i3 i4 i5 i6 i7 i8 h1 h2 h3 h4 h5 h6 h7 h8 =
-    arranged (Place l.code ∷ []) (map Op (frame_code l)) (map Op (eval_code l b)) (bytes_at l.tables (table_bytes b)) (Place l.singletons ∷ []) (map Byte (singleton_bytes b)) (bytes_at l.weights (weight_bytes b) ++ bytes_at l.rules (rule_bytes l.slots b)) (vector_items l) i1 i2 i3 i4 i5 i6 i7 i8 h1 h2 h3 h4 h5 h6 h7 h8
-    ∙ ap₂ (λ (x y : List Item). (Place l.code ∷ x) ++ (bytes_at l.tables (table_bytes b) ++ ((Place l.singletons ∷ map Byte (singleton_bytes b)) ++ y))) (sym (map-append (λ i. Op i) (frame_code l) (eval_code l b))) (append_assoc (bytes_at l.weights (weight_bytes b)) (bytes_at l.rules (rule_bytes l.slots b)) (vector_items l))
+firmware_items-parts l b w i1 i3 i4 i5 i6 i7 i8 h1 h3 h4 h5 h6 h7 h8 =
+    arranged (Place l.code ∷ []) (map Op (whole_code l b w)) (bytes_at l.tables (table_bytes b)) (Place l.singletons ∷ []) (map Byte (singleton_bytes b)) (bytes_at l.weights (weight_bytes b) ++ bytes_at l.rules (rule_bytes l.slots b)) (vector_items l) i1 i3 i4 i5 i6 i7 i8 h1 h3 h4 h5 h6 h7 h8
+    ∙ ap (λ (y : List Item). (Place l.code ∷ map Op (whole_code l b w)) ++ (bytes_at l.tables (table_bytes b) ++ ((Place l.singletons ∷ map Byte (singleton_bytes b)) ++ y))) (append_assoc (bytes_at l.weights (weight_bytes b)) (bytes_at l.rules (rule_bytes l.slots b)) (vector_items l))

@@ -13,12 +13,14 @@ use Rattle.rule_layout.specs.Slots.{slots_of, singleton_count}
 use Rattle.rule_layout.specs.Lists.{marked, at_address, list_words}
 use Rattle.rule_layout.specs.Layouts.{conjunctions_of, weights_of, form_of, conjunction_count, element_width, list_size}
 use Rattle.cpu12_isa.specs.declared.instr.Instr.{Instr}
+use Rattle.cpu12_isa.specs.declared.instr.Instr.TheVariants.{Rts}
 use Rattle.cpu12_asm.specs.declared.items.Item.{Item}
 use Rattle.cpu12_asm.specs.declared.items.Item.TheVariants.{Byte, Op}
 use Rattle.cpu12_asm.specs.Items.{IsRisingFrom, IsRising}
 use Rattle.codegen.specs.declared.layout.Layout.{Layout}
+use Rattle.codegen.specs.declared.width.Width.{Width}
 use Rattle.codegen.specs.Layouts.{main_layout}
-use Rattle.codegen.specs.Code.{frame_code, eval_code}
+use Rattle.codegen.specs.Code.{frame_code, eval_code, whole_code}
 use Rattle.codegen.specs.Data.{table_bytes, singleton_bytes, weight_bytes_by, weight_bytes, bytes_of_word, rule_bytes_by, rule_bytes}
 use Rattle.codegen.specs.Images.{code_at, bytes_at, vector_items, firmware_items}
 use Rattle.codegen.specs.Bounds.{entry_count, element_count}
@@ -34,7 +36,7 @@ pub record HasSizes (b : Block) : Type 0 where
 
 -- each part ends below the next one
 pub record IsSpaced (l : Layout) : Type 0 where
-  pub code : l.code + 2432 ≤ l.tables
+  pub code : l.code + 2448 ≤ l.tables
   pub tables : l.tables + 480 ≤ l.singletons
   pub singletons : l.singletons + 60 ≤ l.weights
   pub weights : l.weights + 512 ≤ l.rules
@@ -95,18 +97,18 @@ vectors_rise : (at : ℕ) (l : Layout) → at ≤ 0xFFF2 → IsRisingFrom at (ve
 vectors_rise at l h = (omega arith, (omega arith, omega arith))
 
 -- the parts by their sizes
-pub record HasPartSizes (l : Layout) (b : Block) : Type 0 where
-  pub code : code_size (frame_code l ++ eval_code l b) ≤ 2432
+pub record HasPartSizes (l : Layout) (b : Block) (w : Width) : Type 0 where
+  pub code : code_size (whole_code l b w) ≤ 2448
   pub tables : length (table_bytes b) ≤ 480
   pub singletons : length (singleton_bytes b) ≤ 60
   pub weights : length (weight_bytes b) ≤ 512
   pub rules : length (rule_bytes l.slots b) ≤ 9984
 
-pub part_sizes : (l : Layout) (b : Block) → IsValid b → HasSizes b → HasPartSizes l b
-part_sizes l b v h =
+pub part_sizes : (l : Layout) (b : Block) (w : Width) → IsValid b → HasSizes b → HasPartSizes l b w
+part_sizes l b w v h =
     let terms = sum_by-term_count b.inputs v.few_inputs v.inputs in
     record {
-      code = omega (arith, code_size-append (frame_code l) (eval_code l b), code_size-eval l b.inputs b.outputs (slots_of b) (form_of b) v.few_inputs terms v.few_outputs h.few_slots);
+      code = omega (arith, code_size-append (frame_code l) (eval_code l b w ++ Rts ∷ []), code_size-append (eval_code l b w) (Rts ∷ []), code_size-eval l w b.inputs b.outputs (slots_of b) (form_of b) v.few_inputs terms v.few_outputs h.few_slots);
       tables = omega (arith, length-tables b.inputs, terms);
       singletons = omega (arith, length-singletons b.outputs, sum_by-singleton_count b.outputs v.few_outputs v.outputs);
       weights = omega (arith, length-weights (form_of b) (weights_of b), length-weights_of b, h.few_conjunctions);
@@ -114,37 +116,37 @@ part_sizes l b v h =
     }
 
 -- a firmware's items never go back
-pub firmware_rises : (l : Layout) (b : Block) → IsSpaced l → HasPartSizes l b → IsRising (firmware_items l b)
+pub firmware_rises : (l : Layout) (b : Block) (w : Width) → IsSpaced l → HasPartSizes l b w → IsRising (firmware_items l b w)
 unfolding firmware_items
-firmware_rises l b s h =
+firmware_rises l b w s h =
     let vectors = vectors_rise (l.rules + length (rule_bytes l.slots b)) l (omega (arith, s.rules, h.rules)) in
     let rules = rises_part (l.weights + length (weight_bytes b)) l.rules (rule_bytes l.slots b) (vector_items l) (omega (arith, s.weights, h.weights)) vectors in
     let weights = rises_part (l.singletons + length (singleton_bytes b)) l.weights (weight_bytes b) _ (omega (arith, s.singletons, h.singletons)) rules in
     let singletons = rises_part (l.tables + length (table_bytes b)) l.singletons (singleton_bytes b) _ (omega (arith, s.tables, h.tables)) weights in
-    let tables = rises_part (l.code + code_size (frame_code l ++ eval_code l b)) l.tables (table_bytes b) _ (omega (arith, s.code, h.code)) singletons in
-    (omega arith, rises_code l.code (frame_code l ++ eval_code l b) _ tables)
+    let tables = rises_part (l.code + code_size (whole_code l b w)) l.tables (table_bytes b) _ (omega (arith, s.code, h.code)) singletons in
+    (omega arith, rises_code l.code (whole_code l b w) _ tables)
 
 -- and are few
-pub length-firmware_items : (l : Layout) (b : Block) → HasPartSizes l b → length (firmware_items l b) < 2 ^ 32
+pub length-firmware_items : (l : Layout) (b : Block) (w : Width) → HasPartSizes l b w → length (firmware_items l b w) < 2 ^ 32
 unfolding firmware_items
-length-firmware_items l b h =
-    let code = frame_code l ++ eval_code l b in
+length-firmware_items l b w h =
+    let code = whole_code l b w in
     let t = table_bytes b in
     let s = singleton_bytes b in
-    let w = weight_bytes b in
+    let ws = weight_bytes b in
     let r = rule_bytes l.slots b in
     omega (
       arith,
-      length-append (code_at l.code code) (bytes_at l.tables t ++ (bytes_at l.singletons s ++ (bytes_at l.weights w ++ (bytes_at l.rules r ++ vector_items l)))),
-      length-append (bytes_at l.tables t) (bytes_at l.singletons s ++ (bytes_at l.weights w ++ (bytes_at l.rules r ++ vector_items l))),
-      length-append (bytes_at l.singletons s) (bytes_at l.weights w ++ (bytes_at l.rules r ++ vector_items l)),
-      length-append (bytes_at l.weights w) (bytes_at l.rules r ++ vector_items l),
+      length-append (code_at l.code code) (bytes_at l.tables t ++ (bytes_at l.singletons s ++ (bytes_at l.weights ws ++ (bytes_at l.rules r ++ vector_items l)))),
+      length-append (bytes_at l.tables t) (bytes_at l.singletons s ++ (bytes_at l.weights ws ++ (bytes_at l.rules r ++ vector_items l))),
+      length-append (bytes_at l.singletons s) (bytes_at l.weights ws ++ (bytes_at l.rules r ++ vector_items l)),
+      length-append (bytes_at l.weights ws) (bytes_at l.rules r ++ vector_items l),
       length-append (bytes_at l.rules r) (vector_items l),
       length-map code (λ i. Op i),
       length-le-code_size code,
       length-map t (λ x. Byte x),
       length-map s (λ x. Byte x),
-      length-map w (λ x. Byte x),
+      length-map ws (λ x. Byte x),
       length-map r (λ x. Byte x),
     )
 
@@ -152,8 +154,8 @@ main_spaced : IsSpaced main_layout
 main_spaced = record { code = omega arith; tables = omega arith; singletons = omega arith; weights = omega arith; rules = omega arith }
 
 -- the items of a firmware that stands alone can be placed
-pub main_rises : (b : Block) (items : List Item) → IsValid b → HasSizes b → items ≡ firmware_items main_layout b → IsRising items
-main_rises b items v h e = subst (λ (xs : List Item). IsRising xs) (sym e) (firmware_rises main_layout b main_spaced (part_sizes main_layout b v h))
+pub main_rises : (b : Block) (w : Width) (items : List Item) → IsValid b → HasSizes b → items ≡ firmware_items main_layout b w → IsRising items
+main_rises b w items v h e = subst (λ (xs : List Item). IsRising xs) (sym e) (firmware_rises main_layout b w main_spaced (part_sizes main_layout b w v h))
 
-pub length-main_items : (b : Block) (items : List Item) → IsValid b → HasSizes b → items ≡ firmware_items main_layout b → length items < 2 ^ 32
-length-main_items b items v h e = omega (arith, ap length e, length-firmware_items main_layout b (part_sizes main_layout b v h))
+pub length-main_items : (b : Block) (w : Width) (items : List Item) → IsValid b → HasSizes b → items ≡ firmware_items main_layout b w → length items < 2 ^ 32
+length-main_items b w items v h e = omega (arith, ap length e, length-firmware_items main_layout b w (part_sizes main_layout b w v h))

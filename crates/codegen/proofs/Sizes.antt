@@ -18,9 +18,12 @@ use Rattle.rule_layout.specs.declared.flat.Form.{Form}
 use Rattle.rule_layout.specs.declared.flat.Form.TheVariants as form
 use Rattle.rule_layout.specs.Slots.{term_count, singleton_count}
 use Rattle.cpu12_isa.specs.declared.instr.Instr.{Instr}
-use Rattle.cpu12_isa.specs.declared.instr.Instr.TheVariants.{LdaaImmediate, Mem, Rts}
+use Rattle.cpu12_isa.specs.declared.instr.Instr.TheVariants.{LdaaImmediate, Mem}
 use Rattle.cpu12_isa.specs.Code.{encode_of}
 use Rattle.codegen.specs.declared.layout.Layout.{Layout}
+use Rattle.codegen.specs.declared.width.Width.{Width}
+use Rattle.codegen.specs.declared.width.Width.TheVariants.{Byte, Word}
+use Rattle.codegen.specs.Widths.{places}
 use Rattle.codegen.specs.Code.{fuzzify_code, slot_code, slots_code, rules_code, quotient_code, output_code, outputs_code, input_slots, eval_code_over}
 
 -- the bytes of instructions
@@ -44,7 +47,7 @@ code_size-copies : (n : ℕ) → code_size (replicate n Mem) ≡ n
 code_size-copies zero = refl
 code_size-copies (suc n) = omega (arith, code_size-copies n)
 
-code_size-fuzzify : (at : ℕ) (inputs : List Input) → code_size (fuzzify_code at inputs) ≡ 3 * length inputs + sum_by term_count inputs
+pub code_size-fuzzify : (at : ℕ) (inputs : List Input) → code_size (fuzzify_code at inputs) ≡ 3 * length inputs + sum_by term_count inputs
 code_size-fuzzify at [] = refl
 code_size-fuzzify at (x ∷ xs) =
     omega (arith, code_size-append (replicate (length x.terms) Mem) (fuzzify_code (at + 1) xs), code_size-copies (length x.terms), code_size-fuzzify (at + 1) xs, sum_by-cons term_count x xs)
@@ -54,44 +57,45 @@ code_size-slot base inputs at (Term i t) = omega arith
 code_size-slot base inputs at (Complement i t) = omega arith
 code_size-slot base inputs at (Out o t) = omega arith
 
-code_size-slots : (base : ℕ) (inputs : List Input) (at : ℕ) (slots : List Slot) → code_size (slots_code base inputs at slots) ≤ 7 * length slots
+pub code_size-slots : (base : ℕ) (inputs : List Input) (at : ℕ) (slots : List Slot) → code_size (slots_code base inputs at slots) ≤ 7 * length slots
 code_size-slots base inputs at [] = omega arith
 code_size-slots base inputs at (s ∷ ss) =
     omega (arith, code_size-append (slot_code base inputs at s) (slots_code base inputs (at + 1) ss), code_size-slot base inputs at s, code_size-slots base inputs (at + 1) ss)
 
-code_size-rules : (l : Layout) (f : Form) → code_size (rules_code l f) ≤ 14
+pub code_size-rules : (l : Layout) (f : Form) → code_size (rules_code l f) ≤ 14
 code_size-rules l form.Rev = omega arith
 code_size-rules l form.Revw = omega arith
 
-code_size-quotient : (at : ℕ) (default : Option ℕ) → code_size (quotient_code at default) ≤ 15
-code_size-quotient at None = omega arith
-code_size-quotient at (Some d) = omega arith
+code_size-quotient : (w : Width) (at : ℕ) (default : Option ℕ) → code_size (quotient_code w at default) ≤ 28
+code_size-quotient Byte at None = omega arith
+code_size-quotient Byte at (Some d) = omega arith
+code_size-quotient Word at None = omega arith
+code_size-quotient Word at (Some d) = omega arith
 
-code_size-outputs : (singletons slots at : ℕ) (outputs : List Output) → code_size (outputs_code singletons slots at outputs) ≤ 25 * length outputs
-code_size-outputs singletons slots at [] = omega arith
-code_size-outputs singletons slots at (o ∷ os) =
-    let rest = code_size-outputs (singletons + length o.singletons) (slots + length o.singletons) (at + 1) os in
-    let here = code_size-append (output_code singletons slots at o) (outputs_code (singletons + length o.singletons) (slots + length o.singletons) (at + 1) os) in
-    let own = code_size-quotient at (option_map (nearest_byte o) o.default) in
+pub code_size-outputs : (w : Width) (singletons slots at : ℕ) (outputs : List Output) → code_size (outputs_code w singletons slots at outputs) ≤ 38 * length outputs
+code_size-outputs w singletons slots at [] = omega arith
+code_size-outputs w singletons slots at (o ∷ os) =
+    let rest = code_size-outputs w (singletons + length o.singletons) (slots + length o.singletons) (at + places w) os in
+    let here = code_size-append (output_code w singletons slots at o) (outputs_code w (singletons + length o.singletons) (slots + length o.singletons) (at + places w) os) in
+    let own = code_size-quotient w at (option_map (nearest_byte o) o.default) in
     omega (arith, rest, here, own)
 
 -- the code of a block within the limits
-pub code_size-eval : (l : Layout) (inputs : List Input) (outputs : List Output) (slots : List Slot) (f : Form) → length inputs ≤ 8 → sum_by term_count inputs ≤ 120 → length outputs ≤ 4 → length slots ≤ 300 → code_size (eval_code_over l inputs outputs slots f) ≤ 2400
-code_size-eval l inputs outputs slots f few_inputs few_terms few_outputs few_slots =
+pub code_size-eval : (l : Layout) (w : Width) (inputs : List Input) (outputs : List Output) (slots : List Slot) (f : Form) → length inputs ≤ 8 → sum_by term_count inputs ≤ 120 → length outputs ≤ 4 → length slots ≤ 300 → code_size (eval_code_over l w inputs outputs slots f) ≤ 2416
+code_size-eval l w inputs outputs slots f few_inputs few_terms few_outputs few_slots =
     let a = fuzzify_code l.inputs inputs in
     let b = slots_code l.slots inputs l.slots slots in
     let c = rules_code l f in
-    let d = outputs_code l.singletons (l.slots + input_slots slots outputs) l.outputs outputs in
+    let d = outputs_code w l.singletons (l.slots + input_slots slots outputs) l.outputs outputs in
     omega (
       arith,
-      code_size-append a (b ++ (c ++ (d ++ Rts ∷ []))),
-      code_size-append b (c ++ (d ++ Rts ∷ [])),
-      code_size-append c (d ++ Rts ∷ []),
-      code_size-append d (Rts ∷ []),
+      code_size-append a (b ++ (c ++ d)),
+      code_size-append b (c ++ d),
+      code_size-append c d,
       code_size-fuzzify l.inputs inputs,
       code_size-slots l.slots inputs l.slots slots,
       code_size-rules l f,
-      code_size-outputs l.singletons (l.slots + input_slots slots outputs) l.outputs outputs,
+      code_size-outputs w l.singletons (l.slots + input_slots slots outputs) l.outputs outputs,
     )
 
 length-rows : (x : Input) (terms : List Trapezoid) → length (flat_map (λ row. row) (map (row_of x) terms)) ≡ 4 * length terms

@@ -6,4 +6,4 @@ pub mod GivenBytes
 pub mod Arriving
 pub mod Sampling
 pub mod Law
-pub mod EvalLaw
+pub mod Uninterrupted

@@ -8,6 +8,8 @@ use Rattle.rule_layout.specs.declared.flat.Form.{Form}
 use Rattle.rule_layout.specs.declared.flat.Form.TheVariants as form
 use Rattle.rule_layout.specs.Slots.{slots_of, term_count, singleton_count}
 use Rattle.rule_layout.specs.Layouts.{conjunctions_of, form_of}
+use Rattle.codegen.specs.declared.width.Width.{Width}
+use Rattle.codegen.specs.declared.width.Width.TheVariants.{Byte, Word}
 
 abbrev pub input_term_count : Block → ℕ
 input_term_count b = sum_by term_count b.inputs
@@ -26,23 +28,25 @@ entry_count c = length c.literals + length c.conclusions + 2
 abbrev pub element_count : Block → ℕ
 element_count b = sum_by entry_count (conjunctions_of b)
 
--- an output takes 10 instructions where its DEFAULT is a number, and 9 with NC
-abbrev pub output_bound : Output → ℕ
-output_bound o = by_default o.default
+-- an output takes 10 instructions where its DEFAULT is a number, and 9 with NC; for a word 13 and 12
+abbrev pub output_bound : Width → Output → ℕ
+output_bound w o = by_default w o.default
   where
-    by_default : Option Dec → ℕ
-    by_default (Some d) = 10
-    by_default None = 9
+    by_default : Width → Option Dec → ℕ
+    by_default Byte (Some d) = 10
+    by_default Byte None = 9
+    by_default Word (Some d) = 13
+    by_default Word None = 12
 
 -- REVW takes an instruction more
 abbrev pub form_bound : Form → ℕ
 form_bound form.Rev = 0
 form_bound form.Revw = 1
 
-unfoldable pub instruction_bound : Block → ℕ
-instruction_bound b =
-    13 + length b.inputs + input_term_count b + 3 * complement_count b + output_term_count b + sum_by output_bound b.outputs + form_bound (form_of b)
+unfoldable pub instruction_bound : Width → Block → ℕ
+instruction_bound w b =
+    13 + length b.inputs + input_term_count b + 3 * complement_count b + output_term_count b + sum_by (output_bound w) b.outputs + form_bound (form_of b)
 
 -- REV or REVW takes a step an element, and WAV a step a term
-unfoldable pub step_bound : Block → ℕ
-step_bound b = instruction_bound b - 1 - length b.outputs + element_count b + output_term_count b
+unfoldable pub step_bound : Width → Block → ℕ
+step_bound w b = instruction_bound w b - 1 - length b.outputs + element_count b + output_term_count b

@@ -11,8 +11,11 @@ use Rattle.rule_layout.specs.declared.flat.Form.TheVariants as form
 use Rattle.rule_layout.specs.Slots.{slots_of, term_count, singleton_count}
 use Rattle.rule_layout.specs.Layouts.{form_of}
 use Rattle.cpu12_isa.specs.declared.instr.Instr.{Instr}
-use Rattle.cpu12_isa.specs.declared.instr.Instr.TheVariants.{LdaaImmediate, LdaaExtended, LdabImmediate, LdxImmediate, LdyImmediate, LdsImmediate, StaaExtended, StabExtended, ClrExtended, Coma, CpxImmediate, Beq, Bra, JsrExtended, Rts, Andcc, Orcc, TransferYD, Ediv, Rti, Mem, Rev, Revw, Wav}
+use Rattle.cpu12_isa.specs.declared.instr.Instr.TheVariants.{LdaaImmediate, LdaaExtended, LdabImmediate, LdxImmediate, LdyImmediate, LdsImmediate, StaaExtended, StabExtended, ClrExtended, Coma, CpxImmediate, Beq, Bra, JsrExtended, Rts, Andcc, Orcc, TransferXD, TransferYD, Ediv, Fdiv, Rti, Mem, Rev, Revw, Wav}
 use Rattle.codegen.specs.declared.layout.Layout.{Layout}
+use Rattle.codegen.specs.declared.width.Width.{Width}
+use Rattle.codegen.specs.declared.width.Width.TheVariants.{Byte, Word}
+use Rattle.codegen.specs.Widths.{places}
 
 -- The stack is set up, READY cleared and interrupts let in; then, wherever READY is not 0, EVAL is called and READY cleared.
 -- An interrupt returns at once.
@@ -47,34 +50,44 @@ abbrev pub rules_code : Layout → Form → List Instr
 rules_code l form.Rev = LdxImmediate l.rules ∷ LdyImmediate l.slots ∷ LdaaImmediate 0xFF ∷ Andcc 0xFD ∷ Rev ∷ []
 rules_code l form.Revw = LdxImmediate l.rules ∷ LdyImmediate l.weights ∷ LdaaImmediate 0xFF ∷ Andcc 0xFD ∷ Orcc 0x01 ∷ Revw ∷ []
 
--- where the sum of the masses is 0 the default's byte is stored, or with NC none; else the quotient
-abbrev pub quotient_code : ℕ → Option ℕ → List Instr
-quotient_code at (Some byte) = CpxImmediate 0 ∷ Beq 5 ∷ Ediv ∷ TransferYD ∷ Bra 2 ∷ LdabImmediate byte ∷ StabExtended at ∷ []
-quotient_code at None = CpxImmediate 0 ∷ Beq 6 ∷ Ediv ∷ TransferYD ∷ StabExtended at ∷ []
+-- the bytes of a word: the quotient, and what the remainder makes
+abbrev pub word_code : ℕ → List Instr
+word_code at = Ediv ∷ Fdiv ∷ TransferYD ∷ StabExtended at ∷ TransferXD ∷ StaaExtended (at + 1) ∷ []
+
+-- the answer from the sums; where the sum of the masses is 0, the default's byte, or with NC none
+abbrev pub quotient_code : Width → ℕ → Option ℕ → List Instr
+quotient_code Byte at (Some byte) = CpxImmediate 0 ∷ Beq 5 ∷ Ediv ∷ TransferYD ∷ Bra 2 ∷ LdabImmediate byte ∷ StabExtended at ∷ []
+quotient_code Byte at None = CpxImmediate 0 ∷ Beq 6 ∷ Ediv ∷ TransferYD ∷ StabExtended at ∷ []
+quotient_code Word at (Some byte) = CpxImmediate 0 ∷ Beq 15 ∷ (word_code at ++ Bra 8 ∷ LdabImmediate byte ∷ StabExtended at ∷ ClrExtended (at + 1) ∷ [])
+quotient_code Word at None = CpxImmediate 0 ∷ Beq 13 ∷ word_code at
 
 -- an output's answer to an address, from its singletons and its slots
-abbrev pub output_code : ℕ → ℕ → ℕ → Output → List Instr
-output_code singletons slots at o =
-    LdxImmediate singletons ∷ LdyImmediate slots ∷ LdabImmediate (length o.singletons) ∷ Wav ∷ quotient_code at (option_map (nearest_byte o) o.default)
+abbrev pub output_code : Width → ℕ → ℕ → ℕ → Output → List Instr
+output_code w singletons slots at o =
+    LdxImmediate singletons ∷ LdyImmediate slots ∷ LdabImmediate (length o.singletons) ∷ Wav ∷ quotient_code w at (option_map (nearest_byte o) o.default)
 
 -- the same for outputs one after another
-abbrev pub outputs_code : ℕ → ℕ → ℕ → List Output → List Instr
-outputs_code singletons slots at [] = []
-outputs_code singletons slots at (o ∷ os) =
-    output_code singletons slots at o ++ outputs_code (singletons + length o.singletons) (slots + length o.singletons) (at + 1) os
+abbrev pub outputs_code : Width → ℕ → ℕ → ℕ → List Output → List Instr
+outputs_code w singletons slots at [] = []
+outputs_code w singletons slots at (o ∷ os) =
+    output_code w singletons slots at o ++ outputs_code w (singletons + length o.singletons) (slots + length o.singletons) (at + places w) os
 
 -- how many slots stand before those of the outputs' terms
 abbrev pub input_slots : List Slot → List Output → ℕ
 input_slots slots outputs = length slots - sum_by singleton_count outputs
 
--- the answers to the inputs' bytes, over slots and with rules of this form
-abbrev pub eval_code_over : Layout → List Input → List Output → List Slot → Form → List Instr
-eval_code_over l inputs outputs slots f =
+-- EVAL, the answers to the inputs' bytes, over slots and with rules of this form; what stands behind it is its caller's
+abbrev pub eval_code_over : Layout → Width → List Input → List Output → List Slot → Form → List Instr
+eval_code_over l w inputs outputs slots f =
     (LdxImmediate l.tables ∷ LdyImmediate l.slots ∷ [])
     ++ (fuzzify_code l.inputs inputs
     ++ (slots_code l.slots inputs l.slots slots
     ++ (rules_code l f
-    ++ (outputs_code l.singletons (l.slots + input_slots slots outputs) l.outputs outputs ++ Rts ∷ []))))
+    ++ outputs_code w l.singletons (l.slots + input_slots slots outputs) l.outputs outputs)))
 
-abbrev pub eval_code : Layout → Block → List Instr
-eval_code l b = eval_code_over l b.inputs b.outputs (slots_of b) (form_of b)
+abbrev pub eval_code : Layout → Block → Width → List Instr
+eval_code l b w = eval_code_over l w b.inputs b.outputs (slots_of b) (form_of b)
+
+-- EVAL and its return behind the frame
+abbrev pub whole_code : Layout → Block → Width → List Instr
+whole_code l b w = frame_code l ++ (eval_code l b w ++ Rts ∷ [])

@@ -5,7 +5,8 @@ use Rattle.cpu12_isa.specs.declared.instr.Instr.{Instr}
 use Rattle.cpu12_asm.specs.declared.items.Item.{Item}
 use Rattle.cpu12_asm.specs.declared.items.Item.TheVariants.{Place, Byte, Op}
 use Rattle.codegen.specs.declared.layout.Layout.{Layout}
-use Rattle.codegen.specs.Code.{frame_code, eval_code}
+use Rattle.codegen.specs.declared.width.Width.{Width}
+use Rattle.codegen.specs.Code.{whole_code}
 use Rattle.codegen.specs.Data.{table_bytes, singleton_bytes, weight_bytes, rule_bytes, bytes_of_word}
 
 -- instructions or bytes that stand at a place
@@ -20,9 +21,9 @@ abbrev pub vector_items : Layout → List Item
 vector_items l = bytes_at 0xFFF2 (bytes_of_word l.interrupt) ++ bytes_at 0xFFFE (bytes_of_word l.code)
 
 -- code, tables, singletons, weights, rule list and vectors, and nothing else
-unfoldable pub firmware_items : Layout → Block → List Item
-firmware_items l b =
-    code_at l.code (frame_code l ++ eval_code l b)
+unfoldable pub firmware_items : Layout → Block → Width → List Item
+firmware_items l b w =
+    code_at l.code (whole_code l b w)
     ++ (bytes_at l.tables (table_bytes b)
     ++ (bytes_at l.singletons (singleton_bytes b)
     ++ (bytes_at l.weights (weight_bytes b)
@@ -32,16 +33,17 @@ firmware_items l b =
 -- each address that the code needs stands in memory
 pub record HasRoom (l : Layout) : Type 0 where
   pub inputs : l.inputs + 8 < 2 ^ 16
-  pub outputs : l.outputs + 4 < 2 ^ 16
+  pub outputs : l.outputs + 8 < 2 ^ 16
   pub slots : l.slots + 1024 < 2 ^ 16
   pub singletons : l.singletons + 64 < 2 ^ 16
 
--- the regions of RAM stand one above another below FREE, and those of ROM above it
+-- the regions that a layout keeps for a block: those of RAM one above another below FREE, and those of ROM above it
 pub record IsApart (l : Layout) : Type 0 where
-  pub ready : l.ready < l.inputs
   pub inputs : l.inputs + 8 ≤ l.outputs
-  pub outputs : l.outputs + 4 ≤ l.slots
+  pub outputs : l.outputs + 8 ≤ l.slots
   pub slots : l.slots + 300 ≤ 0x1800
+  pub eval : 0x2000 ≤ l.eval
+  pub eval_end : l.eval + 2432 < 2 ^ 16
   pub tables : 0x2000 ≤ l.tables
   pub tables_end : l.tables + 480 < 2 ^ 16
   pub singletons : 0x2000 ≤ l.singletons

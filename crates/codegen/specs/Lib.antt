@@ -1,10 +1,12 @@
 pub mod Layouts
+pub mod Widths
 pub mod Code
 pub mod Data
 pub mod Images
 pub mod Bounds
 pub mod Firmwares
-pub mod Ways
 pub mod Firing
-pub mod Answers
 pub mod Evaluation
+pub mod Interruptible
+pub mod Answers
+pub mod Uninterrupted

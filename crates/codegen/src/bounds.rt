@@ -5,6 +5,7 @@ ghost use Rattle.rule_layout.specs.Slots.{term_count, singleton_count};
 ghost use Rattle.rule_layout.specs.Layouts.{flat_of, IsLaidOut};
 ghost use Rattle.codegen.specs.Bounds.{output_bound, entry_count, element_count, form_bound, instruction_bound, step_bound};
 
+use crate::width::Width;
 use fuzzy_meaning::{Block, Input, Output};
 use rule_layout::{Conjunction, Flat, Form};
 
@@ -36,18 +37,28 @@ pub(crate) fn output_terms(outputs: &[Output]) -> u16
     terms
 }
 
+/// The most instructions that an output's answer takes.
+fn output_bound(width: Width, output: &Output) -> u32
+    ensures value { result ≡ output_bound width output.now }
+    ensures few { result ≤ 13 }
+{
+    match (width, output.default) {
+        (Width::Byte, Some(_)) => 10,
+        (Width::Byte, None) => 9,
+        (Width::Word, Some(_)) => 13,
+        (Width::Word, None) => 12,
+    }
+}
+
 /// The most instructions that the outputs' answers take.
-fn output_bounds(outputs: &[Output]) -> u32
+fn output_bounds(width: Width, outputs: &[Output]) -> u32
     requires { length outputs.now ≤ 4 }
-    ensures value { result ≡ sum_by output_bound outputs.now }
-    ensures few { result ≤ 40 }
+    ensures value { result ≡ sum_by (output_bound width) outputs.now }
+    ensures few { result ≤ 52 }
 {
     let mut bound = 0;
     for output in outputs {
-        bound += match output.default {
-            Some(_) => 10,
-            None => 9,
-        };
+        bound += output_bound(width, output);
     }
     bound
 }
@@ -79,11 +90,11 @@ fn form_bound(form: Form) -> u32
 }
 
 /// The most instructions that a sample takes.
-pub(crate) fn instruction_bound(block: &Block, flat: &Flat) -> u32
+pub(crate) fn instruction_bound(width: Width, block: &Block, flat: &Flat) -> u32
     requires valid { IsValid block.now }
     requires flat { flat.now ≡ flat_of block.now }
     requires laid_out { IsLaidOut flat.now }
-    ensures value { result ≡ instruction_bound block.now }
+    ensures value { result ≡ instruction_bound width block.now }
     ensures few { result ≤ 2000 }
 {
     let terms = input_terms(block.inputs.as_slice());
@@ -95,18 +106,18 @@ pub(crate) fn instruction_bound(block: &Block, flat: &Flat) -> u32
         + terms
         + 3 * complements
         + singletons
-        + output_bounds(block.outputs.as_slice())
+        + output_bounds(width, block.outputs.as_slice())
         + form_bound(flat.form)
 }
 
 /// The most steps that a sample takes.
-pub(crate) fn step_bound(block: &Block, flat: &Flat, instructions: u32) -> u32
+pub(crate) fn step_bound(width: Width, block: &Block, flat: &Flat, instructions: u32) -> u32
     requires valid { IsValid block.now }
     requires flat { flat.now ≡ flat_of block.now }
     requires short { element_count block.now ≤ 9984 }
-    requires instructions { instructions ≡ instruction_bound block.now }
+    requires instructions { instructions ≡ instruction_bound width block.now }
     requires few { instructions ≤ 2000 }
-    ensures { result ≡ step_bound block.now }
+    ensures { result ≡ step_bound width block.now }
 {
     let singletons = u32::from(output_terms(block.outputs.as_slice()));
     let outputs = block.outputs.len() as u32;

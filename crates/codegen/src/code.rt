@@ -3,9 +3,11 @@ ghost use Rattle.std.specs.Prelude.{◌≡◌, ◌+◌, ◌^◌, ◌<◌, ◌≤
 ghost use Rattle.fuzzy_meaning.specs.Blocks.{IsValidOutput};
 ghost use Rattle.cpu12_asm.specs.declared.items.Item.TheVariants.{Op};
 ghost use Rattle.rule_layout.specs.Slots.{term_count, singleton_count};
+ghost use Rattle.codegen.specs.declared.width.Width.TheVariants as Width;
 ghost use Rattle.codegen.specs.Code.{frame_code, fuzzify_code, terms_before, slot_code, slots_code, rules_code, quotient_code, output_code, outputs_code};
 
 use crate::layout::Layout;
+use crate::width::Width;
 use byte_scaling::near;
 use cpu12_asm::Item;
 use cpu12_isa::instr::Instr;
@@ -166,10 +168,10 @@ pub(crate) fn push_rules(
     }
 }
 
-/// The answer from the sums of WAV, stored at an address; where there is no mass, the default's
-/// byte or, with NC, nothing is.
-fn push_quotient(items: &mut Vec<Item>, at: u16, default: Option<u8>) -> Result<(), AllocError>
-    ensures { OnOk result (items.new.items ≡ items.old.items ++ map Op (quotient_code at default)) }
+/// An answer of a byte from the sums of WAV, stored at an address. Where there is no mass, the
+/// default's byte or, with NC, nothing is.
+fn push_byte(items: &mut Vec<Item>, at: u16, default: Option<u8>) -> Result<(), AllocError>
+    ensures { OnOk result (items.new.items ≡ items.old.items ++ map Op (quotient_code Width.Byte at default)) }
 {
     match default {
         Some(byte) => push_code(
@@ -197,16 +199,56 @@ fn push_quotient(items: &mut Vec<Item>, at: u16, default: Option<u8>) -> Result<
     }
 }
 
+/// An answer of a word, in the same way: the quotient is its high byte, and what the remainder makes
+/// its low one.
+fn push_word(items: &mut Vec<Item>, at: u16, default: Option<u8>) -> Result<(), AllocError>
+    requires { at + 1 < 2 ^ 16 }
+    ensures { OnOk result (items.new.items ≡ items.old.items ++ map Op (quotient_code Width.Word at default)) }
+{
+    let (high, low) = (at, at + 1);
+    let past = match default {
+        Some(_) => 15,
+        None => 13,
+    };
+    push_code(
+        items,
+        &[
+            Instr::CpxImmediate(0),
+            Instr::Beq(past),
+            Instr::Ediv,
+            Instr::Fdiv,
+            Instr::TransferYD,
+            Instr::StabExtended(high),
+            Instr::TransferXD,
+            Instr::StaaExtended(low),
+        ],
+    )?;
+    match default {
+        Some(byte) => push_code(
+            items,
+            &[
+                Instr::Bra(8),
+                Instr::LdabImmediate(byte),
+                Instr::StabExtended(high),
+                Instr::ClrExtended(low),
+            ],
+        ),
+        None => Ok(()),
+    }
+}
+
 /// An output's answer.
 fn push_output(
     items: &mut Vec<Item>,
+    width: Width,
     singletons: u16,
     slots: u16,
     at: u16,
     output: &Output,
 ) -> Result<(), AllocError>
-    requires { IsValidOutput output.now }
-    ensures { OnOk result (items.new.items ≡ items.old.items ++ map Op (output_code singletons slots at output.now)) }
+    requires valid { IsValidOutput output.now }
+    requires room { at + 1 < 2 ^ 16 }
+    ensures { OnOk result (items.new.items ≡ items.old.items ++ map Op (output_code width singletons slots at output.now)) }
 {
     push_code(
         items,
@@ -218,12 +260,16 @@ fn push_output(
         ],
     )?;
     let default = output.default.map(|x| near(output, x));
-    push_quotient(items, at, default)
+    match width {
+        Width::Byte => push_byte(items, at, default),
+        Width::Word => push_word(items, at, default),
+    }
 }
 
 /// The outputs' answers, from the first singleton, slot and answer on.
 pub(crate) fn push_outputs(
     items: &mut Vec<Item>,
+    width: Width,
     singletons: u16,
     slots: u16,
     answers: u16,
@@ -231,18 +277,18 @@ pub(crate) fn push_outputs(
 ) -> Result<(), AllocError>
     requires valid { All IsValidOutput outputs.now }
     requires few { length outputs.now ≤ 4 }
-    requires room { (singletons + 64 < 2 ^ 16) × (slots + 64 < 2 ^ 16) × (answers + 4 < 2 ^ 16) }
-    ensures { OnOk result (items.new.items ≡ items.old.items ++ map Op (outputs_code singletons slots answers outputs.now)) }
+    requires room { (singletons + 64 < 2 ^ 16) × (slots + 64 < 2 ^ 16) × (answers + 8 < 2 ^ 16) }
+    ensures { OnOk result (items.new.items ≡ items.old.items ++ map Op (outputs_code width singletons slots answers outputs.now)) }
 {
     let mut singleton = singletons;
     let mut slot = slots;
     let mut at = answers;
     for output in outputs {
-        push_output(items, singleton, slot, at, output)?;
+        push_output(items, width, singleton, slot, at, output)?;
         let terms = output.singletons.len() as u16;
         singleton += terms;
         slot += terms;
-        at += 1;
+        at += width.places();
     }
     Ok(())
 }

@@ -1,13 +1,17 @@
 //! Firmware.
-ghost use Rattle.std.specs.Prelude.{◌≡◌, false, IfOk, IfErr, OnOk};
+ghost use Rattle.std.specs.Prelude.{◌≡◌, true, false, IfOk, IfErr, OnOk};
 ghost use Rattle.fuzzy_meaning.specs.Blocks.{IsValid};
 ghost use Rattle.rule_layout.specs.Layouts.{IsWithinLimits, IsFaultOf};
 ghost use Rattle.codegen.specs.Firmwares.{IsFirmwareOf};
+ghost use Rattle.codegen.specs.Widths.{is_wide};
 ghost use Rattle.codegen.specs.Answers.{AnswersFrom};
+ghost use Rattle.codegen.specs.Uninterrupted.{AnswersUninterrupted};
 
 use crate::bounds::{instruction_bound, step_bound};
 use crate::items::firmware_items;
+use crate::laws::{firmware_answers, firmware_is_uninterrupted};
 use crate::layout::Layout;
+use crate::width::Width;
 use cpu12_asm::{AsmFault, Image, assemble_items};
 use fuzzy_meaning::Block;
 use rule_layout::{LayoutFault, spread};
@@ -31,23 +35,63 @@ pub struct Firmware {
     pub step_bound: u32,
 }
 
-/// The firmware of a block, which stands alone in memory. It is refused exactly where its rules
-/// are: where they spread into more than 512 conjunctions, or into a list of more than 9984 bytes.
+/// The firmware of a block that answers bytes, and stands alone in memory. It is refused exactly
+/// where the block's rules are: where they spread into more than 512 conjunctions, or into a list of
+/// more than 9984 bytes.
 pub fn compile(alloc: Global, block: &Block) -> Result<Firmware, LayoutFault>
     requires { IsValid block.now }
     ensures firmware { IfOk result (IsFirmwareOf block.now) }
     ensures narrow { IfOk result (λ f. f.wide ≡ false) }
-    ensures answers { IfOk result (λ f. AnswersFrom block.now f.image.bytes) }
+
+    // From reset it answers every list of samples, where an interrupt may come at each instruction;
+    // without one its answers are the block's over bytes.
+    ensures answers { IfOk result (AnswersFrom block.now) }
+    ensures uninterrupted { IfOk result (AnswersUninterrupted block.now) }
 
     // Refused exactly where the rules can't be laid out.
     ensures limits { OnOk result (IsWithinLimits block.now) }
     ensures fault { IfErr result (IsFaultOf block.now) }
 {
+    compile_at(alloc, Width::Byte, block)
+}
+
+/// The firmware of a block that answers 16 bits, from 0 to 65280 in steps of 1/256 of a byte, and
+/// stands alone in memory. Each output takes two bytes, the high one first. It is refused where
+/// `compile` is.
+pub fn compile16(alloc: Global, block: &Block) -> Result<Firmware, LayoutFault>
+    requires { IsValid block.now }
+    ensures firmware { IfOk result (IsFirmwareOf block.now) }
+    ensures wide { IfOk result (λ f. f.wide ≡ true) }
+
+    // From reset it answers every list of samples, where an interrupt may come at each instruction;
+    // without one its answers are the block's in 16 bits.
+    ensures answers { IfOk result (AnswersFrom block.now) }
+    ensures uninterrupted { IfOk result (AnswersUninterrupted block.now) }
+
+    // Refused exactly where the rules can't be laid out.
+    ensures limits { OnOk result (IsWithinLimits block.now) }
+    ensures fault { IfErr result (IsFaultOf block.now) }
+{
+    compile_at(alloc, Width::Word, block)
+}
+
+/// The firmware of a block with answers of a width.
+fn compile_at(alloc: Global, width: Width, block: &Block) -> Result<Firmware, LayoutFault>
+    requires { IsValid block.now }
+    ensures firmware { IfOk result (IsFirmwareOf block.now) }
+    ensures width { IfOk result (λ f. f.wide ≡ is_wide width) }
+    ensures answers { IfOk result (AnswersFrom block.now) }
+    ensures uninterrupted { IfOk result (AnswersUninterrupted block.now) }
+    ensures limits { OnOk result (IsWithinLimits block.now) }
+    ensures fault { IfErr result (IsFaultOf block.now) }
+{
+    firmware_answers();
+    firmware_is_uninterrupted();
     let flat = match spread(alloc, block) {
         Ok(flat) => flat,
         Err(fault) => return Err(fault),
     };
-    let Ok(items) = firmware_items(alloc, &Layout::MAIN, block, &flat) else {
+    let Ok(items) = firmware_items(alloc, &Layout::MAIN, width, block, &flat) else {
         return Err(LayoutFault::Memory);
     };
     let image = match assemble_items(alloc, items.as_slice()) {
@@ -57,14 +101,14 @@ pub fn compile(alloc: Global, block: &Block) -> Result<Firmware, LayoutFault>
         Err(AsmFault::Range(_)) => unreachable!(),
         Err(AsmFault::Overlap(_)) => unreachable!(),
     };
-    let instr_bound = instruction_bound(block, &flat);
-    let step_bound = step_bound(block, &flat, instr_bound);
+    let instr_bound = instruction_bound(width, block, &flat);
+    let step_bound = step_bound(width, block, &flat, instr_bound);
     Ok(Firmware {
         image,
         layout: Layout::MAIN,
         inputs: block.inputs.len() as u8,
         outputs: block.outputs.len() as u8,
-        wide: false,
+        wide: width.is_wide(),
         instr_bound,
         step_bound,
     })

@@ -11,6 +11,7 @@ use crate::bounds::output_terms;
 use crate::code::{push_code, push_frame, push_fuzzify, push_outputs, push_rules, push_slots};
 use crate::data::{push_bytes, push_singletons, push_tables, push_word, push_words};
 use crate::layout::Layout;
+use crate::width::Width;
 use cpu12_asm::Item;
 use cpu12_isa::instr::Instr;
 use fuzzy_meaning::{Block, Input, Output};
@@ -18,11 +19,12 @@ use point_slope::table;
 use rule_layout::{Flat, Form, Slot};
 use std::alloc::{AllocError, Global};
 
-/// The items of a block's firmware at a layout. `flat` is the block's rules as `spread` lays them
-/// out.
+/// The items of a block's firmware at a layout, with answers of a width. `flat` is the block's
+/// rules as `spread` lays them out.
 pub fn firmware_items(
     alloc: Global,
     layout: &Layout,
+    width: Width,
     block: &Block,
     flat: &Flat,
 ) -> Result<Vec<Item>, AllocError>
@@ -30,7 +32,7 @@ pub fn firmware_items(
     requires flat { flat.now ≡ flat_of block.now }
     requires laid_out { IsLaidOut flat.now }
     requires room { HasRoom layout.now }
-    ensures { IfOk result (λ items. items.items ≡ firmware_items layout.now block.now) }
+    ensures { IfOk result (λ items. items.items ≡ firmware_items layout.now block.now width) }
 {
     let mut items = Vec::new(alloc);
     items.push(Item::Place(layout.code))?;
@@ -38,11 +40,13 @@ pub fn firmware_items(
     push_eval(
         &mut items,
         layout,
+        width,
         block.inputs.as_slice(),
         block.outputs.as_slice(),
         flat.slots.as_slice(),
         flat.form,
     )?;
+    push_code(&mut items, &[Instr::Rts])?;
     push_tables_at(alloc, &mut items, layout, block)?;
     items.push(Item::Place(layout.singletons))?;
     push_singletons(&mut items, block.outputs.as_slice())?;
@@ -51,10 +55,11 @@ pub fn firmware_items(
     Ok(items)
 }
 
-/// The code that answers a sample.
+/// The code that answers a sample, to where it returns.
 fn push_eval(
     items: &mut Vec<Item>,
     layout: &Layout,
+    width: Width,
     inputs: &[Input],
     outputs: &[Output],
     slots: &[Slot],
@@ -66,7 +71,7 @@ fn push_eval(
     requires few_outputs { length outputs.now ≤ 4 }
     requires slots { length slots.now ≤ 300 }
     requires room { HasRoom layout.now }
-    ensures { OnOk result (items.new.items ≡ items.old.items ++ map Op (eval_code_over layout.now inputs.now outputs.now slots.now form)) }
+    ensures { OnOk result (items.new.items ≡ items.old.items ++ map Op (eval_code_over layout.now width inputs.now outputs.now slots.now form)) }
 {
     push_code(
         items,
@@ -79,8 +84,14 @@ fn push_eval(
     push_slots(items, layout.slots, inputs, slots)?;
     push_rules(items, layout, form)?;
     let first = layout.slots + (slots.len() as u16).saturating_sub(output_terms(outputs));
-    push_outputs(items, layout.singletons, first, layout.outputs, outputs)?;
-    push_code(items, &[Instr::Rts])?;
+    push_outputs(
+        items,
+        width,
+        layout.singletons,
+        first,
+        layout.outputs,
+        outputs,
+    )?;
     Ok(())
 }
 

@@ -1,21 +1,37 @@
 //! Laws of the generated code.
-ghost use Rattle.codegen.specs.Answers.{AnswersSamples};
+ghost use Rattle.codegen.specs.Answers.{FirmwareAnswers};
 ghost use Rattle.codegen.specs.Evaluation.{EvalAnswers};
 ghost use Rattle.codegen.specs.Firing.{RulesGiveMasses};
+ghost use Rattle.codegen.specs.Uninterrupted.{FirmwareIsUninterrupted, UninterruptedAreOne};
+
+use cpu12_parts::executions::executions_are_one;
 
 /// The rules leave in the slots of the outputs' terms their masses.
 pub fn rules_give_masses()
     ensures { RulesGiveMasses }
 {}
 
-/// The firmware of a block answers every list of samples by the byte answer, whatever the open
-/// flags are, within its bounds; and at each instruction what an interrupt may change is not read.
-pub fn answers_samples()
-    ensures { AnswersSamples }
-{}
-
-/// EVAL answers the byte answer at the addresses of any layout whose regions are apart, and comes
-/// back to its caller within the bounds less the five instructions around it.
+/// EVAL answers a block over bytes, as bytes or in 16 bits, at the addresses of any layout whose
+/// regions are apart, wherever SP is and whether or not interrupts are masked. It leads from its
+/// first instruction to behind its last, and touches what its layout keeps for it alone.
 pub fn eval_answers()
     ensures { EvalAnswers }
 {}
+
+/// The firmware of a block answers every list of samples over bytes, whatever the open flags are,
+/// within its bounds; and at each instruction what an interrupt may change is not read.
+pub fn firmware_answers()
+    ensures { FirmwareAnswers }
+{}
+
+/// The uninterrupted answers of the firmware of a block exist, and are the block's over bytes.
+pub fn firmware_is_uninterrupted()
+    ensures { FirmwareIsUninterrupted }
+{}
+
+/// A firmware has one list of uninterrupted answers to a list of samples.
+pub fn uninterrupted_are_one()
+    ensures { UninterruptedAreOne }
+{
+    executions_are_one();
+}

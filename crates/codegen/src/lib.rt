@@ -1,10 +1,11 @@
 //! The compiler's last pass: firmware for the CPU12 that answers a block's outputs.
 //!
-//! [`compile`] turns a valid block into a [`Firmware`]: an image of memory with its code, its tables
-//! and its rule list, and bounds on the instructions and steps that a sample takes. The image is a
-//! function of the block and of a [`Layout`], which says where each part stands; it holds exactly
-//! the bytes that this function names. `compile` refuses exactly the blocks that
-//! `rule_layout::spread` refuses, and takes memory.
+//! [`compile`] turns a valid block into a [`Firmware`] that answers bytes, and [`compile16`] into one
+//! that answers 16 bits: an image of memory with its code, its tables and its rule list, and bounds
+//! on the instructions and steps that a sample takes. The image is a function of the block, of the
+//! [`Width`] of the answers and of a [`Layout`], which says where each part stands; it holds exactly
+//! the bytes that this function names. Both refuse exactly the blocks that `rule_layout::spread`
+//! refuses, and take memory.
 #![tactic(auto)]
 
 mod bounds;
@@ -14,10 +15,16 @@ mod firmware;
 mod items;
 mod laws;
 mod layout;
+mod width;
 
-pub use firmware::{Firmware, compile};
+pub use firmware::{Firmware, compile, compile16};
 pub use items::firmware_items;
+pub use laws::{
+    eval_answers, firmware_answers, firmware_is_uninterrupted, rules_give_masses,
+    uninterrupted_are_one,
+};
 pub use layout::Layout;
+pub use width::Width;
 
 #[cfg(test)]
 mod tests;

@@ -7,3 +7,5 @@ pub mod Averages
 pub mod Laws
 pub mod Whole
 pub mod Fits
+pub mod Touching
+pub mod Executions

@@ -1,5 +1,5 @@
 -- Where whole instructions answer all samples, so do the rows under every good plan.
-use Rattle.std.proofs.Common.{◌≡◌, ◌==◌, ℕ, zero, suc, ◌+◌, ◌-◌, ◌^◌, ◌<◌, ◌≤◌, false, List, [], ◌∷◌, length, get_or, refl, ap, ap₂, sym, ◌∙◌, subst, arith, inl, inr, ◌⊎◌}
+use Rattle.std.proofs.Common.{◌≡◌, ◌==◌, ℕ, zero, suc, ◌+◌, ◌-◌, ◌*◌, ◌^◌, ◌<◌, ◌≤◌, Bool, false, List, [], ◌∷◌, length, get_or, refl, ap, ap₂, sym, ◌∙◌, subst, arith, inl, inr, ◌⊎◌}
 use Rattle.std.specs.Prelude.{All}
 use Rattle.std.proofs.Math.ListN.{set}
 use Rattle.std.proofs.lemmas.Bool.Decides.{nat_tests}
@@ -16,14 +16,20 @@ use Rattle.interrupt_plan.specs.declared.Request.{Request}
 use Rattle.interrupt_plan.specs.Plans.{IsGood}
 use Rattle.codegen.specs.declared.firmware.Firmware.{Firmware}
 use Rattle.codegen.specs.declared.layout.Layout.{Layout}
+use Rattle.codegen.specs.declared.width.Width.TheVariants.{Byte}
 use Rattle.codegen.specs.Layouts.{main_layout}
+use Rattle.cpu12_asm.specs.Bytes.{Holds}
+use Rattle.cpu12_asm.specs.Items.{given_by}
+use Rattle.codegen.specs.Images.{firmware_items}
 use Rattle.codegen.specs.Bounds.{instruction_bound, step_bound}
-use Rattle.codegen.specs.Ways.{Way, all_steps, IsCalm, IsCalmInstruction, IsCalmStep}
+use Rattle.cpu12_parts.specs.Executions.{Execution, all_steps}
+use Rattle.codegen.specs.Widths.{width_of}
+use Rattle.codegen.specs.Interruptible.{IsInterruptible, IsShownInstruction, IsInterruptibleStep}
 use Rattle.codegen.specs.Answers as answers
 use Rattle.codegen.specs.Answers.{IsArrived, IsAnswered, AreAnswered}
 use Rattle.codegen.specs.Firing.{AreInputBytes}
 use Rattle.codegen.specs.Firmwares.{IsFirmwareOf}
-use Rattle.codegen.proofs.runs.Law.{answers_from}
+use Rattle.codegen.proofs.runs.Law.{main_answers}
 use Rattle.fz_run.specs.declared.board.Board.{Board}
 use Rattle.fz_run.specs.Rows.{board_of, is_idle, given, answers_in, requests_of, with_writes, RowSeen, rows_from, arrival, first_state, firmware_rows}
 use Rattle.fz_run.specs.Calm.{calm}
@@ -51,7 +57,7 @@ unfolding On
 off_loop n v h = let t : (v.regs.pc == 49160) ≡ false = grind (arith, nat_tests) in rw t refl
 
 -- what each state of the way keeps, in the words of runs
-calmly : (image : List ℕ) (s : State) → IsCalm image s → Calmly is_free s
+calmly : (image : List ℕ) (s : State) → IsInterruptible image s → Calmly is_free s
 calmly image s c = record {
   temps = c.temps;
   size = c.size;
@@ -71,39 +77,28 @@ calmly image s c = record {
     high (inl e) = omega arith
     high (inr e) = omega arith
 
--- REV, REVW and WAV do not stand where the code waits
-not_there : (image : List ℕ) (s : State) (at byte : ℕ) → IsCalm image s → get_or image 49160 0 ≡ 182 → get_or s.mem at 0 ≡ byte → (byte ≡ 182 → ⊥) → at ≡ 49160 → ⊥
-not_there image s at byte c w e n z =
-    let same : get_or s.mem 49160 0 ≡ get_or image 49160 0 = c.same 49160 (omega arith) in
-    n (sym e ∙ ap (λ (k : ℕ). get_or s.mem k 0) z ∙ same ∙ w)
-
-step_stretch : (n : ℕ) (image : List ℕ) (flags d : ℕ) (s t : State) → flags < 2 ^ 8 → get_or image 49160 0 ≡ 182 → IsCalmStep main_layout image flags d s t → Stretch (Kept is_free flags (On n)) flags d s t
+step_stretch : (n : ℕ) (image : List ℕ) (flags d : ℕ) (s t : State) → flags < 2 ^ 8 → IsInterruptibleStep main_layout image flags d s t → Stretch (Kept is_free flags (On n)) flags d s t
 unfolding On
-step_stretch n image flags d s t hf w h = by h.instruction
+step_stretch n image flags d s t hf h = by h.instruction
   where
     c : Calmly is_free s
-    c = calmly image s h.calm
+    c = calmly image s h.interruptible
 
     stays : (v : State) → (s.regs.pc ≡ 49160 → ⊥) → v.regs.pc ≡ s.regs.pc → is_idle (board n) v ≡ false
     stays v ne e = off_loop n v (λ z. ne (sym e ∙ z))
 
-    by : IsCalmInstruction flags d s t → Stretch (Kept is_free flags (On n)) flags d s t
+    by : IsShownInstruction main_layout flags d s t → Stretch (Kept is_free flags (On n)) flags d s t
     by (inl p) = subst (λ (k : ℕ). Stretch (Kept is_free flags (On n)) flags k s t) (sym p.1.1) (plain_step is_free flags (On n) p.0 s t c p.1.0.step p.1.0.reads p.1.0.uncovers h.busy)
     by (inr (inl p)) =
-        let at = page_of (bytes_at s.mem (six_from s.regs.pc)) Rev refl p.2.step.decoded in
-        let ne = not_there image s s.regs.pc 24 h.calm w at.0 (λ e. omega arith) in
-        rev_step is_free flags (On n) d p.0 p.1 s t hf c p.2.step p.2.reads p.2.itself (λ v e. stays v ne e)
+        rev_step is_free flags (On n) d p.0 p.1 s t hf c p.2.step p.2.reads p.2.itself (λ v e. stays v p.2.away e)
     by (inr (inr (inl p))) =
-        let at = page_of (bytes_at s.mem (six_from s.regs.pc)) Revw refl p.2.step.decoded in
-        let ne = not_there image s s.regs.pc 24 h.calm w at.0 (λ e. omega arith) in
-        revw_step is_free flags (On n) d p.0 p.1 s t hf c p.2.step p.2.reads p.2.itself (λ v e. stays v ne e)
+        revw_step is_free flags (On n) d p.0 p.1 s t hf c p.2.step p.2.reads p.2.itself (λ v e. stays v p.2.away e)
     by (inr (inr (inr p))) =
-        let ne = not_there image s (plus s.regs.pc 1) 60 h.calm w (average_byte (bytes_at s.mem (six_from s.regs.pc)) p.step.decoded) (λ e. omega arith) in
-        average_step is_free flags (On n) d s t hf c p.step p.reads h.busy (λ v e. off_loop n v (λ z. ne (sym e ∙ z)))
+        average_step is_free flags (On n) d s t hf c p.step p.reads h.busy (λ v e. off_loop n v (λ z. p.away (sym e ∙ z)))
 
-way_stretch : (n : ℕ) (image : List ℕ) (flags : ℕ) (ds : List ℕ) (s t : State) → flags < 2 ^ 8 → get_or image 49160 0 ≡ 182 → Way (IsCalmStep main_layout image flags) ds s t → Way (Stretch (Kept is_free flags (On n)) flags) ds s t
-way_stretch n image flags [] s t hf w h = h
-way_stretch n image flags (d ∷ ds) s t hf w h = (h.0, (step_stretch n image flags d s h.0 hf w h.1.0, way_stretch n image flags ds h.0 t hf w h.1.1))
+way_stretch : (n : ℕ) (image : List ℕ) (flags : ℕ) (ds : List ℕ) (s t : State) → flags < 2 ^ 8 → Execution (IsInterruptibleStep main_layout image flags) ds s t → Execution (Stretch (Kept is_free flags (On n)) flags) ds s t
+way_stretch n image flags [] s t hf h = h
+way_stretch n image flags (d ∷ ds) s t hf h = (h.0, (step_stretch n image flags d s h.0 hf h.1.0, way_stretch n image flags ds h.0 t hf h.1.1))
 
 -- samples that end below the outputs' bytes
 abbrev AreShort : List (List ℕ) → Type 0
@@ -125,40 +120,40 @@ same_given n bytes s l =
     by m = record { regs = s.regs; temps = s.temps; mem = m }
 
 -- the numbers of steps of the samples
-numbers : (b : Block) (image : List ℕ) (flags : ℕ) (before : ℕ → ℕ) (samples : List (List ℕ)) (s : State) → AreAnswered main_layout b image flags before samples s → List ℕ
+numbers : (b : Block) (image : List ℕ) (flags : ℕ) (before : ℕ → ℕ) (samples : List (List ℕ)) (s : State) → AreAnswered main_layout b Byte image flags before samples s → List ℕ
 numbers b image flags before [] s w = []
 numbers b image flags before (bytes ∷ samples) s w = all_steps w.1.0.ds ∷ numbers b image flags (λ o. byte_answer b o bytes (before o)) samples w.0 w.1.1
 
-within : (b : Block) (image : List ℕ) (flags : ℕ) (before : ℕ → ℕ) (samples : List (List ℕ)) (s : State) (w : AreAnswered main_layout b image flags before samples s) → AllWithin (step_bound b) (numbers b image flags before samples s w)
+within : (b : Block) (image : List ℕ) (flags : ℕ) (before : ℕ → ℕ) (samples : List (List ℕ)) (s : State) (w : AreAnswered main_layout b Byte image flags before samples s) → AllWithin (step_bound Byte b) (numbers b image flags before samples s w)
 unfolding numbers
 within b image flags before [] s w = tt
 within b image flags before (bytes ∷ samples) s w = (w.1.0.steps, within b image flags (λ o. byte_answer b o bytes (before o)) samples w.0 w.1.1)
 
-went : (n : ℕ) (b : Block) (image : List ℕ) (flags : ℕ) (before : ℕ → ℕ) (bytes : List ℕ) (s t : State) → flags < 2 ^ 8 → get_or image 49160 0 ≡ 182 → length bytes ≤ 8 → (a : IsAnswered main_layout b image flags before bytes s t)
+went : (n : ℕ) (b : Block) (image : List ℕ) (flags : ℕ) (before : ℕ → ℕ) (bytes : List ℕ) (s t : State) → flags < 2 ^ 8 → length bytes ≤ 8 → (a : IsAnswered main_layout b Byte image flags before bytes s t)
     → Went (Kept is_free flags (On n)) flags a.ds (given (board n) bytes s) t
-went n b image flags before bytes s t hf w l a =
-    subst (λ (u : State). Went (Kept is_free flags (On n)) flags a.ds u t) (sym (same_given n bytes s l)) (way_went (Kept is_free flags (On n)) flags a.ds (answers.given main_layout bytes s) t (way_stretch n image flags a.ds (answers.given main_layout bytes s) t hf w a.way))
+went n b image flags before bytes s t hf l a =
+    subst (λ (u : State). Went (Kept is_free flags (On n)) flags a.ds u t) (sym (same_given n bytes s l)) (way_went (Kept is_free flags (On n)) flags a.ds (answers.given main_layout bytes s) t (way_stretch n image flags a.ds (answers.given main_layout bytes s) t hf a.execution))
 
-sampled : (n : ℕ) (b : Block) (image : List ℕ) (flags : ℕ) (before : ℕ → ℕ) (bytes : List ℕ) (s t : State) → flags < 2 ^ 8 → get_or image 49160 0 ≡ 182 → length bytes ≤ 8 → (a : IsAnswered main_layout b image flags before bytes s t)
+sampled : (n : ℕ) (b : Block) (image : List ℕ) (flags : ℕ) (before : ℕ → ℕ) (bytes : List ℕ) (s t : State) → flags < 2 ^ 8 → length bytes ≤ 8 → (a : IsAnswered main_layout b Byte image flags before bytes s t)
     → Sampled (Calmed is_free flags) (with_writes flags (board n)) (all_steps a.ds) (given (board n) bytes s)
 unfolding On
-sampled n b image flags before bytes s t hf w l a =
-    let g = went n b image flags before bytes s t hf w l a in
+sampled n b image flags before bytes s t hf l a =
+    let g = went n b image flags before bytes s t hf l a in
     record {
       holds = before_weaker (Kept is_free flags (On n)) (Calmed is_free flags) flags (λ u k. k.0) (all_steps a.ds) (given (board n) bytes s) g.each;
       on = before_weaker (Kept is_free flags (On n)) (λ u. is_idle (board n) u ≡ false) flags (λ u k. k.1) (all_steps a.ds) (given (board n) bytes s) g.each;
       stopped = ap (is_idle (board n)) g.goes ∙ a.idle;
     }
 
-all_sampled : (n : ℕ) (b : Block) (image : List ℕ) (flags : ℕ) (before : ℕ → ℕ) (samples : List (List ℕ)) (s : State) → flags < 2 ^ 8 → get_or image 49160 0 ≡ 182 → AreShort samples → (w : AreAnswered main_layout b image flags before samples s)
+all_sampled : (n : ℕ) (b : Block) (image : List ℕ) (flags : ℕ) (before : ℕ → ℕ) (samples : List (List ℕ)) (s : State) → flags < 2 ^ 8 → AreShort samples → (w : AreAnswered main_layout b Byte image flags before samples s)
     → AllSampled (Calmed is_free flags) (with_writes flags (board n)) (board n) (numbers b image flags before samples s w) samples s
 unfolding numbers
-all_sampled n b image flags before [] s hf k l w = tt
-all_sampled n b image flags before (bytes ∷ samples) s hf k l w =
-    let g = went n b image flags before bytes s w.0 hf k l.0 w.1.0 in
+all_sampled n b image flags before [] s hf l w = tt
+all_sampled n b image flags before (bytes ∷ samples) s hf l w =
+    let g = went n b image flags before bytes s w.0 hf l.0 w.1.0 in
     let later : ℕ → ℕ = λ o. byte_answer b o bytes (before o) in (
-      sampled n b image flags before bytes s w.0 hf k l.0 w.1.0,
-      subst (λ (u : State). AllSampled (Calmed is_free flags) (with_writes flags (board n)) (board n) (numbers b image flags later samples w.0 w.1.1) samples u) (sym g.goes) (all_sampled n b image flags later samples w.0 hf k l.1 w.1.1),
+      sampled n b image flags before bytes s w.0 hf l.0 w.1.0,
+      subst (λ (u : State). AllSampled (Calmed is_free flags) (with_writes flags (board n)) (board n) (numbers b image flags later samples w.0 w.1.1) samples u) (sym g.goes) (all_sampled n b image flags later samples w.0 hf l.1 w.1.1),
     )
 
 -- the answers' bytes, one by one
@@ -173,74 +168,77 @@ count_of : (m : List ℕ) (at n : ℕ) → length (bytes_at m (from at n)) ≡ n
 count_of m at zero = refl
 count_of m at (suc n) = ap suc (count_of m (plus at 1) n)
 
-row_answers : (b : Block) (image : List ℕ) (flags : ℕ) (before : ℕ → ℕ) (bytes : List ℕ) (qs : List Request) (s t : State) → flags < 2 ^ 8 → get_or image 49160 0 ≡ 182 → length bytes ≤ 8 → length b.outputs ≤ 4
-    → (a : IsAnswered main_layout b image flags before bytes s t) → IsRowOf b before bytes (expected_row flags (board (length b.outputs)) qs (all_steps a.ds) bytes (given (board (length b.outputs)) bytes s))
-row_answers b image flags before bytes qs s t hf w l few a =
+row_answers : (b : Block) (image : List ℕ) (flags : ℕ) (before : ℕ → ℕ) (bytes : List ℕ) (qs : List Request) (s t : State) → flags < 2 ^ 8 → length bytes ≤ 8 → length b.outputs ≤ 4
+    → (a : IsAnswered main_layout b Byte image flags before bytes s t) → IsRowOf b before bytes (expected_row flags (board (length b.outputs)) qs (all_steps a.ds) bytes (given (board (length b.outputs)) bytes s))
+row_answers b image flags before bytes qs s t hf l few a =
     let n = length b.outputs in
-    let g = went n b image flags before bytes s t hf w l a in
+    let g = went n b image flags before bytes s t hf l a in
     let same : answers_in (board n) (calm flags (all_steps a.ds) (given (board n) bytes s)) ≡ bytes_at t.mem (from 4112 n) = ap (answers_in (board n)) g.goes in
     record {
       bytes_are = refl;
-      answers = λ o lo hi. ap (λ (l : List ℕ). get_or l (o - 1) 0) same ∙ byte_of t.mem 4112 n (o - 1) (omega arith) (omega arith) ∙ a.answers o lo hi;
+      answers = λ o lo hi. ap (λ (l : List ℕ). get_or l (o - 1) 0) same ∙ byte_of t.mem 4112 n (o - 1) (omega arith) (omega arith) ∙ (let e : 4112 + (o - 1) ≡ 4112 + 1 * (o - 1) = omega arith in ap (λ (k : ℕ). get_or t.mem k 0) e) ∙ (a.answers o lo hi).0;
       count = ap length same ∙ count_of t.mem 4112 n;
-      instructions = subst (λ (k : ℕ). k ≤ instruction_bound b) (sym g.counts) a.instructions;
+      instructions = subst (λ (k : ℕ). k ≤ instruction_bound Byte b) (sym g.counts) a.instructions;
       steps = a.steps;
     }
 
-all_answers : (b : Block) (image : List ℕ) (flags : ℕ) (before : ℕ → ℕ) (plan : List Request) (k : ℕ) (samples : List (List ℕ)) (s : State) → flags < 2 ^ 8 → get_or image 49160 0 ≡ 182 → AreShort samples → length b.outputs ≤ 4
-    → (w : AreAnswered main_layout b image flags before samples s) → AreRowsOf b before samples (expected_rows flags (board (length b.outputs)) plan k (numbers b image flags before samples s w) samples s)
+all_answers : (b : Block) (image : List ℕ) (flags : ℕ) (before : ℕ → ℕ) (plan : List Request) (k : ℕ) (samples : List (List ℕ)) (s : State) → flags < 2 ^ 8 → AreShort samples → length b.outputs ≤ 4
+    → (w : AreAnswered main_layout b Byte image flags before samples s) → AreRowsOf b before samples (expected_rows flags (board (length b.outputs)) plan k (numbers b image flags before samples s w) samples s)
 unfolding numbers
-all_answers b image flags before plan k [] s hf c l few w = tt
-all_answers b image flags before plan k (bytes ∷ samples) s hf c l few w =
+all_answers b image flags before plan k [] s hf l few w = tt
+all_answers b image flags before plan k (bytes ∷ samples) s hf l few w =
     let n = length b.outputs in
-    let g = went n b image flags before bytes s w.0 hf c l.0 w.1.0 in
+    let g = went n b image flags before bytes s w.0 hf l.0 w.1.0 in
     let later : ℕ → ℕ = λ o. byte_answer b o bytes (before o) in (
-      row_answers b image flags before bytes (requests_of k plan) s w.0 hf c l.0 few w.1.0,
+      row_answers b image flags before bytes (requests_of k plan) s w.0 hf l.0 few w.1.0,
       subst (λ (u : State). AreRowsOf b later samples (expected_rows flags (board n) plan (suc k) (numbers b image flags later samples w.0 w.1.1) samples u)) (sym g.goes)
-          (all_answers b image flags later plan (suc k) samples w.0 hf c l.1 few w.1.1),
+          (all_answers b image flags later plan (suc k) samples w.0 hf l.1 few w.1.1),
     )
 
 -- the same rows count as the ways do
-all_counts : (b : Block) (image : List ℕ) (flags : ℕ) (before : ℕ → ℕ) (plan : List Request) (k : ℕ) (samples : List (List ℕ)) (s : State) → flags < 2 ^ 8 → get_or image 49160 0 ≡ 182 → AreShort samples
-    → (w : AreAnswered main_layout b image flags before samples s) → AreCountsOf b image flags before samples s w (expected_rows flags (board (length b.outputs)) plan k (numbers b image flags before samples s w) samples s)
+all_counts : (b : Block) (image : List ℕ) (flags : ℕ) (before : ℕ → ℕ) (plan : List Request) (k : ℕ) (samples : List (List ℕ)) (s : State) → flags < 2 ^ 8 → AreShort samples
+    → (w : AreAnswered main_layout b Byte image flags before samples s) → AreCountsOf b image flags before samples s w (expected_rows flags (board (length b.outputs)) plan k (numbers b image flags before samples s w) samples s)
 unfolding numbers
-all_counts b image flags before plan k [] s hf c l w = refl
-all_counts b image flags before plan k (bytes ∷ samples) s hf c l w =
+all_counts b image flags before plan k [] s hf l w = refl
+all_counts b image flags before plan k (bytes ∷ samples) s hf l w =
     let n = length b.outputs in
-    let g = went n b image flags before bytes s w.0 hf c l.0 w.1.0 in
+    let g = went n b image flags before bytes s w.0 hf l.0 w.1.0 in
     let later : ℕ → ℕ = λ o. byte_answer b o bytes (before o) in (
       g.counts,
       refl,
-      subst (λ (u : State). AreCountsOf b image flags later samples w.0 w.1.1 (expected_rows flags (board n) plan (suc k) (numbers b image flags later samples w.0 w.1.1) samples u)) (sym g.goes) (all_counts b image flags later plan (suc k) samples w.0 hf c l.1 w.1.1),
+      subst (λ (u : State). AreCountsOf b image flags later samples w.0 w.1.1 (expected_rows flags (board n) plan (suc k) (numbers b image flags later samples w.0 w.1.1) samples u)) (sym g.goes) (all_counts b image flags later plan (suc k) samples w.0 hf l.1 w.1.1),
     )
 
 -- a firmware waits first where it arrives first
-enough_steps : (b : Block) → length b.outputs ≤ 4 → 3 ≤ step_bound b
+enough_steps : (b : Block) → length b.outputs ≤ 4 → 3 ≤ step_bound Byte b
 unfolding step_bound instruction_bound
 enough_steps b few = omega arith
 
-first_is : (b : Block) (f : Firmware) (flags : ℕ) (s : State) → length b.outputs ≤ 4 → IsFirmwareOf b f → IsArrived main_layout (image_memory f.image.bytes) flags s → first_state f flags ≡ s
-first_is b f flags s few h a =
+steps_are : (b : Block) (f : Firmware) → IsFirmwareOf b f → f.wide ≡ false → f.step_bound ≡ step_bound Byte b
+steps_are b f h narrow = h.steps ∙ ap (λ (wide : Bool). step_bound (width_of wide) b) narrow
+
+first_is : (b : Block) (f : Firmware) (flags : ℕ) (s : State) → length b.outputs ≤ 4 → IsFirmwareOf b f → f.wide ≡ false → IsArrived main_layout (image_memory f.image.bytes) flags s → first_state f flags ≡ s
+first_is b f flags s few h narrow a =
     let start = reset_with (image_memory f.image.bytes) in
-    ap₂ (λ (loop most : ℕ). arrival flags loop most start) (ap (λ (l : Layout). l.wait) h.layout) h.steps ∙ arrives_plainly flags 49160 3 (step_bound b) start s refl a.way a.wait (enough_steps b few)
+    ap₂ (λ (loop most : ℕ). arrival flags loop most start) (ap (λ (l : Layout). l.wait) h.layout) (steps_are b f h narrow) ∙ arrives_plainly flags 49160 3 (step_bound Byte b) start s refl a.way a.wait (enough_steps b few)
 
 all_short : (b : Block) (samples : List (List ℕ)) → length b.inputs ≤ 8 → All (AreInputBytes b) samples → AreShort samples
 all_short b [] few all = tt
 all_short b (bytes ∷ samples) few all = (let i = all 0 bytes (omega arith) in omega (arith, i.count), all_short b samples few (λ k d lt. all (suc k) d (omega arith)))
 
 -- the rows of a firmware that waits first in s
-under : (b : Block) (f : Firmware) (flags : ℕ) (samples : List (List ℕ)) (plan : List Request) (s : State) → flags < 2 ^ 8 → length b.outputs ≤ 4 → IsFirmwareOf b f → AreShort samples → IsGood plan
-    → IsArrived main_layout (image_memory f.image.bytes) flags s → AreAnswered main_layout b (image_memory f.image.bytes) flags (λ o. 0) samples s → AnswersUnder b f flags samples plan
-under b f flags samples plan s hf few h short good a w =
+under : (b : Block) (f : Firmware) (flags : ℕ) (samples : List (List ℕ)) (plan : List Request) (s : State) → flags < 2 ^ 8 → length b.outputs ≤ 4 → IsFirmwareOf b f → f.wide ≡ false → AreShort samples → IsGood plan
+    → IsArrived main_layout (image_memory f.image.bytes) flags s → AreAnswered main_layout b Byte (image_memory f.image.bytes) flags (λ o. 0) samples s → AnswersUnder b f flags samples plan
+under b f flags samples plan s hf few h narrow short good a w =
     let image = image_memory f.image.bytes in
     let n = length b.outputs in
     let ns = numbers b image flags (λ o. 0) samples s w in
     let same : board_of f ≡ board n = ap₂ (λ (l k : ℕ). by l k) (ap (λ (l : Layout). l.wait) h.layout) h.outputs in
     let low : IsLow (board n) = record { ready = omega arith; outputs = omega arith } in
     let runs : GoesCalmly flags (board n) f.step_bound plan ns samples s =
-    runs_calmly flags (board n) f.step_bound plan ns samples s low good (subst (λ (m : ℕ). AllWithin m ns) (sym h.steps) (within b image flags (λ o. 0) samples s w)) (all_sampled n b image flags (λ o. 0) samples s hf a.load short w) in
+    runs_calmly flags (board n) f.step_bound plan ns samples s low good (subst (λ (m : ℕ). AllWithin m ns) (sym (steps_are b f h narrow)) (within b image flags (λ o. 0) samples s w)) (all_sampled n b image flags (λ o. 0) samples s hf short w) in
     let rows_are : (firmware_rows f samples plan flags).rows ≡ expected_rows flags (board n) plan 1 ns samples s =
-    ap (λ (u : State). (rows_from (with_writes flags (board_of f)) (board_of f) f.step_bound plan 1 samples u).rows) (first_is b f flags s few h a)
+    ap (λ (u : State). (rows_from (with_writes flags (board_of f)) (board_of f) f.step_bound plan 1 samples u).rows) (first_is b f flags s few h narrow a)
     ∙ ap (λ (d : Board). (rows_from (with_writes flags d) d f.step_bound plan 1 samples s).rows) same
     ∙ runs.rows_are in
     record {
@@ -248,8 +246,8 @@ under b f flags samples plan s hf few h short good a w =
         first = s;
         arrived = a;
         ways = w;
-        rows_are = subst (λ (rs : List RowSeen). AreRowsOf b (λ o. 0) samples rs) (sym rows_are) (all_answers b image flags (λ o. 0) plan 1 samples s hf a.load short few w);
-        counts = subst (λ (rs : List RowSeen). AreCountsOf b image flags (λ o. 0) samples s w rs) (sym rows_are) (all_counts b image flags (λ o. 0) plan 1 samples s hf a.load short w);
+        rows_are = subst (λ (rs : List RowSeen). AreRowsOf b (λ o. 0) samples rs) (sym rows_are) (all_answers b image flags (λ o. 0) plan 1 samples s hf short few w);
+        counts = subst (λ (rs : List RowSeen). AreCountsOf b image flags (λ o. 0) samples s w rs) (sym rows_are) (all_counts b image flags (λ o. 0) plan 1 samples s hf short w);
       };
       ns = ns;
       calmly = subst (λ (d : Board). GoesCalmly flags d f.step_bound plan ns samples s) (sym same) runs;
@@ -259,10 +257,11 @@ under b f flags samples plan s hf few h short good a w =
     by l k = record { loop_at = l; ready = 4096; inputs = 4097; outputs = 4112; output_count = k }
 
 pub answers_under_plans : AnswersUnderPlans
-answers_under_plans b f flags samples plan hf v limits h all good =
-    let from = answers_from b f.image.bytes v limits h.image flags samples hf all in
-    under b f flags samples plan from.0 hf v.few_outputs h (all_short b samples v.few_inputs all) good from.1.0 from.1.1
+answers_under_plans b f flags samples plan hf v limits h narrow all good =
+    let image = subst (λ (wide : Bool). Holds f.image.bytes (given_by (firmware_items main_layout b (width_of wide)))) narrow h.image in
+    let from = main_answers b Byte f.image.bytes flags samples v limits image hf all in
+    under b f flags samples plan from.0 hf v.few_outputs h narrow (all_short b samples v.few_inputs all) good from.1.0 from.1.1
 
 -- and so do rows that are those of the run
 pub answers_its_block : (f : Firmware) (flags : ℕ) (samples : List (List ℕ)) (plan : List Request) (rows : List RowSeen) → flags < 2 ^ 8 → IsGood plan → rows ≡ (firmware_rows f samples plan flags).rows → AnswersItsBlock f flags samples rows
-answers_its_block f flags samples plan rows hf good e b v limits h all = subst (λ (rs : List RowSeen). AreAnswersOf b f flags samples rs) (sym e) (answers_under_plans b f flags samples plan hf v limits h all good).answers
+answers_its_block f flags samples plan rows hf good e b v limits h narrow all = subst (λ (rs : List RowSeen). AreAnswersOf b f flags samples rs) (sym e) (answers_under_plans b f flags samples plan hf v limits h narrow all good).answers

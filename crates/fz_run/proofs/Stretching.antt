@@ -7,7 +7,7 @@ use Rattle.cpu12_parts.specs.State.{State}
 use Rattle.cpu12_emul.specs.declared.ends.Stepped.{Stepped}
 use Rattle.cpu12_emul.specs.declared.ends.Stepped.TheVariants.{Plain, Part, LastPart}
 use Rattle.cpu12_emul.specs.Step.{Next, next_of}
-use Rattle.codegen.specs.Ways.{Way, all_steps}
+use Rattle.cpu12_parts.specs.Executions.{Execution, all_steps}
 use Rattle.fz_run.specs.Runs.{is_part, one_if}
 use Rattle.fz_run.specs.Calm.{stepped, kind_at, state_by, kind_by, calm, counted}
 use Rattle.fz_run.specs.Undisturbed.{Before}
@@ -28,7 +28,7 @@ before_add : (P : State → Type 0) (flags m n : ℕ) (s : State) → Before P f
 before_add P flags zero n s a b = let e : n ≡ 0 + n = omega arith in subst (λ (k : ℕ). Before P flags k s) e b
 before_add P flags (suc m) n s a b = let e : suc (m + n) ≡ suc m + n = omega arith in subst (λ (k : ℕ). Before P flags k s) e (a.0, before_add P flags m n (stepped flags s) a.1 b)
 
-pub way_went : (P : State → Type 0) (flags : ℕ) (ds : List ℕ) (s t : State) → Way (Stretch P flags) ds s t → Went P flags ds s t
+pub way_went : (P : State → Type 0) (flags : ℕ) (ds : List ℕ) (s t : State) → Execution (Stretch P flags) ds s t → Went P flags ds s t
 way_went P flags [] s t e = record { goes = e; counts = refl; each = tt }
 way_went P flags (d ∷ ds) s t w =
     let u = w.0 in

@@ -1,5 +1,5 @@
 -- The rows of a block's firmware, by what it answers without interrupts.
-use Rattle.std.specs.Prelude.{◌≡◌, ℕ, ◌-◌, ◌^◌, ◌<◌, ◌≤◌, List, [], ◌∷◌, length, All, slice_index}
+use Rattle.std.specs.Prelude.{◌≡◌, ℕ, ◌-◌, ◌^◌, ◌<◌, ◌≤◌, false, List, [], ◌∷◌, length, All, slice_index}
 use Rattle.fuzzy_meaning.specs.declared.block.Block.{Block}
 use Rattle.fuzzy_meaning.specs.Blocks.{IsValid}
 use Rattle.point_slope.specs.Bytes.{byte_answer}
@@ -9,11 +9,12 @@ use Rattle.cpu12_emul.specs.Image.{image_memory}
 use Rattle.interrupt_plan.specs.declared.Request.{Request}
 use Rattle.interrupt_plan.specs.Plans.{IsGood}
 use Rattle.codegen.specs.declared.firmware.Firmware.{Firmware}
+use Rattle.codegen.specs.declared.width.Width.TheVariants.{Byte}
 use Rattle.codegen.specs.Layouts.{main_layout}
 use Rattle.codegen.specs.Bounds.{instruction_bound, step_bound}
 use Rattle.codegen.specs.Firing.{AreInputBytes}
 use Rattle.codegen.specs.Firmwares.{IsFirmwareOf}
-use Rattle.codegen.specs.Ways.{all_steps}
+use Rattle.cpu12_parts.specs.Executions.{all_steps}
 use Rattle.codegen.specs.Answers.{IsArrived, AreAnswered}
 use Rattle.fz_run.specs.Rows.{board_of, RowSeen, firmware_rows}
 use Rattle.fz_run.specs.CalmRows.{GoesCalmly}
@@ -23,8 +24,8 @@ pub record IsRowOf (b : Block) (before : ℕ → ℕ) (bytes : List ℕ) (row : 
   pub bytes_are : row.bytes ≡ bytes
   pub answers : (o : ℕ) → 1 ≤ o → o ≤ length b.outputs → slice_index row.answers (o - 1) ≡ byte_answer b o bytes (before o)
   pub count : length row.answers ≡ length b.outputs
-  pub instructions : row.instrs ≤ instruction_bound b
-  pub steps : row.steps ≤ step_bound b
+  pub instructions : row.instrs ≤ instruction_bound Byte b
+  pub steps : row.steps ≤ step_bound Byte b
 
 -- the rows of a list of samples, each after the one before
 abbrev pub AreRowsOf : Block → (ℕ → ℕ) → List (List ℕ) → List RowSeen → Type 0
@@ -34,7 +35,7 @@ AreRowsOf b before (bytes ∷ samples) [] = ⊥
 AreRowsOf b before (bytes ∷ samples) (row ∷ rows) = IsRowOf b before bytes row × AreRowsOf b (λ o. byte_answer b o bytes (before o)) samples rows
 
 -- each row counts the instructions and the steps of its sample's way without interrupts
-abbrev pub AreCountsOf : (b : Block) (image : List ℕ) (flags : ℕ) (before : ℕ → ℕ) (samples : List (List ℕ)) (s : State) → AreAnswered main_layout b image flags before samples s → List RowSeen → Type 0
+abbrev pub AreCountsOf : (b : Block) (image : List ℕ) (flags : ℕ) (before : ℕ → ℕ) (samples : List (List ℕ)) (s : State) → AreAnswered main_layout b Byte image flags before samples s → List RowSeen → Type 0
 AreCountsOf b image flags before [] s ways rows = rows ≡ []
 AreCountsOf b image flags before (bytes ∷ samples) s ways [] = ⊥
 AreCountsOf b image flags before (bytes ∷ samples) s ways (row ∷ rows) =
@@ -45,13 +46,13 @@ AreCountsOf b image flags before (bytes ∷ samples) s ways (row ∷ rows) =
 pub record AreAnswersOf (b : Block) (f : Firmware) (flags : ℕ) (samples : List (List ℕ)) (rows : List RowSeen) : Type 0 where
   pub first : State
   pub arrived : IsArrived main_layout (image_memory f.image.bytes) flags first
-  pub ways : AreAnswered main_layout b (image_memory f.image.bytes) flags (λ o. 0) samples first
+  pub ways : AreAnswered main_layout b Byte (image_memory f.image.bytes) flags (λ o. 0) samples first
   pub rows_are : AreRowsOf b (λ o. 0) samples rows
   pub counts : AreCountsOf b (image_memory f.image.bytes) flags (λ o. 0) samples first ways rows
 
--- the rows are the answers of the block whose firmware it is, where it is one of a valid block
+-- the rows are the answers of the block whose firmware it is, where it is one of a valid block and answers bytes
 abbrev pub AnswersItsBlock : Firmware → ℕ → List (List ℕ) → List RowSeen → Type 0
-AnswersItsBlock f flags samples rows = (b : Block) → IsValid b → IsWithinLimits b → IsFirmwareOf b f → All (AreInputBytes b) samples → AreAnswersOf b f flags samples rows
+AnswersItsBlock f flags samples rows = (b : Block) → IsValid b → IsWithinLimits b → IsFirmwareOf b f → f.wide ≡ false → All (AreInputBytes b) samples → AreAnswersOf b f flags samples rows
 
 -- what a block's firmware does under a plan: its rows are the block's answers, and the run goes calmly
 pub record AnswersUnder (b : Block) (f : Firmware) (flags : ℕ) (samples : List (List ℕ)) (plan : List Request) : Type 0 where
@@ -59,7 +60,7 @@ pub record AnswersUnder (b : Block) (f : Firmware) (flags : ℕ) (samples : List
   pub ns : List ℕ
   pub calmly : GoesCalmly flags (board_of f) f.step_bound plan ns samples answers.first
 
--- The firmware of a block answers every list of samples so under every good plan.
+-- The firmware of a block that answers bytes answers every list of samples so under every good plan.
 abbrev pub AnswersUnderPlans : Type 0
-AnswersUnderPlans = (b : Block) (f : Firmware) (flags : ℕ) (samples : List (List ℕ)) (plan : List Request) → flags < 2 ^ 8 → IsValid b → IsWithinLimits b → IsFirmwareOf b f → All (AreInputBytes b) samples → IsGood plan
+AnswersUnderPlans = (b : Block) (f : Firmware) (flags : ℕ) (samples : List (List ℕ)) (plan : List Request) → flags < 2 ^ 8 → IsValid b → IsWithinLimits b → IsFirmwareOf b f → f.wide ≡ false → All (AreInputBytes b) samples → IsGood plan
     → AnswersUnder b f flags samples plan

@@ -7,7 +7,7 @@ use Rattle.cpu12_isa.specs.Flags.{interrupts_masked, has}
 use Rattle.cpu12_isa.specs.Regions.{stack_start, stack_end}
 use Rattle.cpu12_parts.specs.declared.temps.Temps.TheVariants.{Free}
 use Rattle.cpu12_parts.specs.State.{State}
-use Rattle.codegen.specs.Ways.{all_steps}
+use Rattle.cpu12_parts.specs.Executions.{all_steps}
 use Rattle.fz_run.specs.Calm.{calm, counted}
 use Rattle.fz_run.specs.Undisturbed.{is_hidden, Calmed, Before}
 

@@ -1,5 +1,5 @@
 -- The rows of a trace are a block's answers.
-use Rattle.std.proofs.Common.{◌≡◌, ◌<◌, ◌^◌, ℕ, suc, List, [], ◌∷◌, length, refl, ap, sym, ◌∙◌, subst, arith}
+use Rattle.std.proofs.Common.{◌≡◌, ◌<◌, ◌^◌, ℕ, suc, List, [], ◌∷◌, length, refl, ap, sym, ◌∙◌, subst, arith, false}
 use Rattle.std.specs.Prelude.{All, map}
 use Rattle.std.proofs.lemmas.List.Elements.{All-cons}
 use Rattle.fz_num.specs.declared.dec.Dec.{Dec}
@@ -48,6 +48,6 @@ pub ran_alone : (f : Firmware) (flags : ℕ) (samples slice : List Sample) (plan
 ran_alone f flags samples slice plan rows ran samples_are plan_is =
     ran ∙ ap (λ (ss : List Sample). (firmware_rows f (map input_bytes ss) plan flags).rows) samples_are ∙ ap (λ (p : List Request). (firmware_rows f (map input_bytes samples) p flags).rows) plan_is
 
-pub answers_trace : (b : Block) (f : Firmware) (flags : ℕ) (text : List ℕ) (samples slice : List Sample) (rows : List RowSeen) → AnswersItsBlock f flags (map input_bytes slice) rows → slice ≡ samples → IsValid b → IsWithinLimits b → IsFirmwareOf b f
+pub answers_trace : (b : Block) (f : Firmware) (flags : ℕ) (text : List ℕ) (samples slice : List Sample) (rows : List RowSeen) → AnswersItsBlock f flags (map input_bytes slice) rows → slice ≡ samples → IsValid b → IsWithinLimits b → IsFirmwareOf b f → f.wide ≡ false
     → Spells b.inputs text samples → AreAnswersOf b f flags (map input_bytes samples) rows
-answers_trace b f flags text samples slice rows answers samples_are v w h spells = subst (λ (ss : List Sample). AnswersItsBlock f flags (map input_bytes ss) rows) samples_are answers b v w h (input_bytes_fit b spells.rows samples spells.spelled)
+answers_trace b f flags text samples slice rows answers samples_are v w h narrow spells = subst (λ (ss : List Sample). AnswersItsBlock f flags (map input_bytes ss) rows) samples_are answers b v w h narrow (input_bytes_fit b spells.rows samples spells.spelled)

@@ -1,96 +1,34 @@
 -- The outputs' bytes are the byte answers.
-use Rattle.std.proofs.Common.{◌≡◌, ℕ, zero, suc, ◌+◌, ◌-◌, ◌*◌, ◌<◌, List, [], ◌∷◌, ◌++◌, map, length, take, drop, get_or, Option, Some, None, option_map, slice_get, refl, sym, ap, ap₂, ◌∙◌, arith, length-append, append_assoc, take_at, drop_at}
+use Rattle.std.proofs.Common.{◌≡◌, ℕ, ◌+◌, ◌*◌, List, [], ◌∷◌, map, length, refl, ap, arith}
 use Rattle.std.specs.List.{range_with_len}
-use Rattle.std.specs.Option.{option_map_or}
-use Rattle.std.proofs.lemmas.List.{length-map, map-append}
-use Rattle.std.proofs.lemmas.List.FromFn.{length-range_with_len}
 use Rattle.std.proofs.lemmas.List.Sums.{sum_by-cons}
 use Rattle.fz_num.specs.declared.dec.Dec.{Dec}
 use Rattle.fuzzy_meaning.specs.declared.block.Block.{Block}
 use Rattle.fuzzy_meaning.specs.declared.block.Output.{Output}
 use Rattle.byte_scaling.specs.Cells.{nearest_byte}
-use Rattle.point_slope.specs.Bytes.{ByteShare, byte_mass, byte_shares_from, byte_shares, total_mass, weighted_sum, centre, resting_answer, byte_answer}
-use Rattle.rule_layout.specs.Slots.{terms_from, singleton_count, output_terms}
+use Rattle.point_slope.specs.Bytes.{ByteShare, byte_mass, byte_shares_from, total_mass, weighted_sum}
 use Rattle.cpu12_parts.specs.Averages.{dot, total}
-use Rattle.codegen.specs.Data.{singleton_bytes_of}
-use Rattle.codegen.proofs.phases.SlotValues.{slice_get_behind}
-use Rattle.codegen.proofs.phases.Quotients.{or_before, quotient_of, output_byte, output_bytes}
 
 -- the sums over an output's terms
-sums_total : (b : Block) (bytes : List ℕ) (i : ℕ) (x : Output) (t : ℕ) (us : List Dec) → total (map (λ k. byte_mass b bytes i k) (range_with_len t (length us))) ≡ total_mass (byte_shares_from b bytes i x t us)
+pub sums_total : (b : Block) (bytes : List ℕ) (i : ℕ) (x : Output) (t : ℕ) (us : List Dec) → total (map (λ k. byte_mass b bytes i k) (range_with_len t (length us))) ≡ total_mass (byte_shares_from b bytes i x t us)
 sums_total b bytes i x t [] = refl
 sums_total b bytes i x t (u ∷ us) =
     let s : ByteShare = record { byte = nearest_byte x u; mass = byte_mass b bytes i t } in
     omega (arith, sums_total b bytes i x (t + 1) us, sum_by-cons (λ (s : ByteShare). s.mass) s (byte_shares_from b bytes i x (t + 1) us))
 
-sums_dot : (b : Block) (bytes : List ℕ) (i : ℕ) (x : Output) (t : ℕ) (us : List Dec) → dot (map (nearest_byte x) us) (map (λ k. byte_mass b bytes i k) (range_with_len t (length us))) ≡ weighted_sum (byte_shares_from b bytes i x t us)
+pub sums_dot : (b : Block) (bytes : List ℕ) (i : ℕ) (x : Output) (t : ℕ) (us : List Dec) → dot (map (nearest_byte x) us) (map (λ k. byte_mass b bytes i k) (range_with_len t (length us))) ≡ weighted_sum (byte_shares_from b bytes i x t us)
 sums_dot b bytes i x t [] = refl
 sums_dot b bytes i x t (u ∷ us) =
     let s : ByteShare = record { byte = nearest_byte x u; mass = byte_mass b bytes i t } in
     omega (arith, sums_dot b bytes i x (t + 1) us, sum_by-cons (λ (s : ByteShare). s.byte * s.mass) s (byte_shares_from b bytes i x (t + 1) us))
 
-default_is : (x : Output) (d : Option Dec) (before : ℕ) → or_before (option_map (nearest_byte x) d) before ≡ option_map_or (λ d. 1 * nearest_byte x d) d before
-default_is x None before = refl
-default_is x (Some d) before = omega arith
-
-one_part : (n : ℕ) → n ≡ 1 * n
-one_part n = omega arith
-
 -- one output's byte from the masses of its terms
-abbrev own_masses : Block → List ℕ → ℕ → Output → List ℕ
+abbrev pub own_masses : Block → List ℕ → ℕ → Output → List ℕ
 own_masses b bytes i x = map (λ t. byte_mass b bytes i t) (range_with_len 1 (length x.singletons))
 
-byte_is : (b : Block) (bytes : List ℕ) (i : ℕ) (x : Output) (before : ℕ) → output_byte x (own_masses b bytes i x) before ≡ centre 1 (byte_shares b bytes i x) (resting_answer 1 x before)
-byte_is b bytes i x before =
-    let et = sums_total b bytes i x 1 x.singletons in
-    let ed = sums_dot b bytes i x 1 x.singletons in
-    ap (λ (n : ℕ). quotient_of (total (own_masses b bytes i x)) (dot (singleton_bytes_of x) (own_masses b bytes i x)) n) (default_is x x.default before)
-    ∙ ap₂ (λ (w n : ℕ). quotient_of w n (resting_answer 1 x before)) et (ed ∙ one_part (weighted_sum (byte_shares b bytes i x)))
-
-map_pairs : (f : ℕ × ℕ → ℕ) (i : ℕ) (ts : List ℕ) → map f (map (λ t. (i, t)) ts) ≡ map (λ t. f (i, t)) ts
+pub map_pairs : (f : ℕ × ℕ → ℕ) (i : ℕ) (ts : List ℕ) → map f (map (λ t. (i, t)) ts) ≡ map (λ t. f (i, t)) ts
 map_pairs f i [] = refl
 map_pairs f i (t ∷ ts) = ap (λ vs. f (i, t) ∷ vs) (map_pairs f i ts)
 
 abbrev pub mass_of : Block → List ℕ → ℕ × ℕ → ℕ
 mass_of b bytes p = byte_mass b bytes p.0 p.1
-
--- output by output
-bytes_from : (b : Block) (bytes bs : List ℕ) (front os : List Output) (i : ℕ) → b.outputs ≡ front ++ os → i ≡ length front + 1 → length bs ≡ length os
-    → (k : ℕ) → k < length os → get_or (output_bytes os (map (mass_of b bytes) (terms_from i (map singleton_count os))) bs) k 0 ≡ byte_answer b (i + k) bytes (get_or bs k 0)
-bytes_from b bytes bs front [] i e en el k lt = absurd (omega arith)
-bytes_from b bytes [] front (x ∷ os) i e en el k lt = absurd (omega arith)
-bytes_from b bytes (v ∷ bs) front (x ∷ os) i e en el k lt = by_place k lt (λ j lj. bytes_from b bytes bs (front ++ x ∷ []) os (i + 1) (e ∙ sym (append_assoc front (x ∷ []) os)) (omega (arith, length-append front (x ∷ []))) (omega arith) j lj)
-  where
-    rest : List ℕ
-    rest = map (mass_of b bytes) (terms_from (i + 1) (map singleton_count os))
-
-    own : List ℕ
-    own = own_masses b bytes i x
-
-    cut : map (mass_of b bytes) (terms_from i (map singleton_count (x ∷ os))) ≡ own_masses b bytes i x ++ map (mass_of b bytes) (terms_from (i + 1) (map singleton_count os))
-    cut =
-        map-append (mass_of b bytes) (map (λ t. (i, t)) (range_with_len 1 (length x.singletons))) (terms_from (i + 1) (map singleton_count os))
-        ∙ ap (λ l. l ++ map (mass_of b bytes) (terms_from (i + 1) (map singleton_count os))) (map_pairs (mass_of b bytes) i (range_with_len 1 (length x.singletons)))
-
-    size : length (own_masses b bytes i x) ≡ length x.singletons
-    size = length-map (range_with_len 1 (length x.singletons)) (λ t. byte_mass b bytes i t) ∙ length-range_with_len 1 (length x.singletons)
-
-    found : slice_get b.outputs (i - 1) ≡ Some x
-    found = let k : i - 1 ≡ length front = omega arith in ap₂ (λ (l : List Output) (n : ℕ). slice_get l n) e k ∙ slice_get_behind front x os
-
-    by_place : (k : ℕ) → k < length (x ∷ os) → ((j : ℕ) → j < length os → get_or (output_bytes os (map (mass_of b bytes) (terms_from (i + 1) (map singleton_count os))) bs) j 0 ≡ byte_answer b (i + 1 + j) bytes (get_or bs j 0))
-        → get_or (output_bytes (x ∷ os) (map (mass_of b bytes) (terms_from i (map singleton_count (x ∷ os)))) (v ∷ bs)) k 0 ≡ byte_answer b (i + k) bytes (get_or (v ∷ bs) k 0)
-    by_place zero lt go =
-        let n = length x.singletons in
-        let t : take n (map (mass_of b bytes) (terms_from i (map singleton_count (x ∷ os)))) ≡ own_masses b bytes i x = ap (take n) cut ∙ take_at (own_masses b bytes i x) _ n size in
-        let z : i + 0 ≡ i = omega arith in
-        ap (λ l. output_byte x l v) t ∙ byte_is b bytes i x v ∙ sym (ap (λ (o : Option Output). option_map_or (λ (y : Output). centre 1 (byte_shares b bytes i y) (resting_answer 1 y v)) o v) found) ∙ ap (λ o. byte_answer b o bytes v) (sym z)
-    by_place (suc j) lt go =
-        let n = length x.singletons in
-        let d : drop n (map (mass_of b bytes) (terms_from i (map singleton_count (x ∷ os)))) ≡ map (mass_of b bytes) (terms_from (i + 1) (map singleton_count os)) = ap (drop n) cut ∙ drop_at (own_masses b bytes i x) _ n size in
-        let z : i + 1 + j ≡ i + suc j = omega arith in
-        ap (λ l. get_or (output_bytes os l bs) j 0) d ∙ go j (omega arith) ∙ ap (λ o. byte_answer b o bytes (get_or bs j 0)) z
-
--- the bytes of all outputs
-pub answers_are : (b : Block) (bytes bs : List ℕ) → length bs ≡ length b.outputs → (k : ℕ) → k < length b.outputs → get_or (output_bytes b.outputs (map (mass_of b bytes) (output_terms b)) bs) k 0 ≡ byte_answer b (1 + k) bytes (get_or bs k 0)
-answers_are b bytes bs el k lt = bytes_from b bytes bs [] b.outputs 1 refl refl el k lt

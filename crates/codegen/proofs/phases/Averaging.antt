@@ -1,35 +1,19 @@
 -- WAV over an output's singletons and masses.
-use Rattle.std.proofs.Common.{◌≡◌, inl, inr, ℕ, zero, suc, ◌+◌, ◌-◌, ◌*◌, ◌/◌, ◌%◌, ◌^◌, ◌<◌, ◌≤◌, true, Ok, List, [], ◌∷◌, length, refl, sym, ap, ap₂, ◌∙◌, subst, arith}
-use Rattle.cpu12_isa.specs.declared.instr.Instr.TheVariants.{Wav}
+use Rattle.std.proofs.Common.{◌≡◌, ℕ, ◌+◌, ◌*◌, ◌^◌, ◌<◌, ◌≤◌, true, List, [], ◌∷◌, length, refl, ap, ap₂, ◌∙◌, arith}
 use Rattle.cpu12_isa.specs.declared.instr.Regs.{Regs}
-use Rattle.cpu12_isa.specs.Agreement.{AllShown}
-use Rattle.cpu12_isa.specs.Code.{decode_at}
 use Rattle.cpu12_isa.specs.Fits.{FitsRegs, AreBytes}
 use Rattle.cpu12_isa.specs.Flags.{opened}
 use Rattle.cpu12_isa.specs.Memory.{plus, from, bytes_at}
 use Rattle.cpu12_isa.proofs.Bits.{fits_put, fits_opened}
-use Rattle.cpu12_isa.proofs.Agreements.{shown_append}
-use Rattle.cpu12_parts.specs.State.{State}
 use Rattle.cpu12_parts.specs.Parts.{wav_end}
-use Rattle.cpu12_parts.specs.Averages.{dot, total, wav_whole}
-use Rattle.codegen.specs.Ways.{is_hidden}
-use Rattle.codegen.proofs.steps.Flags.{masked_put, masked_open_hnvc}
-use Rattle.codegen.proofs.steps.Memory.{HasBytes, same_bytes}
-use Rattle.codegen.proofs.steps.Stepping.{Ctx, Here, Live, Goes, goes_part, sp_high, low_shown, high_shown, calm_of, decode_same, not_at}
+use Rattle.cpu12_parts.specs.Averages.{dot, total}
+use Rattle.codegen.proofs.steps.Memory.{HasBytes}
 
-bytes_from : (m : List ℕ) (p : ℕ) (bs : List ℕ) → p + length bs < 65536 → HasBytes m p bs → bytes_at m (from p (length bs)) ≡ bs
+pub bytes_from : (m : List ℕ) (p : ℕ) (bs : List ℕ) → p + length bs < 65536 → HasBytes m p bs → bytes_at m (from p (length bs)) ≡ bs
 bytes_from m p [] lt h = refl
 bytes_from m p (b ∷ bs) lt h =
     let e : plus p 1 ≡ p + 1 = omega arith in
     ap₂ (λ (v : ℕ) (vs : List ℕ). v ∷ vs) h.0 (ap (λ k. bytes_at m (from k (length bs))) e ∙ bytes_from m (p + 1) bs (omega arith) h.1)
-
-pub shown_high : (sp p n : ℕ) → sp ≤ 0x2000 → 0x2000 ≤ p → p + n < 65536 → AllShown (is_hidden sp) (from p n)
-shown_high sp p zero a b c = tt
-shown_high sp p (suc n) a b c = let e : plus p 1 ≡ p + 1 = omega arith in (high_shown sp p (omega arith) (omega arith), subst (λ k. AllShown (is_hidden sp) (from k n)) (sym e) (shown_high sp (p + 1) n a (omega arith) (omega arith)))
-
-pub shown_low : (sp p n : ℕ) → p + n ≤ 0x1800 → AllShown (is_hidden sp) (from p n)
-shown_low sp p zero c = tt
-shown_low sp p (suc n) c = let e : plus p 1 ≡ p + 1 = omega arith in (low_shown sp p (omega arith), subst (λ k. AllShown (is_hidden sp) (from k n)) (sym e) (shown_low sp (p + 1) n (omega arith)))
 
 -- a list of bytes
 abbrev pub Bytes : List ℕ → Type 0
@@ -48,23 +32,11 @@ dot_le [] vs h = omega arith
 dot_le (u ∷ us) [] h = omega arith
 dot_le (u ∷ us) (v ∷ vs) h = omega (arith, dot_le us vs h.1, product_le u v (omega (arith, h.0)))
 
-total_le : (vs : List ℕ) → Bytes vs → total vs ≤ 255 * length vs
+pub total_le : (vs : List ℕ) → Bytes vs → total vs ≤ 255 * length vs
 total_le [] h = omega arith
 total_le (v ∷ vs) h = omega (arith, h.0, total_le vs h.1)
 
--- where WAV leads: the sum of the masses in X, that of the products in Y and D
-pub record Averaged (c : Ctx) (k : ℕ) (s : State) (pc : ℕ) (us vs : List ℕ) : Type 0 where
-  pub t : State
-  pub goes : Goes c 1 k s t
-  pub live : Live c t
-  pub pc_is : t.regs.pc ≡ pc
-  pub x_is : t.regs.x ≡ total vs
-  pub n_is : t.regs.y * 2 ^ 16 + (t.regs.a * 2 ^ 8 + t.regs.b) ≡ dot us vs
-  pub below : dot us vs ≤ 255 * total vs
-  pub mem_is : t.mem ≡ s.mem
-  pub sp_is : t.regs.sp ≡ s.regs.sp
-
-wav_fits : (flags : ℕ) (r : Regs) (p w pc : ℕ) → flags < 2 ^ 8 → FitsRegs r → p < 2 ^ 32 → w < 2 ^ 16 → FitsRegs (wav_end flags r p w pc)
+pub wav_fits : (flags : ℕ) (r : Regs) (p w pc : ℕ) → flags < 2 ^ 8 → FitsRegs r → p < 2 ^ 32 → w < 2 ^ 16 → FitsRegs (wav_end flags r p w pc)
 wav_fits flags r p w pc f h hp hw = record {
   a = omega arith;
   b = omega arith;
@@ -74,50 +46,3 @@ wav_fits flags r p w pc f h hp hw = record {
   pc = omega arith;
   ccr = fits_put (opened r.ccr 43 flags) 2 true (omega arith) (fits_opened r.ccr 43 flags h.ccr f);
 }
-
-pub wav_run : (c : Ctx) (s : State) (p sx sy : ℕ) (us vs : List ℕ) → Live c s → s.regs.pc ≡ p → Here c p Wav → s.regs.x ≡ sx → s.regs.y ≡ sy → s.regs.b ≡ length us → length vs ≡ length us → 1 ≤ length us → length us ≤ 15 → HasBytes c.image sx us → HasBytes s.mem sy vs → 0x2000 ≤ sx → sx + length us < 65536 → sy + length us ≤ 0x1800
-    → Averaged c (length us - 1) s (p + 2) us vs
-wav_run c s p sx sy us vs l ep h ex ey eb ev some few hu hv lo hi low =
-    let hu' : HasBytes s.mem sx us = same_bytes c.image s.mem sx us (λ k a b. l.same k (omega arith)) hu in
-    let bu : bytes_at s.mem (from s.regs.x s.regs.b) ≡ us = ap₂ (λ k n. bytes_at s.mem (from k n)) ex eb ∙ bytes_from s.mem sx us hi hu' in
-    let en : s.regs.b ≡ length vs = eb ∙ sym ev in
-    let bv : bytes_at s.mem (from s.regs.y s.regs.b) ≡ vs = ap₂ (λ k n. bytes_at s.mem (from k n)) ey en ∙ bytes_from s.mem sy vs (omega arith) hv in
-    let by = stand_bytes s.mem sx us l.bytes hu' in
-    let dl = dot_le us vs by in
-    let tl = total_le vs (stand_bytes s.mem sy vs l.bytes hv) in
-    let P = dot (bytes_at s.mem (from s.regs.x s.regs.b)) (bytes_at s.mem (from s.regs.y s.regs.b)) % 2 ^ 32 in
-    let W = total (bytes_at s.mem (from s.regs.y s.regs.b)) % 2 ^ 16 in
-    let eP : P ≡ dot us vs = ap₂ (λ a b. dot a b % 2 ^ 32) bu bv ∙ omega arith in
-    let eW : W ≡ total vs = ap (λ b. total b % 2 ^ 16) bv ∙ omega arith in
-    let t : State = wav_whole c.flags s.regs s.mem in
-    let d : decode_at s.mem s.regs.pc ≡ Ok Wav = ap (decode_at s.mem) ep ∙ decode_same c.image s.mem p h.low h.high l.same ∙ h.decoded in
-    let sp = sp_high s l.stack in
-    let r1 : AllShown (is_hidden s.regs.sp) (from s.regs.x s.regs.b) = shown_high s.regs.sp s.regs.x s.regs.b sp (omega arith) (omega arith) in
-    let r2 : AllShown (is_hidden s.regs.sp) (from s.regs.y s.regs.b) = shown_low s.regs.sp s.regs.y s.regs.b (omega arith) in
-    record {
-      t = t;
-      goes = goes_part c (length us - 1) s t (record {
-        busy = not_at c.layout s p ep h.off;
-        calm = calm_of c s l (omega (arith, h.low)) (omega (arith, h.high));
-        instruction = inr (inr (inr (record {
-          step = record { decoded = d; off = inl l.temps; parts = ap (λ n. n - 1) (sym eb); after = refl };
-          some = omega arith;
-          reads = shown_append (is_hidden s.regs.sp) (from s.regs.x s.regs.b) (from s.regs.y s.regs.b) r1 r2;
-        })));
-      });
-      live = record {
-        temps = refl;
-        size = l.size;
-        bytes = l.bytes;
-        fits = wav_fits c.flags s.regs P W (plus s.regs.pc 1) c.fits l.fits (omega arith) (omega arith);
-        stack = l.stack;
-        unmasked = masked_put (opened s.regs.ccr 43 c.flags) 2 true (omega arith) ∙ masked_open_hnvc s.regs.ccr c.flags ∙ l.unmasked;
-        same = l.same;
-      };
-      pc_is = omega (arith, h.high);
-      x_is = eW;
-      n_is = (let e : P / 2 ^ 16 * 2 ^ 16 + (P / 2 ^ 8 % 2 ^ 8 * 2 ^ 8 + P % 2 ^ 8) ≡ P = omega arith in e) ∙ eP;
-      below = dl;
-      mem_is = refl;
-      sp_is = refl;
-    }

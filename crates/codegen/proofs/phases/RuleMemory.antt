@@ -11,7 +11,7 @@ use Rattle.cpu12_parts.specs.Parts.{weighted}
 use Rattle.cpu12_parts.specs.Rules.{Rule, Form, further_elements, elements_of, behind, AreNames, AreRules, behind_weights, least, strength, raised, concluded, all_concluded, last_strength, element_bytes, weight_bytes, named, rules_named, rules_target, NotIn, AreApart}
 use Rattle.codegen.specs.Bounds.{entry_count}
 use Rattle.codegen.specs.Firing.{least_of, raised_to, fired}
-use Rattle.codegen.specs.Ways.{is_hidden}
+use Rattle.codegen.specs.Interruptible.{is_hidden}
 use Rattle.codegen.specs.Answers.{put}
 use Rattle.codegen.proofs.steps.Memory.{at_put_in, set_put_in, SameHigh, high_set, bytes_after_set}
 use Rattle.codegen.proofs.Lists.{length-marked}
@@ -246,11 +246,11 @@ raised_keeps f m mem t (e ∷ es) lt b k =
       same = high_set m mem (f.place e) v (omega arith) k.same;
     })
 
-below_front : (n : ℕ) (xs ys : List ℕ) → Below n (xs ++ ys) → Below n xs
+pub below_front : (n : ℕ) (xs ys : List ℕ) → Below n (xs ++ ys) → Below n xs
 below_front n [] ys h = tt
 below_front n (x ∷ xs) ys h = (h.0, below_front n xs ys h.1)
 
-below_back : (n : ℕ) (xs ys : List ℕ) → Below n (xs ++ ys) → Below n ys
+pub below_back : (n : ℕ) (xs ys : List ℕ) → Below n (xs ++ ys) → Below n ys
 below_back n [] ys h = h
 below_back n (x ∷ xs) ys h = below_back n xs ys h.1
 

@@ -1,75 +1,13 @@
 -- The rules, by REV and by REVW.
-use Rattle.std.proofs.Common.{◌≡◌, inl, inr, ℕ, suc, ◌+◌, ◌-◌, ◌*◌, ◌^◌, ◌<◌, ◌≤◌, true, false, Ok, List, [], ◌∷◌, map, flat_map, length, sum_by, get_or, refl, sym, ap, ap₂, ◌∙◌, subst, arith}
+use Rattle.std.proofs.Common.{◌≡◌, ℕ, ◌+◌, ◌*◌, ◌^◌, ◌<◌, ◌≤◌, true, false, List, [], ◌∷◌, map, flat_map, length, sum_by, get_or, refl, sym, ap, ap₂, ◌∙◌, subst, arith}
 use Rattle.std.proofs.lemmas.List.Sums.{sum_by-cons}
 use Rattle.rule_layout.specs.declared.flat.Conjunction.{Conjunction}
-use Rattle.rule_layout.specs.declared.flat.Form.TheVariants as form
-use Rattle.rule_layout.specs.Lists.{marked, list_bytes, list_words}
-use Rattle.cpu12_isa.specs.declared.instr.Instr.{Instr}
-use Rattle.cpu12_isa.specs.declared.instr.Instr.TheVariants.{LdaaImmediate, LdxImmediate, LdyImmediate, Andcc, Orcc, Rev, Revw}
-use Rattle.cpu12_isa.specs.Code.{decode_at, six_from}
-use Rattle.cpu12_isa.specs.Flags.{has, opened}
 use Rattle.cpu12_isa.specs.Memory.{plus}
-use Rattle.cpu12_isa.proofs.Bits.{fits_put, fits_opened}
-use Rattle.cpu12_isa.proofs.Agreements.{shown_append}
-use Rattle.cpu12_parts.specs.State.{State}
-use Rattle.cpu12_parts.specs.Rules.{Rule, Form, rev_form, revw_form, elements_of, Listed, AreWeights, element_bytes, weight_bytes, rules_named, rules_target, AreReady, rules_whole}
-use Rattle.cpu12_parts.specs.Whole.{after_plain}
-use Rattle.codegen.specs.declared.layout.Layout.{Layout}
+use Rattle.cpu12_parts.specs.Rules.{rev_form, revw_form, Listed, AreWeights}
 use Rattle.codegen.specs.Bounds.{entry_count}
-use Rattle.codegen.specs.Code.{rules_code}
 use Rattle.codegen.specs.Data.{bytes_of_word}
-use Rattle.codegen.specs.Firing.{fired}
-use Rattle.codegen.specs.Answers.{put}
-use Rattle.codegen.specs.Ways.{is_hidden, IsCalmRules}
-use Rattle.codegen.proofs.steps.Flags.{masked_put, masked_open_hnzc, masked_open_hnz, overflow_off, overflow_or, carry_or}
-use Rattle.codegen.proofs.steps.Memory.{HasBytes, same_bytes}
-use Rattle.codegen.proofs.steps.Stepping.{Ctx, Live, Stands, Goes, goes_one, goes_on, goes_part, sizes, Reaches, reaches_at, sp_high, calm_of, decode_same, not_at}
-use Rattle.codegen.proofs.steps.Instructions.{ldaa_byte, ldx, ldy, andcc_v, orcc_c}
-use Rattle.codegen.proofs.phases.RuleMemory.{NamesSlots, renamed, rule_by, rules_by, Below, AllBelow, From, shown_below, shown_from, apart_by, rules_are, rules_named_low, rules_target_low, span, element_bytes_high, weight_bytes_high, behind_fits, behind_weights_fits, elements_are, length-renamed, length-rules_by, all_is, LightRules, light_by, last_strength_lt, all_keep}
-
-six_high : (p : ℕ) → 0x2000 ≤ p → p + 6 < 65536 → From 0x2000 (six_from p)
-six_high p lo hi =
-    let at : (k : ℕ) → k ≤ 5 → 0x2000 ≤ plus p k = λ k le. omega arith in
-    (lo, (at 1 (omega arith), (at 2 (omega arith), (at 3 (omega arith), (at 4 (omega arith), (at 5 (omega arith), tt))))))
-
--- the whole instruction, where it is ready, keeps what each state keeps
-record Ruled (c : Ctx) (i : Instr) (f : Form) (d : ℕ) (p : Rule) (ps : List Rule) (s : State) : Type 0 where
-  calm : IsCalmRules i f c.flags d p ps s (rules_whole f c.flags s.regs s.temps s.mem p ps)
-  live : Live c (rules_whole f c.flags s.regs s.temps s.mem p ps)
-
-rules_next : (c : Ctx) (s : State) (i : Instr) (f : Form) (d : ℕ) (p : Rule) (ps : List Rule) → Live c s → 0x2000 ≤ s.regs.pc → s.regs.pc + 6 < 65536 → decode_at s.mem s.regs.pc ≡ Ok i → AreReady f s.regs s.mem p ps → length (elements_of f p ps) ≡ suc d
-    → LightRules (p ∷ ps) → Below 0x1800 (rules_target f (p ∷ ps)) → Below 0x1800 (rules_named f (p ∷ ps)) → From 0x2000 (element_bytes f s.regs.x (elements_of f p ps)) → From 0x2000 (weight_bytes (f.weighs s.regs.ccr) s.regs.y (p ∷ ps))
-    → has (opened s.regs.ccr f.mask c.flags) 4 ≡ has s.regs.ccr 4
-    → Ruled c i f d p ps s
-rules_next c s i f d p ps l lo hi de ready el light target names elements weights mask =
-    let sp = sp_high s l.stack in
-    let k = all_keep f c.image s.mem p ps light target l.size l.bytes l.same in
-    record {
-      calm = record {
-        step = record { decoded = de; ready = ready; parts = el; after = refl };
-        reads = shown_append (is_hidden s.regs.sp) (element_bytes f s.regs.x (elements_of f p ps)) _ (shown_from s.regs.sp (element_bytes f s.regs.x (elements_of f p ps)) sp elements)
-            (shown_append (is_hidden s.regs.sp) (rules_named f (p ∷ ps)) (weight_bytes (f.weighs s.regs.ccr) s.regs.y (p ∷ ps)) (shown_below s.regs.sp (rules_named f (p ∷ ps)) names) (shown_from s.regs.sp (weight_bytes (f.weighs s.regs.ccr) s.regs.y (p ∷ ps)) sp weights));
-        writes = shown_below s.regs.sp (rules_target f (p ∷ ps)) target;
-        itself = apart_by (rules_target f (p ∷ ps)) (six_from s.regs.pc) target (six_high s.regs.pc lo hi);
-      };
-      live = record {
-        temps = l.temps;
-        size = k.0;
-        bytes = k.1;
-        fits = record {
-          a = last_strength_lt f s.mem p ps light;
-          b = l.fits.b;
-          x = behind_fits f s.regs.x (elements_of f p ps) l.fits.x;
-          y = behind_weights_fits (f.weighs s.regs.ccr) s.regs.y (p ∷ ps) l.fits.y;
-          sp = l.fits.sp;
-          pc = omega arith;
-          ccr = fits_put (opened s.regs.ccr f.mask c.flags) 1 true (omega arith) (fits_opened s.regs.ccr f.mask c.flags l.fits.ccr c.fits);
-        };
-        stack = l.stack;
-        unmasked = masked_put (opened s.regs.ccr f.mask c.flags) 1 true (omega arith) ∙ mask ∙ l.unmasked;
-        same = k.2;
-      };
-    }
+use Rattle.codegen.proofs.steps.Memory.{HasBytes}
+use Rattle.codegen.proofs.phases.RuleMemory.{NamesSlots, renamed, rules_by, Below, span}
 
 -- REV's names are the slots' numbers, REVW's their addresses
 abbrev pub number : ℕ → ℕ
@@ -78,17 +16,17 @@ number k = k
 abbrev pub address : ℕ → ℕ → ℕ
 address base k = base + k
 
-rev_names : (base n : ℕ) → n ≤ 254 → base + n ≤ 0x1800 → NamesSlots (rev_form base) base n number
+pub rev_names : (base n : ℕ) → n ≤ 254 → base + n ≤ 0x1800 → NamesSlots (rev_form base) base n number
 rev_names base n le low = record { place = λ k lt. omega arith; small = λ k lt. omega arith; low = low }
 
-revw_names : (base n : ℕ) → base + n ≤ 0x1800 → NamesSlots revw_form base n (address base)
+pub revw_names : (base n : ℕ) → base + n ≤ 0x1800 → NamesSlots revw_form base n (address base)
 revw_names base n low = record { place = λ k lt. refl; small = λ k lt. omega arith; low = low }
 
 map_number : (xs : List ℕ) → map number xs ≡ xs
 map_number [] = refl
 map_number (x ∷ xs) = ap (λ ys. x ∷ ys) (map_number xs)
 
-renamed_number : (cs : List Conjunction) → map (renamed number) cs ≡ cs
+pub renamed_number : (cs : List Conjunction) → map (renamed number) cs ≡ cs
 renamed_number [] = refl
 renamed_number (c ∷ cs) = ap₂ (λ (d : Conjunction) (ds : List Conjunction). d ∷ ds) (one c) (renamed_number cs)
   where
@@ -96,11 +34,11 @@ renamed_number (c ∷ cs) = ap₂ (λ (d : Conjunction) (ds : List Conjunction).
     one c = ap₂ (λ (a b : List ℕ). let d : Conjunction = record { literals = a; conclusions = b } in d) (map_number c.literals) (map_number c.conclusions)
 
 -- the lists as they stand
-rev_listed : (y : ℕ) (m : List ℕ) (x : ℕ) (es : List ℕ) → HasBytes m x es → x + length es < 65536 → Listed (rev_form y) m x es
+pub rev_listed : (y : ℕ) (m : List ℕ) (x : ℕ) (es : List ℕ) → HasBytes m x es → x + length es < 65536 → Listed (rev_form y) m x es
 rev_listed y m x [] h le = tt
 rev_listed y m x (e ∷ es) h le = let p : plus x 1 ≡ x + 1 = omega arith in (h.0, subst (λ k. Listed (rev_form y) m k es) (sym p) (rev_listed y m (x + 1) es h.1 (omega arith)))
 
-revw_listed : (m : List ℕ) (x : ℕ) (es : List ℕ) → HasBytes m x (flat_map bytes_of_word es) → x + 2 * length es < 65536 → Listed revw_form m x es
+pub revw_listed : (m : List ℕ) (x : ℕ) (es : List ℕ) → HasBytes m x (flat_map bytes_of_word es) → x + 2 * length es < 65536 → Listed revw_form m x es
 revw_listed m x [] h le = tt
 revw_listed m x (e ∷ es) h le =
     let p : plus x 1 ≡ x + 1 = omega arith in
@@ -108,11 +46,11 @@ revw_listed m x (e ∷ es) h le =
     let w : get_or m x 0 * 2 ^ 8 + get_or m (plus x 1) 0 ≡ e = ap₂ (λ a b. a * 2 ^ 8 + b) h.0 (ap (λ k. get_or m k 0) p ∙ h.1.0) ∙ omega arith in
     (w, subst (λ k. Listed revw_form m k es) (sym q) (revw_listed m (x + 1 + 1) es h.1.1 (omega arith)))
 
-rev_span : (y : ℕ) (es : List ℕ) → span (rev_form y) es ≡ length es
+pub rev_span : (y : ℕ) (es : List ℕ) → span (rev_form y) es ≡ length es
 rev_span y [] = refl
 rev_span y (e ∷ es) = omega (arith, rev_span y es)
 
-revw_span : (es : List ℕ) → span revw_form es ≡ 2 * length es
+pub revw_span : (es : List ℕ) → span revw_form es ≡ 2 * length es
 revw_span [] = refl
 revw_span (e ∷ es) = omega (arith, revw_span es)
 
@@ -121,141 +59,19 @@ abbrev pub AreFull : List ℕ → Type 0
 AreFull [] = Unit {0}
 AreFull (w ∷ ws) = (w ≡ 255) × AreFull ws
 
-full_below : (ws : List ℕ) → AreFull ws → Below 256 ws
+pub full_below : (ws : List ℕ) → AreFull ws → Below 256 ws
 full_below [] h = tt
 full_below (w ∷ ws) h = ((let e = h.0 in omega arith), full_below ws h.1)
 
-full_weights : (name : ℕ → ℕ) (m : List ℕ) (y : ℕ) (cs : List Conjunction) (ws : List ℕ) → AreFull ws → AreWeights false m y (rules_by name cs ws)
+pub full_weights : (name : ℕ → ℕ) (m : List ℕ) (y : ℕ) (cs : List Conjunction) (ws : List ℕ) → AreFull ws → AreWeights false m y (rules_by name cs ws)
 full_weights name m y [] ws h = tt
 full_weights name m y (c ∷ cs) [] h = tt
 full_weights name m y (c ∷ cs) (w ∷ ws) h = (h.0, full_weights name m y cs ws h.1)
 
-read_weights : (name : ℕ → ℕ) (m : List ℕ) (y : ℕ) (cs : List Conjunction) (ws : List ℕ) → HasBytes m y ws → y + length ws < 65536 → AreWeights true m y (rules_by name cs ws)
+pub read_weights : (name : ℕ → ℕ) (m : List ℕ) (y : ℕ) (cs : List Conjunction) (ws : List ℕ) → HasBytes m y ws → y + length ws < 65536 → AreWeights true m y (rules_by name cs ws)
 read_weights name m y [] ws h le = tt
 read_weights name m y (c ∷ cs) [] h le = tt
 read_weights name m y (c ∷ cs) (w ∷ ws) h le = let p : plus y 1 ≡ y + 1 = omega arith in (h.0, subst (λ k. AreWeights true m k (rules_by name cs ws)) (sym p) (read_weights name m (y + 1) cs ws h.1 (omega arith)))
 
-entries_some : (c : Conjunction) (cs : List Conjunction) → 2 ≤ sum_by entry_count (c ∷ cs)
+pub entries_some : (c : Conjunction) (cs : List Conjunction) → 2 ≤ sum_by entry_count (c ∷ cs)
 entries_some c cs = omega (arith, sum_by-cons entry_count c cs)
-
--- what is known where the rules begin
-pub record AtRules (c : Ctx) (l : Layout) (m ss : List ℕ) (k : Conjunction) (ks : List Conjunction) (w : ℕ) (ws : List ℕ) (s : State) : Type 0 where
-  pub live : Live c s
-  pub mem_is : s.mem ≡ put m l.slots ss
-  pub size : length m ≡ 65536
-  pub below : AllBelow (length ss) (k ∷ ks)
-  pub weights : length ws ≡ length ks
-  pub low : l.slots + length ss ≤ 0x1800
-  pub list_low : 0x2000 ≤ l.rules
-
--- REV itself
-rev_step : (c : Ctx) (l : Layout) (m ss : List ℕ) (k : Conjunction) (ks : List Conjunction) (w : ℕ) (ws : List ℕ) (s : State) → AtRules c l m ss k ks w ws s → 0x2000 ≤ s.regs.pc → s.regs.pc + 6 < 65536 → decode_at s.mem s.regs.pc ≡ Ok Rev → s.regs.x ≡ l.rules → s.regs.y ≡ l.slots → s.regs.a ≡ 255 → has s.regs.ccr 1 ≡ false
-    → AreFull (w ∷ ws) → length ss ≤ 254 → HasBytes c.image l.rules (list_bytes (k ∷ ks)) → l.rules + length (list_bytes (k ∷ ks)) < 65536
-    → Ruled c Rev (rev_form s.regs.y) (sum_by entry_count (k ∷ ks) - 1) (rule_by number k w) (rules_by number ks ws) s
-rev_step c l m ss k ks w ws s h lo hi de ex ey ea ev full few hl le =
-    let f = rev_form s.regs.y in
-    let n = length ss in
-    let names : NamesSlots f s.regs.y n number = rev_names s.regs.y n few (omega (arith, h.low)) in
-    let some = entries_some k ks in
-    let lr : length (list_bytes (k ∷ ks)) ≡ sum_by entry_count (k ∷ ks) = ap (λ xs. length (marked 254 255 xs)) (sym (renamed_number (k ∷ ks))) ∙ length-renamed 254 255 number (k ∷ ks) in
-    let ee : list_bytes (k ∷ ks) ≡ elements_of f (rule_by number k w) (rules_by number ks ws) = ap (marked 254 255) (sym (renamed_number (k ∷ ks))) ∙ sym (elements_are f number k ks w ws h.weights) in
-    let hm : HasBytes s.mem s.regs.x (list_bytes (k ∷ ks)) = subst (λ x. HasBytes s.mem x (list_bytes (k ∷ ks))) (sym ex) (same_bytes c.image s.mem l.rules (list_bytes (k ∷ ks)) (λ at a b. h.live.same at (omega (arith, h.list_low))) hl) in
-    let listed : Listed f s.mem s.regs.x (elements_of f (rule_by number k w) (rules_by number ks ws)) = subst (Listed f s.mem s.regs.x) ee (rev_listed s.regs.y s.mem s.regs.x (list_bytes (k ∷ ks)) hm (omega arith)) in
-    let len : length (elements_of f (rule_by number k w) (rules_by number ks ws)) ≡ length (list_bytes (k ∷ ks)) = ap length (sym ee) in
-    let elements = element_bytes_high f s.regs.x (elements_of f (rule_by number k w) (rules_by number ks ws)) (omega (arith, h.list_low)) (omega (arith, rev_span s.regs.y (elements_of f (rule_by number k w) (rules_by number ks ws)))) in
-    let target = rules_target_low f s.regs.y n number names (k ∷ ks) (w ∷ ws) h.below in
-    rules_next c s Rev f (sum_by entry_count (k ∷ ks) - 1) (rule_by number k w) (rules_by number ks ws) h.live lo hi de (record {
-      a = ea;
-      v = ev;
-      rules = rules_are f s.regs.y n number names (k ∷ ks) (w ∷ ws) h.below;
-      listed = listed;
-      weights = full_weights number s.mem s.regs.y (k ∷ ks) (w ∷ ws) full;
-      list_stays = apart_by (rules_target f (rules_by number (k ∷ ks) (w ∷ ws))) _ target elements;
-      weights_stay = apart_by (rules_target f (rules_by number (k ∷ ks) (w ∷ ws))) [] target tt;
-    }) (omega arith) (light_by number (k ∷ ks) (w ∷ ws) (full_below (w ∷ ws) full)) target (rules_named_low f s.regs.y n number names (k ∷ ks) (w ∷ ws) h.below) elements tt (masked_open_hnzc s.regs.ccr c.flags)
-
--- REVW itself
-revw_step : (c : Ctx) (l : Layout) (m ss : List ℕ) (k : Conjunction) (ks : List Conjunction) (w : ℕ) (ws : List ℕ) (s : State) → AtRules c l m ss k ks w ws s → 0x2000 ≤ s.regs.pc → s.regs.pc + 6 < 65536 → decode_at s.mem s.regs.pc ≡ Ok Revw → s.regs.x ≡ l.rules → s.regs.y ≡ l.weights → s.regs.a ≡ 255 → has s.regs.ccr 1 ≡ false → has s.regs.ccr 0 ≡ true
-    → Below 256 (w ∷ ws) → HasBytes c.image l.rules (flat_map bytes_of_word (list_words l.slots (k ∷ ks))) → l.rules + 2 * length (list_words l.slots (k ∷ ks)) < 65536 → HasBytes c.image l.weights (w ∷ ws) → 0x2000 ≤ l.weights → l.weights + length (w ∷ ws) < 65536
-    → Ruled c Revw revw_form (sum_by entry_count (k ∷ ks) - 1) (rule_by (address l.slots) k w) (rules_by (address l.slots) ks ws) s
-revw_step c l m ss k ks w ws s h lo hi de ex ey ea ev ec light hl le hw wlo whi =
-    let f = revw_form in
-    let n = length ss in
-    let name = address l.slots in
-    let names : NamesSlots f l.slots n name = revw_names l.slots n h.low in
-    let some = entries_some k ks in
-    let lr : length (list_words l.slots (k ∷ ks)) ≡ sum_by entry_count (k ∷ ks) = length-renamed 65534 65535 name (k ∷ ks) in
-    let ee : list_words l.slots (k ∷ ks) ≡ elements_of f (rule_by name k w) (rules_by name ks ws) = sym (elements_are f name k ks w ws h.weights) in
-    let hm : HasBytes s.mem s.regs.x (flat_map bytes_of_word (list_words l.slots (k ∷ ks))) = subst (λ x. HasBytes s.mem x (flat_map bytes_of_word (list_words l.slots (k ∷ ks)))) (sym ex) (same_bytes c.image s.mem l.rules (flat_map bytes_of_word (list_words l.slots (k ∷ ks))) (λ at a b. h.live.same at (omega (arith, h.list_low))) hl) in
-    let listed : Listed f s.mem s.regs.x (elements_of f (rule_by name k w) (rules_by name ks ws)) = subst (Listed f s.mem s.regs.x) ee (revw_listed s.mem s.regs.x (list_words l.slots (k ∷ ks)) hm (omega arith)) in
-    let len : length (elements_of f (rule_by name k w) (rules_by name ks ws)) ≡ length (list_words l.slots (k ∷ ks)) = ap length (sym ee) in
-    let elements = element_bytes_high f s.regs.x (elements_of f (rule_by name k w) (rules_by name ks ws)) (omega (arith, h.list_low)) (omega (arith, revw_span (elements_of f (rule_by name k w) (rules_by name ks ws)))) in
-    let target = rules_target_low f l.slots n name names (k ∷ ks) (w ∷ ws) h.below in
-    let hv : HasBytes s.mem s.regs.y (w ∷ ws) = subst (λ y. HasBytes s.mem y (w ∷ ws)) (sym ey) (same_bytes c.image s.mem l.weights (w ∷ ws) (λ at a b. h.live.same at (omega arith)) hw) in
-    let lw = length-rules_by name (k ∷ ks) (w ∷ ws) (let e = h.weights in omega arith) in
-    let high = weight_bytes_high (has s.regs.ccr 0) s.regs.y (rules_by name (k ∷ ks) (w ∷ ws)) (omega arith) (omega (arith, h.weights)) in
-    rules_next c s Revw f (sum_by entry_count (k ∷ ks) - 1) (rule_by name k w) (rules_by name ks ws) h.live lo hi de (record {
-      a = ea;
-      v = ev;
-      rules = rules_are f l.slots n name names (k ∷ ks) (w ∷ ws) h.below;
-      listed = listed;
-      weights = subst (λ b. AreWeights b s.mem s.regs.y (rules_by name (k ∷ ks) (w ∷ ws))) (sym ec) (read_weights name s.mem s.regs.y (k ∷ ks) (w ∷ ws) hv (omega arith));
-      list_stays = apart_by (rules_target f (rules_by name (k ∷ ks) (w ∷ ws))) _ target elements;
-      weights_stay = apart_by (rules_target f (rules_by name (k ∷ ks) (w ∷ ws))) _ target high;
-    }) (omega arith) (light_by name (k ∷ ks) (w ∷ ws) light) target (rules_named_low f l.slots n name names (k ∷ ks) (w ∷ ws) h.below) elements high (masked_open_hnz s.regs.ccr c.flags)
-
--- the rules by REV
-pub rev_run : (c : Ctx) (l : Layout) (m ss : List ℕ) (k : Conjunction) (ks : List Conjunction) (w : ℕ) (ws : List ℕ) (s : State) (p : ℕ) → AtRules c l m ss k ks w ws s → s.regs.pc ≡ p → Stands c p (rules_code l form.Rev)
-    → AreFull (w ∷ ws) → length ss ≤ 254 → HasBytes c.image l.rules (list_bytes (k ∷ ks)) → l.rules + length (list_bytes (k ∷ ks)) < 65536
-    → Reaches c 5 (sum_by entry_count (k ∷ ks) - 1) s (p + sizes (rules_code l form.Rev)) (put m l.slots (fired ss (k ∷ ks) (w ∷ ws)))
-rev_run c l m ss k ks w ws s p h ep st full few hl le =
-    let s1 = after_plain c.flags (LdxImmediate l.rules) s in
-    let s2 = after_plain c.flags (LdyImmediate l.slots) s1 in
-    let s3 = after_plain c.flags (LdaaImmediate 0xFF) s2 in
-    let s4 = after_plain c.flags (Andcc 0xFD) s3 in
-    let n1 = ldx c s p l.rules h.live ep st.0 st.0.fits in
-    let n2 = ldy c s1 (p + 3) l.slots n1.live n1.pc_is st.1.0 st.1.0.fits in
-    let n3 = ldaa_byte c s2 (p + 3 + 3) 0xFF n2.live n2.pc_is st.1.1.0 st.1.1.0.fits in
-    let n4 = andcc_v c s3 (p + 3 + 3 + 2) n3.live n3.pc_is st.1.1.1.0 in
-    let h4 : AtRules c l m ss k ks w ws s4 = record { live = n4.live; mem_is = h.mem_is; size = h.size; below = h.below; weights = h.weights; low = h.low; list_low = h.list_low } in
-    let here = st.1.1.1.1.0 in
-    let lo = here.low in
-    let hi = here.high in
-    let de : decode_at s4.mem s4.regs.pc ≡ Ok Rev = ap (decode_at s4.mem) n4.pc_is ∙ decode_same c.image s4.mem (p + 3 + 3 + 2 + 2) lo hi n4.live.same ∙ here.decoded in
-    let r = rev_step c l m ss k ks w ws s4 h4 (omega (arith, n4.pc_is)) (omega (arith, n4.pc_is)) de refl refl refl (overflow_off s3.regs.ccr.0) full few hl le in
-    let t : State = rules_whole (rev_form s4.regs.y) c.flags s4.regs s4.temps s4.mem (rule_by number k w) (rules_by number ks ws) in
-    let g5 : Goes c 1 (sum_by entry_count (k ∷ ks) - 1) s4 t = goes_part c (sum_by entry_count (k ∷ ks) - 1) s4 t (record { busy = not_at c.layout s4 (p + 3 + 3 + 2 + 2) n4.pc_is here.off; calm = calm_of c s4 n4.live (omega (arith, n4.pc_is)) (omega (arith, n4.pc_is)); instruction = inr (inl (rule_by number k w, rules_by number ks ws, r.calm)) }) in
-    let g4 = goes_on c 1 0 3 0 s s1 s4 (goes_one c s s1 (p + 3) n1) (goes_on c 1 0 2 0 s1 s2 s4 (goes_one c s1 s2 (p + 3 + 3) n2) (goes_on c 1 0 1 0 s2 s3 s4 (goes_one c s2 s3 (p + 3 + 3 + 2) n3) (goes_one c s3 s4 (p + 3 + 3 + 2 + 2) n4))) in
-    let g = goes_on c 4 0 1 (sum_by entry_count (k ∷ ks) - 1) s s4 t g4 g5 in
-    let em : t.mem ≡ put m l.slots (fired ss (k ∷ ks) (w ∷ ws)) = ap (λ (x : List ℕ). (rules_whole (rev_form l.slots) c.flags s4.regs s4.temps x (rule_by number k w) (rules_by number ks ws)).mem) h.mem_is ∙ all_is (rev_form l.slots) l.slots (length ss) number m (rev_names l.slots (length ss) few h.low) h.size ss k ks w ws refl h.below h.weights in
-    reaches_at c 5 (0 + (sum_by entry_count (k ∷ ks) - 1)) 5 (sum_by entry_count (k ∷ ks) - 1) s _ _ _ _ (omega arith) (omega arith) refl refl (record { t = t; goes = g; live = r.live; pc_is = omega (arith, n4.pc_is); mem_is = em; sp_is = refl })
-
--- and by REVW
-pub revw_run : (c : Ctx) (l : Layout) (m ss : List ℕ) (k : Conjunction) (ks : List Conjunction) (w : ℕ) (ws : List ℕ) (s : State) (p : ℕ) → AtRules c l m ss k ks w ws s → s.regs.pc ≡ p → Stands c p (rules_code l form.Revw)
-    → Below 256 (w ∷ ws) → HasBytes c.image l.rules (flat_map bytes_of_word (list_words l.slots (k ∷ ks))) → l.rules + 2 * length (list_words l.slots (k ∷ ks)) < 65536 → HasBytes c.image l.weights (w ∷ ws) → 0x2000 ≤ l.weights → l.weights + length (w ∷ ws) < 65536
-    → Reaches c 6 (sum_by entry_count (k ∷ ks) - 1) s (p + sizes (rules_code l form.Revw)) (put m l.slots (fired ss (k ∷ ks) (w ∷ ws)))
-revw_run c l m ss k ks w ws s p h ep st light hl le hw wlo whi =
-    let j = sum_by entry_count (k ∷ ks) - 1 in
-    let name = address l.slots in
-    let s1 = after_plain c.flags (LdxImmediate l.rules) s in
-    let s2 = after_plain c.flags (LdyImmediate l.weights) s1 in
-    let s3 = after_plain c.flags (LdaaImmediate 0xFF) s2 in
-    let s4 = after_plain c.flags (Andcc 0xFD) s3 in
-    let s5 = after_plain c.flags (Orcc 0x01) s4 in
-    let n1 = ldx c s p l.rules h.live ep st.0 st.0.fits in
-    let n2 = ldy c s1 (p + 3) l.weights n1.live n1.pc_is st.1.0 st.1.0.fits in
-    let n3 = ldaa_byte c s2 (p + 3 + 3) 0xFF n2.live n2.pc_is st.1.1.0 st.1.1.0.fits in
-    let n4 = andcc_v c s3 (p + 3 + 3 + 2) n3.live n3.pc_is st.1.1.1.0 in
-    let n5 = orcc_c c s4 (p + 3 + 3 + 2 + 2) n4.live n4.pc_is st.1.1.1.1.0 in
-    let h5 : AtRules c l m ss k ks w ws s5 = record { live = n5.live; mem_is = h.mem_is; size = h.size; below = h.below; weights = h.weights; low = h.low; list_low = h.list_low } in
-    let here = st.1.1.1.1.1.0 in
-    let lo = here.low in
-    let hi = here.high in
-    let de : decode_at s5.mem s5.regs.pc ≡ Ok Revw = ap (decode_at s5.mem) n5.pc_is ∙ decode_same c.image s5.mem (p + 3 + 3 + 2 + 2 + 2) lo hi n5.live.same ∙ here.decoded in
-    let r = revw_step c l m ss k ks w ws s5 h5 (omega (arith, n5.pc_is)) (omega (arith, n5.pc_is)) de refl refl refl (overflow_or s4.regs.ccr.0 ∙ overflow_off s3.regs.ccr.0) (carry_or s4.regs.ccr.0) light hl le hw wlo whi in
-    let t : State = rules_whole revw_form c.flags s5.regs s5.temps s5.mem (rule_by name k w) (rules_by name ks ws) in
-    let g6 : Goes c 1 j s5 t = goes_part c j s5 t (record { busy = not_at c.layout s5 (p + 3 + 3 + 2 + 2 + 2) n5.pc_is here.off; calm = calm_of c s5 n5.live (omega (arith, n5.pc_is)) (omega (arith, n5.pc_is)); instruction = inr (inr (inl (rule_by name k w, rules_by name ks ws, r.calm))) }) in
-    let g5 = goes_on c 1 0 4 0 s s1 s5 (goes_one c s s1 (p + 3) n1) (goes_on c 1 0 3 0 s1 s2 s5 (goes_one c s1 s2 (p + 3 + 3) n2) (goes_on c 1 0 2 0 s2 s3 s5 (goes_one c s2 s3 (p + 3 + 3 + 2) n3) (goes_on c 1 0 1 0 s3 s4 s5 (goes_one c s3 s4 (p + 3 + 3 + 2 + 2) n4) (goes_one c s4 s5 (p + 3 + 3 + 2 + 2 + 2) n5)))) in
-    let g = goes_on c 5 0 1 j s s5 t g5 g6 in
-    let em : t.mem ≡ put m l.slots (fired ss (k ∷ ks) (w ∷ ws)) = ap (λ (x : List ℕ). (rules_whole revw_form c.flags s5.regs s5.temps x (rule_by name k w) (rules_by name ks ws)).mem) h.mem_is ∙ all_is revw_form l.slots (length ss) name m (revw_names l.slots (length ss) h.low) h.size ss k ks w ws refl h.below h.weights in
-    reaches_at c 6 (0 + j) 6 j s _ _ _ _ (omega arith) (omega arith) refl refl (record { t = t; goes = g; live = r.live; pc_is = omega (arith, n5.pc_is); mem_is = em; sp_is = refl })

@@ -1,8 +1,6 @@
 -- From reset to where the code waits.
-use Rattle.std.proofs.Common.{◌≡◌, inr, ℕ, zero, suc, ◌+◌, ◌*◌, ◌/◌, ◌%◌, ◌^◌, ◌<◌, ◌≤◌, Ok, List, [], ◌∷◌, ◌++◌, map, length, set, get_or, refl, sym, ap, ap₂, ◌∙◌, subst, arith, length-set, get_or-set_same}
-use Rattle.std.proofs.lemmas.List.{length-map}
+use Rattle.std.proofs.Common.{◌≡◌, inr, ℕ, ◌+◌, ◌-◌, ◌*◌, ◌/◌, ◌%◌, ◌^◌, ◌<◌, ◌≤◌, Ok, List, [], ◌∷◌, ◌++◌, map, length, set, get_or, refl, sym, ap, ap₂, ◌∙◌, subst, arith, length-set, get_or-set_same, get_or-set_other}
 use Rattle.fuzzy_meaning.specs.declared.block.Block.{Block}
-use Rattle.fuzzy_meaning.specs.declared.block.Output.{Output}
 use Rattle.cpu12_isa.specs.declared.instr.Instr.TheVariants.{LdsImmediate, ClrExtended, Andcc}
 use Rattle.cpu12_isa.specs.Code.{decode_at}
 use Rattle.cpu12_isa.specs.Fits.{FitsRegs, AreBytes}
@@ -14,52 +12,44 @@ use Rattle.cpu12_parts.specs.Whole.{after_plain}
 use Rattle.cpu12_emul.specs.Image.{byte_or_zero}
 use Rattle.cpu12_emul.specs.Step.{reset_with}
 use Rattle.codegen.specs.declared.layout.Layout.{Layout}
-use Rattle.codegen.specs.Code.{frame_code, eval_code}
+use Rattle.codegen.specs.declared.width.Width.{Width}
+use Rattle.codegen.specs.declared.width.Width.TheVariants.{Byte, Word}
+use Rattle.codegen.specs.Widths.{places, bytes_of}
+use Rattle.codegen.specs.Code.{whole_code}
 use Rattle.codegen.specs.Data.{table_bytes, singleton_bytes, weight_bytes, rule_bytes}
 use Rattle.codegen.specs.Images.{bytes_at, vector_items, firmware_items, IsApart}
-use Rattle.codegen.specs.Answers.{HasGiven, IsArrived}
+use Rattle.codegen.specs.Answers.{IsArrived}
 use Rattle.codegen.proofs.steps.Flags.{unmasked}
 use Rattle.codegen.proofs.steps.Memory.{HasBytes, SameHigh, high_set, bytes_set_out, bytes_after_set}
-use Rattle.codegen.proofs.steps.Stepping.{Ctx, Live, decode_same, calm_of}
-use Rattle.codegen.proofs.runs.Framing.{Home, waits}
+use Rattle.codegen.proofs.steps.Stepping.{Ctx, Live, decode_same, interruptible_of}
+use Rattle.codegen.proofs.runs.Framing.{Home, answer_room, waits}
 use Rattle.codegen.proofs.steps.Decoding.{decode_here}
-use Rattle.codegen.proofs.runs.Standing.{none_below}
+use Rattle.codegen.proofs.runs.Standing.{HasGiven, none_below}
 use Rattle.codegen.proofs.runs.Founding.{IsFramed, Stood, FrameBytes}
 
 -- memory below the code is 0
-pub zero_below : (image : List ℕ) (l : Layout) (b : Block) → HasGiven image (given_by (firmware_items l b)) → IsRising (firmware_items l b) → (q : ℕ) → q < l.code → q < 65536 → get_or image q 0 ≡ 0
+pub zero_below : (image : List ℕ) (l : Layout) (b : Block) (w : Width) → HasGiven image (given_by (firmware_items l b w)) → IsRising (firmware_items l b w) → (q : ℕ) → q < l.code → q < 65536 → get_or image q 0 ≡ 0
 unfolding firmware_items
-zero_below image l b h rise q lt small = h.bytes q small ∙ ap byte_or_zero (none_below l.code q (map Op (frame_code l ++ eval_code l b) ++ (bytes_at l.tables (table_bytes b) ++ (bytes_at l.singletons (singleton_bytes b) ++ (bytes_at l.weights (weight_bytes b) ++ (bytes_at l.rules (rule_bytes l.slots b) ++ vector_items l))))) rise.1 lt)
+zero_below image l b w h rise q lt small = h.bytes q small ∙ ap byte_or_zero (none_below l.code q (map Op (whole_code l b w) ++ (bytes_at l.tables (table_bytes b) ++ (bytes_at l.singletons (singleton_bytes b) ++ (bytes_at l.weights (weight_bytes b) ++ (bytes_at l.rules (rule_bytes l.slots b) ++ vector_items l))))) rise.1 lt)
 
--- an answer of 0 for each output
-abbrev pub zeros_of : List Output → List ℕ
-zeros_of os = map (λ _. 0) os
-
-zeros_stand : (m : List ℕ) (p n : ℕ) (os : List Output) → ((q : ℕ) → q < n → get_or m q 0 ≡ 0) → p + length os ≤ n → HasBytes m p (zeros_of os)
-zeros_stand m p n [] h le = tt
-zeros_stand m p n (o ∷ os) h le = (h p (omega arith), zeros_stand m (p + 1) n os h (omega arith))
-
-pub length-zeros_of : (os : List Output) → length (zeros_of os) ≡ length os
-length-zeros_of os = length-map os (λ _. 0)
-
-pub zeros_at : (os : List Output) (k : ℕ) → get_or (zeros_of os) k 0 ≡ 0
-zeros_at [] k = refl
-zeros_at (o ∷ os) zero = refl
-zeros_at (o ∷ os) (suc k) = zeros_at os k
+-- answers that are 0, where memory is
+none_stand : (w : Width) (m : List ℕ) (p : ℕ) → ((q : ℕ) → p ≤ q → q < p + length (bytes_of w 0) → get_or m q 0 ≡ 0) → HasBytes m p (bytes_of w 0)
+none_stand Byte m p h = (h p (omega arith) (omega arith), tt)
+none_stand Word m p h = (h p (omega arith) (omega arith), (h (p + 1) (omega arith) (omega arith), tt))
 
 -- the first arrival
-pub record Arrived (c : Ctx) (b : Block) : Type 0 where
+pub record Arrived (c : Ctx) (b : Block) (w : Width) : Type 0 where
   pub t : State
   pub arrived : IsArrived c.layout c.image c.flags t
-  pub home : Home c (zeros_of b.outputs) t
+  pub home : Home c b w (λ o. 0) t
 
-pub arrive : (c : Ctx) (b : Block) → IsFramed c.layout → IsApart c.layout → length b.outputs ≤ 4 → Stood c.image c.layout b → FrameBytes c.image c.layout b → HasGiven c.image (given_by (firmware_items c.layout b)) → AreBytes c.image → ((q : ℕ) → q < c.layout.code → get_or c.image q 0 ≡ 0) → Arrived c b
-arrive c b f a few h fb g bytes zero_low =
+pub arrive : (c : Ctx) (b : Block) (w : Width) → IsFramed c.layout → IsApart c.layout → length b.outputs ≤ 4 → Stood c.image c.layout b w → FrameBytes c.image c.layout b w → HasGiven c.image (given_by (firmware_items c.layout b w)) → AreBytes c.image → ((q : ℕ) → q < c.layout.code → get_or c.image q 0 ≡ 0) → Arrived c b w
+arrive c b width f a few h fb g bytes zero_low =
     let l = c.layout in
     let lo = f.low in
     let hi = f.high in
     let w = f.wait in
-    let r = a.ready in
+    let r = f.ready in
     let i = a.inputs in
     let o = a.outputs in
     let z = a.slots in
@@ -103,14 +93,16 @@ arrive c b f a few h fb g bytes zero_low =
         way = (s1, (omega arith, (LdsImmediate 0x2000, record { decoded = d0; plain = refl; after = refl }), (s2, (omega arith, (ClrExtended l.ready, record { decoded = d1; plain = refl; after = refl }), (s3, (omega arith, (Andcc 0xEF, record { decoded = d2; plain = refl; after = refl }), refl))))));
         wait = home;
         idle = waits l s3 home ready;
-        calm = calm_of c s3 live (omega arith) (omega arith);
-        load = ap (λ p. get_or c.image p 0) w ∙ fb.load.0;
+        interruptible = interruptible_of c s3 live (omega arith) (omega arith);
       };
       home = record {
         live = live;
         pc_is = home;
         sp_is = refl;
-        outs = bytes_set_out c.image l.ready 0 l.outputs (zeros_of b.outputs) (inr (omega arith)) (zeros_stand c.image l.outputs l.code b.outputs zero_low (omega arith));
+        outs = λ o from to.
+            (let p = l.outputs + places width * (o - 1) in
+            let room = answer_room width o 0 from (omega arith) in
+            bytes_set_out c.image l.ready 0 p (bytes_of width 0) (inr (omega arith)) (none_stand width c.image p (λ q lo hi. zero_low q (omega arith))));
         ready_is = ready;
       };
     }

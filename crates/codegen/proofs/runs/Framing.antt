@@ -1,9 +1,11 @@
 -- A sample, from where the code waits back to there.
-use Rattle.std.proofs.Common.{◌≡◌, ◌⊎◌, inl, inr, ℕ, ◌+◌, ◌-◌, ◌*◌, ◌/◌, ◌%◌, ◌^◌, ◌<◌, ◌≤◌, min, Bool, true, false, ◌&&◌, nat_lt, nat_le, Ok, List, [], ◌∷◌, length, set, All, get_or, refl, sym, ap, ap₂, ◌∙◌, subst, arith, length-set, get_or-set_same, get_or-set_other}
+use Rattle.std.proofs.Common.{◌≡◌, ◌⊎◌, inl, inr, ℕ, ◌+◌, ◌-◌, ◌*◌, ◌/◌, ◌%◌, ◌^◌, ◌<◌, ◌≤◌, min, Bool, true, false, ◌&&◌, nat_lt, nat_le, Ok, List, [], ◌∷◌, ◌++◌, length, set, All, get_or, refl, sym, ap, ap₂, ◌∙◌, subst, arith, length-set, get_or-set_same, get_or-set_other}
 use Rattle.std.specs.Prelude.{◌==◌}
 use Rattle.std.proofs.lemmas.Bool.{cases_eq, or_parts}
 use Rattle.std.proofs.lemmas.Bool.Decides.{nat_tests}
 use Rattle.fuzzy_meaning.specs.declared.block.Block.{Block}
+use Rattle.fuzzy_meaning.specs.Blocks.{IsValid}
+use Rattle.rule_layout.specs.Layouts.{IsWithinLimits}
 use Rattle.cpu12_isa.specs.declared.instr.Instr.TheVariants.{LdaaExtended, ClrExtended, Beq, Bra, JsrExtended}
 use Rattle.cpu12_isa.specs.Agreement.{IsWritten}
 use Rattle.cpu12_isa.specs.Code.{decode_at}
@@ -12,30 +14,43 @@ use Rattle.cpu12_isa.specs.Memory.{plus}
 use Rattle.cpu12_parts.specs.State.{State}
 use Rattle.cpu12_parts.specs.Whole.{after_plain}
 use Rattle.codegen.specs.declared.layout.Layout.{Layout}
-use Rattle.codegen.specs.Firing.{slots_after}
+use Rattle.codegen.specs.declared.width.Width.{Width}
+use Rattle.codegen.specs.declared.width.Width.TheVariants.{Byte, Word}
+use Rattle.codegen.specs.Widths.{places, bytes_of, answer}
+use Rattle.codegen.specs.Firing.{AreInputBytes}
+use Rattle.codegen.specs.Images.{IsApart}
+use Rattle.codegen.specs.Bounds.{instruction_bound, step_bound}
+use Rattle.codegen.specs.Evaluation.{HasAnswers}
 use Rattle.codegen.specs.Answers.{put, given}
-use Rattle.codegen.specs.Ways.{is_free, is_hidden, is_idle}
+use Rattle.cpu12_parts.specs.Executions.{Execution, all_steps}
+use Rattle.codegen.specs.Interruptible.{is_free, is_hidden, is_idle, IsInterruptibleStep}
 use Rattle.codegen.proofs.steps.Flags.{masked_tested, zero_tested}
 use Rattle.codegen.proofs.steps.Memory.{HasBytes, length-put, has_put, bytes_put_out, bytes_set_out, bytes_after_set, bytes_after_put, high_set, high_put}
-use Rattle.codegen.proofs.steps.Stepping.{Ctx, Here, Live, Stands, Next, next, plain_next, Goes, goes_one, goes_on, goes_most, low_shown, high_shown, not_at}
+use Rattle.codegen.proofs.steps.Stepping.{Ctx, Here, Live, Stands, Next, next, plain_next, Goes, goes_one, goes_on, execution_on, length_append, steps_append, interruptible_of, low_shown, high_shown, not_at}
 use Rattle.codegen.proofs.steps.Instructions.{clr, beq_on}
-use Rattle.codegen.proofs.phases.Quotients.{output_bytes, length-output_bytes}
-use Rattle.codegen.proofs.phases.Evaluating.{Evals, Returns, masses, evaluated, eval_most, eval_parts, eval_run}
+use Rattle.codegen.proofs.owned.Law.{eval_answers}
+use Rattle.codegen.proofs.owned.Derived.{HasRoutine, IsCalled, Back, called}
 
 -- the code around EVAL
 pub record HasFrame (c : Ctx) : Type 0 where
+  pub ready : c.layout.ready < c.layout.inputs
   pub low : 0x2000 ≤ c.layout.wait
   pub high : c.layout.wait + 40 < 65536
   pub load : decode_at c.image c.layout.wait ≡ Ok (LdaaExtended c.layout.ready)
   pub rest : Stands c (c.layout.wait + 3) (Beq 0xFB ∷ JsrExtended c.layout.eval ∷ ClrExtended c.layout.ready ∷ Bra 0xF3 ∷ [])
 
 -- what holds each time the machine waits
-pub record Home (c : Ctx) (bs : List ℕ) (s : State) : Type 0 where
+pub record Home (c : Ctx) (b : Block) (w : Width) (before : ℕ → ℕ) (s : State) : Type 0 where
   pub live : Live c s
   pub pc_is : s.regs.pc ≡ c.layout.wait
   pub sp_is : s.regs.sp ≡ 0x2000
-  pub outs : HasBytes s.mem c.layout.outputs bs
+  pub outs : HasAnswers c.layout b w before s.mem
   pub ready_is : get_or s.mem c.layout.ready 0 ≡ 0
+
+-- an answer's bytes stay within the outputs'
+pub answer_room : (w : Width) (o v : ℕ) → 1 ≤ o → o ≤ 4 → places w * (o - 1) + length (bytes_of w v) ≤ 8
+answer_room Byte o v lo hi = omega arith
+answer_room Word o v lo hi = omega arith
 
 and_false : (x : Bool) → (x && false) ≡ false
 and_false true = refl
@@ -144,10 +159,21 @@ given_live c bytes s l fit le low =
     }
 
 -- one sample
-pub record Sampled (c : Ctx) (b : Block) (bytes bs : List ℕ) (s : State) : Type 0 where
+pub record Sampled (c : Ctx) (b : Block) (w : Width) (bytes : List ℕ) (before : ℕ → ℕ) (s : State) : Type 0 where
   pub t : State
-  pub goes : Goes c (5 + eval_most b) (eval_parts b) s t
-  pub home : Home c (output_bytes b.outputs (masses b bytes) bs) t
+  pub ds : List ℕ
+  pub execution : Execution (IsInterruptibleStep c.layout c.image c.flags) ds s t
+  pub instructions : length ds ≤ instruction_bound w b
+  pub steps : all_steps ds ≤ step_bound w b
+  pub home : Home c b w (λ o. answer w b o bytes (before o)) t
+
+-- what a sample stands on
+pub record Samples (c : Ctx) (b : Block) (w : Width) : Type 0 where
+  pub apart : IsApart c.layout
+  pub valid : IsValid b
+  pub limits : IsWithinLimits b
+  pub routine : HasRoutine c.layout b w c.image
+  pub frame : HasFrame c
 
 pushed_word : (m : List ℕ) (r : ℕ) → length m ≡ 65536 → get_or (set (set m 0x1FFE (r / 2 ^ 8)) 0x1FFF (r % 2 ^ 8)) 0x1FFE 0 * 2 ^ 8 + get_or (set (set m 0x1FFE (r / 2 ^ 8)) 0x1FFF (r % 2 ^ 8)) 0x1FFF 0 ≡ r
 pushed_word m r lm =
@@ -158,68 +184,77 @@ pushed_word m r lm =
     let b : get_or (set (set m 0x1FFE hi) 0x1FFF lo) 0x1FFF 0 ≡ lo = get_or-set_same (set m 0x1FFE hi) 0x1FFF lo 0 (omega arith) in
     ap₂ (λ x y. x * 2 ^ 8 + y) a b ∙ omega arith
 
-returned : (c : Ctx) (b : Block) (bytes bs m : List ℕ) (s u : State) → Evals c c.layout b bytes bs → HasFrame c → Goes c (3 + eval_most b) (eval_parts b) s u → Live c u → u.regs.pc ≡ c.layout.wait + 8 → u.regs.sp ≡ 0x2000 → u.mem ≡ evaluated c.layout b bytes bs m → Sampled c b bytes bs s
-returned c b bytes bs m s u h f g l ep es em =
-    let apart = h.apart in
-    let a1 = apart.ready in
-    let a2 = apart.inputs in
-    let a3 = apart.outputs in
-    let a4 = apart.slots in
-    let qs = output_bytes b.outputs (masses b bytes) bs in
-    let lq = length-output_bytes b.outputs (masses b bytes) bs h.count in
-    let few = h.valid.few_outputs in
-    let r = leave_run c u f (omega arith) l ep in
-    let ls : length (put m c.layout.slots (slots_after b bytes)) ≡ 65536 = sym (length-put (put m c.layout.slots (slots_after b bytes)) c.layout.outputs qs) ∙ ap length (sym em) ∙ l.size in
-    let here : HasBytes u.mem c.layout.outputs qs = subst (λ x. HasBytes x c.layout.outputs qs) (sym em) (has_put (put m c.layout.slots (slots_after b bytes)) c.layout.outputs qs (omega arith)) in
-    let lu = l.size in
+-- from EVAL's return on
+left : (c : Ctx) (b : Block) (w : Width) (bytes : List ℕ) (before : ℕ → ℕ) (s0 : State) → Samples c b w → (r : Called c s0) (e : Back c b w (c.layout.wait + 8) bytes before r.t) → Left c e.t → Sampled c b w bytes before s0
+left c b w bytes before s0 h r e f =
+    let W = IsInterruptibleStep c.layout c.image c.flags in
+    let u = e.t in
+    let lu = e.live.size in
+    let a1 = h.frame.ready in
+    let a2 = h.apart.inputs in
+    let a3 = h.apart.outputs in
+    let a4 = h.apart.slots in
+    let ds = e.ds ++ f.goes.ds in
     record {
-      t = r.t;
-      goes = goes_most c (3 + eval_most b + 2) (eval_parts b + 0) _ _ s r.t (omega arith) (omega arith) (goes_on c (3 + eval_most b) (eval_parts b) 2 0 s u r.t g r.goes);
+      t = f.t;
+      ds = r.goes.ds ++ ds;
+      execution = execution_on W r.goes.ds ds s0 r.t f.t r.goes.way (execution_on W e.ds f.goes.ds r.t u f.t e.execution f.goes.way);
+      instructions = omega (arith, length_append r.goes.ds ds, length_append e.ds f.goes.ds, r.goes.count, e.instructions, f.goes.count);
+      steps = omega (arith, steps_append r.goes.ds ds, steps_append e.ds f.goes.ds, r.goes.parts, e.steps, f.goes.parts);
       home = record {
-        live = r.live;
-        pc_is = r.pc_is;
-        sp_is = r.sp_is ∙ es;
-        outs = subst (λ x. HasBytes x c.layout.outputs qs) (sym r.mem_is) (bytes_set_out u.mem c.layout.ready 0 c.layout.outputs qs (inr (omega arith)) here);
-        ready_is = ap (λ x. get_or x c.layout.ready 0) r.mem_is ∙ get_or-set_same u.mem c.layout.ready 0 0 (omega arith);
+        live = f.live;
+        pc_is = f.pc_is;
+        sp_is = f.sp_is ∙ e.sp_is;
+        outs = λ o lo hi.
+            subst (λ (m : List ℕ). HasBytes m (c.layout.outputs + places w * (o - 1)) (bytes_of w (answer w b o bytes (before o)))) (sym f.mem_is)
+            (bytes_set_out u.mem c.layout.ready 0 (c.layout.outputs + places w * (o - 1)) (bytes_of w (answer w b o bytes (before o))) (inr (omega arith)) (e.answers o lo hi));
+        ready_is = ap (λ x. get_or x c.layout.ready 0) f.mem_is ∙ get_or-set_same u.mem c.layout.ready 0 0 (omega arith);
       };
     }
 
-pub sample_run : (c : Ctx) (b : Block) (bytes bs : List ℕ) (s : State) → Evals c c.layout b bytes bs → HasFrame c → Home c bs s → Sampled c b bytes bs (given c.layout bytes s)
-sample_run c b bytes bs s h f home =
-    let apart = h.apart in
+-- from where EVAL is called on
+evaluated : (c : Ctx) (b : Block) (w : Width) (bytes : List ℕ) (before : ℕ → ℕ) (s0 : State) → Samples c b w → AreInputBytes b bytes → Live c s0 → HasBytes s0.mem c.layout.inputs bytes → HasAnswers c.layout b w before s0.mem → Called c s0 → Sampled c b w bytes before s0
+evaluated c b w bytes before s0 h i l0 hi ho r =
     let few = h.valid.few_inputs in
-    let n = h.input.count in
-    let a1 = apart.ready in
-    let a2 = apart.inputs in
-    let a3 = apart.outputs in
-    let a4 = apart.slots in
+    let outs = h.valid.few_outputs in
+    let n = i.count in
+    let a1 = h.frame.ready in
+    let a2 = h.apart.inputs in
+    let a3 = h.apart.outputs in
+    let a4 = h.apart.slots in
+    let low = h.apart.eval in
+    let high = h.apart.eval_end in
+    let ret = c.layout.wait + 8 in
+    let m1 = set s0.mem 0x1FFE (ret / 2 ^ 8) in
+    let keep : HasBytes r.t.mem c.layout.inputs bytes = subst (λ x. HasBytes x c.layout.inputs bytes) (sym r.mem_is) (bytes_set_out m1 0x1FFF (ret % 2 ^ 8) c.layout.inputs bytes (inl (omega arith)) (bytes_set_out s0.mem 0x1FFE (ret / 2 ^ 8) c.layout.inputs bytes (inl (omega arith)) hi)) in
+    let kept : HasAnswers c.layout b w before r.t.mem = λ o lo le.
+    (let at = c.layout.outputs + places w * (o - 1) in
+    let vs = bytes_of w (before o) in
+    let room = answer_room w o (before o) lo (omega arith) in
+    subst (λ (m : List ℕ). HasBytes m at vs) (sym r.mem_is) (bytes_set_out m1 0x1FFF (ret % 2 ^ 8) at vs (inl (omega arith)) (bytes_set_out s0.mem 0x1FFE (ret / 2 ^ 8) at vs (inl (omega arith)) (ho o lo le)))) in
+    let pushed : get_or r.t.mem 0x1FFE 0 * 2 ^ 8 + get_or r.t.mem 0x1FFF 0 ≡ ret = ap (λ (x : List ℕ). get_or x 0x1FFE 0 * 2 ^ 8 + get_or x 0x1FFF 0) r.mem_is ∙ pushed_word s0.mem ret l0.size in
+    let k : IsCalled c.layout b w c.image ret bytes before r.t = record { interruptible = interruptible_of c r.t r.live (omega (arith, r.pc_is)) (omega (arith, r.pc_is)); pc = r.pc_is; sp = r.sp_is; back_is = pushed; inputs = keep; outputs = kept } in
+    let e = called eval_answers c b w ret bytes before r.t h.apart h.valid h.limits h.routine i k in
+    left c b w bytes before s0 h r e (leave_run c e.t h.frame (omega arith) e.live e.pc_is)
+
+pub sample_run : (c : Ctx) (b : Block) (w : Width) (bytes : List ℕ) (before : ℕ → ℕ) (s : State) → Samples c b w → AreInputBytes b bytes → Home c b w before s → Sampled c b w bytes before (given c.layout bytes s)
+sample_run c b w bytes before s h i home =
+    let few = h.valid.few_inputs in
+    let outs = h.valid.few_outputs in
+    let n = i.count in
+    let a1 = h.frame.ready in
+    let a2 = h.apart.inputs in
+    let a3 = h.apart.outputs in
+    let a4 = h.apart.slots in
     let s0 = given c.layout bytes s in
-    let l0 = given_live c bytes s home.live h.input.fit (omega arith) (omega arith) in
+    let l0 = given_live c bytes s home.live i.fit (omega arith) (omega arith) in
     let m = put s.mem c.layout.inputs bytes in
     let ls = home.live.size in
     let lm : length m ≡ 65536 = length-put s.mem c.layout.inputs bytes ∙ home.live.size in
     let er : get_or s0.mem c.layout.ready 0 ≡ 1 = get_or-set_same m c.layout.ready 1 0 (omega arith) in
     let hi : HasBytes s0.mem c.layout.inputs bytes = bytes_set_out m c.layout.ready 1 c.layout.inputs bytes (inr (omega arith)) (has_put s.mem c.layout.inputs bytes (omega arith)) in
-    let ho : HasBytes s0.mem c.layout.outputs bs = bytes_set_out m c.layout.ready 1 c.layout.outputs bs (inr (omega arith)) (bytes_put_out s.mem c.layout.inputs bytes c.layout.outputs bs (inr (omega arith)) home.outs) in
-    called s0 l0 hi ho (call_run c s0 f (omega arith) l0 home.pc_is home.sp_is er)
-  where
-    then_leave : (s0 : State) (r : Called c s0) → Returns c (eval_most b) (eval_parts b) r.t (c.layout.wait + 8) (evaluated c.layout b bytes bs r.t.mem) → Sampled c b bytes bs s0
-    then_leave s0 r e = returned c b bytes bs r.t.mem s0 e.t h f (goes_most c (3 + eval_most b) (0 + eval_parts b) (3 + eval_most b) (eval_parts b) s0 e.t (omega arith) (omega arith) (goes_on c 3 0 (eval_most b) (eval_parts b) s0 r.t e.t r.goes e.goes)) e.live e.pc_is e.sp_is e.mem_is
-
-    called : (s0 : State) → Live c s0 → HasBytes s0.mem c.layout.inputs bytes → HasBytes s0.mem c.layout.outputs bs → Called c s0 → Sampled c b bytes bs s0
-    called s0 l0 hi ho r =
-        let apart = h.apart in
-        let few = h.valid.few_inputs in
-        let outs = h.valid.few_outputs in
-        let n = h.input.count in
-        let k = h.count in
-        let a2 = apart.inputs in
-        let a3 = apart.outputs in
-        let a4 = apart.slots in
-        let ret = c.layout.wait + 8 in
-        let m1 = set s0.mem 0x1FFE (ret / 2 ^ 8) in
-        let m2 = set m1 0x1FFF (ret % 2 ^ 8) in
-        let keep : (p : ℕ) (xs : List ℕ) → p + length xs ≤ 0x1800 → HasBytes s0.mem p xs → HasBytes r.t.mem p xs = λ p xs le hx. subst (λ x. HasBytes x p xs) (sym r.mem_is) (bytes_set_out m1 0x1FFF (ret % 2 ^ 8) p xs (inl (omega arith)) (bytes_set_out s0.mem 0x1FFE (ret / 2 ^ 8) p xs (inl (omega arith)) hx)) in
-        let w : get_or r.t.mem 0x1FFE 0 * 2 ^ 8 + get_or r.t.mem 0x1FFF 0 ≡ ret = ap (λ (x : List ℕ). get_or x 0x1FFE 0 * 2 ^ 8 + get_or x 0x1FFF 0) r.mem_is ∙ pushed_word s0.mem ret l0.size in
-        let e = eval_run c c.layout b bytes bs ret r.t h r.live r.pc_is r.sp_is (keep c.layout.inputs bytes (omega arith) hi) (keep c.layout.outputs bs (omega arith) ho) w in
-        then_leave s0 r e
+    let ho : HasAnswers c.layout b w before s0.mem = λ o lo le.
+    (let at = c.layout.outputs + places w * (o - 1) in
+    let vs = bytes_of w (before o) in
+    bytes_set_out m c.layout.ready 1 at vs (inr (omega arith)) (bytes_put_out s.mem c.layout.inputs bytes at vs (inr (omega arith)) (home.outs o lo le))) in
+    evaluated c b w bytes before s0 h i l0 hi ho (call_run c s0 h.frame (omega arith) l0 home.pc_is home.sp_is er)

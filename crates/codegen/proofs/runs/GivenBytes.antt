@@ -23,7 +23,7 @@ use Rattle.rule_layout.specs.Layouts.{conjunctions_of, weights_of, form_of, IsBe
 use Rattle.rule_layout.proofs.LayoutLemmas.{few_slots, numbers_in_range}
 use Rattle.rule_layout.proofs.ListLemmas.{marked_below}
 use Rattle.cpu12_isa.specs.declared.instr.Instr.{Instr}
-use Rattle.cpu12_isa.specs.declared.instr.Instr.TheVariants.{LdaaImmediate, LdaaExtended, LdabImmediate, LdxImmediate, LdyImmediate, LdsImmediate, StaaExtended, StabExtended, ClrExtended, Coma, CpxImmediate, Beq, Bra, JsrExtended, Rts, Andcc, Orcc, TransferYD, Ediv, Mem, Rev, Revw, Wav}
+use Rattle.cpu12_isa.specs.declared.instr.Instr.TheVariants.{LdaaImmediate, LdaaExtended, LdabImmediate, LdxImmediate, LdyImmediate, LdsImmediate, StaaExtended, StabExtended, ClrExtended, Coma, CpxImmediate, Beq, Bra, JsrExtended, Rts, Andcc, Orcc, TransferXD, TransferYD, Ediv, Fdiv, Mem, Rev, Revw, Wav}
 use Rattle.cpu12_isa.specs.Code.{encode_of, FitsOperands}
 use Rattle.cpu12_isa.specs.Fits.{AreBytes}
 use Rattle.cpu12_asm.specs.declared.items.Item.{Item}
@@ -31,14 +31,15 @@ use Rattle.cpu12_asm.specs.declared.items.Item.TheVariants.{Byte, Op}
 use Rattle.cpu12_asm.specs.Bytes.{byte_at, placed}
 use Rattle.cpu12_asm.specs.Items.{item_bytes, place_after, given_from, given_by}
 use Rattle.cpu12_emul.specs.Image.{byte_or_zero}
-use Rattle.codegen.specs.Code.{frame_code, eval_code}
+use Rattle.codegen.specs.declared.width.Width.{Width}
+use Rattle.codegen.specs.Code.{frame_code, eval_code, whole_code}
 use Rattle.codegen.specs.Data.{table_bytes, singleton_bytes, singleton_bytes_of, weight_bytes, weight_bytes_by, rule_bytes, rule_bytes_by, bytes_of_word}
 use Rattle.codegen.specs.Images.{firmware_items, IsApart}
 use Rattle.codegen.specs.Layouts.{main_layout}
 use Rattle.codegen.proofs.phases.RuleMemory.{Below, below_all, below_append}
 use Rattle.codegen.proofs.phases.RuleFacts.{weights_below, rev_is_plain}
-use Rattle.codegen.proofs.steps.Decoding.{IsUsed, UsedCode}
-use Rattle.codegen.proofs.runs.Founding.{used_eval}
+use Rattle.codegen.proofs.steps.Decoding.{IsUsed, UsedCode, used_append}
+use Rattle.codegen.proofs.owned.Used.{used_answer}
 
 -- items that give bytes
 abbrev ItemsFit : List Item → Type 0
@@ -71,8 +72,10 @@ encoded_fits (JsrExtended v) u h = (omega arith, (omega arith, (omega arith, tt)
 encoded_fits Rts u h = (omega arith, tt)
 encoded_fits (Andcc v) u h = (omega arith, (h, tt))
 encoded_fits (Orcc v) u h = (omega arith, (h, tt))
+encoded_fits TransferXD u h = (omega arith, (omega arith, tt))
 encoded_fits TransferYD u h = (omega arith, (omega arith, tt))
 encoded_fits Ediv u h = (omega arith, tt)
+encoded_fits Fdiv u h = (omega arith, (omega arith, tt))
 encoded_fits Mem u h = (omega arith, tt)
 encoded_fits Rev u h = (omega arith, (omega arith, tt))
 encoded_fits Revw u h = (omega arith, (omega arith, tt))
@@ -161,15 +164,16 @@ word_fits : (w : ℕ) → w < 65536 → Below 256 (bytes_of_word w)
 word_fits w h = (omega arith, (omega arith, tt))
 
 -- a firmware's items give bytes
-items_fit : (b : Block) → IsValid b → IsApart main_layout → ItemsFit (firmware_items main_layout b)
+items_fit : (b : Block) (w : Width) → IsValid b → IsApart main_layout → ItemsFit (firmware_items main_layout b w)
 unfolding firmware_items
-items_fit b v a =
+items_fit b w v a =
     let frame : ItemsFit (map Op (frame_code main_layout)) = ((omega arith, (omega arith, (omega arith, tt))), ((omega arith, (omega arith, (omega arith, tt))), ((omega arith, (omega arith, tt)), ((omega arith, (omega arith, (omega arith, tt))), ((omega arith, (omega arith, tt)), ((omega arith, (omega arith, (omega arith, tt))), ((omega arith, (omega arith, (omega arith, tt))), ((omega arith, (omega arith, tt)), ((omega arith, tt), tt))))))))) in
     let few = few_slots b v in
     let small : form_of b ≡ form.Rev → length (slots_of b) ≤ 254 = λ e. (rev_is_plain b v e).0 in
-    let code : ItemsFit (map Op (frame_code main_layout ++ eval_code main_layout b)) = fit_append (map Op (frame_code main_layout)) (map Op (eval_code main_layout b)) frame (fit_code (eval_code main_layout b) (used_eval main_layout b a v)) in (
+    let used : UsedCode (eval_code main_layout b w ++ Rts ∷ []) = used_append (eval_code main_layout b w) (Rts ∷ []) (used_answer main_layout b w a v) (tt, tt, tt) in
+    let code : ItemsFit (map Op (whole_code main_layout b w)) = fit_append (map Op (frame_code main_layout)) (map Op (eval_code main_layout b w ++ Rts ∷ [])) frame (fit_code (eval_code main_layout b w ++ Rts ∷ []) used) in (
       tt,
-      fit_append (map Op (frame_code main_layout ++ eval_code main_layout b)) _ code (
+      fit_append (map Op (whole_code main_layout b w)) _ code (
         tt,
         fit_append (map Byte (table_bytes b)) _ (fit_bytes (table_bytes b) (tables_fit b.inputs)) (
           tt,
@@ -207,8 +211,8 @@ found_fits (p ∷ ps) q h = chosen (is_at (nat_cmp q) p.0) (found_fits ps q h.1)
     chosen false k = k
 
 -- a memory that has what a firmware gives is one of bytes
-pub memory_fits : (b : Block) (mem : List ℕ) → IsValid b → IsApart main_layout → length mem ≡ 65536 → ((at : ℕ) → at < 65536 → get_or mem at 0 ≡ byte_or_zero (byte_at (given_by (firmware_items main_layout b)) at)) → AreBytes mem
-memory_fits b mem v a size h at = elim (cases_lt at 65536) [
-  | inl lt ↦ (let e = h at lt in let f = found_fits (given_by (firmware_items main_layout b)) at (given_fit 0 (firmware_items main_layout b) (items_fit b v a)) in omega arith)
+pub memory_fits : (b : Block) (w : Width) (mem : List ℕ) → IsValid b → IsApart main_layout → length mem ≡ 65536 → ((at : ℕ) → at < 65536 → get_or mem at 0 ≡ byte_or_zero (byte_at (given_by (firmware_items main_layout b w)) at)) → AreBytes mem
+memory_fits b w mem v a size h at = elim (cases_lt at 65536) [
+  | inl lt ↦ (let e = h at lt in let f = found_fits (given_by (firmware_items main_layout b w)) at (given_fit 0 (firmware_items main_layout b w) (items_fit b w v a)) in omega arith)
   | inr le ↦ (let e : get_or mem at 0 ≡ 0 = get_or_past mem at 0 (omega arith) in omega arith)
 ]

@@ -11,9 +11,13 @@ use Rattle.cpu12_asm.specs.Items.{item_bytes, place_after, place_behind, given_f
 use Rattle.cpu12_asm.proofs.Placing.{or_else, byte_at-append, byte_at-placed}
 use Rattle.cpu12_asm.proofs.Rising.{rising_head, rising_end, rising_parts}
 use Rattle.cpu12_emul.specs.Image.{byte_or_zero}
-use Rattle.codegen.specs.Answers.{HasGiven}
 use Rattle.codegen.proofs.steps.Memory.{HasBytes, bytes_by}
 use Rattle.codegen.proofs.steps.Decoding.{code_bytes}
+
+-- a memory that has just the bytes that are given, and else 0
+pub record HasGiven (mem : List ℕ) (given : List (ℕ × ℕ)) : Type 0 where
+  pub size : length mem ≡ 65536
+  pub bytes : (at : ℕ) → at < 65536 → get_or mem at 0 ≡ byte_or_zero (byte_at given at)
 
 placed_append : (at : ℕ) (a b : List ℕ) → placed at (a ++ b) ≡ placed at a ++ placed (at + length a) b
 placed_append at [] b = let e : at ≡ at + 0 = omega arith in ap (λ k. placed k b) e

@@ -1,7 +1,7 @@
 -- The instructions of the code, from their bytes.
 use Rattle.std.proofs.Common.{◌≡◌, ℕ, ◌+◌, ◌*◌, ◌/◌, ◌%◌, ◌^◌, ◌<◌, ◌≤◌, Ok, List, [], ◌∷◌, ◌++◌, flat_map, length, get_or, ap, ◌∙◌, arith}
 use Rattle.cpu12_isa.specs.declared.instr.Instr.{Instr}
-use Rattle.cpu12_isa.specs.declared.instr.Instr.TheVariants.{LdaaImmediate, LdaaExtended, LdabImmediate, LdxImmediate, LdyImmediate, LdsImmediate, StaaExtended, StabExtended, ClrExtended, Coma, CpxImmediate, Beq, Bra, JsrExtended, Rts, Andcc, Orcc, TransferYD, Ediv, Mem, Rev, Revw, Wav}
+use Rattle.cpu12_isa.specs.declared.instr.Instr.TheVariants.{LdaaImmediate, LdaaExtended, LdabImmediate, LdxImmediate, LdyImmediate, LdsImmediate, StaaExtended, StabExtended, ClrExtended, Coma, CpxImmediate, Beq, Bra, JsrExtended, Rts, Andcc, Orcc, TransferXD, TransferYD, Ediv, Fdiv, Mem, Rev, Revw, Wav}
 use Rattle.cpu12_isa.specs.Code.{encode_of, decode_of, decode_at, FitsOperands}
 use Rattle.cpu12_isa.specs.Memory.{plus}
 use Rattle.codegen.proofs.steps.Memory.{HasBytes, bytes_front, bytes_back}
@@ -26,8 +26,10 @@ IsUsed (JsrExtended v) = Unit {0}
 IsUsed Rts = Unit {0}
 IsUsed (Andcc v) = Unit {0}
 IsUsed (Orcc v) = Unit {0}
+IsUsed TransferXD = Unit {0}
 IsUsed TransferYD = Unit {0}
 IsUsed Ediv = Unit {0}
+IsUsed Fdiv = Unit {0}
 IsUsed Mem = Unit {0}
 IsUsed Rev = Unit {0}
 IsUsed Revw = Unit {0}
@@ -69,8 +71,10 @@ decode_here m p (JsrExtended w) u le h = three m p 22 (w / 2 ^ 8) (w % 2 ^ 8) le
 decode_here m p Rts u le h = one m p 61 h.0
 decode_here m p (Andcc v) u le h = two m p 16 v le h.0 h.1.0
 decode_here m p (Orcc v) u le h = two m p 20 v le h.0 h.1.0
+decode_here m p TransferXD u le h = two m p 183 84 le h.0 h.1.0
 decode_here m p TransferYD u le h = two m p 183 100 le h.0 h.1.0
 decode_here m p Ediv u le h = one m p 17 h.0
+decode_here m p Fdiv u le h = two m p 24 17 le h.0 h.1.0
 decode_here m p Mem u le h = one m p 1 h.0
 decode_here m p Rev u le h = two m p 24 58 le h.0 h.1.0
 decode_here m p Revw u le h = two m p 24 59 le h.0 h.1.0

@@ -17,7 +17,8 @@ use Rattle.cpu12_parts.specs.State.{State}
 use Rattle.cpu12_parts.specs.Laws.{addresses}
 use Rattle.cpu12_parts.specs.Whole.{after_plain}
 use Rattle.codegen.specs.declared.layout.Layout.{Layout}
-use Rattle.codegen.specs.Ways.{Way, all_steps, is_free, is_hidden, is_idle, IsCalm, IsCalmStep}
+use Rattle.cpu12_parts.specs.Executions.{Execution, all_steps}
+use Rattle.codegen.specs.Interruptible.{is_free, is_hidden, is_idle, IsInterruptible, IsInterruptibleStep}
 use Rattle.codegen.proofs.steps.Memory.{SameHigh, bytes_after_set}
 
 -- what a run is under: the layout, the image's memory and the open flags
@@ -93,8 +94,8 @@ code_shown sp pc a b c =
     let at : (k : ℕ) → k ≤ 5 → is_hidden sp (plus pc k) ≡ false = λ k l. high_shown sp (plus pc k) (omega arith) (omega arith) in
     (high_shown sp pc (omega arith) (omega arith), (at 1 (omega arith), (at 2 (omega arith), (at 3 (omega arith), (at 4 (omega arith), (at 5 (omega arith), tt))))))
 
-pub calm_of : (c : Ctx) (s : State) → Live c s → 0x2000 ≤ s.regs.pc → s.regs.pc + 6 < 65536 → IsCalm c.image s
-calm_of c s l lo hi = record {
+pub interruptible_of : (c : Ctx) (s : State) → Live c s → 0x2000 ≤ s.regs.pc → s.regs.pc + 6 < 65536 → IsInterruptible c.image s
+interruptible_of c s l lo hi = record {
   temps = l.temps;
   size = l.size;
   bytes = l.bytes;
@@ -137,7 +138,7 @@ below_more n k (w ∷ ws) le h = (let q = h.0 in omega arith, below_more n k ws 
 
 -- one instruction on
 pub record Next (c : Ctx) (s t : State) (q : ℕ) : Type 0 where
-  pub step : IsCalmStep c.layout c.image c.flags 0 s t
+  pub step : IsInterruptibleStep c.layout c.image c.flags 0 s t
   pub live : Live c t
   pub pc_is : t.regs.pc ≡ q
 
@@ -158,7 +159,7 @@ plain_next c s p q i l busy ep lo hi de pl fo reads writes uncovers below stack 
     record {
       step = record {
         busy = busy;
-        calm = calm_of c s l (omega arith) (omega arith);
+        interruptible = interruptible_of c s l (omega arith) (omega arith);
         instruction = inl (i, (record { step = record { decoded = d; plain = pl; after = refl }; reads = reads; writes = writes; uncovers = uncovers }, refl));
       };
       live = record {
@@ -191,7 +192,7 @@ next c s p q i l ep h pl fo reads below esp mask pc =
 -- runs of at most n instructions and k parts beyond their first
 pub record Goes (c : Ctx) (n k : ℕ) (s t : State) : Type 0 where
   pub ds : List ℕ
-  pub way : Way (IsCalmStep c.layout c.image c.flags) ds s t
+  pub way : Execution (IsInterruptibleStep c.layout c.image c.flags) ds s t
   pub count : length ds ≤ n
   pub parts : all_steps ds ≤ n + k
   pub exact : all_steps ds ≤ length ds + k
@@ -199,25 +200,25 @@ pub record Goes (c : Ctx) (n k : ℕ) (s t : State) : Type 0 where
 pub goes_none : (c : Ctx) (s : State) → Goes c 0 0 s s
 goes_none c s = record { ds = []; way = refl; count = omega arith; parts = omega arith; exact = omega arith }
 
-pub goes_part : (c : Ctx) (d : ℕ) (s t : State) → IsCalmStep c.layout c.image c.flags d s t → Goes c 1 d s t
+pub goes_part : (c : Ctx) (d : ℕ) (s t : State) → IsInterruptibleStep c.layout c.image c.flags d s t → Goes c 1 d s t
 goes_part c d s t h = record { ds = d ∷ []; way = (t, (h, refl)); count = omega arith; parts = omega arith; exact = omega arith }
 
-way_on : (W : ℕ → State → State → Type 0) (ds es : List ℕ) (s t u : State) → Way W ds s t → Way W es t u → Way W (ds ++ es) s u
-way_on W [] es s t u a b = subst (λ v. Way W es v u) (sym a) b
-way_on W (d ∷ ds) es s t u a b = (a.0, (a.1.0, way_on W ds es a.0 t u a.1.1 b))
+pub execution_on : (W : ℕ → State → State → Type 0) (ds es : List ℕ) (s t u : State) → Execution W ds s t → Execution W es t u → Execution W (ds ++ es) s u
+execution_on W [] es s t u a b = subst (λ v. Execution W es v u) (sym a) b
+execution_on W (d ∷ ds) es s t u a b = (a.0, (a.1.0, execution_on W ds es a.0 t u a.1.1 b))
 
-steps_append : (ds es : List ℕ) → all_steps (ds ++ es) ≡ all_steps ds + all_steps es
+pub steps_append : (ds es : List ℕ) → all_steps (ds ++ es) ≡ all_steps ds + all_steps es
 steps_append [] es = omega arith
 steps_append (d ∷ ds) es = let e = steps_append ds es in omega arith
 
-length_append : (ds es : List ℕ) → length (ds ++ es) ≡ length ds + length es
+pub length_append : (ds es : List ℕ) → length (ds ++ es) ≡ length ds + length es
 length_append [] es = omega arith
 length_append (d ∷ ds) es = let e = length_append ds es in omega arith
 
 pub goes_on : (c : Ctx) (n k m j : ℕ) (s t u : State) → Goes c n k s t → Goes c m j t u → Goes c (n + m) (k + j) s u
 goes_on c n k m j s t u a b = record {
   ds = a.ds ++ b.ds;
-  way = way_on (IsCalmStep c.layout c.image c.flags) a.ds b.ds s t u a.way b.way;
+  way = execution_on (IsInterruptibleStep c.layout c.image c.flags) a.ds b.ds s t u a.way b.way;
   count = omega (arith, length_append a.ds b.ds, a.count, b.count);
   parts = omega (arith, steps_append a.ds b.ds, a.parts, b.parts);
   exact = omega (arith, steps_append a.ds b.ds, length_append a.ds b.ds, a.exact, b.exact);
@@ -228,21 +229,3 @@ goes_most c n k m j s t a b g = record { ds = g.ds; way = g.way; count = omega (
 
 pub goes_one : (c : Ctx) (s t : State) (q : ℕ) → Next c s t q → Goes c 1 0 s t
 goes_one c s t q h = goes_part c 0 s t h.step
-
--- where at most n instructions and k parts more lead
-pub record Reaches (c : Ctx) (n k : ℕ) (s : State) (pc : ℕ) (mem : List ℕ) : Type 0 where
-  pub t : State
-  pub goes : Goes c n k s t
-  pub live : Live c t
-  pub pc_is : t.regs.pc ≡ pc
-  pub mem_is : t.mem ≡ mem
-  pub sp_is : t.regs.sp ≡ s.regs.sp
-
-pub reaches_none : (c : Ctx) (s : State) (pc : ℕ) (mem : List ℕ) → Live c s → s.regs.pc ≡ pc → s.mem ≡ mem → Reaches c 0 0 s pc mem
-reaches_none c s pc mem l ep em = record { t = s; goes = goes_none c s; live = l; pc_is = ep; mem_is = em; sp_is = refl }
-
-pub reaches_after : (c : Ctx) (n k m j : ℕ) (s t : State) (pc : ℕ) (mem : List ℕ) → Goes c n k s t → t.regs.sp ≡ s.regs.sp → Reaches c m j t pc mem → Reaches c (n + m) (k + j) s pc mem
-reaches_after c n k m j s t pc mem g es r = record { t = r.t; goes = goes_on c n k m j s t r.t g r.goes; live = r.live; pc_is = r.pc_is; mem_is = r.mem_is; sp_is = r.sp_is ∙ es }
-
-pub reaches_at : (c : Ctx) (n k m j : ℕ) (s : State) (pc pc' : ℕ) (mem mem' : List ℕ) → n ≤ m → k ≤ j → pc ≡ pc' → mem ≡ mem' → Reaches c n k s pc mem → Reaches c m j s pc' mem'
-reaches_at c n k m j s pc pc' mem mem' a b ep em r = record { t = r.t; goes = goes_most c n k m j s r.t a b r.goes; live = r.live; pc_is = r.pc_is ∙ ep; mem_is = r.mem_is ∙ em; sp_is = r.sp_is }

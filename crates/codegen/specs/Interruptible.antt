@@ -1,5 +1,5 @@
--- Ways through whole instructions, and what is known at each of them.
-use Rattle.std.specs.Prelude.{◌≡◌, ℕ, suc, ◌+◌, ◌≤◌, ◌⊎◌, min, ◌==◌, ◌&&◌, Bool, false, List, [], ◌∷◌, length, slice_index}
+-- What is known wherever an interrupt may come to a firmware that stands alone.
+use Rattle.std.specs.Prelude.{◌≡◌, ◌≢◌, ℕ, ◌≤◌, ◌⊎◌, min, ◌==◌, ◌&&◌, Bool, false, List, length, slice_index}
 use Rattle.cpu12_isa.specs.declared.instr.Instr.{Instr}
 use Rattle.cpu12_isa.specs.declared.instr.Instr.TheVariants.{Rev, Revw}
 use Rattle.cpu12_isa.specs.Act.{read_by}
@@ -8,7 +8,8 @@ use Rattle.cpu12_isa.specs.Code.{six_from}
 use Rattle.cpu12_isa.specs.Fits.{FitsRegs, AreBytes}
 use Rattle.cpu12_isa.specs.Flags.{has, interrupts_masked}
 use Rattle.cpu12_isa.specs.Meaning.{act_of, effect}
-use Rattle.cpu12_isa.specs.Regions.{is_hidden as hidden_with}
+use Rattle.cpu12_isa.specs.Memory.{plus}
+use Rattle.cpu12_isa.specs.Regions.{is_free, is_hidden as hidden_with}
 use Rattle.cpu12_parts.specs.declared.temps.Temps.TheVariants.{Free}
 use Rattle.cpu12_parts.specs.State.{State}
 use Rattle.cpu12_parts.specs.Rules.{Rule, Form, rev_form, revw_form, rules_read, rules_written, AreApart}
@@ -16,17 +17,6 @@ use Rattle.cpu12_parts.specs.Averages.{wav_read}
 use Rattle.cpu12_parts.specs.Laws.{addresses}
 use Rattle.cpu12_parts.specs.Whole.{IsPlainStep, IsRulesStep, IsAverageStep}
 use Rattle.codegen.specs.declared.layout.Layout.{Layout}
-pub use Rattle.cpu12_isa.specs.Regions.{is_free}
-
--- whole instructions one after another, each with the number of its parts beyond the first
-abbrev pub Way : (ℕ → State → State → Type 0) → List ℕ → State → State → Type 0
-Way W [] s t = s ≡ t
-Way W (d ∷ ds) s t = (u : State) × (W d s u × Way W ds u t)
-
--- how many steps they are
-abbrev pub all_steps : List ℕ → ℕ
-all_steps [] = 0
-all_steps (d ∷ ds) = suc d + all_steps ds
 
 -- what an interrupt may change: the free bytes, and the stack's bytes below SP
 abbrev pub is_hidden : ℕ → ℕ → Bool
@@ -37,7 +27,7 @@ abbrev pub is_idle : Layout → State → Bool
 is_idle l s = (s.regs.pc == l.wait) && (slice_index s.mem l.ready == 0)
 
 -- what each state keeps. Its memory is that of the image from $2000 on.
-pub record IsCalm (image : List ℕ) (s : State) : Type 0 where
+pub record IsInterruptible (image : List ℕ) (s : State) : Type 0 where
   pub temps : s.temps ≡ Free
   pub size : length s.mem ≡ 65536
   pub bytes : AreBytes s.mem
@@ -49,34 +39,36 @@ pub record IsCalm (image : List ℕ) (s : State) : Type 0 where
 
 -- A plain instruction: what it reads is shown, what it writes is shown before and after it, and what is hidden no more
 -- after it is written.
-pub record IsCalmPlain (flags : ℕ) (i : Instr) (s t : State) : Type 0 where
+pub record IsShownPlain (flags : ℕ) (i : Instr) (s t : State) : Type 0 where
   pub step : IsPlainStep flags i s t
   pub reads : AllShown (is_hidden s.regs.sp) (read_by (act_of flags i s.regs) s.mem)
   pub writes : AllShown (is_hidden (min s.regs.sp t.regs.sp)) (addresses (effect flags i s.regs s.mem).writes)
   pub uncovers : Uncovers (is_hidden s.regs.sp) (effect flags i s.regs s.mem).writes (is_hidden t.regs.sp)
 
--- REV or REVW: what it reads and writes is shown, and it does not write itself
-pub record IsCalmRules (i : Instr) (f : Form) (flags d : ℕ) (p : Rule) (ps : List Rule) (s t : State) : Type 0 where
+-- REV or REVW: what it reads and writes is shown, it does not write itself, and between its parts PC is not where the code waits
+pub record IsShownRules (l : Layout) (i : Instr) (f : Form) (flags d : ℕ) (p : Rule) (ps : List Rule) (s t : State) : Type 0 where
   pub step : IsRulesStep i f flags d p ps s t
   pub reads : AllShown (is_hidden s.regs.sp) (rules_read f s.regs p ps)
   pub writes : AllShown (is_hidden s.regs.sp) (rules_written f p ps)
   pub itself : AreApart (rules_written f p ps) (six_from s.regs.pc)
+  pub away : s.regs.pc ≢ l.wait
 
--- WAV: it has a pair at least, and what it reads is shown
-pub record IsCalmAverage (flags d : ℕ) (s t : State) : Type 0 where
+-- WAV: it has a pair at least, what it reads is shown, and where it goes on after an interrupt is not where the code waits
+pub record IsShownAverage (l : Layout) (flags d : ℕ) (s t : State) : Type 0 where
   pub step : IsAverageStep flags d s t
   pub some : 1 ≤ s.regs.b
   pub reads : AllShown (is_hidden s.regs.sp) (wav_read s.regs)
+  pub away : plus s.regs.pc 1 ≢ l.wait
 
-abbrev pub IsCalmInstruction : ℕ → ℕ → State → State → Type 0
-IsCalmInstruction flags d s t =
-    ((i : Instr) × (IsCalmPlain flags i s t × (d ≡ 0)))
-    ⊎ (((p : Rule) × (ps : List Rule) × IsCalmRules Rev (rev_form s.regs.y) flags d p ps s t)
-    ⊎ (((p : Rule) × (ps : List Rule) × IsCalmRules Revw revw_form flags d p ps s t)
-    ⊎ IsCalmAverage flags d s t))
+abbrev pub IsShownInstruction : Layout → ℕ → ℕ → State → State → Type 0
+IsShownInstruction l flags d s t =
+    ((i : Instr) × (IsShownPlain flags i s t × (d ≡ 0)))
+    ⊎ (((p : Rule) × (ps : List Rule) × IsShownRules l Rev (rev_form s.regs.y) flags d p ps s t)
+    ⊎ (((p : Rule) × (ps : List Rule) × IsShownRules l Revw revw_form flags d p ps s t)
+    ⊎ IsShownAverage l flags d s t))
 
--- a whole instruction of the way of a sample, from a state that does not wait
-pub record IsCalmStep (l : Layout) (image : List ℕ) (flags d : ℕ) (s t : State) : Type 0 where
+-- a whole instruction on a sample, from a state that does not wait
+pub record IsInterruptibleStep (l : Layout) (image : List ℕ) (flags d : ℕ) (s t : State) : Type 0 where
   pub busy : is_idle l s ≡ false
-  pub calm : IsCalm image s
-  pub instruction : IsCalmInstruction flags d s t
+  pub interruptible : IsInterruptible image s
+  pub instruction : IsShownInstruction l flags d s t

@@ -1,0 +1,66 @@
+use Rattle.std.proofs.Common.{◌≡◌, Bool, List, length, refl, sym, ap, ◌∙◌, subst, arith, rules}
+use Rattle.fuzzy_meaning.specs.declared.block.Block.{Block}
+use Rattle.cpu12_asm.specs.declared.items.Item.{Item}
+use Rattle.cpu12_asm.specs.Bytes.{Holds}
+use Rattle.cpu12_asm.specs.Items.{given_by}
+use Rattle.codegen.specs.declared.width.Width.{Width}
+use Rattle.codegen.specs.declared.width.Width.TheVariants.{Byte, Word}
+use Rattle.codegen.specs.Widths.{width_of, is_wide}
+use Rattle.codegen.specs.Layouts.{main_layout}
+use Rattle.codegen.specs.Images.{firmware_items}
+use Rattle.codegen.specs.Bounds.{instruction_bound, step_bound}
+use Rattle.codegen.proofs.Joins.{slots-flat_of}
+use Rattle.codegen.proofs.Placement.{HasSizes, main_rises, length-main_items, element_count-le}
+use Rattle.codegen.proofs.firmware.compile_at.Goals as goal
+
+width_back : (w : Width) (wide : Bool) → wide ≡ is_wide w → w ≡ width_of wide
+width_back Byte wide e = ap width_of (sym e)
+width_back Word wide e = ap width_of (sym e)
+
+pub assemble_items-requires : goal.assemble_items-requires
+assemble_items-requires c =
+    let b = c.args.block.now in
+    let sizes : HasSizes b = record { few_slots = omega (arith, c.in-Ok.ensures.laid_out.few_slots, ap length (slots-flat_of c.in-Ok.flat b c.in-Ok.ensures.value)); few_conjunctions = c.in-Ok.ensures.limits.few_conjunctions; short_list = c.in-Ok.ensures.limits.short_list } in
+    length-main_items b c.args.width _ c.requires sizes (c.as_slice.ensures.value ∙ c.in-Ok-firmware_items.ensures)
+
+pub unreachable-requires : goal.unreachable-requires
+unreachable-requires c =
+    let b = c.args.block.now in
+    let sizes : HasSizes b = record { few_slots = omega (arith, c.in-Ok.ensures.laid_out.few_slots, ap length (slots-flat_of c.in-Ok.flat b c.in-Ok.ensures.value)); few_conjunctions = c.in-Ok.ensures.limits.few_conjunctions; short_list = c.in-Ok.ensures.limits.short_list } in
+    let memory = c.in-Err-Range.ensures.rising (main_rises b c.args.width _ c.requires sizes (c.as_slice.ensures.value ∙ c.in-Ok-firmware_items.ensures)) in
+    cc
+
+pub unreachable-requires-in-Err-Overlap : goal.unreachable-requires-in-Err-Overlap
+unreachable-requires-in-Err-Overlap c =
+    let b = c.args.block.now in
+    let sizes : HasSizes b = record { few_slots = omega (arith, c.in-Ok.ensures.laid_out.few_slots, ap length (slots-flat_of c.in-Ok.flat b c.in-Ok.ensures.value)); few_conjunctions = c.in-Ok.ensures.limits.few_conjunctions; short_list = c.in-Ok.ensures.limits.short_list } in
+    let memory = c.in-Err-Overlap.ensures.rising (main_rises b c.args.width _ c.requires sizes (c.as_slice.ensures.value ∙ c.in-Ok-firmware_items.ensures)) in
+    cc
+
+pub step_bound-step_bound-requires-clause-short : goal.step_bound-step_bound-requires-clause-short
+step_bound-step_bound-requires-clause-short c = omega (arith, element_count-le c.args.block.now, c.in-Ok.ensures.limits.short_list)
+
+pub returns-clause-firmware : goal.returns-clause-firmware
+returns-clause-firmware c =
+    let b = c.args.block.now in
+    let w = c.args.width in
+    let same = width_back w c.is_wide.result c.is_wide.ensures in
+    let made = c.in-Ok-assemble_items.ensures in
+    let e = c.as_slice.ensures.value ∙ c.in-Ok-firmware_items.ensures in
+    let h : Holds c.in-Ok-assemble_items.image.bytes (given_by (firmware_items main_layout b w)) = subst (λ (xs : List Item). Holds c.in-Ok-assemble_items.image.bytes (given_by xs)) e made.bytes in
+    record {
+      image = subst (λ (k : Width). Holds c.in-Ok-assemble_items.image.bytes (given_by (firmware_items main_layout b k))) same h;
+      ascending = made.ascending;
+      start = made.start;
+      layout = refl;
+      inputs = search rules;
+      outputs = search rules;
+      instructions = c.instruction_bound-instr_bound.ensures.value ∙ ap (λ (k : Width). instruction_bound k b) same;
+      steps = c.step_bound-step_bound.ensures ∙ ap (λ (k : Width). step_bound k b) same;
+    }
+
+pub returns-clause-answers : goal.returns-clause-answers
+returns-clause-answers c = c.firmware_answers.ensures c.args.block.now _ c.requires c.in-Ok.ensures.limits (returns-clause-firmware c)
+
+pub returns-clause-uninterrupted : goal.returns-clause-uninterrupted
+returns-clause-uninterrupted c = c.firmware_is_uninterrupted.ensures c.args.block.now _ c.requires c.in-Ok.ensures.limits (returns-clause-firmware c)

@@ -1,0 +1,5 @@
+use Rattle.codegen.proofs.runs.Law.{firmware_answers}
+use Rattle.codegen.proofs.laws.firmware_answers.Goals as goal
+
+pub returns : goal.returns
+returns c = firmware_answers
