@@ -1,5 +1,5 @@
 //! Firmware.
-ghost use Rattle.std.specs.Prelude.{IfOk, IfErr, OnOk};
+ghost use Rattle.std.specs.Prelude.{◌≡◌, false, IfOk, IfErr, OnOk};
 ghost use Rattle.fuzzy_meaning.specs.Blocks.{IsValid};
 ghost use Rattle.rule_layout.specs.Layouts.{IsWithinLimits, IsFaultOf};
 ghost use Rattle.codegen.specs.Firmwares.{IsFirmwareOf};
@@ -18,10 +18,12 @@ use std::alloc::Global;
 pub struct Firmware {
     /// The bytes of its memory, and where it starts.
     pub image: Image,
+    /// Where its parts stand.
+    pub layout: Layout,
     pub inputs: u8,
     pub outputs: u8,
-    /// Where the code waits for READY.
-    pub loop_at: u16,
+    /// Whether an answer has two bytes, the high one first, and not one.
+    pub wide: bool,
     /// The most instructions that a sample takes, REV, REVW and WAV counting as one each.
     pub instr_bound: u32,
     /// The most steps that a sample takes: an element of REV, REVW or WAV is a step, as is any
@@ -34,6 +36,7 @@ pub struct Firmware {
 pub fn compile(alloc: Global, block: &Block) -> Result<Firmware, LayoutFault>
     requires { IsValid block.now }
     ensures firmware { IfOk result (IsFirmwareOf block.now) }
+    ensures narrow { IfOk result (λ f. f.wide ≡ false) }
     ensures answers { IfOk result (λ f. AnswersFrom block.now f.image.bytes) }
 
     // Refused exactly where the rules can't be laid out.
@@ -58,9 +61,10 @@ pub fn compile(alloc: Global, block: &Block) -> Result<Firmware, LayoutFault>
     let step_bound = step_bound(block, &flat, instr_bound);
     Ok(Firmware {
         image,
+        layout: Layout::MAIN,
         inputs: block.inputs.len() as u8,
         outputs: block.outputs.len() as u8,
-        loop_at: Layout::MAIN.wait,
+        wide: false,
         instr_bound,
         step_bound,
     })

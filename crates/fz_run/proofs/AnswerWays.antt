@@ -15,6 +15,7 @@ use Rattle.cpu12_emul.specs.Step.{reset_with}
 use Rattle.interrupt_plan.specs.declared.Request.{Request}
 use Rattle.interrupt_plan.specs.Plans.{IsGood}
 use Rattle.codegen.specs.declared.firmware.Firmware.{Firmware}
+use Rattle.codegen.specs.declared.layout.Layout.{Layout}
 use Rattle.codegen.specs.Layouts.{main_layout}
 use Rattle.codegen.specs.Bounds.{instruction_bound, step_bound}
 use Rattle.codegen.specs.Ways.{Way, all_steps, IsCalm, IsCalmInstruction, IsCalmStep}
@@ -221,7 +222,7 @@ enough_steps b few = omega arith
 first_is : (b : Block) (f : Firmware) (flags : ℕ) (s : State) → length b.outputs ≤ 4 → IsFirmwareOf b f → IsArrived main_layout (image_memory f.image.bytes) flags s → first_state f flags ≡ s
 first_is b f flags s few h a =
     let start = reset_with (image_memory f.image.bytes) in
-    ap₂ (λ (loop most : ℕ). arrival flags loop most start) h.loop_at h.steps ∙ arrives_plainly flags 49160 3 (step_bound b) start s refl a.way a.wait (enough_steps b few)
+    ap₂ (λ (loop most : ℕ). arrival flags loop most start) (ap (λ (l : Layout). l.wait) h.layout) h.steps ∙ arrives_plainly flags 49160 3 (step_bound b) start s refl a.way a.wait (enough_steps b few)
 
 all_short : (b : Block) (samples : List (List ℕ)) → length b.inputs ≤ 8 → All (AreInputBytes b) samples → AreShort samples
 all_short b [] few all = tt
@@ -234,7 +235,7 @@ under b f flags samples plan s hf few h short good a w =
     let image = image_memory f.image.bytes in
     let n = length b.outputs in
     let ns = numbers b image flags (λ o. 0) samples s w in
-    let same : board_of f ≡ board n = ap₂ (λ (l k : ℕ). by l k) h.loop_at h.outputs in
+    let same : board_of f ≡ board n = ap₂ (λ (l k : ℕ). by l k) (ap (λ (l : Layout). l.wait) h.layout) h.outputs in
     let low : IsLow (board n) = record { ready = omega arith; outputs = omega arith } in
     let runs : GoesCalmly flags (board n) f.step_bound plan ns samples s =
     runs_calmly flags (board n) f.step_bound plan ns samples s low good (subst (λ (m : ℕ). AllWithin m ns) (sym h.steps) (within b image flags (λ o. 0) samples s w)) (all_sampled n b image flags (λ o. 0) samples s hf a.load short w) in

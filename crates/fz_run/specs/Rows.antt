@@ -16,7 +16,7 @@ use Rattle.fz_run.specs.Runs.{Setting, Ran, run_from}
 
 -- a firmware that stands alone has READY at $1000, its inputs from $1001 and its outputs from $1010 on
 abbrev pub board_of : Firmware → Board
-board_of f = record { loop_at = f.loop_at; ready = 4096; inputs = 4097; outputs = 4112; output_count = f.outputs }
+board_of f = record { loop_at = f.layout.wait; ready = 4096; inputs = 4097; outputs = 4112; output_count = f.outputs }
 
 -- PC is at LOOP, and READY is 0
 abbrev pub is_idle : Board → State → Bool
@@ -97,7 +97,7 @@ arrival flags loop (suc n) s = if s.regs.pc == loop then s else then_arrival s (
 
 -- the state in which a firmware waits for its first sample
 abbrev pub first_state : Firmware → ℕ → State
-first_state f flags = arrival flags f.loop_at f.step_bound (reset_with (image_memory f.image.bytes))
+first_state f flags = arrival flags f.layout.wait f.step_bound (reset_with (image_memory f.image.bytes))
 
 abbrev pub input_bytes : Sample → List ℕ
 input_bytes s = s.bytes.items

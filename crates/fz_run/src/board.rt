@@ -29,7 +29,7 @@ impl Board {
         ensures { result ≡ board_of firmware.now }
     {
         Board {
-            loop_at: firmware.loop_at,
+            loop_at: firmware.layout.wait,
             ready: Layout::MAIN.ready,
             inputs: Layout::MAIN.inputs,
             outputs: Layout::MAIN.outputs,

@@ -63,7 +63,7 @@ pub fn run_on<M: Mem>(
     };
     let board = Board::of(firmware);
     let mut m = Machine::new(alloc, &firmware.image, flags)?;
-    arrive(&mut m, firmware.loop_at, firmware.step_bound);
+    arrive(&mut m, firmware.layout.wait, firmware.step_bound);
     let rows = run_samples(
         &mut m,
         &ListedWrites,

@@ -2,6 +2,7 @@ ghost use Rattle.std.specs.Prelude.{ℕ, ◌≡◌, ◌≤◌, [], IfOk};
 ghost use Rattle.interrupt_plan.specs.Plans.{IsGood};
 
 use super::*;
+use codegen::Layout;
 use cpu12_asm::{ByteMap, Image};
 use interrupt_plan::no_interrupts;
 use std::alloc::AllocError;
@@ -47,9 +48,10 @@ fn heater(alloc: Global, step_bound: u32) -> Result<Firmware, AllocError>
             bytes,
             start: 0xC000,
         },
+        layout: Layout::MAIN,
         inputs: 1,
         outputs: 1,
-        loop_at: 0xC008,
+        wide: false,
         instr_bound: 28,
         step_bound,
     })
@@ -235,9 +237,10 @@ fn ends_where_no_step_is_defined(rt: HostRuntime) -> Result<(), Fail> {
             bytes: ByteMap::new(alloc),
             start: 0,
         },
+        layout: Layout::MAIN,
         inputs: 1,
         outputs: 1,
-        loop_at: 0xC008,
+        wide: false,
         instr_bound: 28,
         step_bound: 36,
     };
