@@ -4,3 +4,4 @@ pub mod RuleParts
 pub mod RevWalks
 pub mod OverCuts
 pub mod PartFits
+pub mod Lemmas

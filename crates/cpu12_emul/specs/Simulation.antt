@@ -1,4 +1,4 @@
--- When a state of a machine under interrupts stands for that of one without.
+-- When a state of a run under interrupts simulates the state of the run without.
 use Rattle.std.specs.Prelude.{◌≡◌, ℕ, ◌+◌, ◌^◌, ◌<◌, ◌≤◌, ◌⊎◌, Bool, true, false, Ok, List, [], ◌∷◌, ◌++◌, length, slice_index}
 use Rattle.cpu12_isa.specs.declared.instr.Regs.{Regs}
 use Rattle.cpu12_isa.specs.declared.instr.Write.{Write}
@@ -25,25 +25,26 @@ abbrev pub AreOpen : (ℕ → Bool) → List Write → Type 0
 AreOpen open_to [] = Unit {0}
 AreOpen open_to (w ∷ ws) = (open_to w.at ≡ true) × AreOpen open_to ws
 
--- the same registers and sums, and the same bytes where they are seen
-pub record IsSame (open_to : ℕ → Bool) (s t : State) : Type 0 where
-  pub regs : s.regs ≡ t.regs
-  pub temps : s.temps ≡ t.temps
-  pub mem : Agree (is_hidden open_to t.regs.sp) s.mem t.mem
+-- the same registers and sums, and the same bytes where they are not hidden
+pub record Same (open_to : ℕ → Bool) (w s : State) : Type 0 where
+  pub regs : w.regs ≡ s.regs
+  pub temps : w.temps ≡ s.temps
+  pub mem : Agree (is_hidden open_to s.regs.sp) w.mem s.mem
 
--- t's sums run; s's lie on the stack, six bytes below t's SP
-pub record IsParked (open_to : ℕ → Bool) (s t : State) : Type 0 where
+-- s's sums run; w's lie on the stack, six bytes below s's SP
+pub record Parked (open_to : ℕ → Bool) (w s : State) : Type 0 where
   pub product : ℕ
   pub weight : ℕ
-  pub running : t.temps ≡ Running product weight
-  pub temps : IsOff s.temps
-  pub regs : s.regs ≡ record (t.regs) { sp = plus t.regs.sp 65530 }
-  pub sums : bytes_at s.mem (from (plus t.regs.sp 65530) 6) ≡ sum_bytes product weight
-  pub mem : Agree (is_hidden open_to t.regs.sp) s.mem t.mem
+  pub running : s.temps ≡ Running product weight
+  pub temps : IsOff w.temps
+  pub regs : w.regs ≡ record (s.regs) { sp = plus s.regs.sp 65530 }
+  pub sums : bytes_at w.mem (from (plus s.regs.sp 65530) 6) ≡ sum_bytes product weight
+  pub mem : Agree (is_hidden open_to s.regs.sp) w.mem s.mem
 
--- s stands for t
-abbrev pub IsUndisturbed : (ℕ → Bool) → State → State → Type 0
-IsUndisturbed open_to s t = IsSame open_to s t ⊎ IsParked open_to s t
+-- The state w of a run under interrupts simulates the state s of the run without: it is the same, or an interrupt has put
+-- the sums that run in s on the stack.
+abbrev pub Simulates : (ℕ → Bool) → State → State → Type 0
+Simulates open_to w s = Same open_to w s ⊎ Parked open_to w s
 
 -- where sums run they fit, and PC is at wavr's byte
 abbrev pub AreSumsReady : (ℕ → Bool) → State → Temps → Type 0
@@ -58,8 +59,8 @@ pub record HasRoom (t : State) : Type 0 where
   pub low : stack_start + 15 ≤ t.regs.sp
   pub high : t.regs.sp ≤ stack_end
 
--- a step that reads only what is seen, and writes what it uncovers of the stack
-pub record IsSeenStep (open_to : ℕ → Bool) (flags : ℕ) (t : State) : Type 0 where
+-- a step that reads only what is shown, and writes what it uncovers of the stack
+pub record IsShownStep (open_to : ℕ → Bool) (flags : ℕ) (t : State) : Type 0 where
   pub left : Left
   pub goes : outcome (step_act flags t.regs t.temps) t.mem ≡ Ok left
   pub reads : AllShown (is_hidden open_to t.regs.sp) (read_by (step_act flags t.regs t.temps) t.mem)
@@ -72,9 +73,9 @@ pub record StepsAlike (open_to : ℕ → Bool) (flags : ℕ) (s t : State) : Typ
   pub next : Next
   pub goal : Next
   pub goes : next_of flags s ≡ Ok next
-  pub calm : next_of flags t ≡ Ok goal
+  pub uninterrupted : next_of flags t ≡ Ok goal
   pub kind : next.kind ≡ goal.kind
-  pub same : IsSame open_to next.state goal.state
+  pub same : Same open_to next.state goal.state
 
 -- Two states that agree outside hidden bytes step alike, where what is read is shown; less may be hidden after the step,
 -- if it writes what is hidden no more.
@@ -89,18 +90,18 @@ WavrGoesOn = (flags : ℕ) (r : Regs) (t : Temps) (p w : ℕ) (m : List ℕ) →
     → bytes_at m (from (plus r.sp 65530) 6) ≡ sum_bytes p w
     → outcome (step_act flags (record r { sp = plus r.sp 65530 }) t) m ≡ outcome (step_act flags r (Running p w)) m
 
--- A step keeps a state undisturbed.
+-- A step keeps the simulation.
 abbrev pub StepKeeps : Type 0
-StepKeeps = (open_to : ℕ → Bool) (flags : ℕ) (s t : State) → IsUndisturbed open_to s t → IsSeenStep open_to flags t → StepsAlike open_to flags s t
+StepKeeps = (open_to : ℕ → Bool) (flags : ℕ) (s t : State) → Simulates open_to s t → IsShownStep open_to flags t → StepsAlike open_to flags s t
 
--- The nine bytes, writes to open bytes, and back change nothing that is seen.
+-- The nine bytes, writes to open bytes, and back change nothing that is shown.
 abbrev pub TakesQuietly : Type 0
 TakesQuietly = (open_to : ℕ → Bool) (ws : List Write) (s : State) → LeavesStack open_to → AreOpen open_to ws → length s.mem ≡ 65536 → FitsRegs s.regs → stack_start + 9 ≤ s.regs.sp → s.regs.sp ≤ stack_end
-    → IsSame open_to (framed ws s) s
+    → Same open_to (framed ws s) s
 
--- An interrupt that writes open bytes keeps a state undisturbed.
+-- An interrupt that writes open bytes keeps the simulation.
 abbrev pub TakeKeeps : Type 0
-TakeKeeps = (open_to : ℕ → Bool) (ws : List Write) (s t : State) → LeavesStack open_to → AreOpen open_to ws → HasRoom t → IsUndisturbed open_to s t → IsUndisturbed open_to (taken ws s) t
+TakeKeeps = (open_to : ℕ → Bool) (ws : List Write) (s t : State) → LeavesStack open_to → AreOpen open_to ws → HasRoom t → Simulates open_to s t → Simulates open_to (taken ws s) t
 
 -- A frame on the stack is the nine bytes of the registers, and the six of the sums where they run.
 abbrev pub FrameIsOnStack : Type 0
