@@ -12,7 +12,7 @@ mod code;
 mod data;
 mod firmware;
 mod items;
-mod laws;
+pub mod laws;
 mod layout;
 
 pub use firmware::{Firmware, compile};
