@@ -1,17 +1,9 @@
 pub mod Takings
 pub mod Onward
-pub mod Boards
+pub mod PortBytes
 pub mod Arrivals
 pub mod PlanSlices
 pub mod RowSteps
-pub mod CalmSteps
-pub mod TakeSteps
-pub mod CalmFrames
-pub mod CalmTakes
-pub mod CalmSamples
-pub mod Expected
-pub mod CalmRowsLaw
-pub mod WriteHandlers
 pub mod GoodPlans
 pub mod Stretching
 pub mod PlainSteps
@@ -20,3 +12,6 @@ pub mod PartSteps
 pub mod SumSteps
 pub mod WholeSteps
 pub mod AnswerWays
+pub mod Requests
+pub mod StandAlone
+pub mod UsedLaws

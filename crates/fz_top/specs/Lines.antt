@@ -1,7 +1,8 @@
 -- The lines on out.
 use Rattle.std.specs.Prelude.{◌+◌, ℕ, List, [], ◌∷◌, ◌++◌, codes, decimal}
 use Rattle.fz_top.specs.Texts.{Text}
-use Rattle.fz_run.specs.Rows.{RowSeen, row_seen}
+use Rattle.run_law.specs.Forms.{RowSeen}
+use Rattle.fz_run.specs.Rows.{row_seen}
 use Rattle.fz_run.specs.declared.rows.Row.{Row}
 
 abbrev pub newline : List ℕ
@@ -22,8 +23,8 @@ pub record Answered : Type 0 where
   pub answers : List ℕ
   pub instructions : ℕ
 
-abbrev pub shown : RowSeen → Answered
-shown r = record { bytes = r.bytes; answers = r.answers; instructions = r.instrs }
+abbrev pub shown : RowSeen (List ℕ) → Answered
+shown r = record { bytes = r.sample; answers = r.answers; instructions = r.instrs }
 
 abbrev pub answered : Row → Answered
 answered r = shown (row_seen r)

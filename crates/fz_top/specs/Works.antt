@@ -8,7 +8,8 @@ use Rattle.codegen.specs.Firmwares.{IsFirmwareOf}
 use Rattle.codegen.specs.declared.firmware.Firmware.{Firmware}
 use Rattle.trace_io.specs.Traces.{HasFault, Spells}
 use Rattle.trace_io.specs.declared.sample.Sample.{Sample}
-use Rattle.fz_run.specs.Rows.{RowSeen, firmware_rows, input_bytes}
+use Rattle.run_law.specs.Forms.{RowSeen}
+use Rattle.fz_run.specs.Rows.{firmware_rows, input_bytes}
 use Rattle.fz_run.specs.Answering.{AreAnswersOf}
 use Rattle.fcl_syntax.specs.Text.{IsFirstFault}
 use Rattle.fcl_check.specs.Texts.{SpellsBlock, HasLoadFault}
@@ -44,7 +45,7 @@ pub record RunGives (flags : ℕ) (text samples : List ℕ) (deed : Deed) : Type
   pub compiled : IsFirmwareOf block firmware
   pub values : List Sample
   pub trace : Spells block.inputs samples values
-  pub rows : List RowSeen
+  pub rows : List (RowSeen (List ℕ))
   pub ran : rows ≡ (firmware_rows firmware (map input_bytes values) [] flags).rows
   pub answers : AreAnswersOf block firmware flags (map input_bytes values) rows
   pub deed_is : deed ≡ record { text = lines_of (instruction_bound block) (map shown rows); file = None }

@@ -16,8 +16,18 @@ fn labelled(alloc: Global, label: &str, n: u32) -> Result<String, AllocError>
     Ok(text)
 }
 
+/// Bytes as numbers, with a blank before each.
+fn push_bytes(text: &mut String, values: &[u8]) -> Result<(), AllocError>
+    ensures { OnOk result (string_bytes text.new ≡ string_bytes text.old ++ numbers values.now) }
+{
+    for byte in values {
+        write!(text, " {byte}")?;
+    }
+    Ok(())
+}
+
 /// Numbers, with a blank before each.
-fn push_numbers(text: &mut String, values: &[u8]) -> Result<(), AllocError>
+fn push_numbers(text: &mut String, values: &[u16]) -> Result<(), AllocError>
     ensures { OnOk result (string_bytes text.new ≡ string_bytes text.old ++ numbers values.now) }
 {
     for number in values {
@@ -32,7 +42,7 @@ fn line_of_sample(alloc: Global, k: usize, row: &Row) -> Result<String, AllocErr
 {
     let mut text = String::from_str(alloc, "sample ")?;
     write!(&mut text, "{k} bytes")?;
-    push_numbers(&mut text, row.bytes.as_slice())?;
+    push_bytes(&mut text, row.bytes.as_slice())?;
     text.push_str(" answers")?;
     push_numbers(&mut text, row.answers.as_slice())?;
     let instructions = row.instrs;

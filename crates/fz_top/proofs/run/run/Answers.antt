@@ -29,7 +29,7 @@ returns-in-Ok-run_lines-clause-ok c =
       trace = spells;
       rows = rows;
       ran = ran_alone firmware c.args.flags values _ _ rows c.in-Ok-run.ensures.rows c.deref.ensures.value c.no_interrupts-plan.ensures.empty;
-      answers = answers_trace block firmware c.args.flags _ values _ rows c.in-Ok-run.ensures.answers c.deref.ensures.value spelled.valid compiled.limits compiled.firmware spells;
+      answers = answers_trace block firmware c.args.flags _ values _ _ rows c.in-Ok-run.ensures.answers c.deref.ensures.value spelled.valid compiled.limits compiled.firmware compiled.narrow spells;
       deed_is = ap only_text (run_text firmware.instr_bound _ c.in-Ok-run.rows.items _ _ c.in-Ok-run_lines.ensures compiled.firmware.instructions c.deref-2.ensures.value);
     }
 

@@ -3,13 +3,13 @@ use Rattle.std.proofs.lemmas.List.{drop_all}
 use Rattle.std.proofs.Math.ListN.{set}
 use Rattle.cpu12_isa.specs.Act.{write_all}
 use Rattle.cpu12_isa.specs.Memory.{placed}
-use Rattle.fz_run.proofs.Boards.{write_last}
-use Rattle.fz_run.proofs.board.Board.give.Goals as goal
+use Rattle.fz_run.proofs.PortBytes.{write_last}
+use Rattle.fz_run.proofs.ports.give.Goals as goal
 
 pub returns-clause-state : goal.returns-clause-state
 returns-clause-state g c =
     let l = c.loop-byte in
-    let b = c.args.self.now in
+    let b = c.args.layout.now in
     let bytes = c.args.bytes.now in
     let mem = c.args.m.now.state.mem in
     let none : l.m.state.mem ≡ write_all (placed b.inputs bytes) mem =
