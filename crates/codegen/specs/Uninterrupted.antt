@@ -16,7 +16,7 @@ use Rattle.codegen.specs.Widths.{width_of, places, answer}
 use Rattle.codegen.specs.Bounds.{instruction_bound}
 use Rattle.codegen.specs.Firing.{AreInputBytes}
 use Rattle.codegen.specs.Interruptible.{is_idle}
-use Rattle.codegen.specs.Answers.{given}
+use Rattle.codegen.specs.Answers.{given, IsArrived, AreAnswered}
 use Rattle.codegen.specs.Firmwares.{IsFirmwareOf}
 
 -- the output values, and the number of instructions from the write of the inputs on
@@ -77,6 +77,20 @@ AreAnswersOf w b before [] [] = Unit {0}
 AreAnswersOf w b before [] (a ∷ answers) = ⊥
 AreAnswersOf w b before (bytes ∷ samples) [] = ⊥
 AreAnswersOf w b before (bytes ∷ samples) (a ∷ answers) = IsAnswerOf w b before bytes a × AreAnswersOf w b (λ o. answer w b o bytes (before o)) samples answers
+
+-- the answers of samples that whole instructions answer where interrupts may come
+abbrev pub answers_by : (b : Block) (f : Firmware) (image : List ℕ) (flags : ℕ) (before : ℕ → ℕ) (samples : List (List ℕ)) (s : State) → AreAnswered f.layout b (width_of f.wide) image flags before samples s → List Answer
+answers_by b f image flags before [] s h = []
+answers_by b f image flags before (bytes ∷ samples) s h =
+    record { values = values_in f h.0; instructions = length h.1.0.ds }
+    ∷ answers_by b f image flags (λ o. answer (width_of f.wide) b o bytes (before o)) samples h.0 h.1.1
+
+-- They are the uninterrupted ones, and the block's.
+abbrev pub AnsweredAreUninterrupted : Type 0
+AnsweredAreUninterrupted = (b : Block) (f : Firmware) (flags : ℕ) (samples : List (List ℕ)) (s : State) → f.outputs ≡ length b.outputs
+    → IsArrived f.layout (image_memory f.image.bytes) flags s → (h : AreAnswered f.layout b (width_of f.wide) (image_memory f.image.bytes) flags (λ o. 0) samples s)
+    → AreUninterrupted f flags samples (answers_by b f (image_memory f.image.bytes) flags (λ o. 0) samples s h)
+    × AreAnswersOf (width_of f.wide) b (λ o. 0) samples (answers_by b f (image_memory f.image.bytes) flags (λ o. 0) samples s h)
 
 -- the uninterrupted answers to every list of samples exist, and are a block's
 abbrev pub AnswersUninterrupted : Block → Firmware → Type 0

@@ -2,7 +2,7 @@
 ghost use Rattle.codegen.specs.Answers.{FirmwareAnswers};
 ghost use Rattle.codegen.specs.Evaluation.{EvalAnswers};
 ghost use Rattle.codegen.specs.Firing.{RulesGiveMasses};
-ghost use Rattle.codegen.specs.Uninterrupted.{FirmwareIsUninterrupted, UninterruptedAreOne};
+ghost use Rattle.codegen.specs.Uninterrupted.{AnsweredAreUninterrupted, FirmwareIsUninterrupted, UninterruptedAreOne};
 
 use cpu12_parts::executions::executions_are_one;
 
@@ -27,6 +27,12 @@ pub fn firmware_answers()
 /// The uninterrupted answers of the firmware of a block exist, and are the block's over bytes.
 pub fn firmware_is_uninterrupted()
     ensures { FirmwareIsUninterrupted }
+{}
+
+/// The answers of samples that whole instructions answer, on which interrupts may come, are the
+/// uninterrupted ones, and the block's over bytes.
+pub fn answered_are_uninterrupted()
+    ensures { AnsweredAreUninterrupted }
 {}
 
 /// A firmware has one list of uninterrupted answers to a list of samples.

@@ -13,7 +13,7 @@ mod code;
 mod data;
 mod firmware;
 mod items;
-mod laws;
+pub mod laws;
 mod layout;
 mod width;
 

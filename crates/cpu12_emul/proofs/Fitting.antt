@@ -7,20 +7,28 @@ use Rattle.cpu12_isa.specs.Act.{Act, outcome, bind, write_all}
 use Rattle.cpu12_isa.specs.Memory.{from, bytes_at}
 use Rattle.cpu12_isa.specs.Code.{FitsOperands, decode_at}
 use Rattle.cpu12_isa.specs.Meaning.{act_of}
-use Rattle.cpu12_isa.specs.Fits.{FitsRegs, FitsWrites, AreBytes}
-use Rattle.cpu12_isa.proofs.Acts.{outcome_bind}
-use Rattle.cpu12_isa.proofs.Fitting.{stays_fit, bytes_stay, decoded_fits, bytes_at_fit}
+use Rattle.cpu12_isa.specs.Fits.{FitsRegs, FitsWrites, AreBytes, StaysFit, BytesStay, DecodedFits}
+use Rattle.cpu12_isa.proofs.Lemmas.{outcome_bind, bytes_at_fit}
 use Rattle.cpu12_parts.specs.declared.temps.Temps.{Temps}
 use Rattle.cpu12_parts.specs.declared.temps.Temps.TheVariants.{Free, Running, OnStack}
 use Rattle.cpu12_parts.specs.State.{State, Outcome}
 use Rattle.cpu12_parts.specs.Parts.{rev_act, revw_act, wav_act}
 use Rattle.cpu12_parts.specs.Sums.{sums_of, wav_pull}
 use Rattle.cpu12_parts.specs.Laws.{IsOff, state_of}
-use Rattle.cpu12_parts.specs.Fits.{FitsTemps, FitsState, FitsOutcome}
-use Rattle.cpu12_parts.proofs.PartFits.{rev_fits, revw_fits, wav_fits}
+use Rattle.cpu12_parts.specs.Cuts.{rev, revw, wav}
+use Rattle.cpu12_parts.specs.Fits.{FitsTemps, FitsState, FitsOutcome, PartFits}
 use Rattle.cpu12_emul.specs.Step.{Left, Next, left_by_part, left_by_plain, instruction_act, step_act, applied}
 use Rattle.cpu12_emul.specs.Fits.{StepFits}
 use Rattle.cpu12_emul.proofs.Stepping.{step_by_bytes}
+
+-- what plain instructions and parts leave fits
+pub record InstructionsFit : Type 0 where
+  pub stays_fit : StaysFit
+  pub bytes_stay : BytesStay
+  pub decoded_fits : DecodedFits
+  pub rev_fits : PartFits rev
+  pub revw_fits : PartFits revw
+  pub wav_fits : PartFits wav
 
 record FitsLeft (l : Left) : Type 0 where
   regs : FitsRegs l.regs
@@ -51,36 +59,36 @@ pulls_fit r Free m f ft b = record { regs = record { a = f.a; b = f.b; x = f.x; 
 pulls_fit r OnStack m f ft b = record { regs = record { a = f.a; b = f.b; x = f.x; y = f.y; sp = omega arith; pc = f.pc; ccr = f.ccr }; temps = sums_fit (bytes_at m (from r.sp 6)) (bytes_at_fit m (from r.sp 6) b); writes = tt }
 pulls_fit r (Running p w) m f ft b = record { regs = f; temps = ft; writes = tt }
 
-instruction_fits : (flags : ℕ) (r : Regs) (t : Temps) (m : List ℕ) (d : Result Instr ℕ) → flags < 2 ^ 8 → FitsRegs r → FitsTemps t → AreBytes m → ((i : Instr) → d ≡ Ok i → FitsOperands i)
+instruction_fits : InstructionsFit → (flags : ℕ) (r : Regs) (t : Temps) (m : List ℕ) (d : Result Instr ℕ) → flags < 2 ^ 8 → FitsRegs r → FitsTemps t → AreBytes m → ((i : Instr) → d ≡ Ok i → FitsOperands i)
     → LeavesFit (outcome (instruction_act flags r t d) m)
-instruction_fits flags r t m (Err byte) ff f ft b o = tt
-instruction_fits flags r t m (Ok Rev) ff f ft b o = part_left (rev_act flags r t) m (rev_fits flags (state_of r t m) ff (record { regs = f; temps = ft; mem = b }))
-instruction_fits flags r t m (Ok Revw) ff f ft b o = part_left (revw_act flags r t) m (revw_fits flags (state_of r t m) ff (record { regs = f; temps = ft; mem = b }))
-instruction_fits flags r t m (Ok Wav) ff f ft b o = part_left (wav_act flags r t) m (wav_fits flags (state_of r t m) ff (record { regs = f; temps = ft; mem = b }))
-instruction_fits flags r t m (Ok Wavr) ff f ft b o =
+instruction_fits laws flags r t m (Err byte) ff f ft b o = tt
+instruction_fits laws flags r t m (Ok Rev) ff f ft b o = part_left (rev_act flags r t) m (laws.rev_fits flags (state_of r t m) ff (record { regs = f; temps = ft; mem = b }))
+instruction_fits laws flags r t m (Ok Revw) ff f ft b o = part_left (revw_act flags r t) m (laws.revw_fits flags (state_of r t m) ff (record { regs = f; temps = ft; mem = b }))
+instruction_fits laws flags r t m (Ok Wav) ff f ft b o = part_left (wav_act flags r t) m (laws.wav_fits flags (state_of r t m) ff (record { regs = f; temps = ft; mem = b }))
+instruction_fits laws flags r t m (Ok Wavr) ff f ft b o =
     let q : Outcome = outcome (wav_pull r t) m in
     let p = pulls_fit r t m f ft b in
     subst LeavesFit (sym (outcome_bind (wav_pull r t) (λ k. bind (wav_act flags k.regs k.temps) left_by_part) m))
-    (part_left (wav_act flags q.regs q.temps) m (wav_fits flags (state_of q.regs q.temps m) ff (record { regs = p.regs; temps = p.temps; mem = b })))
-instruction_fits flags r t m (Ok i) ff f ft b o =
-    let k = stays_fit flags i r m ff (o i refl) f b in
+    (part_left (wav_act flags q.regs q.temps) m (laws.wav_fits flags (state_of q.regs q.temps m) ff (record { regs = p.regs; temps = p.temps; mem = b })))
+instruction_fits laws flags r t m (Ok i) ff f ft b o =
+    let k = laws.stays_fit flags i r m ff (o i refl) f b in
     subst LeavesFit (sym (outcome_bind (act_of flags i r) (left_by_plain t) m)) (record { regs = k.0; temps = ft; writes = k.1 })
 
-off_fits : (flags : ℕ) (s : State) → IsOff s.temps → flags < 2 ^ 8 → FitsState s → LeavesFit (outcome (step_act flags s.regs s.temps) s.mem)
-off_fits flags s off ff f = subst LeavesFit (sym (step_by_bytes flags s.regs s.temps s.mem off))
-    (instruction_fits flags s.regs s.temps s.mem (decode_at s.mem s.regs.pc) ff f.regs f.temps f.mem (λ i e. decoded_fits s.mem s.regs.pc i f.mem e))
+off_fits : InstructionsFit → (flags : ℕ) (s : State) → IsOff s.temps → flags < 2 ^ 8 → FitsState s → LeavesFit (outcome (step_act flags s.regs s.temps) s.mem)
+off_fits laws flags s off ff f = subst LeavesFit (sym (step_by_bytes flags s.regs s.temps s.mem off))
+    (instruction_fits laws flags s.regs s.temps s.mem (decode_at s.mem s.regs.pc) ff f.regs f.temps f.mem (λ i e. laws.decoded_fits s.mem s.regs.pc i f.mem e))
 
-act_fits : (flags : ℕ) (r : Regs) (t : Temps) (m : List ℕ) → flags < 2 ^ 8 → FitsState (state_of r t m) → LeavesFit (outcome (step_act flags r t) m)
-act_fits flags r Free m ff f = off_fits flags (state_of r Free m) (inl refl) ff f
-act_fits flags r OnStack m ff f = off_fits flags (state_of r OnStack m) (inr refl) ff f
-act_fits flags r (Running p w) m ff f = part_left (wav_act flags r (Running p w)) m (wav_fits flags (state_of r (Running p w) m) ff f)
+act_fits : InstructionsFit → (flags : ℕ) (r : Regs) (t : Temps) (m : List ℕ) → flags < 2 ^ 8 → FitsState (state_of r t m) → LeavesFit (outcome (step_act flags r t) m)
+act_fits laws flags r Free m ff f = off_fits laws flags (state_of r Free m) (inl refl) ff f
+act_fits laws flags r OnStack m ff f = off_fits laws flags (state_of r OnStack m) (inr refl) ff f
+act_fits laws flags r (Running p w) m ff f = part_left (wav_act flags r (Running p w)) m (laws.wav_fits flags (state_of r (Running p w) m) ff f)
 
-applied_fits : (o : Result Left ℕ) (m : List ℕ) (next : Next) → LeavesFit o → AreBytes m → applied o m ≡ Ok next → FitsState next.state
-applied_fits (Err byte) m next l b e = absurd cc
-applied_fits (Ok left) m next l b e =
+applied_fits : InstructionsFit → (o : Result Left ℕ) (m : List ℕ) (next : Next) → LeavesFit o → AreBytes m → applied o m ≡ Ok next → FitsState next.state
+applied_fits laws (Err byte) m next l b e = absurd cc
+applied_fits laws (Ok left) m next l b e =
     let here : Next = record { state = record { regs = left.regs; temps = left.temps; mem = write_all left.writes m }; kind = left.kind } in
     let same : here ≡ next = cc in
-    subst (λ (n : Next). FitsState n.state) same (record { regs = l.regs; temps = l.temps; mem = bytes_stay left.writes m l.writes b })
+    subst (λ (n : Next). FitsState n.state) same (record { regs = l.regs; temps = l.temps; mem = laws.bytes_stay left.writes m l.writes b })
 
-pub step_fits : StepFits
-step_fits flags s next ff f e = applied_fits (outcome (step_act flags s.regs s.temps) s.mem) s.mem next (act_fits flags s.regs s.temps s.mem ff f) f.mem e
+pub step_fits : InstructionsFit → StepFits
+step_fits laws flags s next ff f e = applied_fits laws (outcome (step_act flags s.regs s.temps) s.mem) s.mem next (act_fits laws flags s.regs s.temps s.mem ff f) f.mem e

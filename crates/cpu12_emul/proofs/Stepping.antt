@@ -1,4 +1,4 @@
--- Steps of states that stand for one another.
+-- Steps keep the simulation.
 use Rattle.std.proofs.Common.{◌≡◌, ℕ, ◌+◌, ◌*◌, ◌/◌, ◌%◌, ◌^◌, ◌<◌, Bool, true, false, Result, Ok, List, [], ◌∷◌, ◌++◌, get_or, refl, ap, sym, ◌∙◌, subst, arith, inl, inr}
 use Rattle.cpu12_isa.specs.declared.instr.Regs.{Regs}
 use Rattle.cpu12_isa.specs.declared.instr.Instr.{Instr}
@@ -8,8 +8,7 @@ use Rattle.cpu12_isa.specs.Memory.{plus, from, bytes_at}
 use Rattle.cpu12_isa.specs.Code.{decode_at, decode_of, six_from}
 use Rattle.cpu12_isa.specs.Meaning.{act_of, is_plain}
 use Rattle.cpu12_isa.specs.Agreement.{Agree}
-use Rattle.cpu12_isa.proofs.Acts.{outcome_bind, read_by_bind}
-use Rattle.cpu12_isa.proofs.Agreements.{same_outcome, same_writes}
+use Rattle.cpu12_isa.proofs.Lemmas.{outcome_bind, read_by_bind, same_outcome, same_writes}
 use Rattle.cpu12_parts.specs.declared.temps.Temps.{Temps}
 use Rattle.cpu12_parts.specs.declared.temps.Temps.TheVariants.{Running}
 use Rattle.cpu12_parts.specs.declared.temps.PartEnd.TheVariants.{More}
@@ -20,7 +19,7 @@ use Rattle.cpu12_parts.specs.Cuts.{Kind, rev, revw, wav}
 use Rattle.cpu12_parts.specs.Laws.{IsOff}
 use Rattle.cpu12_emul.specs.Step.{Left, Next, step_act, instruction_act, left_by_part, left_by_plain, applied, next_of}
 use Rattle.cpu12_isa.specs.Regions.{is_hidden}
-use Rattle.cpu12_emul.specs.Undisturbed.{IsSame, IsParked, AreSumsReady, HasRoom, IsSeenStep, StepsAlike, StepAgrees, WavrGoesOn, StepKeeps, PlainIsStep, PartIsStep, SumsAreStep, left_of}
+use Rattle.cpu12_emul.specs.Simulation.{Same, Parked, AreSumsReady, HasRoom, IsShownStep, StepsAlike, StepAgrees, WavrGoesOn, StepKeeps, PlainIsStep, PartIsStep, SumsAreStep, left_of}
 
 pub step_agrees : StepAgrees
 step_agrees flags r t m n l hidden later a shown is u = (
@@ -148,25 +147,25 @@ wavr_goes_on flags r t p w m off s f g code e =
 abbrev next_by : Left → List ℕ → Next
 next_by l m = record { state = record { regs = l.regs; temps = l.temps; mem = write_all l.writes m }; kind = l.kind }
 
-alike_by : (open_to : ℕ → Bool) (flags : ℕ) (s t : State) (k : IsSeenStep open_to flags t) → outcome (step_act flags s.regs s.temps) s.mem ≡ Ok k.left
+alike_by : (open_to : ℕ → Bool) (flags : ℕ) (s t : State) (k : IsShownStep open_to flags t) → outcome (step_act flags s.regs s.temps) s.mem ≡ Ok k.left
     → Agree (is_hidden open_to k.left.regs.sp) (write_all k.left.writes s.mem) (write_all k.left.writes t.mem) → StepsAlike open_to flags s t
 alike_by open_to flags s t k e a = record {
   next = next_by k.left s.mem;
   goal = next_by k.left t.mem;
   goes = ap (λ (o : Result Left ℕ). applied o s.mem) e;
-  calm = ap (λ (o : Result Left ℕ). applied o t.mem) k.goes;
+  uninterrupted = ap (λ (o : Result Left ℕ). applied o t.mem) k.goes;
   kind = refl;
   same = record { regs = refl; temps = refl; mem = a };
 }
 
-step_same : (open_to : ℕ → Bool) (flags : ℕ) (s t : State) → IsSame open_to s t → IsSeenStep open_to flags t → StepsAlike open_to flags s t
+step_same : (open_to : ℕ → Bool) (flags : ℕ) (s t : State) → Same open_to s t → IsShownStep open_to flags t → StepsAlike open_to flags s t
 step_same open_to flags s t l k =
     let both = step_agrees flags t.regs t.temps s.mem t.mem k.left (is_hidden open_to t.regs.sp) (is_hidden open_to k.left.regs.sp) l.mem k.reads k.goes k.covers in
     alike_by open_to flags s t k
     (ap (λ (r : Regs). outcome (step_act flags r s.temps) s.mem) l.regs ∙ ap (λ (u : Temps). outcome (step_act flags t.regs u) s.mem) l.temps ∙ both.0)
     both.1
 
-step_parked : (open_to : ℕ → Bool) (flags : ℕ) (s t : State) → IsParked open_to s t → IsSeenStep open_to flags t → StepsAlike open_to flags s t
+step_parked : (open_to : ℕ → Bool) (flags : ℕ) (s t : State) → Parked open_to s t → IsShownStep open_to flags t → StepsAlike open_to flags s t
 step_parked open_to flags s t l k =
     let good : AreSumsReady open_to t (Running l.product l.weight) = subst (λ (u : Temps). AreSumsReady open_to t u) l.running k.sums in
     let room : HasRoom t = k.room in

@@ -1,4 +1,4 @@
--- Interrupts of states that stand for one another.
+-- Interrupts keep the simulation.
 use Rattle.std.proofs.Common.{◌≡◌, ℕ, zero, suc, ◌+◌, ◌-◌, ◌*◌, ◌/◌, ◌%◌, ◌^◌, ◌<◌, ◌≤◌, Bool, true, false, ◌&&◌, nat_lt, nat_le, List, [], ◌∷◌, ◌++◌, length, refl, ap, ap₂, sym, ◌∙◌, subst, arith, inl, inr, ◌⊎◌, lit≤}
 use Rattle.std.proofs.lemmas.Bool.{or_parts, false≢true}
 use Rattle.std.proofs.lemmas.Bool.Decides.{nat_tests}
@@ -12,60 +12,21 @@ use Rattle.cpu12_isa.specs.Registers.{frame_bytes, pulled}
 use Rattle.cpu12_isa.specs.Agreement.{Agree, AllShown, IsWritten}
 use Rattle.cpu12_isa.specs.Regions.{stack_start, stack_end, is_hidden, LeavesStack}
 use Rattle.cpu12_isa.specs.Fits.{FitsRegs}
-use Rattle.cpu12_isa.proofs.Agreements.{unwritten, length_writes, agree_with}
-use Rattle.cpu12_isa.proofs.Placing.{place_of, read_placed, bytes_unwritten, bytes_split, same_bytes}
-use Rattle.cpu12_isa.proofs.Bits.{pulled_again}
+use Rattle.cpu12_isa.proofs.Lemmas.{unwritten, length_writes, agree_with, place_of, read_placed, bytes_unwritten, bytes_split, same_bytes, pulled_again, agree_less, shown_from, push_agrees}
 use Rattle.cpu12_parts.specs.declared.temps.Temps.{Temps}
 use Rattle.cpu12_parts.specs.declared.temps.Temps.TheVariants.{Free, Running, OnStack}
 use Rattle.cpu12_parts.specs.State.{State}
 use Rattle.cpu12_parts.specs.Sums.{sum_bytes}
 use Rattle.cpu12_parts.specs.Cuts.{suspended, wav}
-use Rattle.cpu12_parts.specs.Laws.{IsOff, state_of}
+use Rattle.cpu12_parts.specs.Laws.{IsOff}
+use Rattle.cpu12_parts.proofs.Lemmas.{pushed_sums, suspends, suspends_not, temps_cases}
 use Rattle.cpu12_emul.specs.Take.{pairs_of, pushed, written, framed, taken, FrameSeen, frame_size, frame_of, frame_in}
-use Rattle.cpu12_emul.specs.Undisturbed.{AreOpen, IsSame, IsParked, HasRoom, TakesQuietly, TakeKeeps, FrameIsOnStack}
+use Rattle.cpu12_emul.specs.Simulation.{AreOpen, Same, Parked, HasRoom, TakesQuietly, TakeKeeps, FrameIsOnStack}
 
 -- writes to open bytes
 open_writes : (open_to : ℕ → Bool) (ws : List Write) (at : ℕ) → AreOpen open_to ws → IsWritten (pairs_of ws) at → open_to at ≡ true
 open_writes open_to [] at g w = absurd w
 open_writes open_to (x ∷ ws) at g w = elim w [ inl e ↦ subst (λ (k : ℕ). open_to k ≡ true) (sym e) g.0 | inr k ↦ open_writes open_to ws at g.1 k ]
-
--- what is is_hidden below a lower SP is so below a higher one
-hidden_less : (open_to : ℕ → Bool) (low high at : ℕ) → low ≤ high → is_hidden open_to high at ≡ false → is_hidden open_to low at ≡ false
-hidden_less open_to low high at l h =
-    let p = or_parts (open_to at) (nat_le stack_start at && nat_lt at high) h in
-    let q : (nat_le stack_start at && nat_lt at low) ≡ false = grind (arith, nat_tests, p.1) in
-    rw (p.0, q)
-
-agree_less : (open_to : ℕ → Bool) (low high : ℕ) (m n : List ℕ) → low ≤ high → Agree (is_hidden open_to low) m n → Agree (is_hidden open_to high) m n
-agree_less open_to low high m n l a = record { size = a.size; bytes = λ at h. a.bytes at (hidden_less open_to low high at l h) }
-
--- a byte of the stack from SP on is seen
-stack_seen : (open_to : ℕ → Bool) (sp at : ℕ) → LeavesStack open_to → stack_start ≤ at → at < stack_end → sp ≤ at → is_hidden open_to sp at ≡ false
-stack_seen open_to sp at a lo hi le =
-    let q : (nat_le stack_start at && nat_lt at sp) ≡ false = grind (arith, nat_tests) in
-    elim (tests (open_to at)) [
-      | inl t ↦ absurd (elim (a at t) [ inl k ↦ omega arith | inr k ↦ omega arith ])
-      | inr f ↦ rw (f, q)
-    ]
-  where
-    tests : (b : Bool) → (b ≡ true) ⊎ (b ≡ false)
-    tests true = inl refl
-    tests false = inr refl
-
-seen_from : (open_to : ℕ → Bool) (sp at n : ℕ) → LeavesStack open_to → stack_start ≤ at → at + n ≤ stack_end → sp ≤ at → AllShown (is_hidden open_to sp) (from at n)
-seen_from open_to sp at zero a lo hi le = tt
-seen_from open_to sp at (suc n) a lo hi le = (stack_seen open_to sp at a lo (omega arith) le, seen_from open_to sp (plus at 1) n a (omega arith) (omega arith) (omega arith))
-
--- what is written below SP, down to stack_start, is not seen
-push_agrees : (open_to : ℕ → Bool) (sp k : ℕ) (vs m : List ℕ) → sp ≤ stack_end → length vs ≡ k → stack_start + k ≤ sp → Agree (is_hidden open_to sp) (write_all (placed (sp - k) vs) m) m
-push_agrees open_to sp k vs m hi l lo = record {
-  size = length_writes (placed (sp - k) vs) m;
-  bytes = λ at h. unwritten (placed (sp - k) vs) m at (λ w.
-      (let p = place_of vs (sp - k) at (omega arith) w in
-      let q = or_parts (open_to at) (nat_le stack_start at && nat_lt at sp) h in
-      let t : (nat_le stack_start at && nat_lt at sp) ≡ true = grind (arith, nat_tests, p.1, p.2) in
-      false≢true (sym q.1 ∙ t)));
-}
 
 -- the frame that was pushed is pulled
 frame_back : (r : Regs) → FitsRegs r → pulled (record r { sp = plus r.sp 65527; ccr = put r.ccr interrupts_masked true }) (frame_bytes r) ≡ r
@@ -104,30 +65,11 @@ takes_quietly open_to ws s leaves good z f a b =
       mem = agree_with (is_hidden open_to s.regs.sp) (written ws (pushed s)).mem (pushed s).mem s.mem after wrote;
     }
 
--- the state with running sums pushed
-abbrev pub pushed_sums : Regs → ℕ → ℕ → List ℕ → State
-pushed_sums r p w m = state_of (record r { sp = plus r.sp 65530 }) OnStack (write_all (placed (plus r.sp 65530) (sum_bytes p w)) m)
-
-pub suspends : (s : State) (p w : ℕ) → s.temps ≡ Running p w → suspended wav s ≡ pushed_sums s.regs p w s.mem
-suspends s p w e = ap (λ (t : Temps). suspended wav (state_of s.regs t s.mem)) e
-
--- where no sums run nothing is pushed
-pub suspends_not : (s : State) → IsOff s.temps → suspended wav s ≡ s
-suspends_not s off = elim off [
-  | inl e ↦ ap (λ (t : Temps). suspended wav (state_of s.regs t s.mem)) e ∙ ap (λ (t : Temps). state_of s.regs t s.mem) (sym e)
-  | inr e ↦ ap (λ (t : Temps). suspended wav (state_of s.regs t s.mem)) e ∙ ap (λ (t : Temps). state_of s.regs t s.mem) (sym e)
-]
-
-temps_cases : (t : Temps) → IsOff t ⊎ ((p : ℕ) × (w : ℕ) × (t ≡ Running p w))
-temps_cases Free = inl (inl refl)
-temps_cases OnStack = inl (inr refl)
-temps_cases (Running p w) = inr (p, w, refl)
-
 fits_at : (r : Regs) (k : ℕ) → FitsRegs r → k < 2 ^ 16 → FitsRegs (record r { sp = k })
 fits_at r k f h = record { a = f.a; b = f.b; x = f.x; y = f.y; sp = h; pc = f.pc; ccr = f.ccr }
 
 -- an interrupt where the sums run parks them
-parks : (open_to : ℕ → Bool) (ws : List Write) (s t : State) (p w : ℕ) → LeavesStack open_to → AreOpen open_to ws → HasRoom t → IsSame open_to s t → s.temps ≡ Running p w → IsParked open_to (taken ws s) t
+parks : (open_to : ℕ → Bool) (ws : List Write) (s t : State) (p w : ℕ) → LeavesStack open_to → AreOpen open_to ws → HasRoom t → Same open_to s t → s.temps ≡ Running p w → Parked open_to (taken ws s) t
 parks open_to ws s t p w leaves good room l run =
     let x = pushed_sums s.regs p w s.mem in
     let fits = room.fits in
@@ -141,10 +83,10 @@ parks open_to ws s t p w leaves good room l run =
     let fits_s : FitsRegs s.regs = subst (λ (r : Regs). FitsRegs r) (sym l.regs) fits in
     let u = takes_quietly open_to ws x leaves good (length_writes (placed (plus s.regs.sp 65530) (sum_bytes p w)) s.mem ∙ size) (fits_at s.regs (plus s.regs.sp 65530) fits_s (omega arith)) (omega arith) (omega arith) in
     let got : bytes_at (framed ws x).mem (from (plus s.regs.sp 65530) 6) ≡ bytes_at x.mem (from (plus s.regs.sp 65530) 6) =
-    same_bytes (is_hidden open_to (plus s.regs.sp 65530)) (framed ws x).mem x.mem u.mem (from (plus s.regs.sp 65530) 6) (seen_from open_to (plus s.regs.sp 65530) (plus s.regs.sp 65530) 6 leaves (omega arith) (omega arith) (omega arith)) in
+    same_bytes (is_hidden open_to (plus s.regs.sp 65530)) (framed ws x).mem x.mem u.mem (from (plus s.regs.sp 65530) 6) (shown_from open_to (plus s.regs.sp 65530) (plus s.regs.sp 65530) 6 leaves (omega arith) (omega arith) (omega arith)) in
     let there : bytes_at x.mem (from (plus s.regs.sp 65530) 6) ≡ sum_bytes p w = read_placed (sum_bytes p w) (plus s.regs.sp 65530) s.mem (omega arith) (lit≤ tt) size in
     let at : plus s.regs.sp 65530 ≡ plus t.regs.sp 65530 = omega arith in
-    let parked : IsParked open_to (framed ws x) t = record {
+    let parked : Parked open_to (framed ws x) t = record {
       product = p;
       weight = w;
       running = sym l.temps ∙ run;
@@ -154,10 +96,10 @@ parks open_to ws s t p w leaves good room l run =
       mem = agree_with (is_hidden open_to t.regs.sp) (framed ws x).mem x.mem t.mem (agree_less open_to (plus s.regs.sp 65530) t.regs.sp (framed ws x).mem x.mem (omega arith) u.mem)
           (agree_with (is_hidden open_to t.regs.sp) x.mem s.mem t.mem wrote l.mem);
     } in
-    subst (λ (v : State). IsParked open_to (framed ws v) t) (sym (suspends s p w run)) parked
+    subst (λ (v : State). Parked open_to (framed ws v) t) (sym (suspends s p w run)) parked
 
 -- a further one leaves them
-stays_parked : (open_to : ℕ → Bool) (ws : List Write) (s t : State) → LeavesStack open_to → AreOpen open_to ws → HasRoom t → IsParked open_to s t → IsParked open_to (taken ws s) t
+stays_parked : (open_to : ℕ → Bool) (ws : List Write) (s t : State) → LeavesStack open_to → AreOpen open_to ws → HasRoom t → Parked open_to s t → Parked open_to (taken ws s) t
 stays_parked open_to ws s t leaves good room l =
     let fits = room.fits in
     let lo = room.low in
@@ -167,8 +109,8 @@ stays_parked open_to ws s t leaves good room l =
     let fits_s : FitsRegs s.regs = subst (λ (r : Regs). FitsRegs r) (sym l.regs) (fits_at t.regs (plus t.regs.sp 65530) fits (omega arith)) in
     let u = takes_quietly open_to ws s leaves good size fits_s (omega arith) (omega arith) in
     let got : bytes_at (framed ws s).mem (from (plus t.regs.sp 65530) 6) ≡ bytes_at s.mem (from (plus t.regs.sp 65530) 6) =
-    same_bytes (is_hidden open_to s.regs.sp) (framed ws s).mem s.mem u.mem (from (plus t.regs.sp 65530) 6) (seen_from open_to s.regs.sp (plus t.regs.sp 65530) 6 leaves (omega arith) (omega arith) (omega arith)) in
-    let parked : IsParked open_to (framed ws s) t = record {
+    same_bytes (is_hidden open_to s.regs.sp) (framed ws s).mem s.mem u.mem (from (plus t.regs.sp 65530) 6) (shown_from open_to s.regs.sp (plus t.regs.sp 65530) 6 leaves (omega arith) (omega arith) (omega arith)) in
+    let parked : Parked open_to (framed ws s) t = record {
       product = l.product;
       weight = l.weight;
       running = l.running;
@@ -177,22 +119,22 @@ stays_parked open_to ws s t leaves good room l =
       sums = got ∙ l.sums;
       mem = agree_with (is_hidden open_to t.regs.sp) (framed ws s).mem s.mem t.mem (agree_less open_to s.regs.sp t.regs.sp (framed ws s).mem s.mem (omega arith) u.mem) l.mem;
     } in
-    subst (λ (v : State). IsParked open_to (framed ws v) t) (sym (suspends_not s l.temps)) parked
+    subst (λ (v : State). Parked open_to (framed ws v) t) (sym (suspends_not s l.temps)) parked
 
 -- where no sums run the state stays the same
-stays_same : (open_to : ℕ → Bool) (ws : List Write) (s t : State) → LeavesStack open_to → AreOpen open_to ws → HasRoom t → IsSame open_to s t → IsOff s.temps → IsSame open_to (taken ws s) t
+stays_same : (open_to : ℕ → Bool) (ws : List Write) (s t : State) → LeavesStack open_to → AreOpen open_to ws → HasRoom t → Same open_to s t → IsOff s.temps → Same open_to (taken ws s) t
 stays_same open_to ws s t leaves good room l off =
     let lo = room.low in
     let hi = room.high in
     let sp : s.regs.sp ≡ t.regs.sp = ap (λ (r : Regs). r.sp) l.regs in
     let fits_s : FitsRegs s.regs = subst (λ (r : Regs). FitsRegs r) (sym l.regs) room.fits in
     let u = takes_quietly open_to ws s leaves good (l.mem.size ∙ room.size) fits_s (omega arith) (omega arith) in
-    let same : IsSame open_to (framed ws s) t = record {
+    let same : Same open_to (framed ws s) t = record {
       regs = u.regs ∙ l.regs;
       temps = u.temps ∙ l.temps;
       mem = agree_with (is_hidden open_to t.regs.sp) (framed ws s).mem s.mem t.mem (subst (λ (k : ℕ). Agree (is_hidden open_to k) (framed ws s).mem s.mem) sp u.mem) l.mem;
     } in
-    subst (λ (v : State). IsSame open_to (framed ws v) t) (sym (suspends_not s off)) same
+    subst (λ (v : State). Same open_to (framed ws v) t) (sym (suspends_not s off)) same
 
 pub take_keeps : TakeKeeps
 take_keeps open_to ws s t leaves good room (inl l) = elim (temps_cases s.temps) [

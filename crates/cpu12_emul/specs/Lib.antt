@@ -2,5 +2,5 @@ pub mod Image
 pub mod Step
 pub mod Take
 pub mod Run
-pub mod Undisturbed
+pub mod Simulation
 pub mod Fits

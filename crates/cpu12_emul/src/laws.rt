@@ -3,7 +3,10 @@ ghost use Rattle.cpu12_isa.specs.declared.instr.Instr.TheVariants.{Rev, Revw, Wa
 ghost use Rattle.cpu12_parts.specs.Cuts.{rev, revw, wav};
 ghost use Rattle.cpu12_emul.specs.Fits.{StepFits};
 ghost use Rattle.cpu12_emul.specs.Image.{HoldsImage};
-ghost use Rattle.cpu12_emul.specs.Undisturbed.{StepAgrees, WavrGoesOn, StepKeeps, TakesQuietly, TakeKeeps, FrameIsOnStack, PlainIsStep, PartIsStep, SumsAreStep};
+ghost use Rattle.cpu12_emul.specs.Simulation.{StepAgrees, WavrGoesOn, StepKeeps, TakesQuietly, TakeKeeps, FrameIsOnStack, PlainIsStep, PartIsStep, SumsAreStep};
+
+use cpu12_isa::laws::{bytes_stay, decoded_fits, stays_fit};
+use cpu12_parts::laws::{rev_fits, revw_fits, wav_fits};
 
 /// A memory made from an image holds just its bytes.
 pub fn holds_image()
@@ -45,7 +48,7 @@ pub fn wavr_goes_on()
     ensures { WavrGoesOn }
 {}
 
-/// A step keeps a state undisturbed.
+/// A step keeps the simulation.
 pub fn step_keeps()
     ensures { StepKeeps }
 {}
@@ -55,7 +58,7 @@ pub fn takes_quietly()
     ensures { TakesQuietly }
 {}
 
-/// An interrupt that writes open bytes keeps a state undisturbed.
+/// An interrupt that writes open bytes keeps the simulation.
 pub fn take_keeps()
     ensures { TakeKeeps }
 {}
@@ -68,4 +71,11 @@ pub fn frame_is_on_stack()
 /// A step leaves registers, sums and bytes that fit.
 pub fn step_fits()
     ensures { StepFits }
-{}
+{
+    stays_fit();
+    bytes_stay();
+    decoded_fits();
+    rev_fits();
+    revw_fits();
+    wav_fits();
+}

@@ -5,3 +5,4 @@ pub mod RevWalks
 pub mod OverCuts
 pub mod PartFits
 pub mod OneWay
+pub mod Lemmas

@@ -5,11 +5,11 @@ use Rattle.cpu12_parts.specs.State.{State}
 use Rattle.cpu12_emul.specs.Step.{Next, next_of}
 use Rattle.cpu12_emul.specs.declared.ends.Stepped.{Stepped}
 use Rattle.cpu12_emul.specs.Take.{FrameSeen}
-use Rattle.fz_run.specs.Runs.{Setting, Taking, Ran, takes, is_part, one_if, is_empty, resumes, before_rest, stuck, then_rest, run_from, ended}
-use Rattle.fz_run.specs.Rest.{Brief, with_frames, brief, after, rest_of}
+use Rattle.run_law.specs.Forms.{Form, Taking, Ran, takes, is_part, one_if, is_empty, resumes, before_rest, stuck, then_rest, run_from, ended}
+use Rattle.fz_run.specs.Rest.{Brief, Brought, with_frames, brief, after, rest_of}
 
 -- what is counted before the rest and in it
-merged : {A : Type 0} (inside : Bool) (b : Taking A) (kind : Stepped) (i m r : ℕ) (fs : List (ℕ × FrameSeen)) (k : Ran)
+merged : {A B : Type 0} (inside : Bool) (b : Taking A B) (kind : Stepped) (i m r : ℕ) (fs : List (ℕ × FrameSeen)) (k : Ran A B)
     → after i m r fs (brief (before_rest inside b kind k))
     ≡ after (i + one_if (not (is_part kind))) (m + 1) (r + resumes inside b) (fs ++ b.frames) (brief k)
 merged inside b kind i m r fs k =
@@ -24,62 +24,62 @@ is_longer fs [] = let e = length-append fs [] in grind (arith, nat_tests, e)
 is_longer fs (g ∷ gs) = let e = length-append fs (g ∷ gs) in grind (arith, nat_tests, e)
 
 -- whether frames were added at a boundary
-taken_there : {A : Type 0} (inside taken : Bool) (b : Taking A) (fs fs2 : List (ℕ × FrameSeen)) → fs ++ b.frames ≡ fs2 → taken ≡ nat_lt (length fs) (length fs2)
+taken_there : {A B : Type 0} (inside taken : Bool) (b : Taking A B) (fs fs2 : List (ℕ × FrameSeen)) → fs ++ b.frames ≡ fs2 → taken ≡ nat_lt (length fs) (length fs2)
     → resumes inside b ≡ one_if (inside && taken)
 taken_there inside taken b fs fs2 ef ta =
     ap (λ (k : Bool). one_if (inside && k)) (sym (is_longer fs b.frames) ∙ ap (λ (l : List (ℕ × FrameSeen)). nat_lt (length fs) (length l)) ef ∙ sym ta)
 
 -- a boundary and a step, with what was counted before them
-pub onward : {A : Type 0} (g : Setting A) (n m : ℕ) (inside taken : Bool) (qs qs2 : List A) (s t : State) (next : Next) (i j r : ℕ) (fs fs2 : List (ℕ × FrameSeen)) → g.stops s ≡ false
+pub onward : {S A B : Type 0} (g : Form S A B) (n m : ℕ) (inside taken : Bool) (qs qs2 : List A) (s t : State) (next : Next) (i j r : ℕ) (fs fs2 : List (ℕ × FrameSeen)) → g.ends m s ≡ false
     → with_frames fs (takes g m qs s) ≡ record { state = t; frames = fs2; left = qs2 } → next_of g.flags t ≡ Ok next → taken ≡ nat_lt (length fs) (length fs2)
     → rest_of g (suc n) m inside qs s i j r fs ≡ rest_of g n (m + 1) (is_part next.kind) qs2 next.state (i + one_if (not (is_part next.kind))) (j + 1) (r + one_if (inside && taken)) fs2
 unfolding run_from
-onward {A = A} g n m inside taken qs qs2 s t next i j r fs fs2 on te ne ta =
-    let b : Taking A = takes g m qs s in
-    let es : b.state ≡ t = ap (λ (k : Taking A). k.state) te in
-    let ef : fs ++ b.frames ≡ fs2 = ap (λ (k : Taking A). k.frames) te in
-    let el : b.left ≡ qs2 = ap (λ (k : Taking A). k.left) te in
+onward {S = S} {A = A} {B = B} g n m inside taken qs qs2 s t next i j r fs fs2 on te ne ta =
+    let b : Taking A B = takes g m qs s in
+    let es : b.state ≡ t = ap (λ (k : Brought A). k.state) te in
+    let ef : fs ++ b.frames ≡ fs2 = ap (λ (k : Brought A). k.frames) te in
+    let el : b.left ≡ qs2 = ap (λ (k : Brought A). k.left) te in
     let m1 : suc m ≡ m + 1 = omega arith in
-    let rest : Bool → State → Ran = λ k u. run_from g n (suc m) k b.left u in
+    let rest : Bool → State → Ran A B = λ k u. run_from g n (suc m) k b.left u in
     let one : run_from g (suc n) m inside qs s ≡ then_rest inside b rest (next_of g.flags b.state) = rw on refl in
     let two : then_rest inside b rest (next_of g.flags b.state) ≡ before_rest inside b next.kind (run_from g n (suc m) (is_part next.kind) b.left next.state) =
     ap (then_rest inside b rest) (ap (next_of g.flags) es ∙ ne) in
-    let there : Ran = run_from g n (suc m) (is_part next.kind) b.left next.state in
+    let there : Ran A B = run_from g n (suc m) (is_part next.kind) b.left next.state in
     let same : there ≡ run_from g n (m + 1) (is_part next.kind) qs2 next.state = ap₂ (λ (k : ℕ) (l : List A). run_from g n k (is_part next.kind) l next.state) m1 el in
-    ap (λ (o : Ran). after i j r fs (brief o)) (one ∙ two)
+    ap (λ (o : Ran A B). after i j r fs (brief o)) (one ∙ two)
     ∙ merged inside b next.kind i j r fs there
     ∙ ap₂ (λ (k : ℕ) (l : List (ℕ × FrameSeen)). after (i + one_if (not (is_part next.kind))) (j + 1) (r + k) l (brief there)) (taken_there inside taken b fs fs2 ef ta) ef
-    ∙ ap (λ (o : Ran). after (i + one_if (not (is_part next.kind))) (j + 1) (r + one_if (inside && taken)) fs2 (brief o)) same
+    ∙ ap (λ (o : Ran A B). after (i + one_if (not (is_part next.kind))) (j + 1) (r + one_if (inside && taken)) fs2 (brief o)) same
 
 -- where no step is defined, the run ends
-pub no_step : {A : Type 0} (g : Setting A) (n m : ℕ) (inside taken : Bool) (qs qs2 : List A) (s t : State) (byte : ℕ) (i j r : ℕ) (fs fs2 : List (ℕ × FrameSeen)) → g.stops s ≡ false
+pub no_step : {S A B : Type 0} (g : Form S A B) (n m : ℕ) (inside taken : Bool) (qs qs2 : List A) (s t : State) (byte : ℕ) (i j r : ℕ) (fs fs2 : List (ℕ × FrameSeen)) → g.ends m s ≡ false
     → with_frames fs (takes g m qs s) ≡ record { state = t; frames = fs2; left = qs2 } → next_of g.flags t ≡ Err byte → taken ≡ nat_lt (length fs) (length fs2)
     → rest_of g (suc n) m inside qs s i j r fs ≡ record { arrived = false; state = t; instrs = i; steps = j; resumed = r + one_if (inside && taken); frames = fs2 }
 unfolding run_from
-no_step {A = A} g n m inside taken qs qs2 s t byte i j r fs fs2 on te ne ta =
-    let b : Taking A = takes g m qs s in
-    let es : b.state ≡ t = ap (λ (k : Taking A). k.state) te in
-    let ef : fs ++ b.frames ≡ fs2 = ap (λ (k : Taking A). k.frames) te in
-    let rest : Bool → State → Ran = λ k u. run_from g n (suc m) k b.left u in
+no_step {S = S} {A = A} {B = B} g n m inside taken qs qs2 s t byte i j r fs fs2 on te ne ta =
+    let b : Taking A B = takes g m qs s in
+    let es : b.state ≡ t = ap (λ (k : Brought A). k.state) te in
+    let ef : fs ++ b.frames ≡ fs2 = ap (λ (k : Brought A). k.frames) te in
+    let rest : Bool → State → Ran A B = λ k u. run_from g n (suc m) k b.left u in
     let one : run_from g (suc n) m inside qs s ≡ then_rest inside b rest (next_of g.flags b.state) = rw on refl in
     let two : then_rest inside b rest (next_of g.flags b.state) ≡ stuck inside b = ap (then_rest inside b rest) (ap (next_of g.flags) es ∙ ne) in
     let i0 : i + 0 ≡ i = omega arith in
     let j0 : j + 0 ≡ j = omega arith in
     let rs = taken_there inside taken b fs fs2 ef ta in
-    ap (λ (o : Ran). after i j r fs (brief o)) (one ∙ two) ∙ cc
+    ap (λ (o : Ran A B). after i j r fs (brief o)) (one ∙ two) ∙ cc
 
-at_rest : {A : Type 0} (g : Setting A) (n m : ℕ) (inside : Bool) (qs : List A) (s : State) → g.stops s ≡ true → run_from g n m inside qs s ≡ ended true s
+at_rest : {S A B : Type 0} (g : Form S A B) (n m : ℕ) (inside : Bool) (qs : List A) (s : State) → g.ends m s ≡ true → run_from g n m inside qs s ≡ ended true qs s
 unfolding run_from
 at_rest g zero m inside qs s e = rw e refl
 at_rest g (suc n) m inside qs s e = rw e refl
 
-spent : {A : Type 0} (g : Setting A) (n m : ℕ) (inside : Bool) (qs : List A) (s : State) → n ≡ 0 → run_from g n m inside qs s ≡ ended (g.stops s) s
+spent : {S A B : Type 0} (g : Form S A B) (n m : ℕ) (inside : Bool) (qs : List A) (s : State) → n ≡ 0 → run_from g n m inside qs s ≡ ended (g.ends m s) qs s
 unfolding run_from
 spent g zero m inside qs s z = refl
 spent g (suc n) m inside qs s z = absurd (omega arith)
 
-counted_there : (arrived : Bool) (s : State) (i j r : ℕ) (fs : List (ℕ × FrameSeen)) → after i j r fs (brief (ended arrived s)) ≡ record { arrived = arrived; state = s; instrs = i; steps = j; resumed = r; frames = fs }
-counted_there arrived s i j r fs =
+counted_there : {A : Type 0} (B : Type 0) (arrived : Bool) (qs : List A) (s : State) (i j r : ℕ) (fs : List (ℕ × FrameSeen)) → after i j r fs (brief (ended {A = A} {B = B} arrived qs s)) ≡ record { arrived = arrived; state = s; instrs = i; steps = j; resumed = r; frames = fs }
+counted_there {A = A} B arrived qs s i j r fs =
     let i0 : i + 0 ≡ i = omega arith in
     let j0 : j + 0 ≡ j = omega arith in
     let r0 : r + 0 ≡ r = omega arith in
@@ -87,13 +87,13 @@ counted_there arrived s i j r fs =
     cc
 
 -- at the end
-pub rest_at_end : {A : Type 0} (g : Setting A) (n m : ℕ) (inside : Bool) (qs : List A) (s : State) (i j r : ℕ) (fs : List (ℕ × FrameSeen)) → g.stops s ≡ true
+pub rest_at_end : {S A B : Type 0} (g : Form S A B) (n m : ℕ) (inside : Bool) (qs : List A) (s : State) (i j r : ℕ) (fs : List (ℕ × FrameSeen)) → g.ends m s ≡ true
     → rest_of g n m inside qs s i j r fs ≡ record { arrived = true; state = s; instrs = i; steps = j; resumed = r; frames = fs }
-rest_at_end g n m inside qs s i j r fs e = ap (λ (o : Ran). after i j r fs (brief o)) (at_rest g n m inside qs s e) ∙ counted_there true s i j r fs
+rest_at_end {S = S} {A = A} {B = B} g n m inside qs s i j r fs e = ap (λ (o : Ran A B). after i j r fs (brief o)) (at_rest g n m inside qs s e) ∙ counted_there B true qs s i j r fs
 
-pub rest_spent : {A : Type 0} (g : Setting A) (n m : ℕ) (inside : Bool) (qs : List A) (s : State) (i j r : ℕ) (fs : List (ℕ × FrameSeen)) → n ≡ 0
-    → rest_of g n m inside qs s i j r fs ≡ record { arrived = g.stops s; state = s; instrs = i; steps = j; resumed = r; frames = fs }
-rest_spent g n m inside qs s i j r fs z = ap (λ (o : Ran). after i j r fs (brief o)) (spent g n m inside qs s z) ∙ counted_there (g.stops s) s i j r fs
+pub rest_spent : {S A B : Type 0} (g : Form S A B) (n m : ℕ) (inside : Bool) (qs : List A) (s : State) (i j r : ℕ) (fs : List (ℕ × FrameSeen)) → n ≡ 0
+    → rest_of g n m inside qs s i j r fs ≡ record { arrived = g.ends m s; state = s; instrs = i; steps = j; resumed = r; frames = fs }
+rest_spent {S = S} {A = A} {B = B} g n m inside qs s i j r fs z = ap (λ (o : Ran A B). after i j r fs (brief o)) (spent g n m inside qs s z) ∙ counted_there B (g.ends m s) qs s i j r fs
 
 -- with nothing counted before
 pub from_nothing : (b : Brief) → after 0 0 0 [] b ≡ b

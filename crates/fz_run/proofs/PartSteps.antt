@@ -14,10 +14,10 @@ use Rattle.cpu12_isa.specs.Code.{decode_of, decode_at, six_from}
 use Rattle.cpu12_isa.specs.Fits.{FitsRegs, FitsWrites, AreBytes, Leaves}
 use Rattle.cpu12_isa.specs.Flags.{has, put, opened, interrupts_masked, overflow, carry, hnzc, hnz}
 use Rattle.cpu12_isa.specs.Memory.{plus, bytes_at, word_of}
-use Rattle.cpu12_isa.proofs.Acts.{outcome_bind}
-use Rattle.cpu12_isa.proofs.Agreements.{shown_bind, unwritten, length_writes}
-use Rattle.cpu12_isa.proofs.Bits.{bit, bit_or_is, bit_and_is, fits_put, fits_opened}
-use Rattle.cpu12_isa.proofs.Fitting.{leaves_outcome}
+use Rattle.cpu12_isa.proofs.Lemmas.{outcome_bind}
+use Rattle.cpu12_isa.proofs.Lemmas.{shown_bind, unwritten, length_writes}
+use Rattle.cpu12_isa.proofs.Lemmas.{bit, bit_or_is, bit_and_is, fits_put, fits_opened}
+use Rattle.cpu12_isa.proofs.Lemmas.{leaves_outcome}
 use Rattle.cpu12_parts.specs.declared.temps.Temps.{Temps}
 use Rattle.cpu12_parts.specs.declared.temps.Temps.TheVariants.{Free}
 use Rattle.cpu12_parts.specs.declared.temps.PartEnd.{PartEnd}
@@ -27,7 +27,8 @@ use Rattle.cpu12_parts.specs.Cuts.{Kind, part_of, after_part}
 use Rattle.cpu12_parts.specs.Laws.{addresses, PartsTo}
 use Rattle.cpu12_parts.specs.Parts.{leaving, met, rev_act, revw_act, weighted}
 use Rattle.cpu12_emul.specs.Step.{Left, kind_of, left_by_part, instruction_act, step_act, applied, Next, next_of}
-use Rattle.fz_run.specs.Undisturbed.{is_hidden, Calmed}
+use Rattle.cpu12_isa.specs.Regions.{stack_start, stack_end, is_hidden}
+use Rattle.fz_run.specs.Facts.{Facts}
 use Rattle.fz_run.specs.Stretches.{Stretch, Kept, Calmly}
 use Rattle.fz_run.proofs.Stretching.{last_stretch, part_stretch, shown_all}
 
@@ -184,7 +185,7 @@ free_at r m = record { regs = r; temps = Free; mem = m }
 
 -- the step of a part, and what the state before it keeps
 record Part (open_to : ℕ → Bool) (flags : ℕ) (k : Kind) (r : Regs) (m : List ℕ) : Type 0 where
-  calmed : Calmed open_to flags (free_at r m)
+  calmed : Facts open_to flags (free_at r m)
   goes : next_of flags (free_at r m) ≡ Ok (record { state = after_part k flags (free_at r m); kind = kind_of (part_of k flags (free_at r m)).end })
   holds : Holds r Free (part_of k flags (free_at r m))
 
@@ -199,16 +200,14 @@ part_here open_to flags k i r m ip hf c decoded reads =
     record {
       calmed = record {
         unmasked = c.unmasked;
-        keeps = record {
+        sums = tt;
+        shown = record {
           left = left_of o;
           goes = goes;
           reads = shown_all (is_hidden open_to r.sp) m (six_from r.pc) (λ bytes. instruction_act flags r Free (decode_of bytes)) c.code
               (subst (λ (x : Act (Result Left ℕ)). AllShown (is_hidden open_to r.sp) (read_by x m)) (sym act) shown);
           covers = λ at h. inl (subst (λ (j : ℕ). is_hidden open_to j at ≡ false) holds.sp h);
-          size = c.size;
-          fits = c.fits;
-          low = c.low;
-          high = c.high;
+          room = record { size = c.size; fits = c.fits; low = c.low; high = c.high };
           sums = tt;
         };
       };
@@ -227,8 +226,8 @@ calm_after open_to flags k r m c h more =
       size = length_writes o.writes m ∙ c.size;
       bytes = bytes_written o.writes m c.bytes h.writes;
       fits = h.fits;
-      low = subst (λ (n : ℕ). 8175 ≤ n) (sym h.sp) c.low;
-      high = subst (λ (n : ℕ). n ≤ 8192) (sym h.sp) c.high;
+      low = subst (λ (n : ℕ). stack_start + 15 ≤ n) (sym h.sp) c.low;
+      high = subst (λ (n : ℕ). n ≤ stack_end) (sym h.sp) c.high;
       unmasked = h.masked ∙ c.unmasked;
       code = subst (λ (n : ℕ). AllShown (is_hidden open_to n) (six_from o.regs.pc)) (sym h.sp) (subst (λ (n : ℕ). AllShown (is_hidden open_to r.sp) (six_from n)) (sym pc) c.code);
     }

@@ -8,15 +8,16 @@ use Rattle.cpu12_isa.specs.Agreement.{AllShown, Uncovers}
 use Rattle.cpu12_isa.specs.Code.{decode_of, six_from}
 use Rattle.cpu12_isa.specs.Memory.{bytes_at}
 use Rattle.cpu12_isa.specs.Meaning.{Effect, act_of, effect, is_plain}
-use Rattle.cpu12_isa.proofs.Acts.{outcome_bind}
-use Rattle.cpu12_isa.proofs.Agreements.{shown_bind}
+use Rattle.cpu12_isa.proofs.Lemmas.{outcome_bind}
+use Rattle.cpu12_isa.proofs.Lemmas.{shown_bind}
 use Rattle.cpu12_parts.specs.declared.temps.Temps.{Temps}
 use Rattle.cpu12_parts.specs.declared.temps.Temps.TheVariants.{Free}
 use Rattle.cpu12_parts.specs.State.{State}
 use Rattle.cpu12_parts.specs.Whole.{IsPlainStep, after_plain}
 use Rattle.cpu12_emul.specs.declared.ends.Stepped.TheVariants.{Plain}
 use Rattle.cpu12_emul.specs.Step.{Left, Next, left_by_plain, instruction_act, step_act, applied, next_of}
-use Rattle.fz_run.specs.Undisturbed.{is_hidden, Calmed}
+use Rattle.cpu12_isa.specs.Regions.{is_hidden}
+use Rattle.fz_run.specs.Facts.{Facts}
 use Rattle.fz_run.specs.Stretches.{Stretch, Kept, Calmly}
 use Rattle.fz_run.proofs.Stretching.{plain_stretch, shown_all}
 
@@ -39,18 +40,16 @@ plain_at open_to flags Q i r m t c p reads covers q =
     let act : instruction_act flags r Free (decode_of (bytes_at m (six_from r.pc))) ≡ bind (act_of flags i r) (left_by_plain Free) = ap (instruction_act flags r Free) p.decoded ∙ plain_does flags r Free i p.plain in
     let goes : outcome (step_act flags r Free) m ≡ Ok left = ap (λ (k : Act (Result Left ℕ)). outcome k m) act ∙ outcome_bind (act_of flags i r) (left_by_plain Free) m in
     let shown : AllShown (is_hidden open_to r.sp) (read_by (bind (act_of flags i r) (left_by_plain Free)) m) = shown_bind (is_hidden open_to r.sp) m (act_of flags i r) (left_by_plain Free) reads (λ o. tt) in
-    let keeps : Calmed open_to flags (free_at r m) = record {
+    let keeps : Facts open_to flags (free_at r m) = record {
       unmasked = c.unmasked;
-      keeps = record {
+      sums = tt;
+      shown = record {
         left = left;
         goes = goes;
         reads = shown_all (is_hidden open_to r.sp) m (six_from r.pc) (λ bytes. instruction_act flags r Free (decode_of bytes)) c.code
             (subst (λ (k : Act (Result Left ℕ)). AllShown (is_hidden open_to r.sp) (read_by k m)) (sym act) shown);
         covers = subst (λ (u : State). Uncovers (is_hidden open_to r.sp) e.writes (is_hidden open_to u.regs.sp)) p.after covers;
-        size = c.size;
-        fits = c.fits;
-        low = c.low;
-        high = c.high;
+        room = record { size = c.size; fits = c.fits; low = c.low; high = c.high };
         sums = tt;
       };
     } in

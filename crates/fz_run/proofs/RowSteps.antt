@@ -3,76 +3,83 @@ use Rattle.std.proofs.Common.{◌≡◌, ◌≤◌, ◌<◌, ◌+◌, ℕ, suc, 
 use Rattle.cpu12_parts.specs.State.{State}
 use Rattle.interrupt_plan.specs.declared.Request.{Request}
 use Rattle.trace_io.specs.declared.sample.Sample.{Sample}
-use Rattle.fz_run.specs.declared.board.Board.{Board}
-use Rattle.fz_run.specs.Runs.{Setting, Ran, run_from}
-use Rattle.fz_run.specs.Rows.{input_bytes, given, requests_of, RowSeen, row_of, Rows, put_row, rows_from}
+use Rattle.run_law.specs.Forms.{Form, Ran, run_from, RowSeen, row_of, Rows, put_row, rows_from}
+use Rattle.fz_run.specs.Rows.{input_bytes, requests_of}
 use Rattle.fz_run.specs.Slices.{requests_first}
 use Rattle.fz_run.proofs.PlanSlices.{Follow, first_are, later_are}
 
--- plans that have the same requests for the samples that are left
-rows_plan : (g : Setting Request) (b : Board) (most : ℕ) (p q : List Request) (k : ℕ) (samples : List (List ℕ)) (s : State) → ((j : ℕ) → k ≤ j → requests_of j p ≡ requests_of j q)
-    → rows_from g b most p k samples s ≡ rows_from g b most q k samples s
-unfolding rows_from
-rows_plan g b most p q k [] s h = refl
-rows_plan g b most p q k (bytes ∷ rest) s h =
-    let r : Ran = run_from g most 0 false (requests_of k q) (given b bytes s) in
-    ap (λ (qs : List Request). with_requests qs) (h k (omega arith))
-    ∙ ap (λ (rs : Rows). put_row (row_of b bytes r) r rs) (rows_plan g b most p q (suc k) rest r.state (λ j l. h j (omega arith)))
-  where
-    with_requests : List Request → Rows
-    with_requests qs =
-        let r = run_from g most 0 false qs (given b bytes s) in
-        put_row (row_of b bytes r) r (rows_from g b most p (suc k) rest r.state)
+abbrev pub Plain : Type 0
+Plain = Form (List ℕ) Request (Unit {0})
 
-pub no_row : (g : Setting Request) (b : Board) (most : ℕ) (plan : List Request) (k : ℕ) (s : State) → rows_from g b most plan k [] s ≡ record { rows = []; states = []; arrived = true; state = s }
+-- the rows of samples under a plan
+abbrev pub rows_under : Plain → ℕ → List Request → ℕ → List (List ℕ) → State → Rows (List ℕ) Request (Unit {0})
+rows_under g most plan k samples s = rows_from g most (λ j. requests_of j plan) k samples s
+
+-- plans that have the same requests for the samples that are left
+rows_plan : (g : Plain) (most : ℕ) (p q : List Request) (k : ℕ) (samples : List (List ℕ)) (s : State) → ((j : ℕ) → k ≤ j → requests_of j p ≡ requests_of j q)
+    → rows_under g most p k samples s ≡ rows_under g most q k samples s
 unfolding rows_from
-no_row g b most plan k s = refl
+rows_plan g most p q k [] s h = refl
+rows_plan g most p q k (bytes ∷ rest) s h =
+    let r : Ran Request (Unit {0}) = run_from g most 0 false (requests_of k q) (g.give bytes s) in
+    ap (λ (qs : List Request). with_requests qs) (h k (omega arith))
+    ∙ ap (λ (rs : Rows (List ℕ) Request (Unit {0})). put_row (row_of g bytes r) r rs) (rows_plan g most p q (suc k) rest (g.leave bytes r.state) (λ j l. h j (omega arith)))
+  where
+    with_requests : List Request → Rows (List ℕ) Request (Unit {0})
+    with_requests qs =
+        let r = run_from g most 0 false qs (g.give bytes s) in
+        put_row (row_of g bytes r) r (rows_under g most p (suc k) rest (g.leave bytes r.state))
+
+pub no_row : (g : Plain) (most : ℕ) (plan : List Request) (k : ℕ) (s : State) → rows_under g most plan k [] s ≡ record { rows = []; states = []; told = []; arrived = true; state = s }
+unfolding rows_from
+no_row g most plan k s = refl
 
 -- the first row, and those of the plan that is left
-one_row : (g : Setting Request) (b : Board) (most : ℕ) (plan : List Request) (k : ℕ) (bytes : List ℕ) (rest : List (List ℕ)) (s : State) (r : Ran) → Follow k plan
-    → r ≡ run_from g most 0 false (requests_first k plan) (given b bytes s)
-    → rows_from g b most plan k (bytes ∷ rest) s ≡ put_row (row_of b bytes r) r (rows_from g b most (drop (length (requests_first k plan)) plan) (k + 1) rest r.state)
+one_row : (g : Plain) (most : ℕ) (plan : List Request) (k : ℕ) (bytes : List ℕ) (rest : List (List ℕ)) (s : State) (r : Ran Request (Unit {0})) → Follow k plan
+    → r ≡ run_from g most 0 false (requests_first k plan) (g.give bytes s)
+    → rows_under g most plan k (bytes ∷ rest) s ≡ put_row (row_of g bytes r) r (rows_under g most (drop (length (requests_first k plan)) plan) (k + 1) rest (g.leave bytes r.state))
 unfolding rows_from
-one_row g b most plan k bytes rest s r h e =
+one_row g most plan k bytes rest s r h e =
     let n : suc k ≡ k + 1 = omega arith in
-    ap (λ (qs : List Request). with_ran (run_from g most 0 false qs (given b bytes s))) (first_are k plan h)
-    ∙ ap (λ (t : Ran). with_ran t) (sym e)
-    ∙ ap (λ (rs : Rows). put_row (row_of b bytes r) r rs)
-    (ap (λ (j : ℕ). rows_from g b most plan j rest r.state) n
-    ∙ rows_plan g b most plan (drop (length (requests_first k plan)) plan) (k + 1) rest r.state (λ j l. later_are k j plan (omega arith)))
+    ap (λ (qs : List Request). with_ran (run_from g most 0 false qs (g.give bytes s))) (first_are k plan h)
+    ∙ ap (λ (t : Ran Request (Unit {0})). with_ran t) (sym e)
+    ∙ ap (λ (rs : Rows (List ℕ) Request (Unit {0})). put_row (row_of g bytes r) r rs)
+    (ap (λ (j : ℕ). rows_under g most plan j rest (g.leave bytes r.state)) n
+    ∙ rows_plan g most plan (drop (length (requests_first k plan)) plan) (k + 1) rest (g.leave bytes r.state) (λ j l. later_are k j plan (omega arith)))
   where
-    with_ran : Ran → Rows
-    with_ran t = put_row (row_of b bytes t) t (rows_from g b most plan (suc k) rest t.state)
+    with_ran : Ran Request (Unit {0}) → Rows (List ℕ) Request (Unit {0})
+    with_ran t = put_row (row_of g bytes t) t (rows_under g most plan (suc k) rest (g.leave bytes t.state))
 
 -- what is found after one row more
-pub record Found (g : Setting Request) (b : Board) (most : ℕ) (plan : List Request) (k : ℕ) (rest : List (List ℕ)) (s : State) (rows : List RowSeen) (all : Rows) : Type 0 where
-  pub rows_are : rows ++ (rows_from g b most plan k rest s).rows ≡ all.rows
-  pub state_is : (rows_from g b most plan k rest s).state ≡ all.state
+pub record Found (g : Plain) (most : ℕ) (plan : List Request) (k : ℕ) (rest : List (List ℕ)) (s : State) (rows : List (RowSeen (List ℕ))) (all : Rows (List ℕ) Request (Unit {0})) : Type 0 where
+  pub rows_are : rows ++ (rows_under g most plan k rest s).rows ≡ all.rows
+  pub state_is : (rows_under g most plan k rest s).state ≡ all.state
 
-pub found_more : (g : Setting Request) (b : Board) (most : ℕ) (plan plan2 : List Request) (k : ℕ) (samples : List (List ℕ)) (bytes : List ℕ) (rest : List (List ℕ)) (s t : State) (rows rows2 : List RowSeen) (row : RowSeen) (all : Rows) (requests : List Request)
-    → Found g b most plan k samples s rows all → Follow k plan → samples ≡ bytes ∷ rest → requests ≡ requests_first k plan → plan2 ≡ drop (length (requests_first k plan)) plan
-    → row ≡ row_of b bytes (run_from g most 0 false requests (given b bytes s)) → t ≡ (run_from g most 0 false requests (given b bytes s)).state → rows2 ≡ rows ++ row ∷ []
-    → Found g b most plan2 (k + 1) rest t rows2 all
-found_more g b most plan plan2 k samples bytes rest s t rows rows2 row all requests f h es eq ep er et e2 =
-    let r : Ran = run_from g most 0 false requests (given b bytes s) in
-    let one : rows_from g b most plan k samples s ≡ put_row (row_of b bytes r) r (rows_from g b most (drop (length (requests_first k plan)) plan) (k + 1) rest r.state) =
-    ap (λ (l : List (List ℕ)). rows_from g b most plan k l s) es ∙ one_row g b most plan k bytes rest s r h (ap (λ (qs : List Request). run_from g most 0 false qs (given b bytes s)) eq) in
-    let there : rows_from g b most (drop (length (requests_first k plan)) plan) (k + 1) rest r.state ≡ rows_from g b most plan2 (k + 1) rest t =
-    ap (λ (p : List Request). rows_from g b most p (k + 1) rest r.state) (sym ep) ∙ ap (λ (u : State). rows_from g b most plan2 (k + 1) rest u) (sym et) in
-    let all2 : rows_from g b most plan k samples s ≡ put_row row r (rows_from g b most plan2 (k + 1) rest t) =
-    one ∙ ap (λ (rs : Rows). put_row (row_of b bytes r) r rs) there ∙ ap (λ (x : RowSeen). put_row x r (rows_from g b most plan2 (k + 1) rest t)) (sym er) in
+pub found_more : (g : Plain) (most : ℕ) (plan plan2 : List Request) (k : ℕ) (samples : List (List ℕ)) (bytes : List ℕ) (rest : List (List ℕ)) (s t : State) (rows rows2 : List (RowSeen (List ℕ))) (row : RowSeen (List ℕ)) (all : Rows (List ℕ) Request (Unit {0})) (requests : List Request)
+    → Found g most plan k samples s rows all → Follow k plan → samples ≡ bytes ∷ rest → requests ≡ requests_first k plan → plan2 ≡ drop (length (requests_first k plan)) plan
+    → row ≡ row_of g bytes (run_from g most 0 false requests (g.give bytes s)) → t ≡ g.leave bytes (run_from g most 0 false requests (g.give bytes s)).state → rows2 ≡ rows ++ row ∷ []
+    → Found g most plan2 (k + 1) rest t rows2 all
+found_more g most plan plan2 k samples bytes rest s t rows rows2 row all requests f h es eq ep er et e2 =
+    let r : Ran Request (Unit {0}) = run_from g most 0 false requests (g.give bytes s) in
+    let u : State = g.leave bytes r.state in
+    let one : rows_under g most plan k samples s ≡ put_row (row_of g bytes r) r (rows_under g most (drop (length (requests_first k plan)) plan) (k + 1) rest u) =
+    ap (λ (l : List (List ℕ)). rows_under g most plan k l s) es ∙ one_row g most plan k bytes rest s r h (ap (λ (qs : List Request). run_from g most 0 false qs (g.give bytes s)) eq) in
+    let there : rows_under g most (drop (length (requests_first k plan)) plan) (k + 1) rest u ≡ rows_under g most plan2 (k + 1) rest t =
+    ap (λ (p : List Request). rows_under g most p (k + 1) rest u) (sym ep) ∙ ap (λ (v : State). rows_under g most plan2 (k + 1) rest v) (sym et) in
+    let all2 : rows_under g most plan k samples s ≡ put_row row r (rows_under g most plan2 (k + 1) rest t) =
+    one ∙ ap (λ (rs : Rows (List ℕ) Request (Unit {0})). put_row (row_of g bytes r) r rs) there ∙ ap (λ (x : RowSeen (List ℕ)). put_row x r (rows_under g most plan2 (k + 1) rest t)) (sym er) in
     record {
-      rows_are = ap (λ (l : List RowSeen). l ++ (rows_from g b most plan2 (k + 1) rest t).rows) e2
-          ∙ append_assoc rows (row ∷ []) (rows_from g b most plan2 (k + 1) rest t).rows
-          ∙ ap (λ (rs : Rows). rows ++ rs.rows) (sym all2) ∙ f.rows_are;
-      state_is = ap (λ (rs : Rows). rs.state) (sym all2) ∙ f.state_is;
+      rows_are = ap (λ (l : List (RowSeen (List ℕ))). l ++ (rows_under g most plan2 (k + 1) rest t).rows) e2
+          ∙ append_assoc rows (row ∷ []) (rows_under g most plan2 (k + 1) rest t).rows
+          ∙ ap (λ (rs : Rows (List ℕ) Request (Unit {0})). rows ++ rs.rows) (sym all2) ∙ f.rows_are;
+      state_is = ap (λ (rs : Rows (List ℕ) Request (Unit {0})). rs.state) (sym all2) ∙ f.state_is;
     }
 
-pub found_all : (g : Setting Request) (b : Board) (most : ℕ) (plan : List Request) (k : ℕ) (samples : List (List ℕ)) (s : State) (rows : List RowSeen) (all : Rows) → Found g b most plan k samples s rows all → samples ≡ []
+pub found_all : (g : Plain) (most : ℕ) (plan : List Request) (k : ℕ) (samples : List (List ℕ)) (s : State) (rows : List (RowSeen (List ℕ))) (all : Rows (List ℕ) Request (Unit {0})) → Found g most plan k samples s rows all → samples ≡ []
     → (rows ≡ all.rows) × (s ≡ all.state)
-found_all g b most plan k samples s rows all f e =
-    let none = ap (λ (l : List (List ℕ)). rows_from g b most plan k l s) e ∙ no_row g b most plan k s in
-    (sym (append-nil rows) ∙ ap (λ (rs : Rows). rows ++ rs.rows) (sym none) ∙ f.rows_are, ap (λ (rs : Rows). rs.state) (sym none) ∙ f.state_is)
+found_all g most plan k samples s rows all f e =
+    let none = ap (λ (l : List (List ℕ)). rows_under g most plan k l s) e ∙ no_row g most plan k s in
+    (sym (append-nil rows) ∙ ap (λ (rs : Rows (List ℕ) Request (Unit {0})). rows ++ rs.rows) (sym none) ∙ f.rows_are, ap (λ (rs : Rows (List ℕ) Request (Unit {0})). rs.state) (sym none) ∙ f.state_is)
 
 -- the sample that is next, and those that are left
 pub samples_here : (samples : List Sample) (i : ℕ) (d : Sample) → i < length samples → d ≡ get_or samples i d → map input_bytes (drop i samples) ≡ input_bytes d ∷ map input_bytes (drop (i + 1) samples)
@@ -80,5 +87,5 @@ samples_here samples i d h e =
     let n : suc i ≡ i + 1 = omega arith in
     ap (map input_bytes) (drop-cons samples i d h) ∙ ap (λ (s : Sample). input_bytes s ∷ map input_bytes (drop (suc i) samples)) (sym e) ∙ ap (λ (j : ℕ). input_bytes d ∷ map input_bytes (drop j samples)) n
 
-pub found_start : (g : Setting Request) (b : Board) (most : ℕ) (plan : List Request) (k : ℕ) (samples : List (List ℕ)) (s : State) (rows : List RowSeen) → rows ≡ [] → Found g b most plan k samples s rows (rows_from g b most plan k samples s)
-found_start g b most plan k samples s rows e = record { rows_are = ap (λ (l : List RowSeen). l ++ (rows_from g b most plan k samples s).rows) e; state_is = refl }
+pub found_start : (g : Plain) (most : ℕ) (plan : List Request) (k : ℕ) (samples : List (List ℕ)) (s : State) (rows : List (RowSeen (List ℕ))) → rows ≡ [] → Found g most plan k samples s rows (rows_under g most plan k samples s)
+found_start g most plan k samples s rows e = record { rows_are = ap (λ (l : List (RowSeen (List ℕ))). l ++ (rows_under g most plan k samples s).rows) e; state_is = refl }

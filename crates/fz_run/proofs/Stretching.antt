@@ -8,34 +8,34 @@ use Rattle.cpu12_emul.specs.declared.ends.Stepped.{Stepped}
 use Rattle.cpu12_emul.specs.declared.ends.Stepped.TheVariants.{Plain, Part, LastPart}
 use Rattle.cpu12_emul.specs.Step.{Next, next_of}
 use Rattle.cpu12_parts.specs.Executions.{Execution, all_steps}
-use Rattle.fz_run.specs.Runs.{is_part, one_if}
-use Rattle.fz_run.specs.Calm.{stepped, kind_at, state_by, kind_by, calm, counted}
-use Rattle.fz_run.specs.Undisturbed.{Before}
+use Rattle.run_law.specs.Forms.{is_part, one_if}
+use Rattle.run_law.specs.Uninterrupted.{stepped, kind_at, state_by, kind_by, uninterrupted, counted}
+use Rattle.run_law.specs.Soundness.{Before}
 use Rattle.fz_run.specs.Stretches.{Stretch, Went}
 
-calm_add : (flags m n : ℕ) (s : State) → calm flags (m + n) s ≡ calm flags n (calm flags m s)
-calm_add flags zero n s = let e : 0 + n ≡ n = omega arith in ap (λ (k : ℕ). calm flags k s) e
-calm_add flags (suc m) n s = let e : suc m + n ≡ suc (m + n) = omega arith in ap (λ (k : ℕ). calm flags k s) e ∙ calm_add flags m n (stepped flags s)
+uninterrupted_add : (flags m n : ℕ) (s : State) → uninterrupted flags (m + n) s ≡ uninterrupted flags n (uninterrupted flags m s)
+uninterrupted_add flags zero n s = let e : 0 + n ≡ n = omega arith in ap (λ (k : ℕ). uninterrupted flags k s) e
+uninterrupted_add flags (suc m) n s = let e : suc m + n ≡ suc (m + n) = omega arith in ap (λ (k : ℕ). uninterrupted flags k s) e ∙ uninterrupted_add flags m n (stepped flags s)
 
-counted_add : (flags m n : ℕ) (s : State) → counted flags (m + n) s ≡ counted flags m s + counted flags n (calm flags m s)
+counted_add : (flags m n : ℕ) (s : State) → counted flags (m + n) s ≡ counted flags m s + counted flags n (uninterrupted flags m s)
 counted_add flags zero n s = let e : 0 + n ≡ n = omega arith in ap (λ (k : ℕ). counted flags k s) e ∙ omega arith
 counted_add flags (suc m) n s =
     let e : suc m + n ≡ suc (m + n) = omega arith in
     let r = counted_add flags m n (stepped flags s) in
     ap (λ (k : ℕ). counted flags k s) e ∙ omega (arith, r)
 
-before_add : (P : State → Type 0) (flags m n : ℕ) (s : State) → Before P flags m s → Before P flags n (calm flags m s) → Before P flags (m + n) s
+before_add : (P : State → Type 0) (flags m n : ℕ) (s : State) → Before P flags m s → Before P flags n (uninterrupted flags m s) → Before P flags (m + n) s
 before_add P flags zero n s a b = let e : n ≡ 0 + n = omega arith in subst (λ (k : ℕ). Before P flags k s) e b
 before_add P flags (suc m) n s a b = let e : suc (m + n) ≡ suc m + n = omega arith in subst (λ (k : ℕ). Before P flags k s) e (a.0, before_add P flags m n (stepped flags s) a.1 b)
 
-pub way_went : (P : State → Type 0) (flags : ℕ) (ds : List ℕ) (s t : State) → Execution (Stretch P flags) ds s t → Went P flags ds s t
-way_went P flags [] s t e = record { goes = e; counts = refl; each = tt }
-way_went P flags (d ∷ ds) s t w =
+pub execution_went : (P : State → Type 0) (flags : ℕ) (ds : List ℕ) (s t : State) → Execution (Stretch P flags) ds s t → Went P flags ds s t
+execution_went P flags [] s t e = record { goes = e; counts = refl; each = tt }
+execution_went P flags (d ∷ ds) s t w =
     let u = w.0 in
     let a = w.1.0 in
-    let r = way_went P flags ds u t w.1.1 in
+    let r = execution_went P flags ds u t w.1.1 in
     record {
-      goes = calm_add flags (suc d) (all_steps ds) s ∙ ap (calm flags (all_steps ds)) a.goes ∙ r.goes;
+      goes = uninterrupted_add flags (suc d) (all_steps ds) s ∙ ap (uninterrupted flags (all_steps ds)) a.goes ∙ r.goes;
       counts = (let c = counted_add flags (suc d) (all_steps ds) s in let c2 = ap (counted flags (all_steps ds)) a.goes in omega (arith, c, c2, a.counts, r.counts));
       each = before_add P flags (suc d) (all_steps ds) s a.each (subst (λ (v : State). Before P flags (all_steps ds) v) (sym a.goes) r.each);
     }
@@ -66,7 +66,7 @@ part_stretch P flags d s u t p e r =
     let at : stepped flags s ≡ u = ap (state_by s) e in
     let kind : kind_at flags s ≡ Part = ap kind_by e in
     record {
-      goes = ap (calm flags (suc d)) at ∙ r.goes;
+      goes = ap (uninterrupted flags (suc d)) at ∙ r.goes;
       counts = ap₂ (λ (k : Stepped) (n : ℕ). one_if (not (is_part k)) + n) kind (ap (counted flags (suc d)) at ∙ r.counts);
       each = (p, subst (λ (v : State). Before P flags (suc d) v) (sym at) r.each);
     }

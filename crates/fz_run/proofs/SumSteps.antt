@@ -5,14 +5,14 @@ use Rattle.cpu12_isa.specs.declared.instr.Ccr.{Ccr}
 use Rattle.cpu12_isa.specs.declared.instr.Instr.TheVariants.{Wav}
 use Rattle.cpu12_isa.specs.Act.{Act, outcome, read_by, bind, write_all}
 use Rattle.cpu12_isa.specs.Agreement.{AllShown}
-use Rattle.cpu12_isa.specs.Code.{decode_of, decode_at, six_from}
+use Rattle.cpu12_isa.specs.Code.{decode_of, decode_at, six_from, DecodedHasOpcode}
 use Rattle.cpu12_isa.specs.Fits.{FitsRegs, AreBytes, Leaves}
 use Rattle.cpu12_isa.specs.Flags.{has, opened, interrupts_masked, hnzvc}
 use Rattle.cpu12_isa.specs.Memory.{plus, bytes_at}
-use Rattle.cpu12_isa.proofs.Acts.{outcome_bind}
-use Rattle.cpu12_isa.proofs.Agreements.{shown_bind}
-use Rattle.cpu12_isa.proofs.Bits.{bit, bit_or_is, bit_and_is, fits_opened}
-use Rattle.cpu12_isa.proofs.Fitting.{leaves_outcome}
+use Rattle.cpu12_isa.proofs.Lemmas.{outcome_bind}
+use Rattle.cpu12_isa.proofs.Lemmas.{shown_bind}
+use Rattle.cpu12_isa.proofs.Lemmas.{bit, bit_or_is, bit_and_is, fits_opened}
+use Rattle.cpu12_isa.proofs.Lemmas.{leaves_outcome}
 use Rattle.cpu12_parts.specs.declared.temps.Temps.{Temps}
 use Rattle.cpu12_parts.specs.declared.temps.Temps.TheVariants.{Free, Running}
 use Rattle.cpu12_parts.specs.declared.temps.PartEnd.{PartEnd}
@@ -22,9 +22,9 @@ use Rattle.cpu12_parts.specs.Cuts.{wav, part_of, after_part}
 use Rattle.cpu12_parts.specs.Laws.{PartsTo}
 use Rattle.cpu12_parts.specs.Parts.{leaving, wav_end, wav_from, wav_act}
 use Rattle.cpu12_emul.specs.Step.{Left, Next, kind_of, left_by_part, instruction_act, step_act, applied, next_of}
-use Rattle.fz_run.specs.Undisturbed.{is_hidden, Calmed}
+use Rattle.cpu12_isa.specs.Regions.{stack_start, stack_end, is_hidden}
+use Rattle.fz_run.specs.Facts.{Facts}
 use Rattle.fz_run.specs.Stretches.{Stretch, Kept, Calmly}
-use Rattle.fz_run.proofs.Decoding.{average_byte}
 use Rattle.fz_run.proofs.PartSteps.{leaves_if, left_of}
 use Rattle.fz_run.proofs.Stretching.{last_stretch, part_stretch, shown_all}
 
@@ -83,8 +83,8 @@ pub record Summing (open_to : ℕ → Bool) (r : Regs) (p w : ℕ) (m : List ℕ
   pub size : length m ≡ 65536
   pub bytes : AreBytes m
   pub fits : FitsRegs r
-  pub low : 8175 ≤ r.sp
-  pub high : r.sp ≤ 8192
+  pub low : stack_start + 15 ≤ r.sp
+  pub high : r.sp ≤ stack_end
   pub unmasked : has r.ccr interrupts_masked ≡ false
   pub product_fits : p < 2 ^ 32
   pub weight_fits : w < 2 ^ 16
@@ -93,7 +93,7 @@ pub record Summing (open_to : ℕ → Bool) (r : Regs) (p w : ℕ) (m : List ℕ
 
 -- a step within WAV, and what the state before it keeps
 record Part (open_to : ℕ → Bool) (flags : ℕ) (r : Regs) (p w : ℕ) (m : List ℕ) : Type 0 where
-  calmed : Calmed open_to flags (running_at r p w m)
+  calmed : Facts open_to flags (running_at r p w m)
   goes : next_of flags (running_at r p w m) ≡ Ok (record { state = after_part wav flags (running_at r p w m); kind = kind_of (part_of wav flags (running_at r p w m)).end })
   sums : Sums r r.pc (part_of wav flags (running_at r p w m))
 
@@ -106,15 +106,13 @@ part_here open_to flags r p w m hf c reads =
     record {
       calmed = record {
         unmasked = c.unmasked;
-        keeps = record {
+        sums = tt;
+        shown = record {
           left = left_of o;
           goes = goes;
           reads = shown_bind (is_hidden open_to r.sp) m (wav_act flags r (Running p w)) left_by_part reads (λ x. tt);
           covers = λ at h. inl (subst (λ (j : ℕ). is_hidden open_to j at ≡ false) sums.sp h);
-          size = c.size;
-          fits = fits;
-          low = c.low;
-          high = c.high;
+          room = record { size = c.size; fits = fits; low = c.low; high = c.high };
           sums = (c.product_fits, c.weight_fits, c.code, c.shown);
         };
       };
@@ -152,8 +150,8 @@ sums_at open_to flags Q sp pc (suc d) none r p w m t hf c esp epc q h =
       size = c.size;
       bytes = c.bytes;
       fits = on.fits;
-      low = subst (λ (n : ℕ). 8175 ≤ n) (sym a.sums.sp) c.low;
-      high = subst (λ (n : ℕ). n ≤ 8192) (sym a.sums.sp) c.high;
+      low = subst (λ (n : ℕ). stack_start + 15 ≤ n) (sym a.sums.sp) c.low;
+      high = subst (λ (n : ℕ). n ≤ stack_end) (sym a.sums.sp) c.high;
       unmasked = on.masked ∙ c.unmasked;
       product_fits = on.product_fits;
       weight_fits = on.weight_fits;
@@ -171,9 +169,9 @@ abbrev free_at : Regs → List ℕ → State
 free_at r m = record { regs = r; temps = Free; mem = m }
 
 -- WAV from its first part
-pub average_at : (open_to : ℕ → Bool) (flags : ℕ) (Q : State → Type 0) (d : ℕ) (none : ℕ → Bool) (r : Regs) (m : List ℕ) (t : State) → flags < 2 ^ 8 → Calmly open_to (free_at r m) → decode_at m r.pc ≡ Ok Wav
+pub average_at : DecodedHasOpcode → (open_to : ℕ → Bool) (flags : ℕ) (Q : State → Type 0) (d : ℕ) (none : ℕ → Bool) (r : Regs) (m : List ℕ) (t : State) → flags < 2 ^ 8 → Calmly open_to (free_at r m) → decode_at m r.pc ≡ Ok Wav
     → Q (free_at r m) → ((v : State) → v.regs.pc ≡ plus r.pc 1 → Q v) → PartsTo wav flags (is_hidden open_to r.sp) none d (free_at r m) t → Stretch (Kept open_to flags Q) flags d (free_at r m) t
-average_at open_to flags Q d none r m t hf c decoded qs q h = by d h
+average_at opcode open_to flags Q d none r m t hf c decoded qs q h = by d h
   where
     s : State
     s = free_at r m
@@ -193,19 +191,17 @@ average_at open_to flags Q d none r m t hf c decoded qs q h = by d h
     sums : Sums r (plus r.pc 1) (part_of wav flags (free_at r m))
     sums = leaves_outcome (Sums r (plus r.pc 1)) (wav_act flags r Free) m c.bytes (sums_hold flags r 0 0 (plus r.pc 1) hf c.fits (omega arith))
 
-    calmed : AllShown (is_hidden open_to r.sp) (read_by (wav_act flags r Free) m) → Calmed open_to flags (free_at r m)
+    calmed : AllShown (is_hidden open_to r.sp) (read_by (wav_act flags r Free) m) → Facts open_to flags (free_at r m)
     calmed reads = record {
       unmasked = c.unmasked;
-      keeps = record {
+      sums = tt;
+      shown = record {
         left = left_of (part_of wav flags (free_at r m));
         goes = goes;
         reads = shown_all (is_hidden open_to r.sp) m (six_from r.pc) (λ bytes. instruction_act flags r Free (decode_of bytes)) c.code
             (subst (λ (x : Act (Result Left ℕ)). AllShown (is_hidden open_to r.sp) (read_by x m)) (sym act) (shown_bind (is_hidden open_to r.sp) m (wav_act flags r Free) left_by_part reads (λ x. tt)));
         covers = λ at k. inl (subst (λ (j : ℕ). is_hidden open_to j at ≡ false) sums.sp k);
-        size = c.size;
-        fits = c.fits;
-        low = c.low;
-        high = c.high;
+        room = record { size = c.size; fits = c.fits; low = c.low; high = c.high };
         sums = tt;
       };
     }
@@ -218,12 +214,12 @@ average_at open_to flags Q d none r m t hf c decoded qs q h = by d h
       size = c.size;
       bytes = c.bytes;
       fits = on.fits;
-      low = subst (λ (n : ℕ). 8175 ≤ n) (sym sums.sp) c.low;
-      high = subst (λ (n : ℕ). n ≤ 8192) (sym sums.sp) c.high;
+      low = subst (λ (n : ℕ). stack_start + 15 ≤ n) (sym sums.sp) c.low;
+      high = subst (λ (n : ℕ). n ≤ stack_end) (sym sums.sp) c.high;
       unmasked = on.masked ∙ c.unmasked;
       product_fits = on.product_fits;
       weight_fits = on.weight_fits;
-      code = ap (λ (n : ℕ). get_or m n 0) on.at ∙ average_byte (bytes_at m (six_from r.pc)) decoded;
+      code = ap (λ (n : ℕ). get_or m n 0) on.at ∙ (opcode (bytes_at m (six_from r.pc)) Wav decoded).1.0;
       shown = ap₂ (is_hidden open_to) sums.sp on.at ∙ (let code = c.code in code.1.0);
     }
 

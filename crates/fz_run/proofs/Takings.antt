@@ -4,35 +4,35 @@ use Rattle.std.proofs.lemmas.List.{map-append, length-map}
 use Rattle.cpu12_parts.specs.State.{State}
 use Rattle.cpu12_emul.specs.declared.ends.Frame.{Frame}
 use Rattle.cpu12_emul.specs.Take.{FrameSeen, frame_seen, frame_of}
-use Rattle.fz_run.specs.Runs.{Setting, Taking, takes}
+use Rattle.run_law.specs.Forms.{Form, Taking, takes, taken}
 use Rattle.fz_run.specs.Rows.{boundary_seen, frames_seen}
-use Rattle.fz_run.specs.Rest.{is_due, with_frames}
+use Rattle.fz_run.specs.Rest.{is_due, Brought, with_frames}
 
 pub length_seen : (fs : List (ℕ × Frame)) → length (frames_seen fs) ≡ length fs
 length_seen fs = length-map fs boundary_seen
 
 -- a request that is due is taken
-pub takes_due : {A : Type 0} (g : Setting A) (m : ℕ) (q : A) (qs : List A) (s : State) (fs : List (ℕ × FrameSeen)) → is_due g.moment m (q ∷ qs) s ≡ true
-    → with_frames fs (takes g m (q ∷ qs) s) ≡ with_frames (fs ++ (m, frame_of s) ∷ []) (takes g m qs (g.take q s))
+pub takes_due : {S A B : Type 0} (g : Form S A B) (m : ℕ) (q : A) (qs : List A) (s : State) (fs : List (ℕ × FrameSeen)) → is_due g.moment m (q ∷ qs) s ≡ true
+    → with_frames fs (takes g m (q ∷ qs) s) ≡ with_frames (fs ++ (m, frame_of s) ∷ []) (takes g m qs (taken g q s))
 unfolding takes
-takes_due {A = A} g m q qs s fs h =
-    let t : Taking A = takes g m qs (g.take q s) in
+takes_due {S = S} {A = A} {B = B} g m q qs s fs h =
+    let t : Taking A B = takes g m qs (taken g q s) in
     let e : fs ++ ((m, frame_of s) ∷ t.frames) ≡ (fs ++ (m, frame_of s) ∷ []) ++ t.frames = sym (append_assoc fs ((m, frame_of s) ∷ []) t.frames) in
     rw h (ap (λ (l : List (ℕ × FrameSeen)). by t l) e)
   where
-    by : Taking A → List (ℕ × FrameSeen) → Taking A
+    by : Taking A B → List (ℕ × FrameSeen) → Brought A
     by t l = record { state = t.state; frames = l; left = t.left }
 
 -- where none is due, none is taken
-pub takes_none : {A : Type 0} (g : Setting A) (m : ℕ) (qs : List A) (s : State) → is_due g.moment m qs s ≡ false → takes g m qs s ≡ record { state = s; frames = []; left = qs }
+pub takes_none : {S A B : Type 0} (g : Form S A B) (m : ℕ) (qs : List A) (s : State) → is_due g.moment m qs s ≡ false → takes g m qs s ≡ record { state = s; frames = []; told = []; left = qs }
 unfolding takes
 takes_none g m [] s h = refl
 takes_none g m (q ∷ qs) s h = rw h refl
 
-pub takes_end : {A : Type 0} (g : Setting A) (m : ℕ) (qs : List A) (s : State) (fs : List (ℕ × FrameSeen)) → is_due g.moment m qs s ≡ false → with_frames fs (takes g m qs s) ≡ record { state = s; frames = fs; left = qs }
-takes_end {A = A} g m qs s fs h = ap (with_frames fs) (takes_none g m qs s h) ∙ ap (λ (l : List (ℕ × FrameSeen)). by l) (append-nil fs)
+pub takes_end : {S A B : Type 0} (g : Form S A B) (m : ℕ) (qs : List A) (s : State) (fs : List (ℕ × FrameSeen)) → is_due g.moment m qs s ≡ false → with_frames fs (takes g m qs s) ≡ record { state = s; frames = fs; left = qs }
+takes_end {S = S} {A = A} {B = B} g m qs s fs h = ap (with_frames fs) (takes_none g m qs s h) ∙ ap (λ (l : List (ℕ × FrameSeen)). by l) (append-nil fs)
   where
-    by : List (ℕ × FrameSeen) → Taking A
+    by : List (ℕ × FrameSeen) → Brought A
     by l = record { state = s; frames = l; left = qs }
 
 request_here : {A : Type 0} (qs : List A) (i : ℕ) (d : A) → i < length qs → drop i qs ≡ get_or qs i d ∷ drop (i + 1) qs
@@ -41,10 +41,10 @@ request_here {A = A} qs i d h = drop-cons qs i d h ∙ ap (λ (k : ℕ). get_or 
 frames_more : (fs : List (ℕ × Frame)) (f : ℕ × Frame) → frames_seen (fs ++ f ∷ []) ≡ frames_seen fs ++ boundary_seen f ∷ []
 frames_more fs f = map-append boundary_seen fs (f ∷ [])
 
-pub one_taken : {A : Type 0} (g : Setting A) (m : ℕ) (qs : List A) (i : ℕ) (d : A) (s t : State) (fs fs2 : List (ℕ × Frame)) (f : Frame) → i < length qs
-    → is_due g.moment m (drop i qs) s ≡ true → t ≡ g.take (get_or qs i d) s → frame_seen f ≡ frame_of s → fs2 ≡ fs ++ (m, f) ∷ []
+pub one_taken : {S A B : Type 0} (g : Form S A B) (m : ℕ) (qs : List A) (i : ℕ) (d : A) (s t : State) (fs fs2 : List (ℕ × Frame)) (f : Frame) → i < length qs
+    → is_due g.moment m (drop i qs) s ≡ true → t ≡ taken g (get_or qs i d) s → frame_seen f ≡ frame_of s → fs2 ≡ fs ++ (m, f) ∷ []
     → with_frames (frames_seen fs) (takes g m (drop i qs) s) ≡ with_frames (frames_seen fs2) (takes g m (drop (i + 1) qs) t)
-one_taken {A = A} g m qs i d s t fs fs2 f lt due et ef efs =
+one_taken {S = S} {A = A} {B = B} g m qs i d s t fs fs2 f lt due et ef efs =
     let here = request_here qs i d lt in
     let due2 : is_due g.moment m (get_or qs i d ∷ drop (i + 1) qs) s ≡ true = subst (λ (l : List A). is_due g.moment m l s ≡ true) here due in
     let fr : frames_seen fs ++ (m, frame_of s) ∷ [] ≡ frames_seen fs2 = ap (λ (x : FrameSeen). frames_seen fs ++ (m, x) ∷ []) (sym ef) ∙ sym (frames_more fs (m, f)) ∙ ap frames_seen (sym efs) in

@@ -1,10 +1,10 @@
-pub mod Runs
+pub mod Forms
 pub mod Rows
 pub mod Rest
 pub mod Slices
-pub mod Calm
-pub mod Undisturbed
-pub mod CalmRows
+pub mod Facts
 pub mod Stretches
+pub mod Following
+pub mod SoundAlone
 pub mod Answering
 pub mod Arrival

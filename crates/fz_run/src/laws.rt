@@ -1,26 +1,42 @@
-//! Laws of runs.
+// Laws of runs.
 ghost use Rattle.fz_run.specs.Answering.{AnswersUnderPlans};
 ghost use Rattle.fz_run.specs.Arrival.{ArrivesPlainly};
-ghost use Rattle.fz_run.specs.CalmRows.{RunsCalmly};
+ghost use Rattle.fz_run.specs.Following.{RunsFollowAlone};
 
-/// A run under a good plan stays undisturbed beside the run without interrupts: where each state of
-/// the latter keeps the facts of [`Calmed`], its answers, counts of instructions and steps are the
-/// same, its resumed counts and frames are read off the states without interrupts, and each of its
-/// states is the same but for the bytes that plans may write, the stack below SP, and WAV's sums
-/// between an interrupt and their pull.
+use crate::alone::StandAlone;
+use codegen::laws::{answered_are_uninterrupted, firmware_answers};
+use cpu12_isa::laws::decoded_has_opcode;
+use cpu12_parts::laws::{rev_is_whole, revw_is_whole, wav_is_whole};
+use run_law::laws::runs_follow;
+
+/// The run of a firmware that stands alone follows the run without interrupts under every good plan,
+/// where each state of the latter keeps the facts of [`Facts`]: its answers, counts of instructions
+/// and steps are the same, its resumed counts and frames are read off the states without interrupts,
+/// and each of its states is the same but for the bytes that plans may write, the stack below SP,
+/// and WAV's sums between an interrupt and their pull.
 ///
-/// [`Calmed`]: the record of that name in the crate's specifications
-pub fn runs_calmly()
-    ensures { RunsCalmly }
-{}
+/// [`Facts`]: the record of that name in the crate's specifications
+pub fn runs_follow_alone()
+    ensures { RunsFollowAlone }
+{
+    runs_follow::<StandAlone>();
+}
 
-/// The firmware of a block answers every list of samples under every good plan as without
-/// interrupts: each row has the sample's bytes, the byte answers, and the counts of the whole
-/// instructions and of the steps that answer it alone, no more than the bounds say; and the run goes
-/// calmly.
+/// The firmware of a block, of either width, answers every list of samples under every good plan as
+/// without interrupts: each row is of its sample, its answers and its number of instructions are the
+/// uninterrupted ones, which are the block's over bytes, and its steps are those without interrupts,
+/// all within the bounds; the states without interrupts keep the facts; and the run follows them.
 pub fn answers_under_plans()
     ensures { AnswersUnderPlans }
-{}
+{
+    decoded_has_opcode();
+    rev_is_whole();
+    revw_is_whole();
+    wav_is_whole();
+    firmware_answers();
+    answered_are_uninterrupted();
+    runs_follow_alone();
+}
 
 /// Plain instructions from reset to LOOP are the way by which a run gets there.
 pub fn arrives_plainly()

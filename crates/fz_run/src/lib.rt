@@ -12,9 +12,10 @@
 //! [`handler::Handler`].
 #![tactic(auto)]
 
-pub mod board;
+pub mod alone;
 pub mod handler;
 pub mod laws;
+mod ports;
 mod rows;
 pub mod sample;
 

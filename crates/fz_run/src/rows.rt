@@ -1,13 +1,15 @@
 //! A list of samples under a plan.
 ghost use Rattle.std.specs.Prelude.{ℕ, ◌≡◌, ◌≤◌, ◌<◌, ◌+◌, List, [], false, length, map, take, drop, vec_len, vec_capacity, IfOk};
 ghost use Rattle.interrupt_plan.specs.Plans.{IsGood};
-ghost use Rattle.fz_run.specs.Runs.{run_from};
-ghost use Rattle.fz_run.specs.Rows.{given, setting_of, is_of, requests_of, row_seen, row_of, rows_from, arrival, input_bytes, firmware_rows};
+ghost use Rattle.run_law.specs.Forms.{run_from, row_of, rows_from};
+ghost use Rattle.fz_run.specs.Forms.{given, stand_alone};
+ghost use Rattle.fz_run.specs.Rows.{is_of, requests_of, row_seen, arrival, input_bytes, firmware_rows};
 ghost use Rattle.fz_run.specs.Slices.{HaveRoom, HasRoom, requests_first};
 ghost use Rattle.fz_run.specs.Answering.{AnswersItsBlock};
 
-use crate::board::Board;
 use crate::handler::{Handler, ListedWrites};
+use crate::laws::answers_under_plans;
+use crate::ports::{answers, give};
 use crate::sample::run_sample;
 use arrayvec::ArrayVec;
 use codegen::Firmware;
@@ -25,8 +27,8 @@ use trace_io::Sample;
 pub struct Row {
     /// The bytes of the inputs.
     pub bytes: ArrayVec<u8, 8>,
-    /// The bytes of the outputs at the end.
-    pub answers: ArrayVec<u8, 4>,
+    /// The answers at the end: bytes, or words where the firmware's answers are wide.
+    pub answers: ArrayVec<u16, 4>,
     /// How many instructions were done: steps that were plain, or the last part of REV, REVW or
     /// WAV.
     pub instrs: u32,
@@ -41,9 +43,8 @@ pub struct Row {
 
 /// Runs a firmware over a trace under a plan, and answers a row for each sample and the memory of
 /// the last state. Bits of `flags` give the flags that the CPU12 Reference Manual leaves undefined.
-/// Where the firmware is a block's, the rows have its byte answers and the counts of the run without
-/// interrupts, within the bounds.
-#[tactic(auto, using(crate::proofs::AnswerWays::answers_its_block))]
+/// Where the firmware is a block's, the rows have its answers over bytes and the counts of the run
+/// without interrupts, within the bounds.
 pub fn run_on<M: Mem>(
     alloc: Global,
     firmware: &Firmware,
@@ -54,20 +55,20 @@ pub fn run_on<M: Mem>(
     requires outputs { firmware.now.outputs ≤ 4 }
     requires plan { IsGood plan.now }
     ensures rows { IfOk result (λ r. map row_seen r.0.items ≡ (firmware_rows firmware.now (map input_bytes samples.now) plan.now flags).rows) }
-    ensures answers { IfOk result (λ r. AnswersItsBlock firmware.now flags (map input_bytes samples.now) (map row_seen r.0.items)) }
+    ensures answers { IfOk result (λ r. AnswersItsBlock firmware.now flags (map input_bytes samples.now) plan.now (map row_seen r.0.items)) }
     ensures memory { IfOk result (λ r. M.bytes r.1 ≡ (firmware_rows firmware.now (map input_bytes samples.now) plan.now flags).state.mem) }
 {
+    answers_under_plans();
     let rooms = make_rooms(alloc, samples.len(), plan.as_slice())?;
     let Ok(rows) = Vec::with_capacity(alloc, samples.len()) else {
         return Err(Memory);
     };
-    let board = Board::of(firmware);
     let mut m = Machine::new(alloc, &firmware.image, flags)?;
     arrive(&mut m, firmware.layout.wait, firmware.step_bound);
     let rows = run_samples(
         &mut m,
         &ListedWrites,
-        &board,
+        firmware,
         firmware.step_bound,
         samples,
         plan.as_slice(),
@@ -88,7 +89,7 @@ pub fn run(
     requires outputs { firmware.now.outputs ≤ 4 }
     requires plan { IsGood plan.now }
     ensures rows { IfOk result (λ rows. map row_seen rows.items ≡ (firmware_rows firmware.now (map input_bytes samples.now) plan.now flags).rows) }
-    ensures answers { IfOk result (λ rows. AnswersItsBlock firmware.now flags (map input_bytes samples.now) (map row_seen rows.items)) }
+    ensures answers { IfOk result (λ rows. AnswersItsBlock firmware.now flags (map input_bytes samples.now) plan.now (map row_seen rows.items)) }
 {
     let (rows, _memory): (Vec<Row>, FlatMem) = run_on(alloc, firmware, samples, plan, flags)?;
     Ok(rows)
@@ -158,23 +159,23 @@ fn make_rooms(
 fn run_one<M: Mem, H: Handler<Request>>(
     m: &mut Machine<M>,
     h: &H,
-    b: &Board,
+    firmware: &Firmware,
     budget: u32,
     sample: &Sample,
     requests: &[Request],
     frames: Vec<(u32, Frame)>,
 ) -> Row
-    requires outputs { b.now.output_count ≤ 4 }
+    requires outputs { firmware.now.outputs ≤ 4 }
     requires room { HasRoom requests.now frames }
-    ensures row { row_seen result ≡ row_of b.now (input_bytes sample.now) (run_from (setting_of m.old.flags b.now (H.moment h.now) (H.take h.now)) budget 0 false requests.now (given b.now (input_bytes sample.now) m.old.state)) }
-    ensures state { m.new.state ≡ (run_from (setting_of m.old.flags b.now (H.moment h.now) (H.take h.now)) budget 0 false requests.now (given b.now (input_bytes sample.now) m.old.state)).state }
+    ensures row { row_seen result ≡ row_of (stand_alone m.old.flags firmware.now (H.moment h.now) (H.take h.now)) (input_bytes sample.now) (run_from (stand_alone m.old.flags firmware.now (H.moment h.now) (H.take h.now)) budget 0 false requests.now (given firmware.now.layout (input_bytes sample.now) m.old.state)) }
+    ensures state { m.new.state ≡ (run_from (stand_alone m.old.flags firmware.now (H.moment h.now) (H.take h.now)) budget 0 false requests.now (given firmware.now.layout (input_bytes sample.now) m.old.state)).state }
     ensures flags { m.new.flags ≡ m.old.flags }
 {
-    b.give(m, sample.bytes.as_slice());
-    let tally = run_sample(m, h, b, requests, budget, frames);
+    give(&firmware.layout, m, sample.bytes.as_slice());
+    let tally = run_sample(m, h, firmware, requests, budget, frames);
     Row {
         bytes: copy_of(sample.bytes.as_slice()),
-        answers: b.answers(m),
+        answers: answers(firmware, m),
         instrs: tally.instrs,
         steps: tally.moment,
         resumed: tally.resumed,
@@ -195,20 +196,20 @@ fn copy_of(bytes: &[u8]) -> ArrayVec<u8, 8>
 fn run_samples<M: Mem, H: Handler<Request>>(
     m: &mut Machine<M>,
     h: &H,
-    b: &Board,
+    firmware: &Firmware,
     budget: u32,
     samples: &[Sample],
     plan: &[Request],
     mut rooms: VecDeque<Vec<(u32, Frame)>>,
     mut rows: Vec<Row>,
 ) -> Vec<Row>
-    requires outputs { b.now.output_count ≤ 4 }
+    requires outputs { firmware.now.outputs ≤ 4 }
     requires plan { IsGood plan.now }
     requires rooms { HaveRoom 1 (length samples.now) plan.now rooms.items }
     requires none { rows.items ≡ [] }
     requires room { length samples.now ≤ vec_capacity rows }
-    ensures rows { map row_seen result.items ≡ (rows_from (setting_of m.old.flags b.now (H.moment h.now) (H.take h.now)) b.now budget plan.now 1 (map input_bytes samples.now) m.old.state).rows }
-    ensures state { m.new.state ≡ (rows_from (setting_of m.old.flags b.now (H.moment h.now) (H.take h.now)) b.now budget plan.now 1 (map input_bytes samples.now) m.old.state).state }
+    ensures rows { map row_seen result.items ≡ (rows_from (stand_alone m.old.flags firmware.now (H.moment h.now) (H.take h.now)) budget (λ k. requests_of k plan.now) 1 (map input_bytes samples.now) m.old.state).rows }
+    ensures state { m.new.state ≡ (rows_from (stand_alone m.old.flags firmware.now (H.moment h.now) (H.take h.now)) budget (λ k. requests_of k plan.now) 1 (map input_bytes samples.now) m.old.state).state }
     ensures flags { m.new.flags ≡ m.old.flags }
 {
     let mut next = 0;
@@ -221,7 +222,7 @@ fn run_samples<M: Mem, H: Handler<Request>>(
         let row = run_one(
             m,
             h,
-            b,
+            firmware,
             budget,
             &samples[next],
             &plan[first..first + count],

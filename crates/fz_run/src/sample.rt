@@ -1,12 +1,15 @@
-//! One sample under its requests.
+// One sample under its requests.
 ghost use Rattle.std.specs.Prelude.{ℕ, ◌≡◌, ◌≤◌, ◌<◌, ◌+◌, ◌-◌, ◌^◌, ◌&&◌, suc, Bool, true, false, length, vec_len, vec_capacity, drop, nat_lt, []};
 ghost use Rattle.cpu12_parts.specs.State.{State};
-ghost use Rattle.fz_run.specs.Runs.{takes, is_part, one_if, run_from};
-ghost use Rattle.fz_run.specs.Rows.{frames_seen, is_idle, setting_of};
+ghost use Rattle.run_law.specs.Forms.{takes, is_part, one_if, run_from};
+ghost use Rattle.codegen.specs.Interruptible.{is_idle};
+ghost use Rattle.fz_run.specs.Forms.{stand_alone};
+ghost use Rattle.fz_run.specs.Rows.{frames_seen};
 ghost use Rattle.fz_run.specs.Rest.{is_due, with_frames, brief, rest_at, counted_at};
 
-use crate::board::Board;
 use crate::handler::Handler;
+use crate::ports::is_idle;
+use codegen::Firmware;
 use cpu12_emul::ends::{Frame, Stepped};
 use cpu12_emul::machine::Machine;
 use cpu12_isa::mem::Mem;
@@ -14,7 +17,7 @@ use cpu12_isa::mem::Mem;
 /// What was counted of a sample's run.
 #[derive(Drop)]
 pub struct Tally {
-    /// Whether the board was idle at the end.
+    /// Whether the firmware waited at the end.
     pub arrived: bool,
     /// How many steps were done.
     pub moment: u32,
@@ -84,14 +87,14 @@ fn is_due<M: Mem, R, H: Handler<R>>(m: &Machine<M>, h: &H, requests: &[R], t: &T
 fn take_next<M: Mem, R, H: Handler<R>>(
     m: &mut Machine<M>,
     h: &H,
-    b: &Board,
+    firmware: &Firmware,
     requests: &[R],
     t: &mut Tally,
 )
     requires due { is_due (H.moment h.now) t.old.moment (drop t.old.next requests.now) m.old.state ≡ true }
     requires room { vec_len t.old.frames < vec_capacity t.old.frames }
-    ensures takes { with_frames (frames_seen t.old.frames.items) (takes (setting_of m.old.flags b.now (H.moment h.now) (H.take h.now)) t.old.moment (drop t.old.next requests.now) m.old.state)
-        ≡ with_frames (frames_seen t.new.frames.items) (takes (setting_of m.old.flags b.now (H.moment h.now) (H.take h.now)) t.old.moment (drop t.new.next requests.now) m.new.state) }
+    ensures takes { with_frames (frames_seen t.old.frames.items) (takes (stand_alone m.old.flags firmware.now (H.moment h.now) (H.take h.now)) t.old.moment (drop t.old.next requests.now) m.old.state)
+        ≡ with_frames (frames_seen t.new.frames.items) (takes (stand_alone m.old.flags firmware.now (H.moment h.now) (H.take h.now)) t.old.moment (drop t.new.next requests.now) m.new.state) }
     ensures next { t.new.next ≡ t.old.next + 1 }
     ensures len { vec_len t.new.frames ≡ vec_len t.old.frames + 1 }
     ensures capacity { vec_capacity t.old.frames ≤ vec_capacity t.new.frames }
@@ -107,19 +110,19 @@ fn take_next<M: Mem, R, H: Handler<R>>(
 fn take_due<M: Mem, R, H: Handler<R>>(
     m: &mut Machine<M>,
     h: &H,
-    b: &Board,
+    firmware: &Firmware,
     requests: &[R],
     t: &mut Tally,
 )
     requires room { vec_len t.old.frames + (length requests.now - t.old.next) ≤ vec_capacity t.old.frames }
-    ensures takes { with_frames (frames_seen t.old.frames.items) (takes (setting_of m.old.flags b.now (H.moment h.now) (H.take h.now)) t.old.moment (drop t.old.next requests.now) m.old.state)
+    ensures takes { with_frames (frames_seen t.old.frames.items) (takes (stand_alone m.old.flags firmware.now (H.moment h.now) (H.take h.now)) t.old.moment (drop t.old.next requests.now) m.old.state)
         ≡ record { state = m.new.state; frames = frames_seen t.new.frames.items; left = drop t.new.next requests.now } }
     ensures room { vec_len t.new.frames + (length requests.now - t.new.next) ≤ vec_capacity t.new.frames }
     ensures rest { t.new ≡ record t.old { next = t.new.next; frames = t.new.frames } }
     ensures flags { m.new.flags ≡ m.old.flags }
 {
     while is_due(m, h, requests, t) {
-        take_next(m, h, b, requests, t);
+        take_next(m, h, firmware, requests, t);
     }
 }
 
@@ -127,17 +130,17 @@ fn take_due<M: Mem, R, H: Handler<R>>(
 fn advance<M: Mem, R, H: Handler<R>>(
     m: &mut Machine<M>,
     h: &H,
-    b: &Board,
+    firmware: &Firmware,
     requests: &[R],
     t: &mut Tally,
 ) -> bool
-    requires on { is_idle b.now m.old.state ≡ false }
+    requires on { is_idle firmware.now.layout m.old.state ≡ false }
     requires room { vec_len t.old.frames + (length requests.now - t.old.next) ≤ vec_capacity t.old.frames }
     requires moment { t.old.moment + 1 < 2 ^ 32 }
     requires counts { (t.old.instrs ≤ t.old.moment) × (t.old.resumed ≤ t.old.moment) }
-    ensures goes { result ≡ true → (n : ℕ) → rest_at (setting_of m.old.flags b.now (H.moment h.now) (H.take h.now)) (suc n) requests.now t.old m.old.state
-        ≡ rest_at (setting_of m.old.flags b.now (H.moment h.now) (H.take h.now)) n requests.now t.new m.new.state }
-    ensures stuck { result ≡ false → t.old.arrived ≡ false → (n : ℕ) → rest_at (setting_of m.old.flags b.now (H.moment h.now) (H.take h.now)) (suc n) requests.now t.old m.old.state
+    ensures goes { result ≡ true → (n : ℕ) → rest_at (stand_alone m.old.flags firmware.now (H.moment h.now) (H.take h.now)) (suc n) requests.now t.old m.old.state
+        ≡ rest_at (stand_alone m.old.flags firmware.now (H.moment h.now) (H.take h.now)) n requests.now t.new m.new.state }
+    ensures stuck { result ≡ false → t.old.arrived ≡ false → (n : ℕ) → rest_at (stand_alone m.old.flags firmware.now (H.moment h.now) (H.take h.now)) (suc n) requests.now t.old m.old.state
         ≡ counted_at t.new m.new.state }
     ensures arrived { t.new.arrived ≡ t.old.arrived }
     ensures room { vec_len t.new.frames + (length requests.now - t.new.next) ≤ vec_capacity t.new.frames }
@@ -145,7 +148,7 @@ fn advance<M: Mem, R, H: Handler<R>>(
     ensures flags { m.new.flags ≡ m.old.flags }
 {
     let before = count(&t.frames);
-    take_due(m, h, b, requests, t);
+    take_due(m, h, firmware, requests, t);
     let taken = less(before, count(&t.frames));
     t.resumed += one_if(both(t.inside, taken));
     match m.step() {
@@ -159,20 +162,20 @@ fn advance<M: Mem, R, H: Handler<R>>(
     }
 }
 
-/// Runs a sample that was given, from its boundary 0 until the board is idle, and answers what was
+/// Runs a sample that was given, from its boundary 0 until the firmware waits again, and answers what was
 /// counted. The run ends where it stands where no step is defined, or after `budget` steps. `frames`
 /// is empty, with room for a frame of each request; no memory is taken.
 pub fn run_sample<M: Mem, R, H: Handler<R>>(
     m: &mut Machine<M>,
     h: &H,
-    b: &Board,
+    firmware: &Firmware,
     requests: &[R],
     budget: u32,
     frames: Vec<(u32, Frame)>,
 ) -> Tally
     requires room { length requests.now ≤ vec_capacity frames }
     requires none { frames.items ≡ [] }
-    ensures run { brief (run_from (setting_of m.old.flags b.now (H.moment h.now) (H.take h.now)) budget 0 false requests.now m.old.state)
+    ensures run { brief (run_from (stand_alone m.old.flags firmware.now (H.moment h.now) (H.take h.now)) budget 0 false requests.now m.old.state)
         ≡ counted_at result m.new.state }
     ensures flags { m.new.flags ≡ m.old.flags }
 {
@@ -187,15 +190,15 @@ pub fn run_sample<M: Mem, R, H: Handler<R>>(
     };
     let mut left = budget;
     while left > 0 {
-        if b.is_idle(m) {
+        if is_idle(&firmware.layout, m) {
             t.arrived = true;
             return t;
         }
-        if !advance(m, h, b, requests, &mut t) {
+        if !advance(m, h, firmware, requests, &mut t) {
             return t;
         }
         left -= 1;
     }
-    t.arrived = b.is_idle(m);
+    t.arrived = is_idle(&firmware.layout, m);
     t
 }

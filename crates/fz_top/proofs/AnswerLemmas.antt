@@ -1,5 +1,5 @@
 -- The rows of a trace are a block's answers.
-use Rattle.std.proofs.Common.{◌≡◌, ◌<◌, ◌^◌, ℕ, suc, List, [], ◌∷◌, length, refl, ap, sym, ◌∙◌, subst, arith, false}
+use Rattle.std.proofs.Common.{◌≡◌, ◌<◌, ◌^◌, ℕ, suc, false, List, [], ◌∷◌, length, refl, ap, sym, ◌∙◌, subst, arith}
 use Rattle.std.specs.Prelude.{All, map}
 use Rattle.std.proofs.lemmas.List.Elements.{All-cons}
 use Rattle.fz_num.specs.declared.dec.Dec.{Dec}
@@ -14,8 +14,9 @@ use Rattle.codegen.specs.Firmwares.{IsFirmwareOf}
 use Rattle.interrupt_plan.specs.declared.Request.{Request}
 use Rattle.trace_io.specs.Traces.{Fields, AreWithin, bytes_of, SpellSamples, Spells}
 use Rattle.trace_io.specs.declared.sample.Sample.{Sample}
-use Rattle.fz_run.specs.Rows.{RowSeen, firmware_rows, input_bytes}
-use Rattle.fz_run.specs.Answering.{AreAnswersOf, AnswersItsBlock}
+use Rattle.run_law.specs.Forms.{RowSeen}
+use Rattle.fz_run.specs.Rows.{firmware_rows, input_bytes}
+use Rattle.fz_run.specs.Answering.{AnswerBlock, AnswersItsBlock}
 
 none : {X : Type 0} (P : X → Type 0) → All P []
 none P = λ k d lt. absurd (omega arith)
@@ -43,11 +44,14 @@ input_bytes_fit b (r ∷ rs) (s ∷ ss) h =
     All-cons (AreInputBytes b) (input_bytes s) (map input_bytes ss) (subst (AreInputBytes b) (sym h.0.bytes) own) (input_bytes_fit b rs ss h.1)
 
 -- rows of the run of the samples, and of no plan
-pub ran_alone : (f : Firmware) (flags : ℕ) (samples slice : List Sample) (plan : List Request) (rows : List RowSeen) → rows ≡ (firmware_rows f (map input_bytes slice) plan flags).rows → slice ≡ samples → plan ≡ []
+pub ran_alone : (f : Firmware) (flags : ℕ) (samples slice : List Sample) (plan : List Request) (rows : List (RowSeen (List ℕ))) → rows ≡ (firmware_rows f (map input_bytes slice) plan flags).rows → slice ≡ samples → plan ≡ []
     → rows ≡ (firmware_rows f (map input_bytes samples) [] flags).rows
 ran_alone f flags samples slice plan rows ran samples_are plan_is =
     ran ∙ ap (λ (ss : List Sample). (firmware_rows f (map input_bytes ss) plan flags).rows) samples_are ∙ ap (λ (p : List Request). (firmware_rows f (map input_bytes samples) p flags).rows) plan_is
 
-pub answers_trace : (b : Block) (f : Firmware) (flags : ℕ) (text : List ℕ) (samples slice : List Sample) (rows : List RowSeen) → AnswersItsBlock f flags (map input_bytes slice) rows → slice ≡ samples → IsValid b → IsWithinLimits b → IsFirmwareOf b f → f.wide ≡ false
-    → Spells b.inputs text samples → AreAnswersOf b f flags (map input_bytes samples) rows
-answers_trace b f flags text samples slice rows answers samples_are v w h narrow spells = subst (λ (ss : List Sample). AnswersItsBlock f flags (map input_bytes ss) rows) samples_are answers b v w h narrow (input_bytes_fit b spells.rows samples spells.spelled)
+pub answers_trace : (b : Block) (f : Firmware) (flags : ℕ) (text : List ℕ) (samples slice : List Sample) (plan : List Request) (rows : List (RowSeen (List ℕ))) → AnswersItsBlock f flags (map input_bytes slice) plan rows → slice ≡ samples
+    → IsValid b → IsWithinLimits b → IsFirmwareOf b f → Spells b.inputs text samples → AnswerBlock b f flags (map input_bytes samples) rows
+answers_trace b f flags text samples slice plan rows answers samples_are v w h spells =
+    let all : AnswersItsBlock f flags (map input_bytes samples) plan rows = subst (λ (ss : List Sample). AnswersItsBlock f flags (map input_bytes ss) plan rows) samples_are answers in
+    let under = all b v w h (input_bytes_fit b spells.rows samples spells.spelled) in
+    under.answers

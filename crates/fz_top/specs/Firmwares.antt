@@ -1,9 +1,11 @@
 -- The block and the firmware of a text.
-use Rattle.std.specs.Prelude.{◌≢◌, ℕ, List}
+use Rattle.std.specs.Prelude.{◌≡◌, ◌≢◌, ℕ, List}
 use Rattle.fuzzy_meaning.specs.declared.block.Block.{Block}
 use Rattle.rule_layout.specs.Layouts.{IsWithinLimits, IsFaultOf as IsLayoutFault}
 use Rattle.codegen.specs.Firmwares.{IsFirmwareOf}
 use Rattle.codegen.specs.declared.firmware.Firmware.{Firmware}
+use Rattle.codegen.specs.declared.width.Width.{Width}
+use Rattle.codegen.specs.Widths.{is_wide}
 use Rattle.fcl_syntax.specs.Text.{IsFirstFault}
 use Rattle.fcl_check.specs.Texts.{SpellsBlock, HasLoadFault}
 use Rattle.fcl_check.specs.declared.fault.LoadFault.TheVariants as load
@@ -13,11 +15,12 @@ use Rattle.fz_top.specs.declared.status.FclFault.TheVariants as fcl
 use Rattle.fz_top.specs.declared.status.Status.{Status}
 use Rattle.fz_top.specs.declared.status.Status.TheVariants as status
 
--- the block is the text's, it can be laid out, and the firmware is the block's
-pub record GivesFirmware (text : List ℕ) (block : Block) (firmware : Firmware) : Type 0 where
+-- the block is the text's, it can be laid out, and the firmware is the block's, with answers of this width
+pub record GivesFirmware (width : Width) (text : List ℕ) (block : Block) (firmware : Firmware) : Type 0 where
   pub spelled : SpellsBlock text block
   pub limits : IsWithinLimits block
   pub compiled : IsFirmwareOf block firmware
+  pub wide : firmware.wide ≡ is_wide width
 
 -- why a text gives no firmware; none is for want of memory
 abbrev pub RefusesText : List ℕ → FclFault → Type 0

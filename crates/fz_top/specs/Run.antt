@@ -3,12 +3,14 @@ use Rattle.std.specs.Prelude.{◌≡◌, ◌≢◌, ◌+◌, ℕ, List, [], ◌�
 use Rattle.fuzzy_meaning.specs.declared.block.Block.{Block}
 use Rattle.codegen.specs.Bounds.{instruction_bound}
 use Rattle.codegen.specs.declared.firmware.Firmware.{Firmware}
+use Rattle.codegen.specs.declared.width.Width.TheVariants.{Byte}
 use Rattle.trace_io.specs.Traces.{HasFault, Spells}
 use Rattle.trace_io.specs.declared.sample.Sample.{Sample}
 use Rattle.trace_io.specs.declared.sample.TraceFault.{TraceFault}
 use Rattle.trace_io.specs.declared.sample.TraceFault.TheVariants as trace
-use Rattle.fz_run.specs.Answering.{AreAnswersOf}
-use Rattle.fz_run.specs.Rows.{RowSeen, firmware_rows, input_bytes, row_seen}
+use Rattle.run_law.specs.Forms.{RowSeen}
+use Rattle.fz_run.specs.Answering.{AnswerBlock}
+use Rattle.fz_run.specs.Rows.{firmware_rows, input_bytes, row_seen}
 use Rattle.fz_run.specs.declared.rows.Row.{Row}
 use Rattle.fz_top.specs.Deeds.{Deed}
 use Rattle.fz_top.specs.Firmwares.{GivesFirmware, RefusesText}
@@ -43,8 +45,8 @@ pub record Answered : Type 0 where
   pub answers : List ℕ
   pub instructions : ℕ
 
-abbrev pub shown : RowSeen → Answered
-shown r = record { bytes = r.bytes; answers = r.answers; instructions = r.instrs }
+abbrev pub shown : RowSeen (List ℕ) → Answered
+shown r = record { bytes = r.sample; answers = r.answers; instructions = r.instrs }
 
 abbrev pub answered : Row → Answered
 answered r = shown (row_seen r)
@@ -71,18 +73,18 @@ run_lines bound rows = line (codes "instructions ") bound ++ sample_lines 1 rows
 pub record RunGives (run : Run) (text samples : List ℕ) (deed : Deed) : Type 0 where
   pub block : Block
   pub firmware : Firmware
-  pub gives : GivesFirmware text block firmware
+  pub gives : GivesFirmware Byte text block firmware
   pub values : List Sample
   pub trace : Spells block.inputs samples values
-  pub rows : List RowSeen
+  pub rows : List (RowSeen (List ℕ))
   pub ran : rows ≡ (firmware_rows firmware (map input_bytes values) [] run.flags).rows
-  pub answers : AreAnswersOf block firmware run.flags (map input_bytes values) rows
-  pub deed_is : deed ≡ record { text = run_lines (instruction_bound block) (map shown rows); file = None }
+  pub answers : AnswerBlock block firmware run.flags (map input_bytes values) rows
+  pub deed_is : deed ≡ record { text = run_lines (instruction_bound Byte block) (map shown rows); file = None }
 
 -- why a trace is refused, the text giving firmware; none is for want of memory
 abbrev pub RefusesTrace : List ℕ → List ℕ → TraceFault → Type 0
 RefusesTrace text samples f = (f ≢ trace.Memory)
-    × (block : Block) × (firmware : Firmware) × GivesFirmware text block firmware × HasFault block.inputs samples f
+    × (block : Block) × (firmware : Firmware) × GivesFirmware Byte text block firmware × HasFault block.inputs samples f
 
 abbrev pub RunMakes : Run → List ℕ → List ℕ → Result Deed Status → Type 0
 RunMakes run text samples (Ok deed) = RunGives run text samples deed

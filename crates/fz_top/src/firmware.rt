@@ -4,7 +4,7 @@ ghost use Rattle.fcl_check.specs.Texts.{SpellsBlock};
 ghost use Rattle.fz_top.specs.Firmwares.{GivesFirmware, IsFclFault, RefusesText};
 
 use crate::{FclFault, Status};
-use codegen::{Firmware, compile};
+use codegen::{Firmware, Width, compile, compile16};
 use fcl_check::{LoadFault, load};
 use fcl_syntax::{SyntaxFault, parse};
 use fuzzy_meaning::Block;
@@ -18,18 +18,22 @@ pub(crate) struct Compiled {
     pub(crate) firmware: Firmware,
 }
 
-/// The block that the text spells, and that block's firmware. The faults come in their order:
-/// of the grammar, of the block, of the layout.
-pub(crate) fn firmware_of(alloc: Global, text: &[u8]) -> Result<Compiled, Status>
+/// The block that the text spells, and that block's firmware with answers of this width. The faults
+/// come in their order: of the grammar, of the block, of the layout.
+pub(crate) fn firmware_of(alloc: Global, width: Width, text: &[u8]) -> Result<Compiled, Status>
     requires { length text.now ≤ 1048576 }
-    ensures gives { IfOk result (λ c. GivesFirmware text.now c.block c.firmware) }
+    ensures gives { IfOk result (λ c. GivesFirmware width text.now c.block c.firmware) }
     ensures fault { IfErr result (IsFclFault (RefusesText text.now)) }
 {
     let block = match block_of(alloc, text) {
         Ok(block) => block,
         Err(status) => return Err(status),
     };
-    match compile(alloc, &block) {
+    let firmware = match width {
+        Width::Byte => compile(alloc, &block),
+        Width::Word => compile16(alloc, &block),
+    };
+    match firmware {
         Ok(firmware) => Ok(Compiled { block, firmware }),
         Err(LayoutFault::Memory) => Err(Status::Memory),
         Err(fault) => Err(Status::Fcl(FclFault::Layout(fault))),

@@ -10,6 +10,7 @@ use crate::firmware::firmware_of;
 use crate::lines::labelled;
 use crate::words::{flags, word};
 use crate::work::Work;
+use codegen::Width;
 use fz_run::Row;
 use interrupt_plan::no_interrupts;
 use std::alloc::{AllocError, Global};
@@ -43,7 +44,7 @@ impl Run {
         requires trace_small { length trace.now ≤ 1048576 }
         ensures { IsResultOf (RunMakes self fcl.now trace.now) result }
     {
-        let compiled = match firmware_of(alloc, fcl) {
+        let compiled = match firmware_of(alloc, Width::Byte, fcl) {
             Ok(compiled) => compiled,
             Err(status) => return Err(status),
         };
@@ -65,8 +66,18 @@ impl Run {
     }
 }
 
+/// Bytes as numbers, with a blank before each.
+fn push_bytes(text: &mut String, values: &[u8]) -> Result<(), AllocError>
+    ensures { OnOk result (string_bytes text.new ≡ string_bytes text.old ++ numbers values.now) }
+{
+    for byte in values {
+        write!(text, " {byte}")?;
+    }
+    Ok(())
+}
+
 /// Numbers, with a blank before each.
-fn push_numbers(text: &mut String, values: &[u8]) -> Result<(), AllocError>
+fn push_numbers(text: &mut String, values: &[u16]) -> Result<(), AllocError>
     ensures { OnOk result (string_bytes text.new ≡ string_bytes text.old ++ numbers values.now) }
 {
     for number in values {
@@ -81,7 +92,7 @@ fn line_of_sample(alloc: Global, k: usize, row: &Row) -> Result<String, AllocErr
 {
     let mut text = String::from_str(alloc, "sample ")?;
     write!(&mut text, "{k} bytes")?;
-    push_numbers(&mut text, row.bytes.as_slice())?;
+    push_bytes(&mut text, row.bytes.as_slice())?;
     text.push_str(" answers")?;
     push_numbers(&mut text, row.answers.as_slice())?;
     let instructions = row.instrs;

@@ -20,7 +20,7 @@ use Rattle.codegen.specs.Evaluation.{HasBytes}
 use Rattle.codegen.specs.Interruptible.{is_idle, IsShownInstruction, IsInterruptibleStep}
 use Rattle.codegen.specs.Answers.{given, IsArrived, IsAnswered, AreAnswered}
 use Rattle.codegen.specs.Firmwares.{IsFirmwareOf}
-use Rattle.codegen.specs.Uninterrupted.{Answer, value_at, values_from, values_in, is_waiting, IsAnswerTo, AreAnswersTo, AreUninterrupted, UninterruptedAreOne, IsAnswerOf, AreAnswersOf, FirmwareIsUninterrupted}
+use Rattle.codegen.specs.Uninterrupted.{Answer, value_at, values_from, values_in, is_waiting, IsAnswerTo, AreAnswersTo, AreUninterrupted, UninterruptedAreOne, IsAnswerOf, AreAnswersOf, answers_by, AnsweredAreUninterrupted, FirmwareIsUninterrupted}
 use Rattle.codegen.proofs.runs.Law.{firmware_answers}
 
 -- They have one value.
@@ -90,37 +90,34 @@ value_from w m at (suc n) (suc k) v lt h =
     value_from w m (at + places w) n k v (omega arith) (subst (λ p. HasBytes m p (bytes_of w v)) e h)
 
 -- the answers of samples that are answered
-record Seen (b : Block) (f : Firmware) (flags : ℕ) (before : ℕ → ℕ) (samples : List (List ℕ)) (s : State) : Type 0 where
-  answers : List Answer
-  to : AreAnswersTo f flags samples answers s
-  of : AreAnswersOf (width_of f.wide) b before samples answers
-
-seen : (b : Block) (f : Firmware) (image : List ℕ) (flags : ℕ) (before : ℕ → ℕ) (samples : List (List ℕ)) (s : State) → f.outputs ≡ length b.outputs → AreAnswered f.layout b (width_of f.wide) image flags before samples s → Seen b f flags before samples s
-seen b f image flags before [] s e h = record { answers = []; to = tt; of = tt }
+seen : (b : Block) (f : Firmware) (image : List ℕ) (flags : ℕ) (before : ℕ → ℕ) (samples : List (List ℕ)) (s : State) → f.outputs ≡ length b.outputs → (h : AreAnswered f.layout b (width_of f.wide) image flags before samples s)
+    → AreAnswersTo f flags samples (answers_by b f image flags before samples s h) s × AreAnswersOf (width_of f.wide) b before samples (answers_by b f image flags before samples s h)
+seen b f image flags before [] s e h = (tt, tt)
 seen b f image flags before (bytes ∷ samples) s e h =
     let w = width_of f.wide in
     let one = h.1.0 in
-    let a : Answer = record { values = values_in f h.0; instructions = length one.ds } in
     let rest = seen b f image flags (λ o. answer w b o bytes (before o)) samples h.0 e h.1.1 in
-    let until : IsUntil (is_idle f.layout) flags one.ds (given f.layout bytes s) h.0 = record { execution = uninterrupted f.layout image flags one.ds (given f.layout bytes s) h.0 one.execution; stopped = one.idle } in
-    record {
-      answers = a ∷ rest.answers;
-      to = (h.0, (record { ds = one.ds; until = until; values = refl; instructions = refl }, rest.to));
-      of = (
+    let until : IsUntil (is_idle f.layout) flags one.ds (given f.layout bytes s) h.0 = record { execution = uninterrupted f.layout image flags one.ds (given f.layout bytes s) h.0 one.execution; stopped = one.idle } in (
+      (h.0, (record { ds = one.ds; until = until; values = refl; instructions = refl }, rest.0)),
+      (
         record {
           values = λ o lo hi. value_from w h.0.mem f.layout.outputs f.outputs (o - 1) (answer w b o bytes (before o)) (omega arith) (one.answers o lo hi);
           count = count_from w h.0.mem f.layout.outputs f.outputs ∙ e;
           instructions = one.instructions;
         },
-        rest.of,
-      );
-    }
+        rest.1,
+      ),
+    )
+
+pub answered_are_uninterrupted : AnsweredAreUninterrupted
+answered_are_uninterrupted b f flags samples s e a h =
+    let l = f.layout in
+    let image = image_memory f.image.bytes in
+    let both = seen b f image flags (λ o. 0) samples s e h in
+    let arrived : IsUntil (is_waiting l) flags (plain_parts 3) (reset_with image) s = record { execution = arrival l flags 3 (reset_with image) s a.way; stopped = waits l s a.wait } in
+    (record { first = s; ds = plain_parts 3; arrived = arrived; each = both.0 }, both.1)
 
 pub firmware_is_uninterrupted : FirmwareIsUninterrupted
 firmware_is_uninterrupted b f v limits h flags samples fits all =
-    let l = f.layout in
-    let image = image_memory f.image.bytes in
     let r = firmware_answers b f v limits h flags samples fits all in
-    let a = seen b f image flags (λ o. 0) samples r.0 h.outputs r.1.1 in
-    let arrived : IsUntil (is_waiting l) flags (plain_parts 3) (reset_with image) r.0 = record { execution = arrival l flags 3 (reset_with image) r.0 r.1.0.way; stopped = waits l r.0 r.1.0.wait } in
-    (a.answers, (record { first = r.0; ds = plain_parts 3; arrived = arrived; each = a.to }, a.of))
+    (answers_by b f (image_memory f.image.bytes) flags (λ o. 0) samples r.0 r.1.1, answered_are_uninterrupted b f flags samples r.0 h.outputs r.1.0 r.1.1)

@@ -1,15 +1,16 @@
 use Rattle.std.proofs.Common.{◌≡◌, ◌≤◌, ◌+◌, ◌-◌, map, length, drop, vec_len, vec_capacity}
-use Rattle.fz_run.specs.Rows.{setting_of, row_seen, rows_from, input_bytes}
+use Rattle.fz_run.specs.Rows.{row_seen, input_bytes}
+use Rattle.fz_run.specs.Forms.{stand_alone}
 use Rattle.fz_run.specs.Slices.{HaveRoom}
 use Rattle.fz_run.proofs.PlanSlices.{Follow}
-use Rattle.fz_run.proofs.RowSteps.{Found}
+use Rattle.fz_run.proofs.RowSteps.{rows_under, Found}
 use Rattle.fz_run.proofs.rows.run_samples.Given as goal
 
 -- the rows that are there and those of the samples that are left are all rows, and their last state is the last
 abbrev pub invariant-loop-next : goal.invariant-loop-next
 invariant-loop-next g l = record {
-  found : Found (setting_of l.fn.m.flags l.b (g.H.Handler.moment l.h) (g.H.Handler.take l.h)) l.b l.budget (drop l.first l.plan) (l.next + 1) (map input_bytes (drop l.next l.samples)) l.m.state (map row_seen l.rows.items)
-      (rows_from (setting_of l.fn.m.flags l.b (g.H.Handler.moment l.h) (g.H.Handler.take l.h)) l.b l.budget l.plan 1 (map input_bytes l.samples) l.fn.m.state);
+  found : Found (stand_alone l.fn.m.flags l.firmware (g.H.Handler.moment l.h) (g.H.Handler.take l.h)) l.budget (drop l.first l.plan) (l.next + 1) (map input_bytes (drop l.next l.samples)) l.m.state (map row_seen l.rows.items)
+      (rows_under (stand_alone l.fn.m.flags l.firmware (g.H.Handler.moment l.h) (g.H.Handler.take l.h)) l.budget l.plan 1 (map input_bytes l.samples) l.fn.m.state);
   rooms : HaveRoom (l.next + 1) (length l.samples - l.next) (drop l.first l.plan) l.rooms.items;
   follow : Follow (l.next + 1) (drop l.first l.plan);
   first : l.first ≤ length l.plan;

@@ -1,7 +1,8 @@
 use Rattle.std.proofs.Common.{◌≡◌, ◌∙◌, ◌&&◌, ℕ, Bool, not, nat_lt, length, Ok, Err, drop, ap, ap₂, sym}
 use Rattle.cpu12_emul.specs.Step.{Next, next_of}
-use Rattle.fz_run.specs.Runs.{one_if}
-use Rattle.fz_run.specs.Rows.{frames_seen, setting_of}
+use Rattle.run_law.specs.Forms.{one_if}
+use Rattle.fz_run.specs.Rows.{frames_seen}
+use Rattle.fz_run.specs.Forms.{stand_alone}
 use Rattle.fz_run.proofs.Onward.{onward, no_step}
 use Rattle.fz_run.proofs.sample.advance.Goals as goal
 
@@ -23,7 +24,7 @@ returns-in-Ok-clause-goes g c =
     let one = c.one_if.ensures.one ∙ ap one_if (c.both.ensures ∙ ap (λ (b : Bool). b && c.less-taken.result) inside) in
     let count = c.one_if-in-Ok.ensures.one ∙ ap (λ (b : Bool). one_if (not b)) part in
     λ e n.
-    (let go2 = onward (setting_of m.flags a.b.now (g.H.Handler.moment a.h.now) (g.H.Handler.take a.h.now)) n t.moment t.inside c.less-taken.result (drop t.next a.requests.now) (drop n2.t.next a.requests.now) m.state n2.m.state next
+    (let go2 = onward (stand_alone m.flags a.firmware.now (g.H.Handler.moment a.h.now) (g.H.Handler.take a.h.now)) n t.moment t.inside c.less-taken.result (drop t.next a.requests.now) (drop n2.t.next a.requests.now) m.state n2.m.state next
     t.instrs t.moment t.resumed (frames_seen t.frames.items) (frames_seen n2.t.frames.items) c.requires.on c.take_due.ensures.takes go taken in
     cc)
 
@@ -44,6 +45,6 @@ returns-in-Err-clause-stuck g c =
     let resumed : n2.t.resumed ≡ t.resumed = ap (λ k. k.resumed) c.take_due.ensures.rest in
     let one = c.one_if.ensures.one ∙ ap one_if (c.both.ensures ∙ ap (λ (b : Bool). b && c.less-taken.result) inside) in
     λ e before n.
-    (let stop = no_step (setting_of m.flags a.b.now (g.H.Handler.moment a.h.now) (g.H.Handler.take a.h.now)) n t.moment t.inside c.less-taken.result (drop t.next a.requests.now) (drop n2.t.next a.requests.now) m.state n2.m.state c.in-Err.field-0.byte
+    (let stop = no_step (stand_alone m.flags a.firmware.now (g.H.Handler.moment a.h.now) (g.H.Handler.take a.h.now)) n t.moment t.inside c.less-taken.result (drop t.next a.requests.now) (drop n2.t.next a.requests.now) m.state n2.m.state c.in-Err.field-0.byte
     t.instrs t.moment t.resumed (frames_seen t.frames.items) (frames_seen n2.t.frames.items) c.requires.on c.take_due.ensures.takes off taken in
     cc)

@@ -1,5 +1,6 @@
 use Rattle.std.proofs.Common.{◌≡◌, ◌∙◌, ℕ, false, drop, ap, sym, subst}
-use Rattle.fz_run.specs.Rows.{frames_seen, setting_of}
+use Rattle.fz_run.specs.Rows.{frames_seen}
+use Rattle.fz_run.specs.Forms.{stand_alone}
 use Rattle.fz_run.specs.Rest.{is_due}
 use Rattle.fz_run.proofs.Takings.{takes_end}
 use Rattle.fz_run.proofs.sample.take_due.Goals as goal
@@ -12,4 +13,4 @@ returns-clause-takes g c =
     let same : l.t.moment ≡ a.t.now.moment = ap (λ t. t.moment) l.invariant.rest in
     let off : is_due moment a.t.now.moment (drop l.t.next a.requests.now) l.m.state ≡ false =
     subst (λ (k : ℕ). is_due moment k (drop l.t.next a.requests.now) l.m.state ≡ false) same (sym c.is_due.ensures ∙ c.loop-m-test.false) in
-    l.invariant.takes ∙ takes_end (setting_of a.m.now.flags a.b.now moment (g.H.Handler.take a.h.now)) a.t.now.moment (drop l.t.next a.requests.now) l.m.state (frames_seen l.t.frames.items) off
+    l.invariant.takes ∙ takes_end (stand_alone a.m.now.flags a.firmware.now moment (g.H.Handler.take a.h.now)) a.t.now.moment (drop l.t.next a.requests.now) l.m.state (frames_seen l.t.frames.items) off

@@ -1,5 +1,7 @@
-use Rattle.std.proofs.Common.{ℕ, List, ap}
+use Rattle.std.proofs.Common.{ℕ, Bool, List, ap, ◌∙◌}
 use Rattle.std.specs.Prelude.{None, map}
+use Rattle.codegen.specs.Bounds.{instruction_bound}
+use Rattle.codegen.specs.Widths.{width_of}
 use Rattle.fz_run.specs.Rows.{row_seen}
 use Rattle.fz_top.specs.Deeds.{Deed}
 use Rattle.fz_top.proofs.AnswerLemmas.{answers_trace, ran_alone}
@@ -18,6 +20,7 @@ returns-in-Ok-lines c =
     let values = c.in-Ok-read_trace.samples.items in
     let spells = c.in-Ok-read_trace.ensures.samples in
     let rows = map row_seen c.in-Ok-run.rows.items in
+    let bound = gives.compiled.instructions ∙ ap (λ (wide : Bool). instruction_bound (width_of wide) block) gives.wide in
     record {
       block = block;
       firmware = firmware;
@@ -26,6 +29,6 @@ returns-in-Ok-lines c =
       trace = spells;
       rows = rows;
       ran = ran_alone firmware flags values _ _ rows c.in-Ok-run.ensures.rows c.deref.ensures.value c.no_interrupts-plan.ensures.empty;
-      answers = answers_trace block firmware flags _ values _ rows c.in-Ok-run.ensures.answers c.deref.ensures.value gives.spelled.valid gives.limits gives.compiled spells;
-      deed_is = ap only_text (run_text firmware.instr_bound _ c.in-Ok-run.rows.items _ _ c.in-Ok-lines.ensures gives.compiled.instructions c.deref-2.ensures.value);
+      answers = answers_trace block firmware flags _ values _ _ rows c.in-Ok-run.ensures.answers c.deref.ensures.value gives.spelled.valid gives.limits gives.compiled spells;
+      deed_is = ap only_text (run_text firmware.instr_bound _ c.in-Ok-run.rows.items _ _ c.in-Ok-lines.ensures bound c.deref-2.ensures.value);
     }

@@ -1,0 +1,284 @@
+-- Where whole instructions answer all samples, so do the rows under every good plan.
+use Rattle.std.proofs.Common.{◌≡◌, ◌==◌, ℕ, zero, suc, ◌+◌, ◌-◌, ◌*◌, ◌^◌, ◌<◌, ◌≤◌, Bool, true, false, List, [], ◌∷◌, length, map, get_or, refl, ap, ap₂, sym, ◌∙◌, subst, arith, inl, inr, ◌⊎◌}
+use Rattle.std.specs.Prelude.{All}
+use Rattle.std.proofs.Math.ListN.{set}
+use Rattle.std.proofs.lemmas.Bool.Decides.{nat_tests}
+use Rattle.std.proofs.lemmas.List.Elements.{All-cons}
+use Rattle.fuzzy_meaning.specs.declared.block.Block.{Block}
+use Rattle.fuzzy_meaning.specs.Blocks.{IsValid}
+use Rattle.rule_layout.specs.Layouts.{IsWithinLimits}
+use Rattle.cpu12_isa.specs.Act.{write_all}
+use Rattle.cpu12_isa.specs.Memory.{plus, placed, word_of}
+use Rattle.cpu12_isa.specs.Regions.{stack_start, stack_end, free_start, is_free}
+use Rattle.cpu12_parts.specs.State.{State}
+use Rattle.cpu12_parts.specs.Executions.{Execution, all_steps}
+use Rattle.cpu12_emul.specs.Image.{image_memory}
+use Rattle.cpu12_emul.specs.Step.{reset_with}
+use Rattle.interrupt_plan.specs.declared.Request.{Request}
+use Rattle.interrupt_plan.specs.Plans.{IsGood}
+use Rattle.codegen.specs.declared.firmware.Firmware.{Firmware}
+use Rattle.codegen.specs.declared.layout.Layout.{Layout}
+use Rattle.codegen.specs.declared.width.Width.{Width}
+use Rattle.codegen.specs.declared.width.Width.TheVariants.{Byte, Word}
+use Rattle.codegen.specs.Layouts.{main_layout}
+use Rattle.codegen.specs.Widths.{width_of, places, answer}
+use Rattle.codegen.specs.Bounds.{instruction_bound, step_bound}
+use Rattle.codegen.specs.Interruptible.{is_idle, IsInterruptible, IsShownInstruction, IsInterruptibleStep}
+use Rattle.codegen.specs.Answers as answers
+use Rattle.codegen.specs.Answers.{IsArrived, IsAnswered, AreAnswered}
+use Rattle.codegen.specs.Firing.{AreInputBytes}
+use Rattle.codegen.specs.Firmwares.{IsFirmwareOf}
+use Rattle.codegen.specs.Uninterrupted.{Answer, values_from, values_in, answers_by, AreUninterrupted}
+use Rattle.codegen.specs.Uninterrupted.{AreAnswersOf}
+use Rattle.run_law.specs.Forms.{RowSeen, rows_from}
+use Rattle.run_law.specs.Uninterrupted.{uninterrupted, counted}
+use Rattle.run_law.specs.Following.{Completes, AllComplete, AllWithin}
+use Rattle.fz_run.specs.Forms.{given, answer_size, answer_at, answers_at, answers_in, with_writes}
+use Rattle.fz_run.specs.Rows.{requests_of, arrival, first_state, firmware_rows}
+use Rattle.fz_run.specs.Facts.{Facts}
+use Rattle.fz_run.specs.Following.{row_of_sample, rows_of_samples, IsLow, FollowsAlone}
+use Rattle.fz_run.specs.Stretches.{Stretch, Went, Kept, Calmly}
+use Rattle.fz_run.specs.Answering.{answer_of_row, AnswerBlock, AnswersItsBlock, AnswersUnder, AnswersUnderPlans}
+use Rattle.fz_run.proofs.Arrivals.{arrives_plainly}
+use Rattle.fz_run.proofs.PortBytes.{write_last}
+use Rattle.fz_run.proofs.PlainSteps.{plain_step}
+use Rattle.fz_run.proofs.StandAlone.{before_at}
+use Rattle.fz_run.proofs.Stretching.{execution_went, before_weaker}
+use Rattle.fz_run.proofs.UsedLaws.{Laws}
+use Rattle.fz_run.proofs.WholeSteps.{rev_step, revw_step, average_step}
+
+-- a firmware at the layout that stands alone, with n answers
+abbrev alone : Firmware → ℕ → Firmware
+alone f n = record f { layout = main_layout; outputs = n }
+
+On : State → Type 0
+On u = is_idle main_layout u ≡ false
+
+off_loop : (v : State) → (v.regs.pc ≡ 0xC008 → ⊥) → On v
+unfolding On
+off_loop v h = let t : (v.regs.pc == 0xC008) ≡ false = grind (arith, nat_tests) in rw t refl
+
+-- what each state keeps at which an interrupt may come, in the words of runs
+calmly : (image : List ℕ) (s : State) → IsInterruptible image s → Calmly is_free s
+calmly image s c = record {
+  temps = c.temps;
+  size = c.size;
+  bytes = c.bytes;
+  fits = c.fits;
+  low = low c.stack;
+  high = high c.stack;
+  unmasked = c.unmasked;
+  code = c.code;
+}
+  where
+    low : (s.regs.sp ≡ 0x1FFE) ⊎ (s.regs.sp ≡ 0x2000) → stack_start + 15 ≤ s.regs.sp
+    low (inl e) = omega arith
+    low (inr e) = omega arith
+
+    high : (s.regs.sp ≡ 0x1FFE) ⊎ (s.regs.sp ≡ 0x2000) → s.regs.sp ≤ stack_end
+    high (inl e) = omega arith
+    high (inr e) = omega arith
+
+step_stretch : Laws → (image : List ℕ) (flags d : ℕ) (s t : State) → flags < 2 ^ 8 → IsInterruptibleStep main_layout image flags d s t → Stretch (Kept is_free flags On) flags d s t
+unfolding On
+step_stretch laws image flags d s t hf h = by h.instruction
+  where
+    c : Calmly is_free s
+    c = calmly image s h.interruptible
+
+    stays : (v : State) → (s.regs.pc ≡ 0xC008 → ⊥) → v.regs.pc ≡ s.regs.pc → is_idle main_layout v ≡ false
+    stays v ne e = off_loop v (λ z. ne (sym e ∙ z))
+
+    by : IsShownInstruction main_layout flags d s t → Stretch (Kept is_free flags On) flags d s t
+    by (inl p) = subst (λ (k : ℕ). Stretch (Kept is_free flags On) flags k s t) (sym p.1.1) (plain_step is_free flags On p.0 s t c p.1.0.step p.1.0.reads p.1.0.uncovers h.busy)
+    by (inr (inl p)) = rev_step laws.rev_is_whole is_free flags On d p.0 p.1 s t hf c p.2.step p.2.reads p.2.itself (λ v e. stays v p.2.away e)
+    by (inr (inr (inl p))) = revw_step laws.revw_is_whole is_free flags On d p.0 p.1 s t hf c p.2.step p.2.reads p.2.itself (λ v e. stays v p.2.away e)
+    by (inr (inr (inr p))) = average_step laws.wav_is_whole laws.decoded_has_opcode is_free flags On d s t hf c p.step p.reads h.busy (λ v e. off_loop v (λ z. p.away (sym e ∙ z)))
+
+stretches : Laws → (image : List ℕ) (flags : ℕ) (ds : List ℕ) (s t : State) → flags < 2 ^ 8 → Execution (IsInterruptibleStep main_layout image flags) ds s t → Execution (Stretch (Kept is_free flags On) flags) ds s t
+stretches laws image flags [] s t hf h = h
+stretches laws image flags (d ∷ ds) s t hf h = (h.0, (step_stretch laws image flags d s h.0 hf h.1.0, stretches laws image flags ds h.0 t hf h.1.1))
+
+-- samples that end below the outputs' bytes
+abbrev AreShort : List (List ℕ) → Type 0
+AreShort [] = Unit {0}
+AreShort (bytes ∷ samples) = (length bytes ≤ 8) × AreShort samples
+
+-- a sample is given alike
+same_put : (at : ℕ) (bytes m : List ℕ) → at + length bytes ≤ 65535 → write_all (placed at bytes) m ≡ answers.put m at bytes
+same_put at [] m l = refl
+same_put at (v ∷ bytes) m l =
+    let e : plus at 1 ≡ at + 1 = omega arith in
+    ap (λ (k : ℕ). write_all (placed k bytes) (set m at v)) e ∙ same_put (at + 1) bytes (set m at v) (omega arith)
+
+same_given : (bytes : List ℕ) (s : State) → length bytes ≤ 8 → given main_layout bytes s ≡ answers.given main_layout bytes s
+same_given bytes s l =
+    ap (λ (m : List ℕ). by m) (write_last (placed 0x1001 bytes) 0x1000 1 s.mem ∙ ap (λ (m : List ℕ). set m 0x1000 1) (same_put 0x1001 bytes s.mem (omega arith)))
+  where
+    by : List ℕ → State
+    by m = record { regs = s.regs; temps = s.temps; mem = m }
+
+-- the numbers of steps of the samples
+numbers : (b : Block) (w : Width) (image : List ℕ) (flags : ℕ) (before : ℕ → ℕ) (samples : List (List ℕ)) (s : State) → AreAnswered main_layout b w image flags before samples s → List ℕ
+numbers b w image flags before [] s h = []
+numbers b w image flags before (bytes ∷ samples) s h = all_steps h.1.0.ds ∷ numbers b w image flags (λ o. answer w b o bytes (before o)) samples h.0 h.1.1
+
+within : (b : Block) (w : Width) (image : List ℕ) (flags : ℕ) (before : ℕ → ℕ) (samples : List (List ℕ)) (s : State) (h : AreAnswered main_layout b w image flags before samples s) → AllWithin (step_bound w b) (numbers b w image flags before samples s h)
+unfolding numbers
+within b w image flags before [] s h = tt
+within b w image flags before (bytes ∷ samples) s h = (h.1.0.steps, within b w image flags (λ o. answer w b o bytes (before o)) samples h.0 h.1.1)
+
+went : Laws → (b : Block) (w : Width) (image : List ℕ) (flags : ℕ) (before : ℕ → ℕ) (bytes : List ℕ) (s t : State) → flags < 2 ^ 8 → length bytes ≤ 8 → (a : IsAnswered main_layout b w image flags before bytes s t)
+    → Went (Kept is_free flags On) flags a.ds (given main_layout bytes s) t
+went laws b w image flags before bytes s t hf l a =
+    let start = answers.given main_layout bytes s in
+    subst (λ (u : State). Went (Kept is_free flags On) flags a.ds u t) (sym (same_given bytes s l)) (execution_went (Kept is_free flags On) flags a.ds start t (stretches laws image flags a.ds start t hf a.execution))
+
+sampled : Laws → (f : Firmware) (n : ℕ) (b : Block) (w : Width) (image : List ℕ) (flags : ℕ) (before : ℕ → ℕ) (bytes : List ℕ) (s t : State) → flags < 2 ^ 8 → length bytes ≤ 8 → (a : IsAnswered main_layout b w image flags before bytes s t)
+    → Completes (Facts is_free flags) (with_writes flags (alone f n)) 0 (all_steps a.ds) (all_steps a.ds) (given main_layout bytes s)
+unfolding On
+sampled laws f n b w image flags before bytes s t hf l a =
+    let g = went laws b w image flags before bytes s t hf l a in
+    let busy = before_weaker (Kept is_free flags On) On flags (λ u k. k.1) (all_steps a.ds) (given main_layout bytes s) g.each in
+    record {
+      sum = omega arith;
+      holds = before_weaker (Kept is_free flags On) (Facts is_free flags) flags (λ u k. k.0) (all_steps a.ds) (given main_layout bytes s) g.each;
+      on = λ j from l. before_at On flags (all_steps a.ds) j (given main_layout bytes s) busy l;
+      ended = ap (is_idle main_layout) g.goes ∙ a.idle;
+    }
+
+all_sampled : Laws → (f : Firmware) (n : ℕ) (b : Block) (w : Width) (image : List ℕ) (flags : ℕ) (before : ℕ → ℕ) (samples : List (List ℕ)) (s : State) → flags < 2 ^ 8 → AreShort samples → (h : AreAnswered main_layout b w image flags before samples s)
+    → AllComplete (Facts is_free flags) (with_writes flags (alone f n)) (numbers b w image flags before samples s h) samples s
+unfolding numbers
+all_sampled laws f n b w image flags before [] s hf l h = tt
+all_sampled laws f n b w image flags before (bytes ∷ samples) s hf l h =
+    let g = went laws b w image flags before bytes s h.0 hf l.0 h.1.0 in
+    let later : ℕ → ℕ = λ o. answer w b o bytes (before o) in (
+      sampled laws f n b w image flags before bytes s h.0 hf l.0 h.1.0,
+      subst (λ (u : State). AllComplete (Facts is_free flags) (with_writes flags (alone f n)) (numbers b w image flags later samples h.0 h.1.1) samples u) (sym g.goes) (all_sampled laws f n b w image flags later samples h.0 hf l.1 h.1.1),
+    )
+
+-- the answers where none stands past the end of memory
+same_answers : (wide : Bool) (m : List ℕ) (at n : ℕ) → at + answer_size wide * n ≤ 65535 → answers_at wide n at m ≡ values_from (width_of wide) m at n
+same_answers wide m at zero l = refl
+same_answers false m at (suc n) l =
+    let e : plus at 1 ≡ at + 1 = omega arith in
+    let more : 1 * suc n ≡ 1 + 1 * n = omega arith in
+    ap (λ (xs : List ℕ). get_or m at 0 ∷ xs) (ap (λ (k : ℕ). answers_at false n k m) e ∙ same_answers false m (at + 1) n (omega arith))
+same_answers true m at (suc n) l =
+    let e : plus at 1 ≡ at + 1 = omega arith in
+    let f : plus at 2 ≡ at + 2 = omega arith in
+    let more : 2 * suc n ≡ 2 + 2 * n = omega arith in
+    ap₂ (λ (x : ℕ) (xs : List ℕ). x ∷ xs) (ap (λ (k : ℕ). word_of (get_or m at 0) (get_or m k 0)) e)
+        (ap (λ (k : ℕ). answers_at true n k m) f ∙ same_answers true m (at + 2) n (omega arith))
+
+few_bytes : (wide : Bool) (n : ℕ) → n ≤ 4 → answer_size wide * n ≤ 8
+few_bytes false n l = omega arith
+few_bytes true n l = omega arith
+
+same_values : (f : Firmware) (n : ℕ) (s : State) → n ≤ 4 → answers_in (alone f n) s ≡ values_in (alone f n) s
+same_values f n s few = let l = few_bytes f.wide n few in same_answers f.wide s.mem 0x1010 n (omega arith)
+
+-- the rows as answers
+answer_is : (xs ys : List ℕ) (i j : ℕ) → xs ≡ ys → i ≡ j → ◌≡◌ {A = Answer} (record { values = xs; instructions = i }) (record { values = ys; instructions = j })
+answer_is xs ys i j v n = ap₂ (λ (x : List ℕ) (k : ℕ). let r : Answer = record { values = x; instructions = k } in r) v n
+
+all_answers : Laws → (f : Firmware) (n : ℕ) (b : Block) (image : List ℕ) (flags : ℕ) (before : ℕ → ℕ) (plan : List Request) (k : ℕ) (samples : List (List ℕ)) (s : State) → flags < 2 ^ 8 → AreShort samples → n ≤ 4
+    → (h : AreAnswered main_layout b (width_of f.wide) image flags before samples s)
+    → map answer_of_row (rows_of_samples flags (alone f n) plan k (numbers b (width_of f.wide) image flags before samples s h) samples s) ≡ answers_by b (alone f n) image flags before samples s h
+unfolding numbers
+all_answers laws f n b image flags before plan k [] s hf l few h = refl
+all_answers laws f n b image flags before plan k (bytes ∷ samples) s hf l few h =
+    let w = width_of f.wide in
+    let start = given main_layout bytes s in
+    let g = went laws b w image flags before bytes s h.0 hf l.0 h.1.0 in
+    let later : ℕ → ℕ = λ o. answer w b o bytes (before o) in
+    let end = uninterrupted flags (all_steps h.1.0.ds) start in
+    let here = answer_is (answers_in (alone f n) end) (values_in (alone f n) h.0) (counted flags (all_steps h.1.0.ds) start) (length h.1.0.ds) (ap (answers_in (alone f n)) g.goes ∙ same_values f n h.0 few) g.counts in
+    let rest = all_answers laws f n b image flags later plan (suc k) samples h.0 hf l.1 few h.1.1 in
+    let moved = subst (λ (u : State). map answer_of_row (rows_of_samples flags (alone f n) plan (suc k) (numbers b w image flags later samples h.0 h.1.1) samples u) ≡ answers_by b (alone f n) image flags later samples h.0 h.1.1) (sym g.goes) rest in
+    ap₂ (λ (x : Answer) (xs : List Answer). x ∷ xs) here moved
+
+all_samples : (f : Firmware) (b : Block) (w : Width) (image : List ℕ) (flags : ℕ) (before : ℕ → ℕ) (plan : List Request) (k : ℕ) (samples : List (List ℕ)) (s u : State) → (h : AreAnswered main_layout b w image flags before samples s)
+    → map (λ (r : RowSeen (List ℕ)). r.sample) (rows_of_samples flags f plan k (numbers b w image flags before samples s h) samples u) ≡ samples
+unfolding numbers
+all_samples f b w image flags before plan k [] s u h = refl
+all_samples f b w image flags before plan k (bytes ∷ samples) s u h =
+    let start = given f.layout bytes u in
+    ap (λ (xs : List (List ℕ)). bytes ∷ xs) (all_samples f b w image flags (λ o. answer w b o bytes (before o)) plan (suc k) samples h.0 (uninterrupted flags (all_steps h.1.0.ds) start) h.1.1)
+
+-- no row has more steps than the bound
+few_steps : (flags : ℕ) (f : Firmware) (plan : List Request) (most k : ℕ) (ns : List ℕ) (samples : List (List ℕ)) (s : State) → AllWithin most ns → All (λ (r : RowSeen (List ℕ)). r.steps ≤ most) (rows_of_samples flags f plan k ns samples s)
+few_steps flags f plan most k [] samples s h = λ j r lt. absurd (omega arith)
+few_steps flags f plan most k (n ∷ ns) [] s h = λ j r lt. absurd (omega arith)
+few_steps flags f plan most k (n ∷ ns) (bytes ∷ rest) s h =
+    let first = given f.layout bytes s in
+    let after = uninterrupted flags n first in
+    All-cons (λ (r : RowSeen (List ℕ)). r.steps ≤ most) (row_of_sample flags f (requests_of k plan) n bytes first) (rows_of_samples flags f plan (suc k) ns rest after) h.0
+        (few_steps flags f plan most (suc k) ns rest after h.1)
+
+-- a firmware waits first where it arrives first
+enough_steps : (w : Width) (b : Block) → length b.outputs ≤ 4 → 3 ≤ step_bound w b
+unfolding step_bound instruction_bound
+enough_steps w b few = omega arith
+
+first_is : (b : Block) (f : Firmware) (n flags : ℕ) (s : State) → length b.outputs ≤ 4 → IsFirmwareOf b (alone f n) → IsArrived main_layout (image_memory f.image.bytes) flags s → first_state (alone f n) flags ≡ s
+first_is b f n flags s few h a =
+    let start = reset_with (image_memory f.image.bytes) in
+    ap (λ (most : ℕ). arrival flags 0xC008 most start) h.steps ∙ arrives_plainly flags 0xC008 3 (step_bound (width_of f.wide) b) start s refl a.way a.wait (enough_steps (width_of f.wide) b few)
+
+all_short : (b : Block) (samples : List (List ℕ)) → length b.inputs ≤ 8 → All (AreInputBytes b) samples → AreShort samples
+all_short b [] few all = tt
+all_short b (bytes ∷ samples) few all = (let i = all 0 bytes (omega arith) in omega (arith, i.count), all_short b samples few (λ k d lt. all (suc k) d (omega arith)))
+
+-- the rows of a firmware that waits first in s
+under : Laws → (b : Block) (f : Firmware) (n flags : ℕ) (samples : List (List ℕ)) (plan : List Request) (s : State) → flags < 2 ^ 8 → length b.outputs ≤ 4 → n ≤ 4 → IsFirmwareOf b (alone f n) → AreShort samples → IsGood plan
+    → IsArrived main_layout (image_memory f.image.bytes) flags s → AreAnswered main_layout b (width_of f.wide) (image_memory f.image.bytes) flags (λ o. 0) samples s
+    → AnswersUnder b (alone f n) flags samples plan (firmware_rows (alone f n) samples plan flags).rows
+under laws b f n flags samples plan s hf few count h short good a answered =
+    let g = alone f n in
+    let w = width_of f.wide in
+    let image = image_memory f.image.bytes in
+    let ns = numbers b w image flags (λ o. 0) samples s answered in
+    let first : first_state g flags ≡ s = first_is b f n flags s few h a in
+    let few_answers = few_bytes f.wide n count in
+    let low : IsLow g = record { ready = omega arith; outputs = omega arith } in
+    let steps : AllWithin (step_bound w b) ns = within b w image flags (λ o. 0) samples s answered in
+    let bounded : AllWithin f.step_bound ns = subst (λ (m : ℕ). AllWithin m ns) (sym h.steps) steps in
+    let complete : AllComplete (Facts is_free flags) (with_writes flags g) ns samples s = all_sampled laws f n b w image flags (λ o. 0) samples s hf short answered in
+    let runs : FollowsAlone flags g f.step_bound plan ns samples s = laws.runs_follow flags g f.step_bound plan ns samples s low good bounded complete in
+    let rows = (firmware_rows g samples plan flags).rows in
+    let expected = rows_of_samples flags g plan 1 ns samples s in
+    let rows_are : rows ≡ expected = ap (λ (u : State). (rows_from (with_writes flags g) f.step_bound (λ k. requests_of k plan) 1 samples u).rows) first ∙ runs.rows_are in
+    let same = ap (map answer_of_row) rows_are ∙ all_answers laws f n b image flags (λ o. 0) plan 1 samples s hf short count answered in
+    let both = laws.answered_are_uninterrupted b g flags samples s h.outputs a answered in
+    record {
+      answers = record {
+        samples_are = ap (map (λ (r : RowSeen (List ℕ)). r.sample)) rows_are ∙ all_samples g b w image flags (λ o. 0) plan 1 samples s s answered;
+        uninterrupted = subst (λ (xs : List Answer). AreUninterrupted g flags samples xs) (sym same) both.0;
+        answers = subst (λ (xs : List Answer). AreAnswersOf w b (λ o. 0) samples xs) (sym same) both.1;
+        steps = subst (λ (rs : List (RowSeen (List ℕ))). All (λ (r : RowSeen (List ℕ)). r.steps ≤ step_bound w b) rs) (sym rows_are) (few_steps flags g plan (step_bound w b) 1 ns samples s steps);
+      };
+      ns = ns;
+      complete = subst (λ (u : State). AllComplete (Facts is_free flags) (with_writes flags g) ns samples u) (sym first) complete;
+      rows_are = rows_are ∙ ap (λ (u : State). rows_of_samples flags g plan 1 ns samples u) (sym first);
+      follows = subst (λ (u : State). FollowsAlone flags g f.step_bound plan ns samples u) (sym first) runs;
+    }
+
+pub answers_under_plans : Laws → AnswersUnderPlans
+answers_under_plans laws f flags samples plan hf good b v limits h all =
+    let n = length b.outputs in
+    let same : f ≡ alone f n = ap₂ (λ (l : Layout) (k : ℕ). by l k) h.layout h.outputs in
+    let own : IsFirmwareOf b (alone f n) = subst (λ (d : Firmware). IsFirmwareOf b d) same h in
+    let from = laws.firmware_answers b (alone f n) v limits own flags samples hf all in
+    subst (λ (d : Firmware). AnswersUnder b d flags samples plan (firmware_rows d samples plan flags).rows) (sym same)
+        (under laws b f n flags samples plan from.0 hf v.few_outputs v.few_outputs own (all_short b samples v.few_inputs all) good from.1.0 from.1.1)
+  where
+    by : Layout → ℕ → Firmware
+    by l k = record f { layout = l; outputs = k }
+
+-- and so do rows that are those of the run
+pub answers_its_block : AnswersUnderPlans → (f : Firmware) (flags : ℕ) (samples : List (List ℕ)) (plan : List Request) (rows : List (RowSeen (List ℕ))) → flags < 2 ^ 8 → IsGood plan → rows ≡ (firmware_rows f samples plan flags).rows
+    → AnswersItsBlock f flags samples plan rows
+answers_its_block law f flags samples plan rows hf good e =
+    subst (λ (rs : List (RowSeen (List ℕ))). AnswersItsBlock f flags samples plan rs) (sym e) (law f flags samples plan hf good)

@@ -1,0 +1,61 @@
+-- Good requests, and bytes that no plan writes.
+use Rattle.std.proofs.Common.{◌≡◌, ℕ, zero, suc, ◌+◌, ◌<◌, ◌≤◌, Bool, true, false, ◌&&◌, nat_lt, nat_le, List, [], ◌∷◌, sym, ◌∙◌, subst, arith, refl, inl, inr, ◌⊎◌}
+use Rattle.std.specs.Prelude.{All}
+use Rattle.std.proofs.lemmas.Bool.{and_parts, ltb-true}
+use Rattle.std.proofs.lemmas.Bool.Decides.{nat_tests}
+use Rattle.cpu12_isa.specs.Memory.{plus, from}
+use Rattle.cpu12_isa.specs.Agreement.{AllShown}
+use Rattle.cpu12_isa.specs.Regions.{free_start, stack_start, is_free, is_hidden, LeavesStack}
+use Rattle.interrupt_plan.specs.declared.Request.{Request}
+use Rattle.interrupt_plan.specs.Plans.{NotAfter, Ascends, IsGoodRequest, IsGood}
+use Rattle.fz_run.specs.Rows.{is_of, requests_of}
+use Rattle.run_law.specs.Soundness.{AllGood, Ascend}
+use Rattle.fz_run.proofs.PlanSlices.{not_after_le, one_is, other_is, of_here, of_not}
+
+-- by sample and then by moment, from a pair of numbers on, and each request is good
+abbrev pub Goes : ℕ → ℕ → List Request → Type 0
+Goes k m [] = Unit {0}
+Goes k m (q ∷ qs) = (k ≤ q.sample) × (q.sample ≡ k → m ≤ q.moment) × IsGoodRequest q × Goes q.sample q.moment qs
+
+not_after_moment : (a b : Request) → NotAfter a b → b.sample ≡ a.sample → a.moment ≤ b.moment
+not_after_moment a b (inl l) e = absurd (omega arith)
+not_after_moment a b (inr p) e = p.1
+
+goes_from : (a : Request) (rest : List Request) → All IsGoodRequest rest → Ascends (a ∷ rest) → Goes a.sample a.moment rest
+goes_from a [] g h = tt
+goes_from a (b ∷ rest) g h = (not_after_le a b h.0, not_after_moment a b h.0, g 0 b (omega arith), goes_from b rest (λ k d l. g (suc k) d (omega arith)) h.1)
+
+pub goes_good : (plan : List Request) → IsGood plan → Goes 0 0 plan
+goes_good [] h = tt
+goes_good (a ∷ rest) h = (omega arith, λ e. omega arith, h.requests 0 a (omega arith), goes_from a rest (λ k d l. h.requests (suc k) d (omega arith)) h.ascends)
+
+bool_cases : (b : Bool) → (b ≡ true) ⊎ (b ≡ false)
+bool_cases true = inl refl
+bool_cases false = inr refl
+
+-- the requests of one sample are good, and ascend
+pub requests_good : (k j m : ℕ) (plan : List Request) → Goes j m plan → AllGood IsGoodRequest (requests_of k plan)
+requests_good k j m [] h = tt
+requests_good k j m (q ∷ qs) h = elim (bool_cases (is_of k q)) [
+  | inl e ↦ subst (λ (l : List Request). AllGood IsGoodRequest l) (sym (of_here k q qs e)) (h.2, requests_good k q.sample q.moment qs h.3)
+  | inr e ↦ subst (λ (l : List Request). AllGood IsGoodRequest l) (sym (of_not k q qs e)) (requests_good k q.sample q.moment qs h.3)
+]
+
+pub requests_ascend : (k j m : ℕ) (plan : List Request) → Goes j m plan → (i : ℕ) → (j ≡ k → i ≤ m) → (j < k → i ≤ 0) → Ascend (λ (r : Request). r.moment) i (requests_of k plan)
+requests_ascend k j m [] h i e f = tt
+requests_ascend k j m (q ∷ qs) h i e f = elim (bool_cases (is_of k q)) [
+  | inl t ↦
+      let here = one_is k q t in
+      let at : i ≤ q.moment = at_most here (one_of j q.sample h.0) in
+      subst (λ (l : List Request). Ascend (λ (r : Request). r.moment) i l) (sym (of_here k q qs t)) (at, requests_ascend k q.sample q.moment qs h.3 q.moment (λ y. omega arith) (λ y. absurd (omega arith)))
+  | inr t ↦
+      let other = other_is k q t in
+      subst (λ (l : List Request). Ascend (λ (r : Request). r.moment) i l) (sym (of_not k q qs t)) (requests_ascend k q.sample q.moment qs h.3 i (λ y. absurd (other y)) (λ y. f (omega (arith, h.0))))
+]
+  where
+    one_of : (a b : ℕ) → a ≤ b → (a ≡ b) ⊎ (a < b)
+    one_of a b l = grind arith
+
+    at_most : q.sample ≡ k → (j ≡ q.sample) ⊎ (j < q.sample) → i ≤ q.moment
+    at_most here (inl y) = omega (arith, e (y ∙ here), h.1 (sym y))
+    at_most here (inr y) = omega (arith, f (omega arith))

@@ -1,0 +1,71 @@
+-- A firmware that stands alone is sound under requests that list writes, and so its runs follow those without interrupts.
+use Rattle.std.proofs.Common.{◌≡◌, ℕ, zero, suc, ◌-◌, ◌+◌, ◌*◌, ◌<◌, ◌≤◌, Bool, true, false, not, List, [], ◌∷◌, ◌++◌, length, refl, ap, ap₂, sym, ◌∙◌, subst, arith, inl, inr, ◌⊎◌}
+use Rattle.std.specs.Prelude.{All, ◌==◌, ◌&&◌}
+use Rattle.cpu12_isa.specs.declared.instr.Regs.{Regs}
+use Rattle.cpu12_isa.specs.declared.instr.Write.{Write}
+use Rattle.cpu12_isa.specs.Agreement.{Agree}
+use Rattle.cpu12_isa.specs.Memory.{plus, placed, word_of}
+use Rattle.cpu12_isa.specs.Regions.{free_start, is_free, is_hidden}
+use Rattle.cpu12_isa.proofs.Lemmas.{agree_self, same_writes}
+use Rattle.cpu12_parts.specs.State.{State}
+use Rattle.cpu12_emul.specs.Take.{FrameSeen, may_interrupt}
+use Rattle.cpu12_emul.specs.Simulation.{AreOpen, IsShownStep}
+use Rattle.run_law.specs.Forms.{RowSeen, Rows, rows_from}
+use Rattle.run_law.specs.Uninterrupted.{stepped, uninterrupted, counted, first_open, taken_at, resumed_of, frames_of}
+use Rattle.run_law.specs.Soundness.{Before, Sound, WritesAreQuiet}
+use Rattle.run_law.specs.Following.{AllComplete, RunsFollow, expected_rows}
+use Rattle.interrupt_plan.specs.declared.Request.{Request}
+use Rattle.interrupt_plan.specs.Plans.{IsGoodRequest}
+use Rattle.codegen.specs.declared.firmware.Firmware.{Firmware}
+use Rattle.codegen.specs.declared.layout.Layout.{Layout}
+use Rattle.fz_run.specs.Forms.{given, answer_size, answer_at, answers_at, answers_in, with_writes}
+use Rattle.fz_run.specs.Rows.{requests_of}
+use Rattle.fz_run.specs.Facts.{Facts}
+use Rattle.fz_run.specs.Following.{IsLow, Nothing, rows_of_samples, RunsFollowAlone}
+use Rattle.fz_run.proofs.Requests.{goes_good, requests_good, requests_ascend}
+
+pub before_at : (P : State → Type 0) (flags n m : ℕ) (s : State) → Before P flags n s → suc m ≤ n → P (uninterrupted flags m s)
+before_at P flags zero m s b l = absurd (omega arith)
+before_at P flags (suc n) zero s b l = b.0
+before_at P flags (suc n) (suc m) s b l = before_at P flags n m (stepped flags s) b.1 (omega arith)
+
+-- where I is 0 throughout a request is taken at its moment
+at_once : (flags : ℕ) (s : State) (k m : ℕ) → ((j : ℕ) → suc j ≤ m + k → may_interrupt (uninterrupted flags j s) ≡ true) → first_open flags s k m ≡ m
+at_once flags s zero m h = refl
+at_once flags s (suc k) m h = let e = h m (omega arith) in rw e refl
+
+taken_is : (flags n : ℕ) (s : State) → Before (Facts is_free flags) flags n s → taken_at flags (λ (r : Request). r.moment) n s ≡ (λ r. r.moment)
+taken_is flags n s b = λ i. λ r. at r (within r.moment) i
+  where
+    within : (a : ℕ) → (n - a ≡ 0) ⊎ (n - a + a ≡ n)
+    within a = grind arith
+
+    at : (r : Request) → (n - r.moment ≡ 0) ⊎ (n - r.moment + r.moment ≡ n) → taken_at flags (λ (r : Request). r.moment) n s r ≡ r.moment
+    at r (inl e) = ap (λ (k : ℕ). first_open flags s k r.moment) e
+    at r (inr e) = at_once flags s (n - r.moment) r.moment (λ j l. ap not (let p = before_at (Facts is_free flags) flags n j s b (omega arith) in p.unmasked))
+
+same_rows : (flags : ℕ) (f : Firmware) (plan : List Request) (k : ℕ) (ns : List ℕ) (samples : List (List ℕ)) (s : State) → AllComplete (Facts is_free flags) (with_writes flags f) ns samples s
+    → expected_rows (with_writes flags f) (λ j. requests_of j plan) k ns samples s ≡ rows_of_samples flags f plan k ns samples s
+same_rows flags f plan k [] samples s h = refl
+same_rows flags f plan k (n ∷ ns) [] s h = refl
+same_rows flags f plan k (n ∷ ns) (bytes ∷ rest) s h =
+    let u : State = given f.layout bytes s in
+    let at = taken_is flags n u (let z = h.0 in z.holds) in
+    ap₂ (λ (x : RowSeen (List ℕ)) (xs : List (RowSeen (List ℕ))). x ∷ xs) (ap (λ (moment : Request → ℕ). by moment) at) (same_rows flags f plan (suc k) ns rest (uninterrupted flags n u) h.1)
+  where
+    by : (Request → ℕ) → RowSeen (List ℕ)
+    by moment = record {
+      sample = bytes;
+      answers = answers_in f (uninterrupted flags n (given f.layout bytes s));
+      instrs = counted flags n (given f.layout bytes s);
+      steps = n;
+      resumed = resumed_of flags moment (given f.layout bytes s) (requests_of k plan) n;
+      frames = frames_of flags moment (given f.layout bytes s) (requests_of k plan) n;
+    }
+
+pub runs_follow_alone : ((flags : ℕ) (f : Firmware) → IsLow f → RunsFollow is_free (with_writes flags f) (Facts is_free flags) IsGoodRequest Nothing) → RunsFollowAlone
+runs_follow_alone law flags f most plan ns samples s low good le h =
+    let g = goes_good plan good in
+    let r = law flags f low (λ j. requests_of j plan) (λ j. (requests_good j 0 0 plan g, requests_ascend j 0 0 plan g 0 (λ e. omega arith) (λ e. omega arith))) [] 1 most ns samples s s le h
+    (record { regs = refl; temps = refl; mem = agree_self (is_hidden is_free s.regs.sp) s.mem }) tt in
+    record { arrived = r.arrived; rows_are = r.rows_are ∙ same_rows flags f plan 1 ns samples s h; simulates = r.simulates; last = r.last }

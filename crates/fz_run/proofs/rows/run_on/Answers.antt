@@ -1,0 +1,12 @@
+use Rattle.std.proofs.Common.{◌≡◌, map, rules}
+use Rattle.fz_run.specs.Rows.{row_seen, input_bytes, firmware_rows}
+use Rattle.fz_run.proofs.AnsweredRows.{answers_its_block}
+use Rattle.fz_run.proofs.rows.run_on.Goals as goal
+
+pub returns-clause-answers : goal.returns-clause-answers
+returns-clause-answers g c =
+    let a = c.args in
+    let samples = map input_bytes a.samples.now in
+    let rows = map row_seen c.run_samples-rows.result.items in
+    let are : rows ≡ (firmware_rows a.firmware.now samples a.plan.now a.flags).rows = search rules in
+    answers_its_block c.answers_under_plans.ensures a.firmware.now a.flags samples a.plan.now rows c.ranges.flags.fits c.requires.plan are

@@ -1,0 +1,62 @@
+-- The rows of a firmware that stands alone, read off its runs without interrupts.
+use Rattle.std.specs.Prelude.{◌≡◌, ℕ, suc, ◌+◌, ◌*◌, ◌<◌, ◌≤◌, Bool, true, List, [], ◌∷◌}
+use Rattle.cpu12_isa.specs.Regions.{free_start, is_free}
+use Rattle.cpu12_parts.specs.State.{State}
+use Rattle.cpu12_emul.specs.Simulation.{Same}
+use Rattle.run_law.specs.Forms.{RowSeen, Rows, rows_from}
+use Rattle.run_law.specs.Uninterrupted.{uninterrupted, counted, resumed_of, frames_of}
+use Rattle.run_law.specs.Following.{AllComplete, AllWithin, RowsSimulate, last_uninterrupted}
+use Rattle.interrupt_plan.specs.declared.Request.{Request}
+use Rattle.interrupt_plan.specs.Plans.{IsGood}
+use Rattle.codegen.specs.declared.firmware.Firmware.{Firmware}
+use Rattle.fz_run.specs.Forms.{given, answer_size, answers_in, with_writes}
+use Rattle.fz_run.specs.Rows.{requests_of}
+use Rattle.fz_run.specs.Facts.{Facts}
+
+-- what the row of a sample is to be that is answered in n steps without interrupts: each request is taken at its moment
+abbrev pub row_of_sample : ℕ → Firmware → List Request → ℕ → List ℕ → State → RowSeen (List ℕ)
+row_of_sample flags f qs n bytes s = record {
+  sample = bytes;
+  answers = answers_in f (uninterrupted flags n s);
+  instrs = counted flags n s;
+  steps = n;
+  resumed = resumed_of flags (λ r. r.moment) s qs n;
+  frames = frames_of flags (λ r. r.moment) s qs n;
+}
+
+-- the rows of the samples from number k on, which take so many steps
+abbrev pub rows_of_samples : ℕ → Firmware → List Request → ℕ → List ℕ → List (List ℕ) → State → List (RowSeen (List ℕ))
+rows_of_samples flags f plan k [] samples s = []
+rows_of_samples flags f plan k (n ∷ ns) [] s = []
+rows_of_samples flags f plan k (n ∷ ns) (bytes ∷ rest) s =
+    let first = given f.layout bytes s in
+    row_of_sample flags f (requests_of k plan) n bytes first ∷ rows_of_samples flags f plan (suc k) ns rest (uninterrupted flags n first)
+
+-- the bytes that are read from outside stand below those that plans may write
+pub record IsLow (f : Firmware) : Type 0 where
+  pub ready : f.layout.ready < free_start
+  pub outputs : f.layout.outputs + answer_size f.wide * f.outputs ≤ free_start
+
+-- a firmware whose bytes stand low, and the byte from which open flags are taken
+pub record Alone : Type 0 where
+  pub flags : ℕ
+  pub firmware : Firmware
+  pub low : IsLow firmware
+
+-- listed writes tell nothing, and leave nothing in the open bytes that is spoken of
+abbrev pub Nothing : List (Request × Unit {0}) → State → Type 0
+Nothing done s = Unit {0}
+
+-- A run of samples under a plan follows the run without interrupts from s: it comes to the end of each, its rows are those
+-- that are read off that run, each of its states simulates that run's, and so does the last.
+pub record FollowsAlone (flags : ℕ) (f : Firmware) (most : ℕ) (plan : List Request) (ns : List ℕ) (samples : List (List ℕ)) (s : State) : Type 0 where
+  pub arrived : (rows_from (with_writes flags f) most (λ k. requests_of k plan) 1 samples s).arrived ≡ true
+  pub rows_are : (rows_from (with_writes flags f) most (λ k. requests_of k plan) 1 samples s).rows ≡ rows_of_samples flags f plan 1 ns samples s
+  pub simulates : RowsSimulate is_free (with_writes flags f) ns samples (rows_from (with_writes flags f) most (λ k. requests_of k plan) 1 samples s).states s
+  pub last : Same is_free (rows_from (with_writes flags f) most (λ k. requests_of k plan) 1 samples s).state (last_uninterrupted (with_writes flags f) ns samples s)
+
+-- So does each run under a good plan, where the states of the run without interrupts keep the facts.
+abbrev pub RunsFollowAlone : Type 0
+RunsFollowAlone = (flags : ℕ) (f : Firmware) (most : ℕ) (plan : List Request) (ns : List ℕ) (samples : List (List ℕ)) (s : State)
+    → IsLow f → IsGood plan → AllWithin most ns → AllComplete (Facts is_free flags) (with_writes flags f) ns samples s
+    → FollowsAlone flags f most plan ns samples s

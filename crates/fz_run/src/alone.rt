@@ -1,0 +1,36 @@
+// A firmware that stands alone is a sound form.
+ghost use Rattle.std.specs.Prelude.{ℕ, List};
+ghost use Rattle.cpu12_isa.specs.Regions.{is_free};
+ghost use Rattle.interrupt_plan.specs.Plans.{IsGoodRequest};
+ghost use Rattle.interrupt_plan.specs.declared.Request as plan;
+ghost use Rattle.fz_run.specs.Forms.{with_writes};
+ghost use Rattle.fz_run.specs.Facts.{Facts};
+ghost use Rattle.fz_run.specs.Following.{Alone, Nothing};
+ghost use Rattle.fz_run.specs.SoundAlone.{sound};
+
+use run_law::laws::SoundForm;
+
+/// A firmware that stands alone in memory, under requests that list writes to free bytes.
+pub struct StandAlone;
+
+impl SoundForm for StandAlone {
+    ghost Setting = { Alone };
+
+    ghost Sample = { List ℕ };
+
+    ghost Request = { plan.Request };
+
+    ghost Told = { Unit {0} };
+
+    ghost form = { λ x. with_writes x.flags x.firmware };
+
+    ghost open_to = { λ _. is_free };
+
+    ghost holds = { λ x. Facts is_free x.flags };
+
+    ghost good = { λ _. IsGoodRequest };
+
+    ghost own = { λ _. Nothing };
+
+    ghost sound = { λ x quiet. sound x.flags x.firmware x.low quiet };
+}

@@ -1,0 +1,65 @@
+// How a firmware is given samples, and where its answers are read.
+ghost use Rattle.std.specs.Prelude.{ℕ, ◌≡◌, ◌≤◌, List};
+ghost use Rattle.arrayvec.specs.ArrayVec.{array_vec_len};
+ghost use Rattle.codegen.specs.Interruptible.{is_idle};
+ghost use Rattle.fz_run.specs.Forms.{given, answer_size, answer_at, answers_in};
+
+use arrayvec::ArrayVec;
+use codegen::{Firmware, Layout};
+use cpu12_emul::machine::Machine;
+use cpu12_isa::mem::{Mem, word_of};
+
+/// Whether the firmware waits for a sample: PC is where it waits, and READY is 0.
+pub(crate) fn is_idle<M: Mem>(layout: &Layout, m: &Machine<M>) -> bool
+    ensures { result ≡ is_idle layout.now m.now.state }
+{
+    m.regs().pc == layout.wait && m.peek(layout.ready) == 0
+}
+
+/// Gives a sample: writes its bytes from the first input on, and 1 to READY.
+pub(crate) fn give<M: Mem>(layout: &Layout, m: &mut Machine<M>, bytes: &[u8])
+    ensures state { m.new.state ≡ given layout.now bytes.now m.old.state }
+    ensures flags { m.new.flags ≡ m.old.flags }
+{
+    let mut at = layout.inputs;
+    for byte in bytes {
+        m.poke(at, *byte);
+        at = at.wrapping_add(1);
+    }
+    m.poke(layout.ready, 1);
+}
+
+/// How many bytes an answer has.
+fn answer_size(wide: bool) -> u16
+    ensures { result ≡ answer_size wide }
+{
+    if wide { 2 } else { 1 }
+}
+
+/// The answer that stands at an address.
+fn answer_at<M: Mem>(m: &Machine<M>, wide: bool, at: u16) -> u16
+    ensures { result ≡ answer_at wide at m.now.state.mem }
+{
+    let first = m.peek(at);
+    if wide {
+        word_of(first, m.peek(at.wrapping_add(1)))
+    } else {
+        u16::from(first)
+    }
+}
+
+/// The answers, in the order of the outputs.
+pub(crate) fn answers<M: Mem>(firmware: &Firmware, m: &Machine<M>) -> ArrayVec<u16, 4>
+    requires { firmware.now.outputs ≤ 4 }
+    ensures { result.items ≡ answers_in firmware.now m.now.state }
+{
+    let mut answers = ArrayVec::new();
+    let mut at = firmware.layout.outputs;
+    let mut left = firmware.outputs;
+    while left > 0 {
+        answers.push(answer_at(m, firmware.wide, at));
+        at = at.wrapping_add(answer_size(firmware.wide));
+        left -= 1;
+    }
+    answers
+}

@@ -1,0 +1,50 @@
+-- A handler that does listed writes is quiet.
+use Rattle.std.proofs.Common.{◌≡◌, ℕ, ◌+◌, ◌-◌, ◌^◌, ◌<◌, ◌≤◌, Bool, List, length, sym, ap, ◌∙◌, subst, arith, inl, inr}
+use Rattle.cpu12_isa.specs.declared.instr.Regs.{Regs}
+use Rattle.cpu12_isa.specs.Memory.{plus}
+use Rattle.cpu12_isa.specs.Fits.{FitsRegs}
+use Rattle.cpu12_isa.specs.Regions.{stack_start, stack_end}
+use Rattle.cpu12_parts.specs.declared.temps.Temps.{Temps}
+use Rattle.cpu12_parts.specs.declared.temps.Temps.TheVariants.{Free, Running, OnStack}
+use Rattle.cpu12_parts.specs.State.{State}
+use Rattle.cpu12_parts.specs.Laws.{IsOff}
+use Rattle.cpu12_emul.specs.Take.{framed}
+use Rattle.cpu12_emul.specs.Simulation.{HasRoom, TakesQuietly}
+use Rattle.run_law.specs.Soundness.{below_sums, Begins, AreLeft, WritesAreQuiet}
+
+fits_at : (r : Regs) (k : ℕ) → FitsRegs r → k < 2 ^ 16 → FitsRegs (record r { sp = k })
+fits_at r k f h = record { a = f.a; b = f.b; x = f.x; y = f.y; sp = h; pc = f.pc; ccr = f.ccr }
+
+-- the state in which a handler begins has room for the nine bytes
+record Begun (v : State) : Type 0 where
+  size : length v.mem ≡ 65536
+  fits : FitsRegs v.regs
+  low : stack_start + 9 ≤ v.regs.sp
+  high : v.regs.sp ≤ stack_end
+
+below_fits : (r : Regs) (t : Temps) → FitsRegs r → stack_start + 15 ≤ r.sp → r.sp ≤ stack_end → FitsRegs (below_sums r t) × (stack_start + 9 ≤ (below_sums r t).sp) × ((below_sums r t).sp ≤ stack_end)
+below_fits r Free f l h = (f, omega arith, h)
+below_fits r OnStack f l h = (f, omega arith, h)
+below_fits r (Running p w) f l h = (fits_at r (plus r.sp 65530) f (omega arith), omega arith, omega arith)
+
+begun : (open_to : ℕ → Bool) (v s : State) → HasRoom s → Begins open_to v s → Begun v
+begun open_to v s k b =
+    let r = below_fits s.regs s.temps k.fits k.low k.high in
+    record {
+      size = b.mem.size ∙ k.size;
+      fits = subst (λ (r : Regs). FitsRegs r) (sym b.regs) r.0;
+      low = subst (λ (r : Regs). stack_start + 9 ≤ r.sp) (sym b.regs) r.1;
+      high = subst (λ (r : Regs). r.sp ≤ stack_end) (sym b.regs) r.2;
+    }
+
+-- sums that stay as they were are left
+left_same : (t u v : Temps) → IsOff v → u ≡ v → AreLeft t u v
+left_same (Running p w) u v off e = subst (λ (x : Temps). IsOff x) (sym e) off
+left_same Free u v off e = e
+left_same OnStack u v off e = e
+
+pub writes_are_quiet : TakesQuietly → WritesAreQuiet
+writes_are_quiet quietly open_to ws v s apart to_open k b =
+    let g = begun open_to v s k b in
+    let u = quietly open_to ws v apart to_open g.size g.fits g.low g.high in
+    record { regs = u.regs; temps = left_same s.temps (framed ws v).temps v.temps b.temps u.temps; mem = u.mem }

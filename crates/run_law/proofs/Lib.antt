@@ -1,0 +1,11 @@
+pub mod Grounds
+pub mod Steps
+pub mod Takes
+pub mod Boundaries
+pub mod Moments
+pub mod Expected
+pub mod Samples
+pub mod Lists
+pub mod Handlers
+pub mod Sessions
+pub mod Positions

@@ -1,0 +1,76 @@
+// The law on runs.
+ghost use Rattle.std.specs.Prelude.{ℕ, Bool, List};
+ghost use Rattle.cpu12_parts.specs.State.{State};
+ghost use Rattle.run_law.specs.Forms.{Form};
+ghost use Rattle.run_law.specs.Soundness.{Sound, WritesAreQuiet};
+ghost use Rattle.run_law.specs.Following.{RunFollows, RunsFollow};
+ghost use Rattle.run_law.specs.Moments.{TakenAtFirstOpen};
+
+use cpu12_emul::laws::{frame_is_on_stack, step_keeps, takes_quietly};
+
+/// A form of firmware with its handler, and what it owes so that its runs under interrupts follow
+/// those without. It has ghost members alone: an implementation is the proof that they are sound.
+pub trait SoundForm {
+    /// What the form depends on, such as the layout of a firmware.
+    ghost Setting: { Type 0 };
+
+    /// What it is given.
+    ghost Sample: { Type 0 };
+
+    /// What asks for an interrupt.
+    ghost Request: { Type 0 };
+
+    /// What a handler tells of its interrupt.
+    ghost Told: { Type 0 };
+
+    /// How it is given samples, ends, answers and serves requests.
+    ghost form: { Setting → Form Sample Request Told };
+
+    /// The bytes that are open to the handler.
+    ghost open_to: { Setting → ℕ → Bool };
+
+    /// What each state of the run without interrupts keeps.
+    ghost holds: { Setting → State → Type 0 };
+
+    /// Which requests are good.
+    ghost good: { Setting → Request → Type 0 };
+
+    /// What stands in the open bytes after requests.
+    ghost own: { Setting → List (Request × Told) → State → Type 0 };
+
+    /// The form is sound. Its proof may use that listed writes are quiet.
+    ghost sound: { (x : Setting) → WritesAreQuiet → Sound (open_to x) (form x) (holds x) (good x) (own x) };
+}
+
+/// The run of one sample, from any boundary on, follows the run without interrupts.
+pub fn run_follows<F: SoundForm>()
+    ensures { (x : F.Setting) → RunFollows (F.open_to x) (F.form x) (F.holds x) (F.good x) (F.own x) }
+{
+    step_keeps();
+    frame_is_on_stack();
+    writes_are_quiet();
+}
+
+/// The runs of a list of samples follow the runs without interrupts: the same number of steps and of
+/// instructions, the same answers, the frames and resumed boundaries that are read off the states
+/// without interrupts, a state that simulates at every boundary, and the same last memory but for
+/// the bytes that interrupts may change.
+pub fn runs_follow<F: SoundForm>()
+    ensures { (x : F.Setting) → RunsFollow (F.open_to x) (F.form x) (F.holds x) (F.good x) (F.own x) }
+{
+    step_keeps();
+    frame_is_on_stack();
+    writes_are_quiet();
+}
+
+/// A request is taken at the least boundary from its moment on at which I is 0 without interrupts.
+pub fn taken_at_first_open()
+    ensures { TakenAtFirstOpen }
+{}
+
+/// A handler that does writes to open bytes is quiet.
+pub fn writes_are_quiet()
+    ensures { WritesAreQuiet }
+{
+    takes_quietly();
+}
