@@ -8,7 +8,6 @@ use Rattle.fuzzy_meaning.specs.declared.block.Output.{Output}
 use Rattle.fuzzy_meaning.specs.Blocks.{IsValid, IsValidOutput}
 use Rattle.rule_layout.specs.declared.flat.Conjunction.{Conjunction}
 use Rattle.rule_layout.specs.declared.flat.Form.{Form}
-use Rattle.rule_layout.specs.declared.flat.Form.TheVariants as form
 use Rattle.rule_layout.specs.Slots.{slots_of, singleton_count}
 use Rattle.rule_layout.specs.Lists.{marked, at_address, list_words}
 use Rattle.rule_layout.specs.Layouts.{conjunctions_of, weights_of, form_of, conjunction_count, element_width, list_size}
@@ -27,6 +26,7 @@ use Rattle.codegen.specs.Bounds.{entry_count, element_count}
 use Rattle.codegen.proofs.Joins.{sum_by-term_count}
 use Rattle.codegen.proofs.Lists.{length-marked}
 use Rattle.codegen.proofs.Sizes.{code_size, code_size-append, length-le-code_size, code_size-eval, length-tables, length-singletons, length-rule_weights}
+use Rattle.rule_layout.specs.declared.flat.Form.TheVariants as form
 
 -- what a firmware of a block within the limits takes
 pub record HasSizes (b : Block) : Type 0 where

@@ -1,5 +1,4 @@
 use Rattle.std.proofs.Common.{◌≡◌, Bool, List, length, refl, sym, ap, ◌∙◌, subst, arith, rules}
-use Rattle.fuzzy_meaning.specs.declared.block.Block.{Block}
 use Rattle.cpu12_asm.specs.declared.items.Item.{Item}
 use Rattle.cpu12_asm.specs.Bytes.{Holds}
 use Rattle.cpu12_asm.specs.Items.{given_by}
