@@ -23,7 +23,7 @@ use Rattle.codegen.proofs.steps.Memory.{SameHigh, WriteBelow, below_more, high_w
 use Rattle.codegen.proofs.steps.Decoding.{sizes, decode_same, UsedCode, code_bytes, decode_here}
 use Rattle.cpu12_isa.specs.declared.instr.Instr.TheVariants.{ClrExtended, Beq}
 use Rattle.codegen.proofs.steps.Flags.{masked_four}
-use Rattle.codegen.proofs.steps.Executions.{execution_on, steps_append, length_append}
+use Rattle.codegen.proofs.steps.Executions.{Bounded, bounded_one, bounded_on}
 
 -- what a run is under: the layout, the image's memory and the open flags
 pub record Ctx : Type 0 where
@@ -44,19 +44,6 @@ pub record Here (c : Ctx) (p : ℕ) (i : Instr) : Type 0 where
 abbrev pub Stands : Ctx → ℕ → List Instr → Type 0
 Stands c p [] = Unit {0}
 Stands c p (i ∷ is) = Here c p i × Stands c (p + length (encode_of i)) is
-
-pub stands_front : (c : Ctx) (p : ℕ) (a b : List Instr) → Stands c p (a ++ b) → Stands c p a
-stands_front c p [] b h = tt
-stands_front c p (i ∷ a) b h = (h.0, stands_front c (p + length (encode_of i)) a b h.1)
-
-pub stands_back : (c : Ctx) (p : ℕ) (a b : List Instr) → Stands c p (a ++ b) → Stands c (p + sizes a) b
-stands_back c p [] b h = let e : p ≡ p + 0 = omega arith in subst (λ n. Stands c n b) e h
-stands_back c p (i ∷ a) b h =
-    let e : p + length (encode_of i) + sizes a ≡ p + sizes (i ∷ a) = omega arith in
-    subst (λ n. Stands c n b) e (stands_back c (p + length (encode_of i)) a b h.1)
-
-pub stands_at : (c : Ctx) (p q : ℕ) (is : List Instr) → p ≡ q → Stands c p is → Stands c q is
-stands_at c p q is e h = subst (λ n. Stands c n is) e h
 
 -- what each state of the run keeps
 pub record Live (c : Ctx) (s : State) : Type 0 where
@@ -159,34 +146,15 @@ next c s p q i l ep h pl fo reads below esp mask pc =
     let e = effect c.flags i s.regs s.mem in
     plain_next c s p q i l (not_at c.layout s p ep h.off) ep h.low h.high h.decoded pl fo reads (writes_shown (min s.regs.sp e.regs.sp) e.writes below) (λ at g. inl (ap (λ k. is_hidden k at) (sym esp) ∙ g)) (below_more 0x1800 0x2000 e.writes (omega arith) below) (⊎_elim (λ a. inl (esp ∙ a)) (λ b. inr (esp ∙ b)) l.stack) mask pc
 
--- runs of at most n instructions and k parts beyond their first
-pub record Goes (c : Ctx) (n k : ℕ) (s t : State) : Type 0 where
-  pub ds : List ℕ
-  pub way : Execution (IsInterruptibleStep c.layout c.image c.flags) ds s t
-  pub count : length ds ≤ n
-  pub parts : all_steps ds ≤ n + k
-  pub exact : all_steps ds ≤ length ds + k
-
-pub goes_none : (c : Ctx) (s : State) → Goes c 0 0 s s
-goes_none c s = record { ds = []; way = refl; count = omega arith; parts = omega arith; exact = omega arith }
-
-pub goes_part : (c : Ctx) (d : ℕ) (s t : State) → IsInterruptibleStep c.layout c.image c.flags d s t → Goes c 1 d s t
-goes_part c d s t h = record { ds = d ∷ []; way = (t, (h, refl)); count = omega arith; parts = omega arith; exact = omega arith }
+-- executions of at most n instructions, with at most k parts beyond their first
+abbrev pub Goes : Ctx → ℕ → ℕ → State → State → Type 0
+Goes c = Bounded (IsInterruptibleStep c.layout c.image c.flags)
 
 pub goes_on : (c : Ctx) (n k m j : ℕ) (s t u : State) → Goes c n k s t → Goes c m j t u → Goes c (n + m) (k + j) s u
-goes_on c n k m j s t u a b = record {
-  ds = a.ds ++ b.ds;
-  way = execution_on (IsInterruptibleStep c.layout c.image c.flags) a.ds b.ds s t u a.way b.way;
-  count = omega (arith, length_append a.ds b.ds, a.count, b.count);
-  parts = omega (arith, steps_append a.ds b.ds, a.parts, b.parts);
-  exact = omega (arith, steps_append a.ds b.ds, length_append a.ds b.ds, a.exact, b.exact);
-}
-
-pub goes_most : (c : Ctx) (n k m j : ℕ) (s t : State) → n ≤ m → k ≤ j → Goes c n k s t → Goes c m j s t
-goes_most c n k m j s t a b g = record { ds = g.ds; way = g.way; count = omega (arith, g.count); parts = omega (arith, g.parts); exact = omega (arith, g.exact) }
+goes_on c = bounded_on (IsInterruptibleStep c.layout c.image c.flags)
 
 pub goes_one : (c : Ctx) (s t : State) (q : ℕ) → Next c s t q → Goes c 1 0 s t
-goes_one c s t q h = goes_part c 0 s t h.step
+goes_one c s t q h = bounded_one (IsInterruptibleStep c.layout c.image c.flags) 0 s t h.step
 
 pub clr : (c : Ctx) (s : State) (p at : ℕ) → Live c s → s.regs.pc ≡ p → Here c p (ClrExtended at) → at < 0x1800 → Next c s (after_plain c.flags (ClrExtended at) s) (p + 3)
 clr c s p at l ep h lt = next c s p (p + 3) (ClrExtended at) l ep h refl (omega arith) tt (lt, tt) refl (masked_four s.regs.ccr false true false false) (omega (arith, h.high))

@@ -19,7 +19,7 @@ use Rattle.codegen.specs.Evaluation.{Writes, Reads, code_region, IsEvalStep}
 use Rattle.cpu12_parts.specs.Executions.{Execution, all_steps}
 use Rattle.codegen.proofs.steps.Memory.{SameHigh, WriteBelow, high_writes, bytes_writes}
 use Rattle.codegen.proofs.steps.Decoding.{sizes, decode_same}
-use Rattle.codegen.proofs.steps.Executions.{execution_on, steps_append, length_append}
+use Rattle.codegen.proofs.steps.Executions.{Bounded, bounded_none, bounded_one, bounded_on, bounded_more}
 
 -- what a run is under: the layout, memory where EVAL begins and the open flags, and SP and I as they stay
 pub record Ctx : Type 0 where
@@ -125,31 +125,21 @@ next c s p q i l ep h pl fo reads writes esp mask pc =
       pc_is = pc;
     }
 
--- runs of at most n instructions and k parts beyond their first
-pub record Goes (c : Ctx) (n k : ℕ) (s t : State) : Type 0 where
-  pub ds : List ℕ
-  pub way : Execution (IsEvalStep c.layout c.flags) ds s t
-  pub count : length ds ≤ n
-  pub parts : all_steps ds ≤ n + k
-  pub exact : all_steps ds ≤ length ds + k
+-- executions of at most n instructions, with at most k parts beyond their first
+abbrev pub Goes : Ctx → ℕ → ℕ → State → State → Type 0
+Goes c = Bounded (IsEvalStep c.layout c.flags)
 
 pub goes_none : (c : Ctx) (s : State) → Goes c 0 0 s s
-goes_none c s = record { ds = []; way = refl; count = omega arith; parts = omega arith; exact = omega arith }
+goes_none c = bounded_none (IsEvalStep c.layout c.flags)
 
 pub goes_part : (c : Ctx) (d : ℕ) (s t : State) → IsEvalStep c.layout c.flags d s t → Goes c 1 d s t
-goes_part c d s t h = record { ds = d ∷ []; way = (t, (h, refl)); count = omega arith; parts = omega arith; exact = omega arith }
+goes_part c = bounded_one (IsEvalStep c.layout c.flags)
 
 pub goes_on : (c : Ctx) (n k m j : ℕ) (s t u : State) → Goes c n k s t → Goes c m j t u → Goes c (n + m) (k + j) s u
-goes_on c n k m j s t u a b = record {
-  ds = a.ds ++ b.ds;
-  way = execution_on (IsEvalStep c.layout c.flags) a.ds b.ds s t u a.way b.way;
-  count = omega (arith, length_append a.ds b.ds, a.count, b.count);
-  parts = omega (arith, steps_append a.ds b.ds, a.parts, b.parts);
-  exact = omega (arith, steps_append a.ds b.ds, length_append a.ds b.ds, a.exact, b.exact);
-}
+goes_on c = bounded_on (IsEvalStep c.layout c.flags)
 
 pub goes_most : (c : Ctx) (n k m j : ℕ) (s t : State) → n ≤ m → k ≤ j → Goes c n k s t → Goes c m j s t
-goes_most c n k m j s t a b g = record { ds = g.ds; way = g.way; count = omega (arith, g.count); parts = omega (arith, g.parts); exact = omega (arith, g.exact) }
+goes_most c = bounded_more (IsEvalStep c.layout c.flags)
 
 pub goes_one : (c : Ctx) (s t : State) (q : ℕ) → Next c s t q → Goes c 1 0 s t
 goes_one c s t q h = goes_part c 0 s t h.step
