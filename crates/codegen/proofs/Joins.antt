@@ -1,5 +1,5 @@
 -- Parts of a firmware put one behind the other.
-use Rattle.std.proofs.Common.{◌≡◌, ◌≤◌, List, [], ◌∷◌, ◌++◌, map, length, sum_by, All, OnOk, Result, Ok, Err, sym, ◌∙◌, ap, ap₂, arith, append_assoc}
+use Rattle.std.proofs.Common.{◌≡◌, ◌≤◌, List, [], ◌∷◌, ◌++◌, map, length, sum_by, All, sym, ◌∙◌, ap, arith, append_assoc}
 use Rattle.std.proofs.lemmas.List.{map-append}
 use Rattle.std.proofs.lemmas.List.Elements.{All-get_or}
 use Rattle.std.proofs.lemmas.List.Sums.{sum_by-le}
@@ -19,10 +19,6 @@ use Rattle.codegen.specs.declared.width.Width.{Width}
 use Rattle.codegen.specs.Code.{eval_code_over, eval_code, whole_code}
 use Rattle.codegen.specs.Data.{table_bytes, singleton_bytes, weight_bytes_by, weight_bytes, rule_bytes_by, rule_bytes}
 use Rattle.codegen.specs.Images.{bytes_at, vector_items, firmware_items}
-
-pub OnOk-map : {T E : Type 0} {P Q : Type 0} → (P → Q) → (r : Result T E) → OnOk r P → OnOk r Q
-OnOk-map f (Ok x) h = f h
-OnOk-map f (Err e) h = h
 
 -- a piece of code behind others
 next_piece : (start later last : List Item) (a b : List Instr) → later ≡ start ++ map Op a → last ≡ later ++ map Op b → last ≡ start ++ map Op (a ++ b)

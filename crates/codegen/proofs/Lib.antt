@@ -6,4 +6,3 @@ pub mod steps
 pub mod phases
 pub mod masses
 pub mod runs
-pub mod owned

@@ -7,11 +7,11 @@ use Rattle.fuzzy_meaning.specs.declared.block.Block.{Block}
 use Rattle.fuzzy_meaning.specs.declared.block.Output.{Output}
 use Rattle.fuzzy_meaning.specs.Blocks.{IsValid, IsValidOutput}
 use Rattle.rule_layout.specs.declared.flat.Conjunction.{Conjunction}
+use Rattle.rule_layout.specs.declared.flat.Flat.{Flat}
 use Rattle.rule_layout.specs.declared.flat.Form.{Form}
-use Rattle.rule_layout.specs.declared.flat.Form.TheVariants as form
 use Rattle.rule_layout.specs.Slots.{slots_of, singleton_count}
 use Rattle.rule_layout.specs.Lists.{marked, at_address, list_words}
-use Rattle.rule_layout.specs.Layouts.{conjunctions_of, weights_of, form_of, conjunction_count, element_width, list_size}
+use Rattle.rule_layout.specs.Layouts.{conjunctions_of, weights_of, form_of, conjunction_count, element_width, list_size, flat_of, IsLaidOut, IsWithinLimits}
 use Rattle.cpu12_isa.specs.declared.instr.Instr.{Instr}
 use Rattle.cpu12_isa.specs.declared.instr.Instr.TheVariants.{Rts}
 use Rattle.cpu12_asm.specs.declared.items.Item.{Item}
@@ -24,15 +24,19 @@ use Rattle.codegen.specs.Code.{frame_code, eval_code, whole_code}
 use Rattle.codegen.specs.Data.{table_bytes, singleton_bytes, weight_bytes_by, weight_bytes, bytes_of_word, rule_bytes_by, rule_bytes}
 use Rattle.codegen.specs.Images.{code_at, bytes_at, vector_items, firmware_items}
 use Rattle.codegen.specs.Bounds.{entry_count, element_count}
-use Rattle.codegen.proofs.Joins.{sum_by-term_count}
+use Rattle.codegen.proofs.Joins.{slots-flat_of, sum_by-term_count}
 use Rattle.codegen.proofs.Lists.{length-marked}
 use Rattle.codegen.proofs.Sizes.{code_size, code_size-append, length-le-code_size, code_size-eval, length-tables, length-singletons, length-rule_weights}
+use Rattle.rule_layout.specs.declared.flat.Form.TheVariants as form
 
 -- what a firmware of a block within the limits takes
 pub record HasSizes (b : Block) : Type 0 where
   pub few_slots : length (slots_of b) ≤ 300
   pub few_conjunctions : conjunction_count b.rules ≤ 512
   pub short_list : list_size b ≤ 9984
+
+pub sizes_by : (b : Block) (flat : Flat) → flat ≡ flat_of b → IsLaidOut flat → IsWithinLimits b → HasSizes b
+sizes_by b flat e h limits = record { few_slots = omega (arith, h.few_slots, ap length (slots-flat_of flat b e)); few_conjunctions = limits.few_conjunctions; short_list = limits.short_list }
 
 -- each part ends below the next one
 pub record IsSpaced (l : Layout) : Type 0 where

@@ -8,3 +8,7 @@ pub mod Ruling
 pub mod SlotValues
 pub mod RuleFacts
 pub mod Evaluating
+pub mod Words
+pub mod Outputs
+pub mod Used
+pub mod Law

@@ -1,4 +1,6 @@
 -- From an image to the answers of a list of samples.
+pub mod Stepping
+pub mod Calling
 pub mod Framing
 pub mod Standing
 pub mod Founding

@@ -1,6 +1,7 @@
--- One instruction of the generated code: where it stands, what it does, and memory after it.
+-- One instruction of EVAL, and executions of them.
 pub mod Memory
 pub mod Flags
+pub mod Decoding
+pub mod Executions
 pub mod Stepping
 pub mod Instructions
-pub mod Decoding

@@ -4,18 +4,15 @@ use Rattle.std.proofs.lemmas.List.{length-map}
 use Rattle.std.proofs.lemmas.List.Sums.{sum_by-cons}
 use Rattle.rule_layout.specs.declared.flat.Conjunction.{Conjunction}
 use Rattle.rule_layout.specs.Lists.{marked}
-use Rattle.cpu12_isa.specs.Agreement.{AllShown}
 use Rattle.cpu12_isa.specs.Fits.{AreBytes}
 use Rattle.cpu12_isa.specs.Memory.{plus, from}
 use Rattle.cpu12_parts.specs.Parts.{weighted}
-use Rattle.cpu12_parts.specs.Rules.{Rule, Form, further_elements, elements_of, behind, AreNames, AreRules, behind_weights, least, strength, raised, concluded, all_concluded, last_strength, element_bytes, weight_bytes, named, rules_named, rules_target, NotIn, AreApart}
+use Rattle.cpu12_parts.specs.Rules.{Rule, Form, further_elements, elements_of, behind, AreNames, AreRules, behind_weights, least, strength, raised, concluded, all_concluded, last_strength, element_bytes, weight_bytes, named, rules_target, NotIn, AreApart}
 use Rattle.codegen.specs.Bounds.{entry_count}
 use Rattle.codegen.specs.Firing.{least_of, raised_to, fired}
-use Rattle.codegen.specs.Interruptible.{is_hidden}
 use Rattle.codegen.specs.Answers.{put}
 use Rattle.codegen.proofs.steps.Memory.{at_put_in, set_put_in, SameHigh, high_set, bytes_after_set}
 use Rattle.codegen.proofs.Lists.{length-marked}
-use Rattle.codegen.proofs.steps.Stepping.{low_shown, high_shown}
 
 -- a form names the slots from a base on
 pub record NamesSlots (f : Form) (base n : ℕ) (name : ℕ → ℕ) : Type 0 where
@@ -60,14 +57,6 @@ from_append : (n : ℕ) (xs ys : List ℕ) → From n xs → From n ys → From 
 from_append n [] ys a b = b
 from_append n (x ∷ xs) ys a b = (a.0, from_append n xs ys a.1 b)
 
-pub shown_below : (sp : ℕ) (xs : List ℕ) → Below 0x1800 xs → AllShown (is_hidden sp) xs
-shown_below sp [] h = tt
-shown_below sp (x ∷ xs) h = (low_shown sp x h.0, shown_below sp xs h.1)
-
-pub shown_from : (sp : ℕ) (xs : List ℕ) → sp ≤ 0x2000 → From 0x2000 xs → AllShown (is_hidden sp) xs
-shown_from sp [] le h = tt
-shown_from sp (x ∷ xs) le h = (high_shown sp x (let q = h.0 in omega arith) (let q = h.0 in omega arith), shown_from sp xs le h.1)
-
 not_in : (k n : ℕ) (xs : List ℕ) → k < n → From n xs → NotIn k xs
 not_in k n [] lt h = tt
 not_in k n (x ∷ xs) lt h = ((let q = h.0 in omega arith), not_in k n xs lt h.1)
@@ -89,12 +78,6 @@ rules_are f base n name h (c ∷ cs) (w ∷ ws) b = (names_are f base n name h c
 named_low : (f : Form) (base n : ℕ) (name : ℕ → ℕ) → NamesSlots f base n name → (ks : List ℕ) → Below n ks → Below 0x1800 (named f (map name ks))
 named_low f base n name h [] b = tt
 named_low f base n name h (k ∷ ks) b = ((let e = h.place k b.0 in let l = h.low in let q = b.0 in omega arith), named_low f base n name h ks b.1)
-
-pub rules_named_low : (f : Form) (base n : ℕ) (name : ℕ → ℕ) → NamesSlots f base n name → (cs : List Conjunction) (ws : List ℕ) → AllBelow n cs → Below 0x1800 (rules_named f (rules_by name cs ws))
-rules_named_low f base n name h [] ws b = tt
-rules_named_low f base n name h (c ∷ cs) [] b = tt
-rules_named_low f base n name h (c ∷ cs) (w ∷ ws) b =
-    below_append 0x1800 (named f (map name c.literals)) _ (named_low f base n name h c.literals b.0) (below_append 0x1800 (named f (map name c.conclusions)) _ (named_low f base n name h c.conclusions b.1) (rules_named_low f base n name h cs ws b.2))
 
 pub rules_target_low : (f : Form) (base n : ℕ) (name : ℕ → ℕ) → NamesSlots f base n name → (cs : List Conjunction) (ws : List ℕ) → AllBelow n cs → Below 0x1800 (rules_target f (rules_by name cs ws))
 rules_target_low f base n name h [] ws b = tt

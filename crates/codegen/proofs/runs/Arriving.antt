@@ -1,5 +1,5 @@
 -- From reset to where the code waits.
-use Rattle.std.proofs.Common.{◌≡◌, inr, ℕ, ◌+◌, ◌-◌, ◌*◌, ◌/◌, ◌%◌, ◌^◌, ◌<◌, ◌≤◌, Ok, List, [], ◌∷◌, ◌++◌, map, length, set, get_or, refl, sym, ap, ap₂, ◌∙◌, subst, arith, length-set, get_or-set_same, get_or-set_other}
+use Rattle.std.proofs.Common.{◌≡◌, inr, ℕ, ◌+◌, ◌-◌, ◌*◌, ◌/◌, ◌%◌, ◌^◌, ◌<◌, ◌≤◌, Ok, List, [], ◌∷◌, ◌++◌, map, length, set, get_or, refl, sym, ap, ap₂, ◌∙◌, subst, arith, length-set, get_or-set_same}
 use Rattle.fuzzy_meaning.specs.declared.block.Block.{Block}
 use Rattle.cpu12_isa.specs.declared.instr.Instr.TheVariants.{LdsImmediate, ClrExtended, Andcc}
 use Rattle.cpu12_isa.specs.Code.{decode_at}
@@ -21,9 +21,9 @@ use Rattle.codegen.specs.Images.{bytes_at, vector_items, firmware_items, IsApart
 use Rattle.codegen.specs.Answers.{IsArrived}
 use Rattle.codegen.proofs.steps.Flags.{unmasked}
 use Rattle.codegen.proofs.steps.Memory.{HasBytes, SameHigh, high_set, bytes_set_out, bytes_after_set}
-use Rattle.codegen.proofs.steps.Stepping.{Ctx, Live, decode_same, interruptible_of}
+use Rattle.codegen.proofs.runs.Stepping.{Ctx, Live, interruptible_of}
+use Rattle.codegen.proofs.steps.Decoding.{decode_same, decode_here}
 use Rattle.codegen.proofs.runs.Framing.{Home, answer_room, waits}
-use Rattle.codegen.proofs.steps.Decoding.{decode_here}
 use Rattle.codegen.proofs.runs.Standing.{HasGiven, none_below}
 use Rattle.codegen.proofs.runs.Founding.{IsFramed, Stood, FrameBytes}
 

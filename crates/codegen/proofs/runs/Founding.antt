@@ -12,10 +12,10 @@ use Rattle.codegen.specs.Code.{eval_code, whole_code}
 use Rattle.codegen.specs.Data.{table_bytes, singleton_bytes, weight_bytes, rule_bytes, bytes_of_word}
 use Rattle.codegen.specs.Images.{code_at, bytes_at, firmware_items, IsApart}
 use Rattle.codegen.proofs.steps.Memory.{HasBytes, bytes_front, bytes_back}
-use Rattle.codegen.proofs.steps.Stepping.{Ctx, Stands}
+use Rattle.codegen.proofs.runs.Stepping.{Ctx, Stands, stands_of}
 use Rattle.codegen.proofs.runs.Framing.{HasFrame}
-use Rattle.codegen.proofs.steps.Decoding.{code_bytes, stands_of, decode_here}
-use Rattle.codegen.proofs.owned.Derived.{HasRoutine}
+use Rattle.codegen.proofs.steps.Decoding.{code_bytes, decode_here}
+use Rattle.codegen.proofs.runs.Calling.{HasRoutine}
 use Rattle.codegen.proofs.runs.Standing.{HasGiven, bytes_stand, code_stands}
 
 bytes_append : (a b : List Instr) → code_bytes (a ++ b) ≡ code_bytes a ++ code_bytes b

@@ -26,10 +26,10 @@ use Rattle.cpu12_parts.specs.Executions.{Execution, all_steps}
 use Rattle.codegen.specs.Interruptible.{is_free, is_hidden, is_idle, IsInterruptibleStep}
 use Rattle.codegen.proofs.steps.Flags.{masked_tested, zero_tested}
 use Rattle.codegen.proofs.steps.Memory.{HasBytes, length-put, has_put, bytes_put_out, bytes_set_out, bytes_after_set, bytes_after_put, high_set, high_put}
-use Rattle.codegen.proofs.steps.Stepping.{Ctx, Here, Live, Stands, Next, next, plain_next, Goes, goes_one, goes_on, execution_on, length_append, steps_append, interruptible_of, low_shown, high_shown, not_at}
-use Rattle.codegen.proofs.steps.Instructions.{clr, beq_on}
-use Rattle.codegen.proofs.owned.Law.{eval_answers}
-use Rattle.codegen.proofs.owned.Derived.{HasRoutine, IsCalled, Back, called}
+use Rattle.codegen.proofs.runs.Stepping.{Ctx, Here, Live, Stands, Next, next, plain_next, Goes, goes_one, goes_on, interruptible_of, low_shown, high_shown, not_at, clr, beq_on}
+use Rattle.codegen.proofs.steps.Executions.{execution_on, length_append, steps_append}
+use Rattle.codegen.proofs.phases.Law.{eval_answers}
+use Rattle.codegen.proofs.runs.Calling.{HasRoutine, IsCalled, Back, called}
 
 -- the code around EVAL
 pub record HasFrame (c : Ctx) : Type 0 where

@@ -16,7 +16,6 @@ use Rattle.byte_scaling.proofs.CellLemmas.{nearest_byte-le}
 use Rattle.point_slope.specs.Tables.{slope_of, left_point, left_slope, right_point, right_slope, row_of, rows_of}
 use Rattle.rule_layout.specs.declared.flat.Conjunction.{Conjunction}
 use Rattle.rule_layout.specs.declared.flat.Form.{Form}
-use Rattle.rule_layout.specs.declared.flat.Form.TheVariants as form
 use Rattle.rule_layout.specs.Lists.{marked, at_address, list_bytes, list_words}
 use Rattle.rule_layout.specs.Slots.{slots_of}
 use Rattle.rule_layout.specs.Layouts.{conjunctions_of, weights_of, form_of, IsBelow}
@@ -39,7 +38,8 @@ use Rattle.codegen.specs.Layouts.{main_layout}
 use Rattle.codegen.proofs.phases.RuleMemory.{Below, below_all, below_append}
 use Rattle.codegen.proofs.phases.RuleFacts.{weights_below, rev_is_plain}
 use Rattle.codegen.proofs.steps.Decoding.{IsUsed, UsedCode, used_append}
-use Rattle.codegen.proofs.owned.Used.{used_answer}
+use Rattle.codegen.proofs.phases.Used.{used_answer}
+use Rattle.rule_layout.specs.declared.flat.Form.TheVariants as form
 
 -- items that give bytes
 abbrev ItemsFit : List Item → Type 0
@@ -159,9 +159,6 @@ list_words_fit base n (c ∷ cs) le h =
 rules_fit : (base n : ℕ) (f : Form) (cs : List Conjunction) → (f ≡ form.Rev → n ≤ 254) → base + n ≤ 65534 → All (IsBelow n) cs → Below 256 (rule_bytes_by base f cs)
 rules_fit base n form.Rev cs small le h = below_all 256 (list_bytes cs) (marked_below 0xFE 0xFF n 256 cs h (let q = small refl in omega arith) (omega arith) (omega arith))
 rules_fit base n form.Revw cs small le h = words_fit (list_words base cs) (list_words_fit base n cs le h)
-
-word_fits : (w : ℕ) → w < 65536 → Below 256 (bytes_of_word w)
-word_fits w h = (omega arith, (omega arith, tt))
 
 -- a firmware's items give bytes
 items_fit : (b : Block) (w : Width) → IsValid b → IsApart main_layout → ItemsFit (firmware_items main_layout b w)

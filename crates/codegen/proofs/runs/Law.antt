@@ -17,7 +17,7 @@ use Rattle.codegen.specs.Images.{firmware_items, IsApart}
 use Rattle.codegen.specs.Firing.{AreInputBytes}
 use Rattle.codegen.specs.Answers.{IsArrived, AreAnswered, FirmwareAnswers}
 use Rattle.codegen.proofs.Placement.{HasSizes, main_rises}
-use Rattle.codegen.proofs.steps.Stepping.{Ctx}
+use Rattle.codegen.proofs.runs.Stepping.{Ctx}
 use Rattle.codegen.proofs.runs.Founding.{IsFramed, Stood, stood, frame_bytes, has_frame, has_routine}
 use Rattle.codegen.proofs.runs.Arriving.{Arrived, arrive, zero_below}
 use Rattle.codegen.proofs.runs.Framing.{Samples}

@@ -6,7 +6,7 @@ use Rattle.codegen.specs.declared.width.Width.{Width}
 use Rattle.codegen.specs.Widths.{answer}
 use Rattle.codegen.specs.Firing.{AreInputBytes}
 use Rattle.codegen.specs.Answers.{given, IsAnswered, AreAnswered}
-use Rattle.codegen.proofs.steps.Stepping.{Ctx, interruptible_of}
+use Rattle.codegen.proofs.runs.Stepping.{Ctx, interruptible_of}
 use Rattle.codegen.proofs.runs.Framing.{Home, Samples, Sampled, sample_run, waits}
 
 answered : (c : Ctx) (b : Block) (w : Width) (bytes : List ℕ) (before : ℕ → ℕ) (s : State) → Samples c b w → (r : Sampled c b w bytes before (given c.layout bytes s)) → IsAnswered c.layout b w c.image c.flags before bytes s r.t

@@ -1,10 +1,7 @@
 -- The uninterrupted answers of a firmware.
-use Rattle.std.proofs.Common.{◌≡◌, ◌≢◌, inl, inr, ℕ, zero, suc, ◌+◌, ◌-◌, ◌*◌, ◌/◌, ◌%◌, ◌^◌, ◌<◌, ◌≤◌, false, true, List, [], ◌∷◌, length, All, get_or, refl, sym, ap, ap₂, ◌∙◌, subst, arith}
-use Rattle.std.specs.Prelude.{◌==◌}
+use Rattle.std.proofs.Common.{◌≡◌, ◌≢◌, inl, inr, ℕ, zero, suc, ◌+◌, ◌-◌, ◌*◌, ◌<◌, false, true, List, [], ◌∷◌, length, get_or, refl, sym, ap, ap₂, ◌∙◌, subst, arith}
 use Rattle.std.proofs.lemmas.Bool.Decides.{nat_tests}
 use Rattle.fuzzy_meaning.specs.declared.block.Block.{Block}
-use Rattle.fuzzy_meaning.specs.Blocks.{IsValid}
-use Rattle.rule_layout.specs.Layouts.{IsWithinLimits}
 use Rattle.cpu12_isa.specs.Memory.{word_of}
 use Rattle.cpu12_parts.specs.State.{State}
 use Rattle.cpu12_parts.specs.Whole.{PlainWay, IsWholeStep}
@@ -18,9 +15,8 @@ use Rattle.codegen.specs.declared.firmware.Firmware.{Firmware}
 use Rattle.codegen.specs.Widths.{width_of, places, bytes_of, answer}
 use Rattle.codegen.specs.Evaluation.{HasBytes}
 use Rattle.codegen.specs.Interruptible.{is_idle, IsShownInstruction, IsInterruptibleStep}
-use Rattle.codegen.specs.Answers.{given, IsArrived, IsAnswered, AreAnswered}
-use Rattle.codegen.specs.Firmwares.{IsFirmwareOf}
-use Rattle.codegen.specs.Uninterrupted.{Answer, value_at, values_from, values_in, is_waiting, IsAnswerTo, AreAnswersTo, AreUninterrupted, UninterruptedAreOne, IsAnswerOf, AreAnswersOf, answers_by, AnsweredAreUninterrupted, FirmwareIsUninterrupted}
+use Rattle.codegen.specs.Answers.{given, AreAnswered}
+use Rattle.codegen.specs.Uninterrupted.{Answer, value_at, values_from, values_in, is_waiting, AreAnswersTo, UninterruptedAreOne, AreAnswersOf, answers_by, AnsweredAreUninterrupted, FirmwareIsUninterrupted}
 use Rattle.codegen.proofs.runs.Law.{firmware_answers}
 
 -- They have one value.

@@ -2,10 +2,9 @@
 use Rattle.std.proofs.Common.{◌≡◌, ℕ, ◌+◌, ◌*◌, ◌/◌, ◌%◌, ◌^◌, ◌<◌, ◌≤◌, Ok, List, [], ◌∷◌, ◌++◌, flat_map, length, get_or, ap, ◌∙◌, arith}
 use Rattle.cpu12_isa.specs.declared.instr.Instr.{Instr}
 use Rattle.cpu12_isa.specs.declared.instr.Instr.TheVariants.{LdaaImmediate, LdaaExtended, LdabImmediate, LdxImmediate, LdyImmediate, LdsImmediate, StaaExtended, StabExtended, ClrExtended, Coma, CpxImmediate, Beq, Bra, JsrExtended, Rts, Andcc, Orcc, TransferXD, TransferYD, Ediv, Fdiv, Mem, Rev, Revw, Wav}
-use Rattle.cpu12_isa.specs.Code.{encode_of, decode_of, decode_at, FitsOperands}
-use Rattle.cpu12_isa.specs.Memory.{plus}
-use Rattle.codegen.proofs.steps.Memory.{HasBytes, bytes_front, bytes_back}
-use Rattle.codegen.proofs.steps.Stepping.{Ctx, Stands, sizes}
+use Rattle.cpu12_isa.specs.Code.{encode_of, decode_of, decode_at, FitsOperands, six_from}
+use Rattle.cpu12_isa.specs.Memory.{plus, bytes_at}
+use Rattle.codegen.proofs.steps.Memory.{HasBytes, SameHigh}
 
 -- the instructions that the code is made of
 abbrev pub IsUsed : Instr → Type 0
@@ -93,16 +92,19 @@ used_append (i ∷ a) b u v = (u.0, u.1, used_append a b u.2 v)
 abbrev pub code_bytes : List Instr → List ℕ
 code_bytes is = flat_map encode_of is
 
--- code that stands in the image above where it waits
-pub stands_of : (c : Ctx) (p : ℕ) (is : List Instr) → UsedCode is → HasBytes c.image p (code_bytes is) → 0x2000 ≤ p → c.layout.wait < p → p + sizes is + 6 < 65536 → Stands c p is
-stands_of c p [] u h lo w hi = tt
-stands_of c p (i ∷ is) u h lo w hi = (
-  record {
-    low = lo;
-    high = omega arith;
-    off = λ e. omega arith;
-    fits = u.1;
-    decoded = decode_here c.image p i u.0 (omega arith) (bytes_front c.image p (encode_of i) (code_bytes is) h);
-  },
-  stands_of c (p + length (encode_of i)) is u.2 (bytes_back c.image p (encode_of i) (code_bytes is) h) (omega arith) (omega arith) (omega arith),
-)
+-- the same instruction stands in memory
+six : (m : List ℕ) (p : ℕ) (a b d e f g : ℕ) → get_or m p 0 ≡ a → get_or m (plus p 1) 0 ≡ b → get_or m (plus p 2) 0 ≡ d → get_or m (plus p 3) 0 ≡ e → get_or m (plus p 4) 0 ≡ f → get_or m (plus p 5) 0 ≡ g → bytes_at m (six_from p) ≡ a ∷ b ∷ d ∷ e ∷ f ∷ g ∷ []
+six m p a b d e f g h1 h2 h3 h4 h5 h6 = cc
+
+pub decode_same : (m n : List ℕ) (p : ℕ) → 0x2000 ≤ p → p + 6 < 65536 → SameHigh m n → decode_at n p ≡ decode_at m p
+decode_same m n p lo hi h =
+    let at : (k : ℕ) → k ≤ 5 → get_or n (plus p k) 0 ≡ get_or m (plus p k) 0 = λ k l. h (plus p k) (omega arith) in
+    ap decode_of (six n p _ _ _ _ _ _ (h p lo) (at 1 (omega arith)) (at 2 (omega arith)) (at 3 (omega arith)) (at 4 (omega arith)) (at 5 (omega arith)))
+
+abbrev pub sizes : List Instr → ℕ
+sizes [] = 0
+sizes (i ∷ is) = length (encode_of i) + sizes is
+
+pub sizes_append : (a b : List Instr) → sizes (a ++ b) ≡ sizes a + sizes b
+sizes_append [] b = omega arith
+sizes_append (i ∷ a) b = let e = sizes_append a b in omega arith

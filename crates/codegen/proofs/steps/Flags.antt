@@ -31,12 +31,6 @@ masked_open_hnz c flags = bit_or_is (bit_and c.0 211) (bit_and flags 44) 4 ∙ r
 pub masked_open_hnvc : (c : Ccr) (flags : ℕ) → has (opened c 43 flags) 4 ≡ has c 4
 masked_open_hnvc c flags = bit_or_is (bit_and c.0 212) (bit_and flags 43) 4 ∙ rw (bit_and_is flags 43 4, bit_and_is c.0 212 4)
 
-pub masked_open_nzv : (c : Ccr) (flags : ℕ) → has (opened c 14 flags) 4 ≡ has c 4
-masked_open_nzv c flags = bit_or_is (bit_and c.0 241) (bit_and flags 14) 4 ∙ rw (bit_and_is flags 14 4, bit_and_is c.0 241 4)
-
-pub masked_open_nz : (c : Ccr) (flags : ℕ) → has (opened c 12 flags) 4 ≡ has c 4
-masked_open_nz c flags = bit_or_is (bit_and c.0 243) (bit_and flags 12) 4 ∙ rw (bit_and_is flags 12 4, bit_and_is c.0 243 4)
-
 -- what was put
 pub zero_put : (c : Ccr) (b : Bool) → has (put c 2 b) 2 ≡ b
 zero_put c true = bit_or_is c.0 4 2

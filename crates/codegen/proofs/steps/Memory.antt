@@ -2,9 +2,10 @@
 use Rattle.std.proofs.Common.{◌≡◌, ◌⊎◌, inl, inr, ⊎_elim, ℕ, zero, suc, ◌+◌, ◌^◌, ◌<◌, ◌≤◌, List, [], ◌∷◌, ◌++◌, length, get_or, set, All, refl, sym, ap, ◌∙◌, subst, arith, length-set, get_or-set_same, get_or-set_other}
 use Rattle.std.proofs.lemmas.List.{set_comm, set-set}
 use Rattle.std.proofs.lemmas.Bool.{cases_eq}
-use Rattle.cpu12_isa.specs.Fits.{AreBytes}
+use Rattle.cpu12_isa.specs.Fits.{AreBytes, FitsWrites}
 use Rattle.codegen.specs.Answers.{put}
 pub use Rattle.codegen.specs.Evaluation.{HasBytes}
+use Rattle.cpu12_isa.specs.Act.{write_all}
 
 pub length-put : (m : List ℕ) (p : ℕ) (bs : List ℕ) → length (put m p bs) ≡ length m
 length-put m p [] = refl
@@ -105,7 +106,19 @@ bytes_by m p (b ∷ bs) h =
     let e : p + 0 ≡ p = omega arith in
     (ap (λ k. get_or m k 0) (sym e) ∙ h 0 (omega arith), bytes_by m (p + 1) bs (λ k lt. let f : p + 1 + k ≡ p + suc k = omega arith in ap (λ j. get_or m j 0) f ∙ h (suc k) (omega arith)))
 
-pub byte_in : (m : List ℕ) (p : ℕ) (bs : List ℕ) (k : ℕ) → HasBytes m p bs → k < length bs → get_or m (p + k) 0 ≡ get_or bs k 0
-byte_in m p [] k h lt = absurd (omega arith)
-byte_in m p (b ∷ bs) zero h lt = let e : p + 0 ≡ p = omega arith in ap (λ j. get_or m j 0) e ∙ h.0
-byte_in m p (b ∷ bs) (suc k) h lt = let e : p + suc k ≡ p + 1 + k = omega arith in ap (λ j. get_or m j 0) e ∙ byte_in m (p + 1) bs k h.1 (omega arith)
+-- each of these writes is below an address
+abbrev pub WriteBelow : ℕ → List (ℕ × ℕ) → Type 0
+WriteBelow n [] = Unit {0}
+WriteBelow n (w ∷ ws) = (w.0 < n) × WriteBelow n ws
+
+pub high_writes : (m n : List ℕ) (ws : List (ℕ × ℕ)) → WriteBelow 0x2000 ws → SameHigh m n → SameHigh m (write_all ws n)
+high_writes m n [] h e = e
+high_writes m n (w ∷ ws) h e = high_writes m (set n w.0 w.1) ws h.1 (λ at le. get_or-set_other n w.0 at w.1 0 (let q = h.0 in omega arith) ∙ e at le)
+
+pub bytes_writes : (m : List ℕ) (ws : List (ℕ × ℕ)) → length m ≡ 65536 → FitsWrites ws → AreBytes m → AreBytes (write_all ws m)
+bytes_writes m [] lm h b = b
+bytes_writes m (w ∷ ws) lm h b = bytes_writes (set m w.0 w.1) ws (length-set m w.0 w.1 ∙ lm) h.2 (bytes_after_set m w.0 w.1 b h.1 (omega (arith, h.0)))
+
+pub below_more : (n k : ℕ) (ws : List (ℕ × ℕ)) → n ≤ k → WriteBelow n ws → WriteBelow k ws
+below_more n k [] le h = tt
+below_more n k (w ∷ ws) le h = (let q = h.0 in omega arith, below_more n k ws le h.1)

@@ -1,5 +1,4 @@
 use Rattle.std.proofs.Common.{◌≡◌, Bool, List, length, refl, sym, ap, ◌∙◌, subst, arith, rules}
-use Rattle.fuzzy_meaning.specs.declared.block.Block.{Block}
 use Rattle.cpu12_asm.specs.declared.items.Item.{Item}
 use Rattle.cpu12_asm.specs.Bytes.{Holds}
 use Rattle.cpu12_asm.specs.Items.{given_by}
@@ -9,8 +8,7 @@ use Rattle.codegen.specs.Widths.{width_of, is_wide}
 use Rattle.codegen.specs.Layouts.{main_layout}
 use Rattle.codegen.specs.Images.{firmware_items}
 use Rattle.codegen.specs.Bounds.{instruction_bound, step_bound}
-use Rattle.codegen.proofs.Joins.{slots-flat_of}
-use Rattle.codegen.proofs.Placement.{HasSizes, main_rises, length-main_items, element_count-le}
+use Rattle.codegen.proofs.Placement.{sizes_by, main_rises, length-main_items, element_count-le}
 use Rattle.codegen.proofs.firmware.compile_at.Goals as goal
 
 width_back : (w : Width) (wide : Bool) → wide ≡ is_wide w → w ≡ width_of wide
@@ -20,20 +18,20 @@ width_back Word wide e = ap width_of (sym e)
 pub assemble_items-requires : goal.assemble_items-requires
 assemble_items-requires c =
     let b = c.args.block.now in
-    let sizes : HasSizes b = record { few_slots = omega (arith, c.in-Ok.ensures.laid_out.few_slots, ap length (slots-flat_of c.in-Ok.flat b c.in-Ok.ensures.value)); few_conjunctions = c.in-Ok.ensures.limits.few_conjunctions; short_list = c.in-Ok.ensures.limits.short_list } in
+    let sizes = sizes_by b c.in-Ok.flat c.in-Ok.ensures.value c.in-Ok.ensures.laid_out c.in-Ok.ensures.limits in
     length-main_items b c.args.width _ c.requires sizes (c.as_slice.ensures.value ∙ c.in-Ok-firmware_items.ensures)
 
 pub unreachable-requires : goal.unreachable-requires
 unreachable-requires c =
     let b = c.args.block.now in
-    let sizes : HasSizes b = record { few_slots = omega (arith, c.in-Ok.ensures.laid_out.few_slots, ap length (slots-flat_of c.in-Ok.flat b c.in-Ok.ensures.value)); few_conjunctions = c.in-Ok.ensures.limits.few_conjunctions; short_list = c.in-Ok.ensures.limits.short_list } in
+    let sizes = sizes_by b c.in-Ok.flat c.in-Ok.ensures.value c.in-Ok.ensures.laid_out c.in-Ok.ensures.limits in
     let memory = c.in-Err-Range.ensures.rising (main_rises b c.args.width _ c.requires sizes (c.as_slice.ensures.value ∙ c.in-Ok-firmware_items.ensures)) in
     cc
 
 pub unreachable-requires-in-Err-Overlap : goal.unreachable-requires-in-Err-Overlap
 unreachable-requires-in-Err-Overlap c =
     let b = c.args.block.now in
-    let sizes : HasSizes b = record { few_slots = omega (arith, c.in-Ok.ensures.laid_out.few_slots, ap length (slots-flat_of c.in-Ok.flat b c.in-Ok.ensures.value)); few_conjunctions = c.in-Ok.ensures.limits.few_conjunctions; short_list = c.in-Ok.ensures.limits.short_list } in
+    let sizes = sizes_by b c.in-Ok.flat c.in-Ok.ensures.value c.in-Ok.ensures.laid_out c.in-Ok.ensures.limits in
     let memory = c.in-Err-Overlap.ensures.rising (main_rises b c.args.width _ c.requires sizes (c.as_slice.ensures.value ∙ c.in-Ok-firmware_items.ensures)) in
     cc
 

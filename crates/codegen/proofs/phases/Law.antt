@@ -7,12 +7,11 @@ use Rattle.fuzzy_meaning.specs.declared.block.Output.{Output}
 use Rattle.rule_layout.specs.declared.flat.Conjunction.{Conjunction}
 use Rattle.rule_layout.specs.Slots.{slots_of, singleton_count}
 use Rattle.rule_layout.specs.Layouts.{conjunctions_of, IsWithinLimits}
-use Rattle.codegen.specs.Bounds.{element_count, entry_count, output_bound}
+use Rattle.codegen.specs.Bounds.{element_count, entry_count, output_bound, instruction_bound, step_bound}
 use Rattle.fz_num.specs.declared.dec.Dec.{Dec}
 use Rattle.codegen.specs.declared.width.Width.{Width}
 use Rattle.codegen.specs.declared.width.Width.TheVariants.{Byte, Word}
 use Rattle.codegen.specs.Widths.{places, bytes_of, answer}
-use Rattle.codegen.specs.Bounds.{instruction_bound, step_bound}
 use Rattle.rule_layout.proofs.LayoutLemmas.{few_slots}
 use Rattle.cpu12_isa.specs.declared.instr.Instr.{Instr}
 use Rattle.cpu12_isa.specs.Code.{encode_of}
@@ -21,21 +20,19 @@ use Rattle.cpu12_parts.specs.State.{State}
 use Rattle.codegen.specs.Firing.{AreInputBytes, slots_after}
 use Rattle.codegen.specs.Answers.{put}
 use Rattle.cpu12_parts.specs.Executions.{all_steps}
-use Rattle.codegen.specs.Evaluation.{HasBytes}
+use Rattle.codegen.specs.Evaluation.{HasBytes, HasEval, IsAtEval, IsEvaluated, EvalAnswers}
 use Rattle.codegen.specs.Code.{eval_code}
-use Rattle.codegen.specs.Evaluation.{HasEval, IsAtEval, IsEvaluated, EvalAnswers}
 use Rattle.codegen.proofs.steps.Memory.{has_put, at_put_out, length-put, bytes_front, bytes_back}
-use Rattle.codegen.proofs.steps.Stepping.{sizes}
-use Rattle.codegen.proofs.steps.Decoding.{UsedCode, code_bytes, decode_here}
+use Rattle.codegen.proofs.steps.Decoding.{sizes, UsedCode, code_bytes, decode_here}
 use Rattle.codegen.proofs.phases.Quotients.{output_parts, output_most}
-use Rattle.codegen.proofs.phases.Evaluating.{masses, length-after}
-use Rattle.codegen.proofs.owned.Answers.{answers_are}
-use Rattle.codegen.proofs.owned.Widths.{output_answers, all_bytes, length-all_bytes, length-output_answers, one_stands, listed, length-listed, listed_at, listed_stand}
+use Rattle.codegen.proofs.phases.Evaluating.{masses, length-after, HasParts, Evals, evaluated, eval_most, eval_parts, eval_run}
+use Rattle.codegen.proofs.masses.Answering.{answers_are}
+use Rattle.codegen.proofs.phases.Outputs.{output_answers, all_bytes, length-all_bytes, length-output_answers, one_stands, listed, length-listed, listed_at, listed_stand}
 use Rattle.codegen.proofs.masses.BlockMasses.{rules_give_masses}
 use Rattle.codegen.proofs.phases.RuleFacts.{HasRules, has_rules}
-use Rattle.codegen.proofs.owned.Used.{used_answer, answer_size, places_few}
-use Rattle.codegen.proofs.owned.Stepping.{Ctx, Live, Stands, Reaches, between_of}
-use Rattle.codegen.proofs.owned.Evaluating.{HasParts, Evals, evaluated, eval_most, eval_parts, eval_run}
+use Rattle.codegen.proofs.phases.Used.{used_answer, answer_size}
+use Rattle.codegen.proofs.phases.Outputs.{places_few}
+use Rattle.codegen.proofs.steps.Stepping.{Ctx, Live, Stands, Reaches, between_of}
 
 pub length-code : (is : List Instr) → length (code_bytes is) ≡ sizes is
 length-code [] = refl

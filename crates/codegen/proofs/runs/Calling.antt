@@ -1,12 +1,11 @@
 -- EVAL called in a firmware that stands alone, from what it owns.
-use Rattle.std.proofs.Common.{◌≡◌, ◌⊎◌, inl, inr, ⊎_elim, ℕ, ◌+◌, ◌-◌, ◌*◌, ◌^◌, ◌<◌, ◌≤◌, max, min, nat_lt, nat_le, ◌&&◌, false, List, [], ◌∷◌, ◌++◌, length, get_or, set, refl, sym, ap, ap₂, ◌∙◌, subst, arith}
+use Rattle.std.proofs.Common.{◌≡◌, inl, inr, ℕ, ◌+◌, ◌*◌, ◌^◌, ◌<◌, ◌≤◌, max, min, nat_lt, nat_le, ◌&&◌, false, List, [], ◌∷◌, ◌++◌, length, get_or, set, refl, sym, ap, ap₂, ◌∙◌, subst, arith}
 use Rattle.std.proofs.lemmas.Bool.{or_parts}
 use Rattle.std.proofs.lemmas.Bool.Decides.{nat_tests}
 use Rattle.fuzzy_meaning.specs.declared.block.Block.{Block}
 use Rattle.codegen.specs.Bounds.{instruction_bound, step_bound}
 use Rattle.fuzzy_meaning.specs.Blocks.{IsValid}
 use Rattle.rule_layout.specs.Layouts.{IsWithinLimits}
-use Rattle.rule_layout.specs.Slots.{slots_of}
 use Rattle.rule_layout.proofs.LayoutLemmas.{few_slots}
 use Rattle.cpu12_isa.specs.Memory.{plus}
 use Rattle.cpu12_isa.specs.declared.instr.Instr.{Instr}
@@ -23,7 +22,7 @@ use Rattle.cpu12_parts.specs.Rules.{Rule, Form, concluded, all_concluded, named,
 use Rattle.cpu12_parts.specs.Whole.{after_plain}
 use Rattle.codegen.specs.declared.layout.Layout.{Layout}
 use Rattle.codegen.specs.declared.width.Width.{Width}
-use Rattle.codegen.specs.Widths.{places, answer}
+use Rattle.codegen.specs.Widths.{answer}
 use Rattle.codegen.specs.Data.{table_bytes, singleton_bytes, weight_bytes, rule_bytes}
 use Rattle.codegen.specs.Images.{IsApart}
 use Rattle.codegen.specs.Firing.{AreInputBytes}
@@ -32,14 +31,15 @@ use Rattle.codegen.specs.Interruptible.{IsInterruptible, is_free, is_hidden, IsS
 use Rattle.cpu12_parts.specs.Touching.{IsIn, Each, IsRulesOver, IsInstructionOver}
 use Rattle.codegen.specs.Code.{eval_code}
 use Rattle.codegen.specs.Evaluation.{HasBytes, HasEval, HasAnswers, IsAtEval, IsEvaluated, EvalAnswers, eval_bytes, Reads, Writes, code_region, IsEvalStep}
-use Rattle.codegen.proofs.steps.Memory.{SameHigh, high_set, same_bytes, bytes_front, bytes_back}
-use Rattle.codegen.proofs.steps.Stepping.{Ctx, Here, Live, Next, plain_next, low_shown, high_shown, high_writes, execution_on, steps_append, length_append, not_at}
+use Rattle.codegen.proofs.steps.Memory.{SameHigh, high_set, same_bytes, high_writes}
+use Rattle.codegen.proofs.runs.Stepping.{Ctx, Here, Live, Next, plain_next, low_shown, high_shown, not_at}
+use Rattle.codegen.proofs.steps.Executions.{execution_on, steps_append, length_append}
 use Rattle.codegen.proofs.steps.Decoding.{code_bytes, decode_here}
 use Rattle.codegen.proofs.phases.RuleMemory.{Below, From, apart_by, below_front, below_back}
-use Rattle.codegen.proofs.owned.Stepping.{written_low, writes_low}
-use Rattle.codegen.proofs.owned.Used.{answer_size, places_few}
-use Rattle.codegen.proofs.owned.Law.{length-code}
-use Rattle.std.proofs.lemmas.Grind.{flat_map-append}
+use Rattle.codegen.proofs.steps.Stepping.{written_low, writes_low}
+use Rattle.codegen.proofs.phases.Used.{answer_size}
+use Rattle.codegen.proofs.phases.Outputs.{places_few}
+use Rattle.codegen.proofs.phases.Law.{length-code}
 
 -- RTS with the return address on the stack
 less_hidden : (at : ℕ) → is_hidden 0x2000 at ≡ false → is_hidden 0x1FFE at ≡ false

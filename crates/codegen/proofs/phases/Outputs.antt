@@ -1,6 +1,5 @@
 -- The outputs, with answers of a byte or of a word.
-use Rattle.std.proofs.Common.{◌≡◌, inl, inr, ℕ, zero, suc, ◌+◌, ◌-◌, ◌*◌, ◌/◌, ◌^◌, ◌<◌, ◌≤◌, List, [], ◌∷◌, ◌++◌, flat_map, length, take, drop, sum_by, All, get_or, set, Option, Some, None, option_map, refl, sym, ap, ap₂, ◌∙◌, subst, subst₂, arith, length-append, length-take, length-drop, take-append-drop}
-use Rattle.std.specs.Prelude.{◌==◌, if◌then◌else◌}
+use Rattle.std.proofs.Common.{◌≡◌, inl, inr, ℕ, zero, suc, ◌+◌, ◌-◌, ◌*◌, ◌^◌, ◌<◌, ◌≤◌, List, [], ◌∷◌, ◌++◌, flat_map, length, take, drop, sum_by, All, get_or, set, Option, option_map, refl, sym, ap, ap₂, ◌∙◌, subst, subst₂, arith, length-append, length-take, length-drop, take-append-drop}
 use Rattle.std.proofs.lemmas.List.{length-map}
 use Rattle.std.proofs.lemmas.List.Sums.{sum_by-cons}
 use Rattle.fuzzy_meaning.specs.declared.block.Output.{Output}
@@ -17,15 +16,18 @@ use Rattle.codegen.specs.declared.width.Width.{Width}
 use Rattle.codegen.specs.declared.width.Width.TheVariants.{Byte, Word}
 use Rattle.codegen.specs.Widths.{places, bytes_of}
 use Rattle.codegen.specs.Code.{quotient_code, output_code, outputs_code}
-use Rattle.codegen.proofs.phases.Quotients.{quotient_of, quotient_most, output_most}
+use Rattle.codegen.proofs.phases.Quotients.{quotient_of, quotient_most, output_most, output_parts, quotient_run}
 use Rattle.codegen.proofs.steps.Memory.{HasBytes, bytes_front, bytes_back, bytes_put_out, put_append}
-use Rattle.codegen.proofs.steps.Stepping.{sizes, sizes_append}
-use Rattle.codegen.proofs.phases.Quotients.{output_parts}
-use Rattle.codegen.proofs.owned.Stepping.{Ctx, Live, Stands, goes_one, goes_on, stands_front, stands_back, Reaches, reaches_none, reaches_after, reaches_at}
-use Rattle.codegen.proofs.owned.Instructions.{ldab_byte, ldx, ldy}
-use Rattle.codegen.proofs.owned.Averaging.{wav_run}
-use Rattle.codegen.proofs.owned.Quotients.{quotient_run}
-use Rattle.codegen.proofs.owned.Words.{word_run}
+use Rattle.codegen.proofs.steps.Decoding.{sizes, sizes_append}
+use Rattle.codegen.proofs.steps.Stepping.{Ctx, Live, Stands, goes_one, goes_on, stands_front, stands_back, Reaches, reaches_none, reaches_after, reaches_at}
+use Rattle.codegen.proofs.steps.Instructions.{ldab_byte, ldx, ldy}
+use Rattle.codegen.proofs.phases.Averaging.{wav_run}
+use Rattle.codegen.proofs.phases.Words.{word_run}
+
+-- the bytes of four answers at most
+pub places_few : (w : Width) (n : ℕ) → n ≤ 4 → places w * n ≤ 8
+places_few Byte n h = omega arith
+places_few Word n h = omega arith
 
 pub length-bytes_of : (w : Width) (a : ℕ) → length (bytes_of w a) ≡ places w
 length-bytes_of Byte a = refl

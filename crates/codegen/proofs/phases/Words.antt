@@ -9,7 +9,6 @@ use Rattle.cpu12_isa.specs.declared.instr.Regs.{Regs}
 use Rattle.cpu12_isa.specs.declared.instr.Instr.{Instr}
 use Rattle.cpu12_isa.specs.declared.instr.Instr.TheVariants.{LdabImmediate, StaaExtended, StabExtended, ClrExtended, CpxImmediate, Beq, Bra, TransferXD, TransferYD, Ediv, Fdiv}
 use Rattle.cpu12_isa.specs.Flags.{has}
-use Rattle.cpu12_isa.specs.Flags as flag
 use Rattle.cpu12_isa.specs.declared.instr.Ccr.{Ccr}
 use Rattle.cpu12_isa.specs.Memory.{plus}
 use Rattle.cpu12_isa.specs.Registers.{divided_fraction}
@@ -20,14 +19,13 @@ use Rattle.codegen.specs.Evaluation.{Writes}
 use Rattle.codegen.specs.declared.width.Width.TheVariants.{Word}
 use Rattle.codegen.specs.Widths.{bytes_of}
 use Rattle.codegen.specs.Code.{quotient_code}
-use Rattle.codegen.proofs.phases.Quotients.{quotient_of, quotient_most}
+use Rattle.codegen.proofs.phases.Quotients.{quotient_of, quotient_most, quotient_small}
 use Rattle.codegen.proofs.steps.Flags.{masked_put}
 use Rattle.codegen.proofs.steps.Memory.{HasBytes}
-use Rattle.codegen.proofs.steps.Stepping.{sizes}
-use Rattle.codegen.proofs.steps.Instructions.{divided_is}
-use Rattle.codegen.proofs.phases.Quotients.{quotient_small}
-use Rattle.codegen.proofs.owned.Stepping.{Ctx, Here, Live, Stands, Next, next, Goes, goes_one, goes_on, stands_at, Reaches, reaches_at}
-use Rattle.codegen.proofs.owned.Instructions.{ldab_byte, staa, stab, clr, cpx, cpx_zero, beq_on, beq_off, bra_on, tfr, ediv, ediv_y, ediv_sp}
+use Rattle.codegen.proofs.steps.Decoding.{sizes}
+use Rattle.codegen.proofs.steps.Instructions.{divided_is, ldab_byte, staa, stab, clr, cpx, cpx_zero, beq_on, beq_off, bra_on, tfr, ediv, ediv_y, ediv_sp}
+use Rattle.codegen.proofs.steps.Stepping.{Ctx, Here, Live, Stands, Next, next, Goes, goes_one, goes_on, stands_at, Reaches, reaches_at}
+use Rattle.cpu12_isa.specs.Flags as flag
 
 -- D by X as fractions, where D is below X
 fraction_is : (r : Regs) (d : ℕ) → r.a * 2 ^ 8 + r.b ≡ d → d < r.x

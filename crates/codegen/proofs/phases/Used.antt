@@ -1,5 +1,5 @@
 -- The operands of EVAL's code fit.
-use Rattle.std.proofs.Common.{◌≡◌, ℕ, zero, suc, ◌+◌, ◌*◌, ◌^◌, ◌<◌, ◌≤◌, List, [], ◌∷◌, ◌++◌, map, length, replicate, sum_by, All, Option, Some, None, option_map, refl, sym, ap, subst, arith, length-append}
+use Rattle.std.proofs.Common.{◌≡◌, ℕ, zero, suc, ◌+◌, ◌*◌, ◌^◌, ◌<◌, ◌≤◌, List, [], ◌∷◌, map, length, replicate, sum_by, All, Option, Some, None, option_map, refl, sym, ap, subst, arith, length-append}
 use Rattle.std.specs.Prelude.{IfSome}
 use Rattle.std.proofs.lemmas.List.{length-map, length-replicate}
 use Rattle.std.proofs.lemmas.List.Sums.{sum_by-cons}
@@ -13,7 +13,6 @@ use Rattle.byte_scaling.proofs.CellLemmas.{nearest_byte-le}
 use Rattle.rule_layout.specs.declared.flat.Slot.{Slot}
 use Rattle.rule_layout.specs.declared.flat.Slot.TheVariants.{Term, Complement, Out}
 use Rattle.rule_layout.specs.declared.flat.Form.{Form}
-use Rattle.rule_layout.specs.declared.flat.Form.TheVariants as form
 use Rattle.rule_layout.specs.Slots.{slots_of, singleton_count, input_terms, term_slot}
 use Rattle.rule_layout.specs.Layouts.{form_of}
 use Rattle.rule_layout.proofs.LayoutLemmas.{few_slots}
@@ -21,21 +20,20 @@ use Rattle.cpu12_isa.specs.declared.instr.Instr.{Instr}
 use Rattle.cpu12_isa.specs.declared.instr.Instr.TheVariants.{Mem}
 use Rattle.cpu12_isa.specs.Code.{encode_of}
 use Rattle.codegen.specs.declared.layout.Layout.{Layout}
-use Rattle.codegen.specs.Code.{fuzzify_code, slots_code, rules_code, input_slots}
+use Rattle.codegen.specs.Code.{fuzzify_code, slots_code, rules_code, input_slots, quotient_code, output_code, outputs_code, eval_code}
 use Rattle.codegen.specs.declared.width.Width.{Width}
 use Rattle.codegen.specs.declared.width.Width.TheVariants.{Byte, Word}
 use Rattle.codegen.specs.Widths.{places}
-use Rattle.codegen.specs.Code.{quotient_code, output_code, outputs_code}
-use Rattle.codegen.specs.Code.{eval_code}
 use Rattle.codegen.specs.Images.{IsApart}
 use Rattle.codegen.proofs.Joins.{sum_by-term_count}
-use Rattle.codegen.proofs.Sizes.{code_size, code_size-append, code_size-fuzzify, code_size-slots, code_size-rules, code_size-outputs, code_size-eval}
-use Rattle.codegen.proofs.steps.Stepping.{sizes}
+use Rattle.codegen.proofs.Sizes.{code_size, code_size-eval}
+use Rattle.codegen.proofs.steps.Decoding.{sizes, UsedCode, used_append}
 use Rattle.codegen.proofs.phases.Fuzzify.{grades, length-grades}
 use Rattle.codegen.proofs.phases.Filling.{AllCanFill}
 use Rattle.codegen.proofs.phases.SlotValues.{further_slots, slots_are, further_fill, length-slots, length-input_terms}
 use Rattle.codegen.proofs.phases.Evaluating.{slots_code_is, outputs_few}
-use Rattle.codegen.proofs.steps.Decoding.{UsedCode, used_append}
+use Rattle.rule_layout.specs.declared.flat.Form.TheVariants as form
+use Rattle.codegen.proofs.phases.Outputs.{places_few}
 
 -- the operands of the code fit
 used_mems : (n : ℕ) → UsedCode (replicate n Mem)
@@ -72,10 +70,6 @@ used_outputs w sx sy at (o ∷ os) v hx hy h =
     used_append (output_code w sx sy at o) (outputs_code w (sx + length o.singletons) (sy + length o.singletons) (at + places w) os)
     (tt, omega arith, (tt, omega arith, (tt, omega arith, (tt, tt, used_quotient w at o o.default (omega arith) vo vo.default_in))))
     (used_outputs w (sx + length o.singletons) (sy + length o.singletons) (at + places w) os (λ k d lt. v (suc k) d (omega arith)) (omega arith) (omega arith) (omega arith))
-
-pub places_few : (w : Width) (n : ℕ) → n ≤ 4 → places w * n ≤ 8
-places_few Byte n h = omega arith
-places_few Word n h = omega arith
 
 pub used_answer : (l : Layout) (b : Block) (w : Width) → IsApart l → IsValid b → UsedCode (eval_code l b w)
 used_answer l b w a v =

@@ -1,0 +1,177 @@
+-- One instruction of the code around EVAL, and where it leads.
+use Rattle.std.proofs.Common.{◌≡◌, ◌≢◌, ◌⊎◌, inl, inr, ⊎_elim, ℕ, ◌+◌, ◌^◌, ◌<◌, ◌≤◌, min, nat_lt, nat_le, ◌&&◌, true, false, Ok, List, [], ◌∷◌, ◌++◌, length, refl, sym, ap, ◌∙◌, subst, arith}
+use Rattle.std.specs.Prelude.{◌==◌, if◌then◌else◌}
+use Rattle.std.proofs.lemmas.Bool.Decides.{nat_tests}
+use Rattle.cpu12_isa.specs.declared.instr.Instr.{Instr}
+use Rattle.cpu12_isa.specs.Act.{read_by}
+use Rattle.cpu12_isa.specs.Agreement.{AllShown, Uncovers}
+use Rattle.cpu12_isa.specs.Code.{encode_of, decode_at, six_from, FitsOperands}
+use Rattle.cpu12_isa.specs.Fits.{FitsRegs, AreBytes}
+use Rattle.cpu12_isa.specs.Flags.{has}
+use Rattle.cpu12_isa.specs.Meaning.{act_of, effect, is_plain}
+use Rattle.cpu12_isa.specs.Memory.{plus}
+use Rattle.cpu12_isa.proofs.Fitting.{stays_fit}
+use Rattle.cpu12_isa.proofs.Agreements.{length_writes}
+use Rattle.cpu12_parts.specs.declared.temps.Temps.TheVariants.{Free}
+use Rattle.cpu12_parts.specs.State.{State}
+use Rattle.cpu12_parts.specs.Laws.{addresses}
+use Rattle.cpu12_parts.specs.Whole.{after_plain}
+use Rattle.codegen.specs.declared.layout.Layout.{Layout}
+use Rattle.cpu12_parts.specs.Executions.{Execution, all_steps}
+use Rattle.codegen.specs.Interruptible.{is_free, is_hidden, is_idle, IsInterruptible, IsInterruptibleStep}
+use Rattle.codegen.proofs.steps.Memory.{SameHigh, WriteBelow, below_more, high_writes, bytes_writes, HasBytes, bytes_front, bytes_back}
+use Rattle.codegen.proofs.steps.Decoding.{sizes, decode_same, UsedCode, code_bytes, decode_here}
+use Rattle.cpu12_isa.specs.declared.instr.Instr.TheVariants.{ClrExtended, Beq}
+use Rattle.codegen.proofs.steps.Flags.{masked_four}
+use Rattle.codegen.proofs.steps.Executions.{Bounded, bounded_one, bounded_on}
+
+-- what a run is under: the layout, the image's memory and the open flags
+pub record Ctx : Type 0 where
+  pub layout : Layout
+  pub image : List ℕ
+  pub flags : ℕ
+  pub fits : flags < 2 ^ 8
+
+-- an instruction stands in the image, and not where the code waits
+pub record Here (c : Ctx) (p : ℕ) (i : Instr) : Type 0 where
+  pub low : 0x2000 ≤ p
+  pub high : p + 6 < 65536
+  pub off : p ≢ c.layout.wait
+  pub fits : FitsOperands i
+  pub decoded : decode_at c.image p ≡ Ok i
+
+-- instructions one after another
+abbrev pub Stands : Ctx → ℕ → List Instr → Type 0
+Stands c p [] = Unit {0}
+Stands c p (i ∷ is) = Here c p i × Stands c (p + length (encode_of i)) is
+
+-- what each state of the run keeps
+pub record Live (c : Ctx) (s : State) : Type 0 where
+  pub temps : s.temps ≡ Free
+  pub size : length s.mem ≡ 65536
+  pub bytes : AreBytes s.mem
+  pub fits : FitsRegs s.regs
+  pub stack : (s.regs.sp ≡ 0x1FFE) ⊎ (s.regs.sp ≡ 0x2000)
+  pub unmasked : has s.regs.ccr 4 ≡ false
+  pub same : SameHigh c.image s.mem
+
+pub sp_high : (s : State) → (s.regs.sp ≡ 0x1FFE) ⊎ (s.regs.sp ≡ 0x2000) → s.regs.sp ≤ 0x2000
+sp_high s h = ⊎_elim (λ l. omega arith) (λ r. omega arith) h
+
+-- below FREE a byte is shown, and from $2000 on
+pub low_shown : (sp at : ℕ) → at < 0x1800 → is_hidden sp at ≡ false
+low_shown sp at h =
+    let a : is_free at ≡ false = grind (arith, nat_tests) in
+    let b : (nat_le 0x1FE0 at && nat_lt at sp) ≡ false = grind (arith, nat_tests) in
+    rw (a, b)
+
+pub high_shown : (sp at : ℕ) → sp ≤ at → 0x1FE0 ≤ at → is_hidden sp at ≡ false
+high_shown sp at h g =
+    let a : is_free at ≡ false = grind (arith, nat_tests) in
+    let b : (nat_le 0x1FE0 at && nat_lt at sp) ≡ false = grind (arith, nat_tests) in
+    rw (a, b)
+
+-- so are the bytes of code
+pub code_shown : (sp pc : ℕ) → sp ≤ 0x2000 → 0x2000 ≤ pc → pc + 6 < 65536 → AllShown (is_hidden sp) (six_from pc)
+code_shown sp pc a b c =
+    let at : (k : ℕ) → k ≤ 5 → is_hidden sp (plus pc k) ≡ false = λ k l. high_shown sp (plus pc k) (omega arith) (omega arith) in
+    (high_shown sp pc (omega arith) (omega arith), (at 1 (omega arith), (at 2 (omega arith), (at 3 (omega arith), (at 4 (omega arith), (at 5 (omega arith), tt))))))
+
+pub interruptible_of : (c : Ctx) (s : State) → Live c s → 0x2000 ≤ s.regs.pc → s.regs.pc + 6 < 65536 → IsInterruptible c.image s
+interruptible_of c s l lo hi = record {
+  temps = l.temps;
+  size = l.size;
+  bytes = l.bytes;
+  fits = l.fits;
+  stack = l.stack;
+  unmasked = l.unmasked;
+  same = l.same;
+  code = code_shown s.regs.sp s.regs.pc (sp_high s l.stack) lo hi;
+}
+
+writes_shown : (sp : ℕ) (ws : List (ℕ × ℕ)) → WriteBelow 0x1800 ws → AllShown (is_hidden sp) (addresses ws)
+writes_shown sp [] h = tt
+writes_shown sp (w ∷ ws) h = (low_shown sp w.0 h.0, writes_shown sp ws h.1)
+
+-- one instruction on
+pub record Next (c : Ctx) (s t : State) (q : ℕ) : Type 0 where
+  pub step : IsInterruptibleStep c.layout c.image c.flags 0 s t
+  pub live : Live c t
+  pub pc_is : t.regs.pc ≡ q
+
+-- a plain instruction that stands in the image and leaves the stack as the code has it
+pub plain_next : (c : Ctx) (s : State) (p q : ℕ) (i : Instr) → Live c s → is_idle c.layout s ≡ false → s.regs.pc ≡ p → 0x2000 ≤ p → p + 6 < 65536 → decode_at c.image p ≡ Ok i → is_plain i ≡ true → FitsOperands i
+    → AllShown (is_hidden s.regs.sp) (read_by (act_of c.flags i s.regs) s.mem)
+    → AllShown (is_hidden (min s.regs.sp (effect c.flags i s.regs s.mem).regs.sp)) (addresses (effect c.flags i s.regs s.mem).writes)
+    → Uncovers (is_hidden s.regs.sp) (effect c.flags i s.regs s.mem).writes (is_hidden (effect c.flags i s.regs s.mem).regs.sp)
+    → WriteBelow 0x2000 (effect c.flags i s.regs s.mem).writes
+    → ((effect c.flags i s.regs s.mem).regs.sp ≡ 0x1FFE) ⊎ ((effect c.flags i s.regs s.mem).regs.sp ≡ 0x2000)
+    → has (effect c.flags i s.regs s.mem).regs.ccr 4 ≡ has s.regs.ccr 4
+    → (effect c.flags i s.regs s.mem).regs.pc ≡ q
+    → Next c s (after_plain c.flags i s) q
+plain_next c s p q i l busy ep lo hi de pl fo reads writes uncovers below stack mask pc =
+    let e = effect c.flags i s.regs s.mem in
+    let fit = stays_fit c.flags i s.regs s.mem c.fits fo l.fits l.bytes in
+    let d : decode_at s.mem s.regs.pc ≡ Ok i = ap (decode_at s.mem) ep ∙ decode_same c.image s.mem p lo hi l.same ∙ de in
+    record {
+      step = record {
+        busy = busy;
+        interruptible = interruptible_of c s l (omega arith) (omega arith);
+        instruction = inl (i, (record { step = record { decoded = d; plain = pl; after = refl }; reads = reads; writes = writes; uncovers = uncovers }, refl));
+      };
+      live = record {
+        temps = l.temps;
+        size = length_writes e.writes s.mem ∙ l.size;
+        bytes = bytes_writes s.mem e.writes l.size fit.1 l.bytes;
+        fits = fit.0;
+        stack = stack;
+        unmasked = mask ∙ l.unmasked;
+        same = high_writes c.image s.mem e.writes below l.same;
+      };
+      pc_is = pc;
+    }
+
+pub not_at : (l : Layout) (s : State) (p : ℕ) → s.regs.pc ≡ p → p ≢ l.wait → is_idle l s ≡ false
+not_at l s p e h = let a : (s.regs.pc == l.wait) ≡ false = grind (arith, nat_tests) in rw a
+
+-- one that leaves SP, and writes below FREE alone
+pub next : (c : Ctx) (s : State) (p q : ℕ) (i : Instr) → Live c s → s.regs.pc ≡ p → Here c p i → is_plain i ≡ true → FitsOperands i
+    → AllShown (is_hidden s.regs.sp) (read_by (act_of c.flags i s.regs) s.mem)
+    → WriteBelow 0x1800 (effect c.flags i s.regs s.mem).writes
+    → (effect c.flags i s.regs s.mem).regs.sp ≡ s.regs.sp
+    → has (effect c.flags i s.regs s.mem).regs.ccr 4 ≡ has s.regs.ccr 4
+    → (effect c.flags i s.regs s.mem).regs.pc ≡ q
+    → Next c s (after_plain c.flags i s) q
+next c s p q i l ep h pl fo reads below esp mask pc =
+    let e = effect c.flags i s.regs s.mem in
+    plain_next c s p q i l (not_at c.layout s p ep h.off) ep h.low h.high h.decoded pl fo reads (writes_shown (min s.regs.sp e.regs.sp) e.writes below) (λ at g. inl (ap (λ k. is_hidden k at) (sym esp) ∙ g)) (below_more 0x1800 0x2000 e.writes (omega arith) below) (⊎_elim (λ a. inl (esp ∙ a)) (λ b. inr (esp ∙ b)) l.stack) mask pc
+
+-- executions of at most n instructions, with at most k parts beyond their first
+abbrev pub Goes : Ctx → ℕ → ℕ → State → State → Type 0
+Goes c = Bounded (IsInterruptibleStep c.layout c.image c.flags)
+
+pub goes_on : (c : Ctx) (n k m j : ℕ) (s t u : State) → Goes c n k s t → Goes c m j t u → Goes c (n + m) (k + j) s u
+goes_on c = bounded_on (IsInterruptibleStep c.layout c.image c.flags)
+
+pub goes_one : (c : Ctx) (s t : State) (q : ℕ) → Next c s t q → Goes c 1 0 s t
+goes_one c s t q h = bounded_one (IsInterruptibleStep c.layout c.image c.flags) 0 s t h.step
+
+pub clr : (c : Ctx) (s : State) (p at : ℕ) → Live c s → s.regs.pc ≡ p → Here c p (ClrExtended at) → at < 0x1800 → Next c s (after_plain c.flags (ClrExtended at) s) (p + 3)
+clr c s p at l ep h lt = next c s p (p + 3) (ClrExtended at) l ep h refl (omega arith) tt (lt, tt) refl (masked_four s.regs.ccr false true false false) (omega (arith, h.high))
+
+pub beq_on : (c : Ctx) (s : State) (p to : ℕ) → Live c s → s.regs.pc ≡ p → Here c p (Beq to) → to < 2 ^ 8 → has s.regs.ccr 2 ≡ false → Next c s (after_plain c.flags (Beq to) s) (p + 2)
+beq_on c s p to l ep h lt z = next c s p (p + 2) (Beq to) l ep h refl lt tt tt refl refl (ap (λ b. if b then plus (plus s.regs.pc 2) (if nat_lt to 128 then to else to + 65280) else plus s.regs.pc 2) z ∙ omega (arith, h.high))
+
+-- code that stands in the image above where it waits
+pub stands_of : (c : Ctx) (p : ℕ) (is : List Instr) → UsedCode is → HasBytes c.image p (code_bytes is) → 0x2000 ≤ p → c.layout.wait < p → p + sizes is + 6 < 65536 → Stands c p is
+stands_of c p [] u h lo w hi = tt
+stands_of c p (i ∷ is) u h lo w hi = (
+  record {
+    low = lo;
+    high = omega arith;
+    off = λ e. omega arith;
+    fits = u.1;
+    decoded = decode_here c.image p i u.0 (omega arith) (bytes_front c.image p (encode_of i) (code_bytes is) h);
+  },
+  stands_of c (p + length (encode_of i)) is u.2 (bytes_back c.image p (encode_of i) (code_bytes is) h) (omega arith) (omega arith) (omega arith),
+)
