@@ -27,7 +27,8 @@ use Rattle.codegen.specs.Data.{table_bytes, singleton_bytes, weight_bytes, rule_
 use Rattle.codegen.specs.Images.{IsApart}
 use Rattle.codegen.specs.Firing.{AreInputBytes}
 use Rattle.cpu12_parts.specs.Executions.{Execution, all_steps}
-use Rattle.codegen.specs.Interruptible.{IsInterruptible, is_free, is_hidden, IsShownRules, IsShownInstruction, IsInterruptibleStep}
+use Rattle.cpu12_isa.specs.Regions.{is_free}
+use Rattle.codegen.specs.Interruptible.{IsInterruptible, is_hidden, IsShownRules, IsShownInstruction, IsInterruptibleStep}
 use Rattle.cpu12_parts.specs.Touching.{IsIn, Each, IsRulesOver, IsInstructionOver}
 use Rattle.codegen.specs.Code.{eval_code}
 use Rattle.codegen.specs.Evaluation.{HasBytes, HasEval, HasAnswers, IsAtEval, IsEvaluated, EvalAnswers, eval_bytes, Reads, Writes, code_region, IsEvalStep}

@@ -23,7 +23,8 @@ use Rattle.codegen.specs.Bounds.{instruction_bound, step_bound}
 use Rattle.codegen.specs.Evaluation.{HasAnswers}
 use Rattle.codegen.specs.Answers.{put, given}
 use Rattle.cpu12_parts.specs.Executions.{Execution, all_steps}
-use Rattle.codegen.specs.Interruptible.{is_free, is_hidden, is_idle, IsInterruptibleStep}
+use Rattle.cpu12_isa.specs.Regions.{is_free}
+use Rattle.codegen.specs.Interruptible.{is_hidden, is_idle, IsInterruptibleStep}
 use Rattle.codegen.proofs.steps.Flags.{masked_tested, zero_tested}
 use Rattle.codegen.proofs.steps.Memory.{HasBytes, length-put, has_put, bytes_put_out, bytes_set_out, bytes_after_set, bytes_after_put, high_set, high_put}
 use Rattle.codegen.proofs.runs.Stepping.{Ctx, Here, Live, Stands, Next, next, plain_next, Goes, goes_one, goes_on, interruptible_of, low_shown, high_shown, not_at, clr, beq_on}

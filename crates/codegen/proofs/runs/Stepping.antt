@@ -18,7 +18,8 @@ use Rattle.cpu12_parts.specs.Laws.{addresses}
 use Rattle.cpu12_parts.specs.Whole.{after_plain}
 use Rattle.codegen.specs.declared.layout.Layout.{Layout}
 use Rattle.cpu12_parts.specs.Executions.{Execution, all_steps}
-use Rattle.codegen.specs.Interruptible.{is_free, is_hidden, is_idle, IsInterruptible, IsInterruptibleStep}
+use Rattle.cpu12_isa.specs.Regions.{is_free}
+use Rattle.codegen.specs.Interruptible.{is_hidden, is_idle, IsInterruptible, IsInterruptibleStep}
 use Rattle.codegen.proofs.steps.Memory.{SameHigh, WriteBelow, below_more, high_writes, bytes_writes, HasBytes, bytes_front, bytes_back}
 use Rattle.codegen.proofs.steps.Decoding.{sizes, decode_same, UsedCode, code_bytes, decode_here}
 use Rattle.cpu12_isa.specs.declared.instr.Instr.TheVariants.{ClrExtended, Beq}
