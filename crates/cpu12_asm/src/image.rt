@@ -56,6 +56,17 @@ impl ByteMap {
         self.bytes.get(&at).copied()
     }
 
+    /// The bytes with their addresses, which ascend.
+    pub fn to_vec(&self, alloc: Global) -> Result<Vec<(u16, u8)>, AllocError>
+        ensures bytes { IfOk result (λ bytes. bytes.items ≡ self.now) }
+        ensures ascending { IsAscending self.now }
+    {
+        self.bytes
+            .iter()
+            .map(|(at, byte)| (*at, *byte))
+            .collect(alloc)
+    }
+
     /// Puts a byte to an address, in the place of one that is there.
     pub fn insert(&mut self, at: u16, byte: u8) -> Result<(), AllocError>
         ensures put { OnOk result ((q : ℕ) → byte_at self.new q ≡ (if is_at (nat_cmp at) q then Some byte else byte_at self.old q)) }

@@ -3,7 +3,8 @@
 //! A [`Plan`] is a list of [`Request`]s. A request names a sample, a moment in it, counted in
 //! steps, and the bytes that its handler writes; it is taken at the first boundary at or after
 //! its moment where interrupts are allowed. A good plan writes only bytes that the firmware
-//! leaves free, and its requests ascend.
+//! leaves free, and its requests ascend. [`read_plan`] answers exactly the plan that the rows of a
+//! text spell, which is good, or the fault of the first row that fails.
 #![tactic(auto)]
 
 ghost use Rattle.std.specs.Prelude.{◌≡◌, []};
@@ -12,6 +13,12 @@ ghost use Rattle.interrupt_plan.specs.Plans.{IsGood};
 use cpu12_isa::instr::Write;
 use fz_list::List;
 use std::alloc::Global;
+use thiserror::Error;
+
+mod reader;
+mod row;
+
+pub use reader::read_plan;
 
 /// An interrupt that is asked for.
 #[derive(Drop)]
@@ -27,6 +34,26 @@ pub struct Request {
 /// Requests that ascend by sample and then by moment, at most 10000 of them.
 pub type Plan = List<Request>;
 
+/// Why a text is no plan. Rows count from 1.
+#[derive(Clone, Copy, PartialEq, Eq, Debug, Error)]
+pub enum PlanFault {
+    /// There is a row 10001.
+    #[error("too many rows")]
+    TooMany,
+    /// That row is not a sample from 1, a moment, and at most eight pairs of an address and a value.
+    #[error("row {0} is malformed")]
+    BadRow(u32),
+    /// In that row, that address is the first that is not free.
+    #[error("row {0}: the byte at {1} is not free")]
+    NotFree(u32, u16),
+    /// That row's sample and moment come before those of the row above it.
+    #[error("row {0} falls back")]
+    NotAscending(u32),
+    /// Memory was wanted and not found.
+    #[error("no memory")]
+    Memory,
+}
+
 /// The plan of a run without interrupts. It takes no memory.
 pub fn no_interrupts(alloc: Global) -> Plan
     ensures empty { result ≡ [] }
@@ -34,3 +61,6 @@ pub fn no_interrupts(alloc: Global) -> Plan
 {
     List::new(Vec::new(alloc))
 }
+
+#[cfg(test)]
+mod tests;
