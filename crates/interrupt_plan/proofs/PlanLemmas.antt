@@ -9,12 +9,13 @@ use Rattle.std.proofs.lemmas.List.Elements.{All-append, All-cons, All-nil}
 use Rattle.std.proofs.lemmas.Str.Parse.{IsNumeralModel, numerals_by_fold, IsDigitsTest, FoldsDigits, digits_value_short}
 use Rattle.csv.specs.Records.{Row, fields_of}
 use Rattle.cpu12_isa.specs.declared.instr.Write.{Write}
+use Rattle.cpu12_isa.specs.Regions.{is_free}
 use Rattle.fz_rows.specs.FirstRows.{Fields}
 use Rattle.fz_num.specs.Decimals.{is_digit, next_number, number}
 use Rattle.interrupt_plan.specs.declared.Request.{Request}
 use Rattle.interrupt_plan.specs.declared.PlanFault.{PlanFault}
 use Rattle.interrupt_plan.specs.declared.PlanFault.TheVariants.{TooMany}
-use Rattle.interrupt_plan.specs.Plans.{Ascends, IsFree, IsGood, IsGoodRequest, NotAfter}
+use Rattle.interrupt_plan.specs.Plans.{Ascends, IsGood, IsGoodRequest, NotAfter}
 use Rattle.interrupt_plan.specs.PlanTexts.{AreFree, FirstFault, IsFirstTaken, RowFails, SpellRequests, SpellsRequest, at_row, count_of, more, writes_of}
 use Rattle.interrupt_plan.proofs.PairLemmas.{length-writes}
 
@@ -97,7 +98,7 @@ few_writes fields ws is some few = omega (arith, length-behind_two fields some, 
 abbrev pub blank : Write
 blank = record { at = 0; value = 0 }
 
-pub taken_at : (writes : List Write) (i : ℕ) (d : Write) → i < length writes → AreFree (take i writes) → (IsFree (get_or writes i d).at → ⊥) → IsFirstTaken writes (get_or writes i d).at
+pub taken_at : (writes : List Write) (i : ℕ) (d : Write) → i < length writes → AreFree (take i writes) → is_free (get_or writes i d).at ≡ false → IsFirstTaken writes (get_or writes i d).at
 taken_at writes i d lt free taken = record {
   before = take i writes;
   write = get_or writes i d;
@@ -109,9 +110,9 @@ taken_at writes i d lt free taken = record {
 }
 
 abbrev IsFreeWrite : Write → Type 0
-IsFreeWrite w = IsFree w.at
+IsFreeWrite w = is_free w.at ≡ true
 
-pub free_more : (writes : List Write) (i : ℕ) (d : Write) → i < length writes → AreFree (take i writes) → IsFree (get_or writes i d).at → AreFree (take (i + 1) writes)
+pub free_more : (writes : List Write) (i : ℕ) (d : Write) → i < length writes → AreFree (take i writes) → is_free (get_or writes i d).at ≡ true → AreFree (take (i + 1) writes)
 free_more writes i d lt free here =
     subst AreFree (sym (take_more writes i d lt)) (All-append IsFreeWrite (take i writes) (get_or writes i d ∷ []) free (All-cons IsFreeWrite (get_or writes i d) [] here (All-nil IsFreeWrite)))
 

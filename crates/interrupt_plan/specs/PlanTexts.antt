@@ -1,14 +1,15 @@
 -- What a plan's text spells, and its first fault.
-use Rattle.std.specs.Prelude.{◌≡◌, ◌<◌, ◌≤◌, ◌+◌, ◌*◌, ℕ, List, [], ◌∷◌, ◌++◌, length, drop, All, Option, Some, None, Result, Ok, Err, slice_index, nat_le, ◌&&◌, if◌then◌else◌}
+use Rattle.std.specs.Prelude.{◌≡◌, ◌<◌, ◌≤◌, ◌+◌, ◌*◌, ℕ, List, [], ◌∷◌, ◌++◌, length, drop, All, Option, Some, None, Result, Ok, Err, slice_index, nat_le, ◌&&◌, true, false, if◌then◌else◌}
 use Rattle.hex.specs.Hex.{decode_sized}
 use Rattle.hex.specs.declared.error.FromHexError.{FromHexError}
 use Rattle.fz_num.specs.Decimals.{are_digits, number}
 use Rattle.cpu12_isa.specs.declared.instr.Write.{Write}
+use Rattle.cpu12_isa.specs.Regions.{is_free}
 use Rattle.fz_rows.specs.FirstRows.{Fields, AreFirstRows}
 use Rattle.interrupt_plan.specs.declared.Request.{Request}
 use Rattle.interrupt_plan.specs.declared.PlanFault.{PlanFault}
 use Rattle.interrupt_plan.specs.declared.PlanFault.TheVariants.{BadRow, NotFree, NotAscending, TooMany}
-use Rattle.interrupt_plan.specs.Plans.{IsFree, IsGood, NotAfter}
+use Rattle.interrupt_plan.specs.Plans.{IsGood, NotAfter}
 
 -- the number of one to nine decimal digits
 abbrev pub count_of : List ℕ → Option ℕ
@@ -61,7 +62,7 @@ pub record SpellsRequest (fields : Fields) (r : Request) : Type 0 where
 
 -- each write is to a free byte
 abbrev pub AreFree : List Write → Type 0
-AreFree writes = All (λ w. IsFree w.at) writes
+AreFree writes = All (λ w. is_free w.at ≡ true) writes
 
 -- the address of the first write that is not
 pub record IsFirstTaken (writes : List Write) (at : ℕ) : Type 0 where
@@ -70,7 +71,7 @@ pub record IsFirstTaken (writes : List Write) (at : ℕ) : Type 0 where
   pub after : List Write
   pub writes_are : writes ≡ before ++ write ∷ after
   pub free : AreFree before
-  pub taken : IsFree write.at → ⊥
+  pub taken : is_free write.at ≡ false
   pub address : at ≡ write.at
 
 -- the request comes before the last of those that stand before it

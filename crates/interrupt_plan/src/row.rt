@@ -4,7 +4,7 @@ ghost use Rattle.csv.specs.Records.{fields_of};
 ghost use Rattle.fz_num.specs.Decimals.{are_digits, is_digit, number};
 ghost use Rattle.std.specs.List.{list_all};
 ghost use Rattle.hex.specs.Hex.{decode_sized};
-ghost use Rattle.interrupt_plan.specs.Plans.{IsFree};
+ghost use Rattle.cpu12_isa.specs.Regions.{is_free};
 ghost use Rattle.interrupt_plan.specs.PlanTexts.{AreFree, HasTimes, IsFirstTaken, SpellsRequest, byte_of, count_of, word_of, write_of, writes_of};
 ghost use Rattle.interrupt_plan.specs.declared.Request.{Request as TheRequest};
 
@@ -151,7 +151,7 @@ fn times_in(row: &ByteRecord) -> Option<(u32, u32)>
 }
 
 fn is_free(at: u16) -> bool
-    ensures { IsTrue result ↔ IsFree at }
+    ensures { result ≡ is_free at }
 {
     FREE_FROM <= at && at <= FREE_TO
 }
