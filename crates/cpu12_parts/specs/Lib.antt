@@ -7,3 +7,4 @@ pub mod Averages
 pub mod Laws
 pub mod Whole
 pub mod Fits
+pub mod Owed
