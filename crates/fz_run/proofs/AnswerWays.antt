@@ -31,7 +31,7 @@ use Rattle.run_law.specs.Uninterrupted.{uninterrupted}
 use Rattle.run_law.specs.Following.{Completes, AllComplete, AllWithin}
 use Rattle.fz_run.specs.Forms.{given, answers_at, answers_in, with_writes}
 use Rattle.fz_run.specs.Rows.{requests_of, arrival, first_state, firmware_rows}
-use Rattle.fz_run.specs.Facts.{Facts}
+use Rattle.fz_run.specs.Facts.{FactsAlone}
 use Rattle.fz_run.specs.Following.{row_of_sample, rows_of_samples, IsLow, FollowsAlone}
 use Rattle.fz_run.specs.Stretches.{Stretch, Went, Kept, Calmly}
 use Rattle.fz_run.specs.Answering.{IsRowOf, AreRowsOf, AreCountsOf, AreAnswersOf, AnswersItsBlock, AnswersUnder, AnswersUnderPlans}
@@ -48,11 +48,19 @@ use Rattle.fz_run.proofs.WholeSteps.{rev_step, revw_step, average_step}
 abbrev alone : Firmware → ℕ → Firmware
 alone f n = record f { layout = main_layout; outputs = n; wide = false }
 
-On : State → Type 0
-On u = is_idle main_layout u ≡ false
+-- it does not wait, and SP is one of two
+IsStack : ℕ → Type 0
+IsStack sp = (sp + 2 ≡ stack_end) ⊎ (sp ≡ stack_end)
 
-off_loop : (v : State) → (v.regs.pc ≡ 0xC008 → ⊥) → On v
-unfolding On
+On : State → Type 0
+On u = (is_idle main_layout u ≡ false) × IsStack u.regs.sp
+
+at_stack : (sp : ℕ) → (sp ≡ 0x1FFE) ⊎ (sp ≡ 0x2000) → IsStack sp
+unfolding IsStack
+at_stack sp (inl e) = inl (omega arith)
+at_stack sp (inr e) = inr e
+
+off_loop : (v : State) → (v.regs.pc ≡ 0xC008 → ⊥) → is_idle main_layout v ≡ false
 off_loop v h = let t : (v.regs.pc == 0xC008) ≡ false = grind (arith, nat_tests) in rw t refl
 
 -- what each state of the way keeps, in the words of runs
@@ -89,22 +97,25 @@ step_stretch laws image flags d s t hf w h = by h.instruction
     c : Calmly is_free s
     c = calmly image s h.calm
 
+    stack : IsStack s.regs.sp
+    stack = (let calm = h.calm in at_stack s.regs.sp calm.stack)
+
     stays : (v : State) → (s.regs.pc ≡ 0xC008 → ⊥) → v.regs.pc ≡ s.regs.pc → is_idle main_layout v ≡ false
     stays v ne e = off_loop v (λ z. ne (sym e ∙ z))
 
     by : IsCalmInstruction flags d s t → Stretch (Kept is_free flags On) flags d s t
-    by (inl p) = subst (λ (k : ℕ). Stretch (Kept is_free flags On) flags k s t) (sym p.1.1) (plain_step is_free flags On p.0 s t c p.1.0.step p.1.0.reads p.1.0.uncovers h.busy)
+    by (inl p) = subst (λ (k : ℕ). Stretch (Kept is_free flags On) flags k s t) (sym p.1.1) (plain_step is_free flags On p.0 s t c p.1.0.step p.1.0.reads p.1.0.uncovers (h.busy, stack))
     by (inr (inl p)) =
         let at = page_of (bytes_at s.mem (six_from s.regs.pc)) Rev refl p.2.step.decoded in
         let ne = not_there image s s.regs.pc 24 h.calm w at.0 (λ e. omega arith) in
-        rev_step laws.rev_is_whole is_free flags On d p.0 p.1 s t hf c p.2.step p.2.reads p.2.itself (λ v e. stays v ne e)
+        rev_step laws.rev_is_whole is_free flags On d p.0 p.1 s t hf c p.2.step p.2.reads p.2.itself (λ v e g. (stays v ne e, subst IsStack (sym g) stack))
     by (inr (inr (inl p))) =
         let at = page_of (bytes_at s.mem (six_from s.regs.pc)) Revw refl p.2.step.decoded in
         let ne = not_there image s s.regs.pc 24 h.calm w at.0 (λ e. omega arith) in
-        revw_step laws.revw_is_whole is_free flags On d p.0 p.1 s t hf c p.2.step p.2.reads p.2.itself (λ v e. stays v ne e)
+        revw_step laws.revw_is_whole is_free flags On d p.0 p.1 s t hf c p.2.step p.2.reads p.2.itself (λ v e g. (stays v ne e, subst IsStack (sym g) stack))
     by (inr (inr (inr p))) =
         let ne = not_there image s (plus s.regs.pc 1) 60 h.calm w (average_byte (bytes_at s.mem (six_from s.regs.pc)) p.step.decoded) (λ e. omega arith) in
-        average_step laws.wav_is_whole is_free flags On d s t hf c p.step p.reads h.busy (λ v e. off_loop v (λ z. ne (sym e ∙ z)))
+        average_step laws.wav_is_whole is_free flags On d s t hf c p.step p.reads (h.busy, stack) (λ v e g. (off_loop v (λ z. ne (sym e ∙ z)), subst IsStack (sym g) stack))
 
 way_stretch : Laws → (image : List ℕ) (flags : ℕ) (ds : List ℕ) (s t : State) → flags < 2 ^ 8 → get_or image 0xC008 0 ≡ 182 → Way (IsCalmStep main_layout image flags) ds s t → Way (Stretch (Kept is_free flags On) flags) ds s t
 way_stretch laws image flags [] s t hf w h = h
@@ -145,27 +156,27 @@ went laws b image flags before bytes s t hf w l a =
     subst (λ (u : State). Went (Kept is_free flags On) flags a.ds u t) (sym (same_given bytes s l)) (way_went (Kept is_free flags On) flags a.ds (answers.given main_layout bytes s) t (way_stretch laws image flags a.ds (answers.given main_layout bytes s) t hf w a.way))
 
 sampled : Laws → (f : Firmware) (n : ℕ) (b : Block) (image : List ℕ) (flags : ℕ) (before : ℕ → ℕ) (bytes : List ℕ) (s t : State) → flags < 2 ^ 8 → get_or image 0xC008 0 ≡ 182 → length bytes ≤ 8 → (a : IsAnswered main_layout b image flags before bytes s t)
-    → Completes (Facts is_free flags) (with_writes flags (alone f n)) 0 (all_steps a.ds) (all_steps a.ds) (given main_layout bytes s)
-unfolding On
+    → Completes (FactsAlone flags) (with_writes flags (alone f n)) 0 (all_steps a.ds) (all_steps a.ds) (given main_layout bytes s)
+unfolding On IsStack
 sampled laws f n b image flags before bytes s t hf w l a =
     let g = went laws b image flags before bytes s t hf w l a in
-    let busy = before_weaker (Kept is_free flags On) On flags (λ u k. k.1) (all_steps a.ds) (given main_layout bytes s) g.each in
+    let busy = before_weaker (Kept is_free flags On) (λ u. is_idle main_layout u ≡ false) flags (λ u k. k.1.0) (all_steps a.ds) (given main_layout bytes s) g.each in
     record {
       sum = omega arith;
-      holds = before_weaker (Kept is_free flags On) (Facts is_free flags) flags (λ u k. k.0) (all_steps a.ds) (given main_layout bytes s) g.each;
-      on = λ j from l. before_at On flags (all_steps a.ds) j (given main_layout bytes s) busy l;
+      holds = before_weaker (Kept is_free flags On) (FactsAlone flags) flags (λ u k. record { facts = k.0; stack = k.1.1 }) (all_steps a.ds) (given main_layout bytes s) g.each;
+      on = λ j from l. before_at (λ u. is_idle main_layout u ≡ false) flags (all_steps a.ds) j (given main_layout bytes s) busy l;
       ended = ap (is_idle main_layout) g.goes ∙ a.idle;
     }
 
 all_sampled : Laws → (f : Firmware) (n : ℕ) (b : Block) (image : List ℕ) (flags : ℕ) (before : ℕ → ℕ) (samples : List (List ℕ)) (s : State) → flags < 2 ^ 8 → get_or image 0xC008 0 ≡ 182 → AreShort samples → (w : AreAnswered main_layout b image flags before samples s)
-    → AllComplete (Facts is_free flags) (with_writes flags (alone f n)) (numbers b image flags before samples s w) samples s
+    → AllComplete (FactsAlone flags) (with_writes flags (alone f n)) (numbers b image flags before samples s w) samples s
 unfolding numbers
 all_sampled laws f n b image flags before [] s hf k l w = tt
 all_sampled laws f n b image flags before (bytes ∷ samples) s hf k l w =
     let g = went laws b image flags before bytes s w.0 hf k l.0 w.1.0 in
     let later : ℕ → ℕ = λ o. byte_answer b o bytes (before o) in (
       sampled laws f n b image flags before bytes s w.0 hf k l.0 w.1.0,
-      subst (λ (u : State). AllComplete (Facts is_free flags) (with_writes flags (alone f n)) (numbers b image flags later samples w.0 w.1.1) samples u) (sym g.goes) (all_sampled laws f n b image flags later samples w.0 hf k l.1 w.1.1),
+      subst (λ (u : State). AllComplete (FactsAlone flags) (with_writes flags (alone f n)) (numbers b image flags later samples w.0 w.1.1) samples u) (sym g.goes) (all_sampled laws f n b image flags later samples w.0 hf k l.1 w.1.1),
     )
 
 -- the answers, one by one
@@ -246,7 +257,7 @@ under laws b f flags samples plan s hf few h narrow short good a w =
     let first : first_state f flags ≡ s = first_is b f flags s few h a in
     let low : IsLow (alone f n) = record { ready = omega arith; outputs = omega arith } in
     let within : AllWithin f.step_bound ns = subst (λ (m : ℕ). AllWithin m ns) (sym h.steps) (within b image flags (λ o. 0) samples s w) in
-    let complete : AllComplete (Facts is_free flags) (with_writes flags (alone f n)) ns samples s = all_sampled laws f n b image flags (λ o. 0) samples s hf a.load short w in
+    let complete : AllComplete (FactsAlone flags) (with_writes flags (alone f n)) ns samples s = all_sampled laws f n b image flags (λ o. 0) samples s hf a.load short w in
     let runs : FollowsAlone flags (alone f n) f.step_bound plan ns samples s = laws.runs_follow flags (alone f n) f.step_bound plan ns samples s low good within complete in
     let rows_are : (firmware_rows f samples plan flags).rows ≡ rows_of_samples flags (alone f n) plan 1 ns samples s =
     ap (λ (u : State). (rows_from (with_writes flags f) f.step_bound (λ k. requests_of k plan) 1 samples u).rows) first
@@ -261,7 +272,7 @@ under laws b f flags samples plan s hf few h narrow short good a w =
         counts = subst (λ (rs : List (RowSeen (List ℕ))). AreCountsOf b image flags (λ o. 0) samples s w rs) (sym rows_are) (all_counts laws f b image flags (λ o. 0) plan 1 samples s hf a.load short w);
       };
       ns = ns;
-      complete = subst (λ (d : Firmware). AllComplete (Facts is_free flags) (with_writes flags d) ns samples s) (sym same) complete;
+      complete = subst (λ (d : Firmware). AllComplete (FactsAlone flags) (with_writes flags d) ns samples s) (sym same) complete;
       rows_are = rows_are ∙ ap (λ (d : Firmware). rows_of_samples flags d plan 1 ns samples s) (sym same);
       follows = subst (λ (d : Firmware). FollowsAlone flags d f.step_bound plan ns samples s) (sym same) runs;
     }

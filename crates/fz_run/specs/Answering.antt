@@ -20,7 +20,7 @@ use Rattle.run_law.specs.Forms.{RowSeen}
 use Rattle.run_law.specs.Following.{AllComplete}
 use Rattle.fz_run.specs.Forms.{with_writes}
 use Rattle.fz_run.specs.Rows.{firmware_rows}
-use Rattle.fz_run.specs.Facts.{Facts}
+use Rattle.fz_run.specs.Facts.{FactsAlone}
 use Rattle.fz_run.specs.Following.{rows_of_samples, FollowsAlone}
 
 -- a row has a sample's bytes, the byte answers to them after those before, and no more instructions and steps than the bounds say
@@ -59,7 +59,7 @@ pub record AreAnswersOf (b : Block) (f : Firmware) (flags : ℕ) (samples : List
 pub record AnswersUnder (b : Block) (f : Firmware) (flags : ℕ) (samples : List (List ℕ)) (plan : List Request) (rows : List (RowSeen (List ℕ))) : Type 0 where
   pub answers : AreAnswersOf b f flags samples rows
   pub ns : List ℕ
-  pub complete : AllComplete (Facts is_free flags) (with_writes flags f) ns samples answers.first
+  pub complete : AllComplete (FactsAlone flags) (with_writes flags f) ns samples answers.first
   pub rows_are : rows ≡ rows_of_samples flags f plan 1 ns samples answers.first
   pub follows : FollowsAlone flags f f.step_bound plan ns samples answers.first
 
