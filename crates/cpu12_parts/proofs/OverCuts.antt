@@ -1,10 +1,14 @@
 -- The law over all cuts, for each instruction.
-use Rattle.std.proofs.Common.{ℕ, ◌-◌, Bool, false, List, [], ◌∷◌, length, refl}
+use Rattle.std.proofs.Common.{ℕ, ◌-◌, Bool, false, List, [], ◌∷◌, length, refl, sym, subst}
 use Rattle.cpu12_isa.specs.Agreement.{AllShown}
-use Rattle.cpu12_parts.specs.Cuts.{rev, revw, wav}
-use Rattle.cpu12_parts.specs.Rules.{rev_form, revw_form, rules_written, rules_whole}
-use Rattle.cpu12_parts.specs.Averages.{wav_whole}
-use Rattle.cpu12_parts.specs.Laws.{below, state_of, CutsChangeNothing, RevIsWhole, RevwIsWhole, WavIsWhole, RevOverCuts, RevwOverCuts, WavOverCuts}
+use Rattle.cpu12_parts.specs.declared.temps.Temps.{Temps}
+use Rattle.cpu12_parts.specs.State.{State}
+use Rattle.cpu12_parts.specs.Cuts.{Kind, rev, revw, wav}
+use Rattle.cpu12_parts.specs.Owed.{Whole, WholeRules, WholeAverage, whole_rev, whole_revw, MakesWhole, OverCuts}
+use Rattle.cpu12_parts.specs.Rules.{rev_form, revw_form, rules_read, rules_written, rules_whole}
+use Rattle.cpu12_parts.specs.Averages.{wav_read, wav_whole}
+use Rattle.cpu12_parts.specs.Laws.{PartsTo, below, state_of, GoesOn, IsSteady, CutsChangeNothing, RevIsWhole, RevwIsWhole, WavIsWhole, RevOverCuts, RevwOverCuts, WavOverCuts}
+use Rattle.cpu12_parts.proofs.Cutting.{cuts_change_nothing}
 
 none : ℕ → Bool
 none at = false
@@ -28,3 +32,29 @@ pub wav_over_cuts : CutsChangeNothing wav → WavIsWhole → WavOverCuts
 wav_over_cuts cuts whole flags r t mem cs ff fc z sp off shown len =
     let run = whole flags r t mem (below 6 r.sp) none ff fc off shown in
     cuts flags none (r.b - 1) (state_of r t mem) (wav_whole flags r mem) z sp run cs len
+
+-- and for every instruction in parts
+pub over_cuts : (k : Kind) (kept : Temps → Type 0) (W : Whole) → GoesOn k kept → IsSteady k kept → MakesWhole k W → OverCuts k W
+over_cuts k kept W goes steady makes flags d reads writes s t cs whole z sp shown len =
+    let run = makes flags d reads writes s t whole (below 6 s.regs.sp) none shown (none_hidden writes) in
+    cuts_change_nothing k kept goes steady flags none d s t z sp run cs len
+
+-- REV's, REVW's and WAV's parts make the whole instruction
+pub rev_makes : RevIsWhole → MakesWhole rev whole_rev
+rev_makes whole flags d reads writes s t w unread unwritten hr hw =
+    let f = rev_form s.regs.y in
+    let shown_r : AllShown unread (rules_read f s.regs w.rule w.rules) = subst (λ (ats : List ℕ). AllShown unread ats) w.reads_are hr in
+    let shown_w : AllShown unwritten (rules_written f w.rule w.rules) = subst (λ (ats : List ℕ). AllShown unwritten ats) w.writes_are hw in
+    subst (λ (u : State). PartsTo rev flags unread unwritten d s u) (sym w.leads) (whole flags s.regs s.temps s.mem w.rule w.rules d unread unwritten w.flags_fit w.ccr_fits w.ready w.parts shown_r shown_w)
+
+pub revw_makes : RevwIsWhole → MakesWhole revw whole_revw
+revw_makes whole flags d reads writes s t w unread unwritten hr hw =
+    let shown_r : AllShown unread (rules_read revw_form s.regs w.rule w.rules) = subst (λ (ats : List ℕ). AllShown unread ats) w.reads_are hr in
+    let shown_w : AllShown unwritten (rules_written revw_form w.rule w.rules) = subst (λ (ats : List ℕ). AllShown unwritten ats) w.writes_are hw in
+    subst (λ (u : State). PartsTo revw flags unread unwritten d s u) (sym w.leads) (whole flags s.regs s.temps s.mem w.rule w.rules d unread unwritten w.flags_fit w.ccr_fits w.ready w.parts shown_r shown_w)
+
+pub wav_makes : WavIsWhole → MakesWhole wav WholeAverage
+wav_makes whole flags d reads writes s t w unread unwritten hr hw =
+    let shown : AllShown unread (wav_read s.regs) = subst (λ (ats : List ℕ). AllShown unread ats) w.reads_are hr in
+    subst (λ (u : State). PartsTo wav flags unread unwritten d s u) (sym w.leads)
+    (subst (λ (k : ℕ). PartsTo wav flags unread unwritten k s (wav_whole flags s.regs s.mem)) (sym w.parts) (whole flags s.regs s.temps s.mem unread unwritten w.flags_fit w.ccr_fits w.off shown))

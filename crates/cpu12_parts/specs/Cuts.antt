@@ -14,6 +14,10 @@ pub record Kind : Type 0 where
   pub push : Regs → Temps → Act Outcome
   pub pull : Regs → Temps → Act Outcome
 
+-- the kind with these three acts
+abbrev pub kind_by : (ℕ → Regs → Temps → Act Outcome) → (Regs → Temps → Act Outcome) → (Regs → Temps → Act Outcome) → Kind
+kind_by act push pull = record { act = act; push = push; pull = pull }
+
 abbrev pub rev : Kind
 rev = record { act = rev_act; push = nothing; pull = nothing }
 

@@ -9,3 +9,4 @@ pub mod Whole
 pub mod Fits
 pub mod Touching
 pub mod Executions
+pub mod Owed

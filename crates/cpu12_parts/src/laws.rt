@@ -1,7 +1,21 @@
 // Laws of the parts.
-ghost use Rattle.cpu12_parts.specs.Cuts.{rev, revw, wav};
+ghost use Rattle.cpu12_parts.specs.Cuts.{kind_by, rev, revw, wav};
 ghost use Rattle.cpu12_parts.specs.Fits.{PartFits};
+ghost use Rattle.cpu12_parts.specs.Owed.{OverCuts};
 ghost use Rattle.cpu12_parts.specs.Laws.{AreKept, Any, GoesOn, WritesBelow, KeepsNothing, IsSteady, CutsChangeNothing, RevIsWhole, RevwIsWhole, WavIsWhole, RevOverCuts, RevwOverCuts, WavOverCuts};
+
+use crate::temps::Resumable;
+
+/// The law over all cuts, for every instruction in parts: its parts, cut at any boundaries by
+/// `suspend` and then `resume`, end after as many as the whole instruction has, and in its state but
+/// for the six bytes below SP, where it reads none of these.
+pub fn over_cuts<R: Resumable>(k: &R)
+    ensures { OverCuts (kind_by (R.act k.now) (R.push k.now) (R.pull k.now)) (R.whole k.now) }
+{
+    k.goes_on();
+    k.is_steady();
+    k.makes_whole();
+}
 
 /// What WAV's `suspend` put away, its `resume` gets back.
 pub fn wav_goes_on()

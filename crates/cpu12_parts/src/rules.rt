@@ -3,7 +3,12 @@ ghost use Rattle.std.specs.Prelude.{ℕ, ◌≡◌, ◌+◌, ◌*◌, ◌/◌, �
 ghost use Rattle.cpu12_isa.specs.Act.{outcome, write_all};
 ghost use Rattle.cpu12_parts.specs.Parts.{rev_act, revw_act, weighted, met};
 ghost use Rattle.cpu12_parts.specs.Sums.{nothing};
+ghost use Rattle.cpu12_parts.specs.Laws.{Any};
+ghost use Rattle.cpu12_parts.specs.Owed.{whole_rev, whole_revw};
 
+use crate::laws::{
+    rev_is_whole, rev_keeps_nothing, rev_steady, revw_is_whole, revw_keeps_nothing, revw_steady,
+};
 use crate::temps::{PartEnd, Resumable, Temps};
 use cpu12_isa::ccr::{CARRY, HNZ, HNZC, OVERFLOW};
 use cpu12_isa::instr::Regs;
@@ -23,6 +28,10 @@ impl Resumable for Rev {
     ghost push = { λ _. nothing };
 
     ghost pull = { λ _. nothing };
+
+    ghost kept = { λ _. Any };
+
+    ghost whole = { λ _. whole_rev };
 
     fn part<M: Mem>(&self, r: &mut Regs, m: &mut M, _t: &mut Temps, flags: u8) -> PartEnd {
         let e = m.read(r.x);
@@ -53,6 +62,20 @@ impl Resumable for Rev {
     fn suspend<M: Mem>(&self, _r: &mut Regs, _m: &mut M, _t: &mut Temps) {}
 
     fn resume<M: Mem>(&self, _r: &mut Regs, _m: &mut M, _t: &mut Temps) {}
+
+    fn goes_on(&self) {
+        rev_keeps_nothing();
+    }
+
+    fn writes_below(&self) {}
+
+    fn is_steady(&self) {
+        rev_steady();
+    }
+
+    fn makes_whole(&self) {
+        rev_is_whole();
+    }
 }
 
 /// A truth that is cut by a weight byte.
@@ -68,6 +91,10 @@ impl Resumable for Revw {
     ghost push = { λ _. nothing };
 
     ghost pull = { λ _. nothing };
+
+    ghost kept = { λ _. Any };
+
+    ghost whole = { λ _. whole_revw };
 
     fn part<M: Mem>(&self, r: &mut Regs, m: &mut M, _t: &mut Temps, flags: u8) -> PartEnd {
         let e = word_of(m.read(r.x), m.read(r.x.wrapping_add(1)));
@@ -101,4 +128,18 @@ impl Resumable for Revw {
     fn suspend<M: Mem>(&self, _r: &mut Regs, _m: &mut M, _t: &mut Temps) {}
 
     fn resume<M: Mem>(&self, _r: &mut Regs, _m: &mut M, _t: &mut Temps) {}
+
+    fn goes_on(&self) {
+        revw_keeps_nothing();
+    }
+
+    fn writes_below(&self) {}
+
+    fn is_steady(&self) {
+        revw_steady();
+    }
+
+    fn makes_whole(&self) {
+        revw_is_whole();
+    }
 }

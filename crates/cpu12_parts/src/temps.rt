@@ -3,7 +3,10 @@ ghost use Rattle.std.specs.Prelude.{ℕ, ◌≡◌, List};
 ghost use Rattle.cpu12_isa.specs.declared.instr.Regs.{Regs};
 ghost use Rattle.cpu12_isa.specs.Act.{Act, outcome, write_all};
 ghost use Rattle.cpu12_parts.specs.declared.temps.Temps.{Temps};
-ghost use Rattle.cpu12_parts.specs.State.{Outcome};
+ghost use Rattle.cpu12_parts.specs.State.{State, Outcome};
+ghost use Rattle.cpu12_parts.specs.Cuts.{kind_by};
+ghost use Rattle.cpu12_parts.specs.Laws.{GoesOn, WritesBelow, IsSteady};
+ghost use Rattle.cpu12_parts.specs.Owed.{MakesWhole};
 
 use cpu12_isa::instr::Regs;
 use cpu12_isa::mem::Mem;
@@ -25,6 +28,10 @@ pub enum PartEnd {
 
 /// An instruction that is done in parts, and can be interrupted between two of them. No call takes
 /// memory.
+///
+/// `goes_on`, `writes_below`, `is_steady` and `makes_whole` do nothing: they are the laws that an
+/// implementation owes. From them the law over all cuts follows for each
+/// ([`over_cuts`](crate::laws::over_cuts)).
 pub trait Resumable {
     /// One part with a byte FLAGS, from registers and sums.
     ghost act: { Self → ℕ → Regs → Temps → Act Outcome };
@@ -34,6 +41,13 @@ pub trait Resumable {
 
     /// What is taken from it again.
     ghost pull: { Self → Regs → Temps → Act Outcome };
+
+    /// The sums that stand between two parts.
+    ghost kept: { Self → Temps → Type 0 };
+
+    /// The whole instruction: with a byte FLAGS it leads by so many parts more than one from one
+    /// state to another, and reads and writes at these addresses.
+    ghost whole: { Self → ℕ → ℕ → List ℕ → List ℕ → State → State → Type 0 };
 
     /// Does one part. Flags that the manual leaves open take their bits from `flags`.
     fn part<M: Mem>(&self, r: &mut Regs, m: &mut M, t: &mut Temps, flags: u8) -> PartEnd
@@ -53,4 +67,20 @@ pub trait Resumable {
         ensures regs { r.new ≡ (outcome (pull self.now r.old t.old) (M.bytes m.old)).regs }
         ensures mem { M.bytes m.new ≡ write_all (outcome (pull self.now r.old t.old) (M.bytes m.old)).writes (M.bytes m.old) }
         ensures temps { t.new ≡ (outcome (pull self.now r.old t.old) (M.bytes m.old)).temps };
+
+    /// What `suspend` puts away `resume` gets back: all is as it was, but for the six bytes below SP.
+    fn goes_on(&self)
+        ensures { GoesOn (kind_by (act self.now) (push self.now) (pull self.now)) (kept self.now) };
+
+    /// `suspend` writes only below SP as it was, and `resume` nothing.
+    fn writes_below(&self)
+        ensures { WritesBelow (kind_by (act self.now) (push self.now) (pull self.now)) };
+
+    /// A part leaves SP, and sums that may stand between parts.
+    fn is_steady(&self)
+        ensures { IsSteady (kind_by (act self.now) (push self.now) (pull self.now)) (kept self.now) };
+
+    /// The parts make the whole instruction, and each reads and writes only where it does.
+    fn makes_whole(&self)
+        ensures { MakesWhole (kind_by (act self.now) (push self.now) (pull self.now)) (whole self.now) };
 }

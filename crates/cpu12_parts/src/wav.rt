@@ -3,7 +3,10 @@ ghost use Rattle.std.specs.Prelude.{ℕ, ◌≡◌, ◌<◌, ◌/◌, ◌%◌, �
 ghost use Rattle.cpu12_isa.specs.Memory.{plus};
 ghost use Rattle.cpu12_parts.specs.Parts.{wav_act, wav_end};
 ghost use Rattle.cpu12_parts.specs.Sums.{wav_push, wav_pull};
+ghost use Rattle.cpu12_parts.specs.Laws.{AreKept};
+ghost use Rattle.cpu12_parts.specs.Owed.{WholeAverage};
 
+use crate::laws::{wav_goes_on, wav_is_whole, wav_steady, wav_writes_below};
 use crate::temps::{PartEnd, Resumable, Temps};
 use cpu12_isa::ccr::{HNVC, HNZVC, ZERO};
 use cpu12_isa::instr::Regs;
@@ -33,6 +36,10 @@ impl Resumable for Wav {
     ghost push = { λ _. wav_push };
 
     ghost pull = { λ _. wav_pull };
+
+    ghost kept = { λ _. AreKept };
+
+    ghost whole = { λ _. WholeAverage };
 
     fn part<M: Mem>(&self, r: &mut Regs, m: &mut M, t: &mut Temps, flags: u8) -> PartEnd {
         let (product, weight) = match *t {
@@ -88,5 +95,21 @@ impl Resumable for Wav {
         let product_low = pull_word(r, m);
         let weight = pull_word(r, m);
         *t = Temps::Running(product_high as u32 * 65536 + product_low as u32, weight);
+    }
+
+    fn goes_on(&self) {
+        wav_goes_on();
+    }
+
+    fn writes_below(&self) {
+        wav_writes_below();
+    }
+
+    fn is_steady(&self) {
+        wav_steady();
+    }
+
+    fn makes_whole(&self) {
+        wav_is_whole();
     }
 }

@@ -35,7 +35,7 @@ use Rattle.run_law.specs.Uninterrupted.{uninterrupted, counted}
 use Rattle.run_law.specs.Following.{Completes, AllComplete, AllWithin}
 use Rattle.fz_run.specs.Forms.{given, answer_size, answer_at, answers_at, answers_in, with_writes}
 use Rattle.fz_run.specs.Rows.{requests_of, arrival, first_state, firmware_rows}
-use Rattle.fz_run.specs.Facts.{Facts}
+use Rattle.fz_run.specs.Facts.{FactsAlone}
 use Rattle.fz_run.specs.Following.{row_of_sample, rows_of_samples, IsLow, FollowsAlone}
 use Rattle.fz_run.specs.Stretches.{Stretch, Went, Kept, Calmly}
 use Rattle.fz_run.specs.Answering.{answer_of_row, AnswerBlock, AnswersItsBlock, AnswersUnder, AnswersUnderPlans}
@@ -51,11 +51,19 @@ use Rattle.fz_run.proofs.WholeSteps.{rev_step, revw_step, average_step}
 abbrev alone : Firmware → ℕ → Firmware
 alone f n = record f { layout = main_layout; outputs = n }
 
-On : State → Type 0
-On u = is_idle main_layout u ≡ false
+-- it does not wait, and SP is one of two
+IsStack : ℕ → Type 0
+IsStack sp = (sp + 2 ≡ stack_end) ⊎ (sp ≡ stack_end)
 
-off_loop : (v : State) → (v.regs.pc ≡ 0xC008 → ⊥) → On v
-unfolding On
+On : State → Type 0
+On u = (is_idle main_layout u ≡ false) × IsStack u.regs.sp
+
+at_stack : (sp : ℕ) → (sp ≡ 0x1FFE) ⊎ (sp ≡ 0x2000) → IsStack sp
+unfolding IsStack
+at_stack sp (inl e) = inl (omega arith)
+at_stack sp (inr e) = inr e
+
+off_loop : (v : State) → (v.regs.pc ≡ 0xC008 → ⊥) → is_idle main_layout v ≡ false
 off_loop v h = let t : (v.regs.pc == 0xC008) ≡ false = grind (arith, nat_tests) in rw t refl
 
 -- what each state keeps at which an interrupt may come, in the words of runs
@@ -86,14 +94,17 @@ step_stretch laws image flags d s t hf h = by h.instruction
     c : Calmly is_free s
     c = calmly image s h.interruptible
 
+    stack : IsStack s.regs.sp
+    stack = (let state = h.interruptible in at_stack s.regs.sp state.stack)
+
     stays : (v : State) → (s.regs.pc ≡ 0xC008 → ⊥) → v.regs.pc ≡ s.regs.pc → is_idle main_layout v ≡ false
     stays v ne e = off_loop v (λ z. ne (sym e ∙ z))
 
     by : IsShownInstruction main_layout flags d s t → Stretch (Kept is_free flags On) flags d s t
-    by (inl p) = subst (λ (k : ℕ). Stretch (Kept is_free flags On) flags k s t) (sym p.1.1) (plain_step is_free flags On p.0 s t c p.1.0.step p.1.0.reads p.1.0.uncovers h.busy)
-    by (inr (inl p)) = rev_step laws.rev_is_whole is_free flags On d p.0 p.1 s t hf c p.2.step p.2.reads p.2.itself (λ v e. stays v p.2.away e)
-    by (inr (inr (inl p))) = revw_step laws.revw_is_whole is_free flags On d p.0 p.1 s t hf c p.2.step p.2.reads p.2.itself (λ v e. stays v p.2.away e)
-    by (inr (inr (inr p))) = average_step laws.wav_is_whole laws.decoded_has_opcode is_free flags On d s t hf c p.step p.reads h.busy (λ v e. off_loop v (λ z. p.away (sym e ∙ z)))
+    by (inl p) = subst (λ (k : ℕ). Stretch (Kept is_free flags On) flags k s t) (sym p.1.1) (plain_step is_free flags On p.0 s t c p.1.0.step p.1.0.reads p.1.0.uncovers (h.busy, stack))
+    by (inr (inl p)) = rev_step laws.rev_is_whole is_free flags On d p.0 p.1 s t hf c p.2.step p.2.reads p.2.itself (λ v e g. (stays v p.2.away e, subst IsStack (sym g) stack))
+    by (inr (inr (inl p))) = revw_step laws.revw_is_whole is_free flags On d p.0 p.1 s t hf c p.2.step p.2.reads p.2.itself (λ v e g. (stays v p.2.away e, subst IsStack (sym g) stack))
+    by (inr (inr (inr p))) = average_step laws.wav_is_whole laws.decoded_has_opcode is_free flags On d s t hf c p.step p.reads (h.busy, stack) (λ v e g. (off_loop v (λ z. p.away (sym e ∙ z)), subst IsStack (sym g) stack))
 
 stretches : Laws → (image : List ℕ) (flags : ℕ) (ds : List ℕ) (s t : State) → flags < 2 ^ 8 → Execution (IsInterruptibleStep main_layout image flags) ds s t → Execution (Stretch (Kept is_free flags On) flags) ds s t
 stretches laws image flags [] s t hf h = h
@@ -135,27 +146,27 @@ went laws b w image flags before bytes s t hf l a =
     subst (λ (u : State). Went (Kept is_free flags On) flags a.ds u t) (sym (same_given bytes s l)) (execution_went (Kept is_free flags On) flags a.ds start t (stretches laws image flags a.ds start t hf a.execution))
 
 sampled : Laws → (f : Firmware) (n : ℕ) (b : Block) (w : Width) (image : List ℕ) (flags : ℕ) (before : ℕ → ℕ) (bytes : List ℕ) (s t : State) → flags < 2 ^ 8 → length bytes ≤ 8 → (a : IsAnswered main_layout b w image flags before bytes s t)
-    → Completes (Facts is_free flags) (with_writes flags (alone f n)) 0 (all_steps a.ds) (all_steps a.ds) (given main_layout bytes s)
-unfolding On
+    → Completes (FactsAlone flags) (with_writes flags (alone f n)) 0 (all_steps a.ds) (all_steps a.ds) (given main_layout bytes s)
+unfolding On IsStack
 sampled laws f n b w image flags before bytes s t hf l a =
     let g = went laws b w image flags before bytes s t hf l a in
-    let busy = before_weaker (Kept is_free flags On) On flags (λ u k. k.1) (all_steps a.ds) (given main_layout bytes s) g.each in
+    let busy = before_weaker (Kept is_free flags On) (λ u. is_idle main_layout u ≡ false) flags (λ u k. k.1.0) (all_steps a.ds) (given main_layout bytes s) g.each in
     record {
       sum = omega arith;
-      holds = before_weaker (Kept is_free flags On) (Facts is_free flags) flags (λ u k. k.0) (all_steps a.ds) (given main_layout bytes s) g.each;
-      on = λ j from l. before_at On flags (all_steps a.ds) j (given main_layout bytes s) busy l;
+      holds = before_weaker (Kept is_free flags On) (FactsAlone flags) flags (λ u k. record { facts = k.0; stack = k.1.1 }) (all_steps a.ds) (given main_layout bytes s) g.each;
+      on = λ j from l. before_at (λ u. is_idle main_layout u ≡ false) flags (all_steps a.ds) j (given main_layout bytes s) busy l;
       ended = ap (is_idle main_layout) g.goes ∙ a.idle;
     }
 
 all_sampled : Laws → (f : Firmware) (n : ℕ) (b : Block) (w : Width) (image : List ℕ) (flags : ℕ) (before : ℕ → ℕ) (samples : List (List ℕ)) (s : State) → flags < 2 ^ 8 → AreShort samples → (h : AreAnswered main_layout b w image flags before samples s)
-    → AllComplete (Facts is_free flags) (with_writes flags (alone f n)) (numbers b w image flags before samples s h) samples s
+    → AllComplete (FactsAlone flags) (with_writes flags (alone f n)) (numbers b w image flags before samples s h) samples s
 unfolding numbers
 all_sampled laws f n b w image flags before [] s hf l h = tt
 all_sampled laws f n b w image flags before (bytes ∷ samples) s hf l h =
     let g = went laws b w image flags before bytes s h.0 hf l.0 h.1.0 in
     let later : ℕ → ℕ = λ o. answer w b o bytes (before o) in (
       sampled laws f n b w image flags before bytes s h.0 hf l.0 h.1.0,
-      subst (λ (u : State). AllComplete (Facts is_free flags) (with_writes flags (alone f n)) (numbers b w image flags later samples h.0 h.1.1) samples u) (sym g.goes) (all_sampled laws f n b w image flags later samples h.0 hf l.1 h.1.1),
+      subst (λ (u : State). AllComplete (FactsAlone flags) (with_writes flags (alone f n)) (numbers b w image flags later samples h.0 h.1.1) samples u) (sym g.goes) (all_sampled laws f n b w image flags later samples h.0 hf l.1 h.1.1),
     )
 
 -- the answers where none stands past the end of memory
@@ -245,7 +256,7 @@ under laws b f n flags samples plan s hf few count h short good a answered =
     let low : IsLow g = record { ready = omega arith; outputs = omega arith } in
     let steps : AllWithin (step_bound w b) ns = within b w image flags (λ o. 0) samples s answered in
     let bounded : AllWithin f.step_bound ns = subst (λ (m : ℕ). AllWithin m ns) (sym h.steps) steps in
-    let complete : AllComplete (Facts is_free flags) (with_writes flags g) ns samples s = all_sampled laws f n b w image flags (λ o. 0) samples s hf short answered in
+    let complete : AllComplete (FactsAlone flags) (with_writes flags g) ns samples s = all_sampled laws f n b w image flags (λ o. 0) samples s hf short answered in
     let runs : FollowsAlone flags g f.step_bound plan ns samples s = laws.runs_follow flags g f.step_bound plan ns samples s low good bounded complete in
     let rows = (firmware_rows g samples plan flags).rows in
     let expected = rows_of_samples flags g plan 1 ns samples s in
@@ -260,7 +271,7 @@ under laws b f n flags samples plan s hf few count h short good a answered =
         steps = subst (λ (rs : List (RowSeen (List ℕ))). All (λ (r : RowSeen (List ℕ)). r.steps ≤ step_bound w b) rs) (sym rows_are) (few_steps flags g plan (step_bound w b) 1 ns samples s steps);
       };
       ns = ns;
-      complete = subst (λ (u : State). AllComplete (Facts is_free flags) (with_writes flags g) ns samples u) (sym first) complete;
+      complete = subst (λ (u : State). AllComplete (FactsAlone flags) (with_writes flags g) ns samples u) (sym first) complete;
       rows_are = rows_are ∙ ap (λ (u : State). rows_of_samples flags g plan 1 ns samples u) (sym first);
       follows = subst (λ (u : State). FollowsAlone flags g f.step_bound plan ns samples u) (sym first) runs;
     }

@@ -233,12 +233,12 @@ calm_after open_to flags k r m c h more =
     }
 
 pub parts_at : (open_to : ℕ → Bool) (flags : ℕ) (Q : State → Type 0) (k : Kind) (i : Instr) (sp pc d : ℕ) (r : Regs) (m : List ℕ) (t : State) → IsInParts k i → flags < 2 ^ 8 → Calmly open_to (free_at r m) → decode_at m pc ≡ Ok i
-    → r.sp ≡ sp → r.pc ≡ pc → ((v : State) → v.regs.pc ≡ pc → Q v) → PartsTo k flags (is_hidden open_to sp) (is_among (six_from pc)) d (free_at r m) t → Stretch (Kept open_to flags Q) flags d (free_at r m) t
+    → r.sp ≡ sp → r.pc ≡ pc → ((v : State) → v.regs.pc ≡ pc → v.regs.sp ≡ sp → Q v) → PartsTo k flags (is_hidden open_to sp) (is_among (six_from pc)) d (free_at r m) t → Stretch (Kept open_to flags Q) flags d (free_at r m) t
 parts_at open_to flags Q k i sp pc zero r m t ip hf c decoded esp epc q h =
     let s : State = free_at r m in
     let p = part_here open_to flags k i r m ip hf c (ap (decode_at m) epc ∙ decoded) (subst (λ (n : ℕ). AllShown (is_hidden open_to n) (read_by (k.act flags r Free) m)) (sym esp) h.0.0) in
     subst (λ (u : State). Stretch (Kept open_to flags Q) flags 0 s u) (sym h.2)
-    (last_stretch (Kept open_to flags Q) flags s (after_part k flags s) (p.calmed, q s epc) (p.goes ∙ ap (λ (e : PartEnd). by e) h.1))
+    (last_stretch (Kept open_to flags Q) flags s (after_part k flags s) (p.calmed, q s epc esp) (p.goes ∙ ap (λ (e : PartEnd). by e) h.1))
   where
     by : PartEnd → Result Next ℕ
     by e = Ok (record { state = after_part k flags (free_at r m); kind = kind_of e })
@@ -252,7 +252,7 @@ parts_at open_to flags Q k i sp pc (suc d) r m t ip hf c decoded esp epc q h =
     let still : decode_at m2 pc ≡ Ok i = ap decode_of (bytes_stay (six_from pc) o.writes m (six_from pc) h.0.1 (all_among (six_from pc))) ∙ decoded in
     let rest = parts_at open_to flags Q k i sp pc d o.regs m2 t ip hf (calm_after open_to flags k r m c hold h.1) still (hold.sp ∙ esp) (hold.inner h.1 ∙ epc) q
     (subst (λ (u : State). PartsTo k flags (is_hidden open_to sp) (is_among (six_from pc)) d u t) there h.2) in
-    part_stretch (Kept open_to flags Q) flags d s (after_part k flags s) t (p.calmed, q s epc) (p.goes ∙ ap (λ (e : PartEnd). by e) h.1)
+    part_stretch (Kept open_to flags Q) flags d s (after_part k flags s) t (p.calmed, q s epc esp) (p.goes ∙ ap (λ (e : PartEnd). by e) h.1)
     (subst (λ (u : State). Stretch (Kept open_to flags Q) flags d u t) (sym there) rest)
   where
     by : PartEnd → Result Next ℕ

@@ -20,7 +20,7 @@ use Rattle.codegen.specs.declared.firmware.Firmware.{Firmware}
 use Rattle.codegen.specs.declared.layout.Layout.{Layout}
 use Rattle.fz_run.specs.Forms.{given, answer_size, answer_at, answers_at, answers_in, with_writes}
 use Rattle.fz_run.specs.Rows.{requests_of}
-use Rattle.fz_run.specs.Facts.{Facts}
+use Rattle.fz_run.specs.Facts.{FactsAlone}
 use Rattle.fz_run.specs.Following.{IsLow, Nothing, rows_of_samples, RunsFollowAlone}
 use Rattle.fz_run.proofs.Requests.{goes_good, requests_good, requests_ascend}
 
@@ -34,7 +34,7 @@ at_once : (flags : ℕ) (s : State) (k m : ℕ) → ((j : ℕ) → suc j ≤ m +
 at_once flags s zero m h = refl
 at_once flags s (suc k) m h = let e = h m (omega arith) in rw e refl
 
-taken_is : (flags n : ℕ) (s : State) → Before (Facts is_free flags) flags n s → taken_at flags (λ (r : Request). r.moment) n s ≡ (λ r. r.moment)
+taken_is : (flags n : ℕ) (s : State) → Before (FactsAlone flags) flags n s → taken_at flags (λ (r : Request). r.moment) n s ≡ (λ r. r.moment)
 taken_is flags n s b = λ i. λ r. at r (within r.moment) i
   where
     within : (a : ℕ) → (n - a ≡ 0) ⊎ (n - a + a ≡ n)
@@ -42,9 +42,9 @@ taken_is flags n s b = λ i. λ r. at r (within r.moment) i
 
     at : (r : Request) → (n - r.moment ≡ 0) ⊎ (n - r.moment + r.moment ≡ n) → taken_at flags (λ (r : Request). r.moment) n s r ≡ r.moment
     at r (inl e) = ap (λ (k : ℕ). first_open flags s k r.moment) e
-    at r (inr e) = at_once flags s (n - r.moment) r.moment (λ j l. ap not (let p = before_at (Facts is_free flags) flags n j s b (omega arith) in p.unmasked))
+    at r (inr e) = at_once flags s (n - r.moment) r.moment (λ j l. ap not (let p = before_at (FactsAlone flags) flags n j s b (omega arith) in let facts = p.facts in facts.unmasked))
 
-same_rows : (flags : ℕ) (f : Firmware) (plan : List Request) (k : ℕ) (ns : List ℕ) (samples : List (List ℕ)) (s : State) → AllComplete (Facts is_free flags) (with_writes flags f) ns samples s
+same_rows : (flags : ℕ) (f : Firmware) (plan : List Request) (k : ℕ) (ns : List ℕ) (samples : List (List ℕ)) (s : State) → AllComplete (FactsAlone flags) (with_writes flags f) ns samples s
     → expected_rows (with_writes flags f) (λ j. requests_of j plan) k ns samples s ≡ rows_of_samples flags f plan k ns samples s
 same_rows flags f plan k [] samples s h = refl
 same_rows flags f plan k (n ∷ ns) [] s h = refl
@@ -63,7 +63,7 @@ same_rows flags f plan k (n ∷ ns) (bytes ∷ rest) s h =
       frames = frames_of flags moment (given f.layout bytes s) (requests_of k plan) n;
     }
 
-pub runs_follow_alone : ((flags : ℕ) (f : Firmware) → IsLow f → RunsFollow is_free (with_writes flags f) (Facts is_free flags) IsGoodRequest Nothing) → RunsFollowAlone
+pub runs_follow_alone : ((flags : ℕ) (f : Firmware) → IsLow f → RunsFollow is_free (with_writes flags f) (FactsAlone flags) IsGoodRequest Nothing) → RunsFollowAlone
 runs_follow_alone law flags f most plan ns samples s low good le h =
     let g = goes_good plan good in
     let r = law flags f low (λ j. requests_of j plan) (λ j. (requests_good j 0 0 plan g, requests_ascend j 0 0 plan g 0 (λ e. omega arith) (λ e. omega arith))) [] 1 most ns samples s s le h

@@ -131,12 +131,12 @@ after_is o m p w e f = ap₂ (λ (t : Temps) (ws : List (ℕ × ℕ)). by t ws) 
     by t ws = record { regs = o.regs; temps = t; mem = write_all ws m }
 
 pub sums_at : (open_to : ℕ → Bool) (flags : ℕ) (Q : State → Type 0) (sp pc d : ℕ) (none : ℕ → Bool) (r : Regs) (p w : ℕ) (m : List ℕ) (t : State) → flags < 2 ^ 8 → Summing open_to r p w m → r.sp ≡ sp → r.pc ≡ pc
-    → ((v : State) → v.regs.pc ≡ pc → Q v) → PartsTo wav flags (is_hidden open_to sp) none d (running_at r p w m) t → Stretch (Kept open_to flags Q) flags d (running_at r p w m) t
+    → ((v : State) → v.regs.pc ≡ pc → v.regs.sp ≡ sp → Q v) → PartsTo wav flags (is_hidden open_to sp) none d (running_at r p w m) t → Stretch (Kept open_to flags Q) flags d (running_at r p w m) t
 sums_at open_to flags Q sp pc zero none r p w m t hf c esp epc q h =
     let s : State = running_at r p w m in
     let a = part_here open_to flags r p w m hf c (subst (λ (n : ℕ). AllShown (is_hidden open_to n) (read_by (wav_act flags r (Running p w)) m)) (sym esp) h.0.0) in
     subst (λ (u : State). Stretch (Kept open_to flags Q) flags 0 s u) (sym h.2)
-    (last_stretch (Kept open_to flags Q) flags s (after_part wav flags s) (a.calmed, q s epc) (a.goes ∙ ap (λ (e : PartEnd). by e) h.1))
+    (last_stretch (Kept open_to flags Q) flags s (after_part wav flags s) (a.calmed, q s epc esp) (a.goes ∙ ap (λ (e : PartEnd). by e) h.1))
   where
     by : PartEnd → Result Next ℕ
     by e = Ok (record { state = after_part wav flags (running_at r p w m); kind = kind_of e })
@@ -159,7 +159,7 @@ sums_at open_to flags Q sp pc (suc d) none r p w m t hf c esp epc q h =
       shown = ap₂ (is_hidden open_to) a.sums.sp on.at ∙ c.shown;
     } in
     let rest = sums_at open_to flags Q sp pc d none o.regs on.product on.weight m t hf next (a.sums.sp ∙ esp) (on.at ∙ epc) q (subst (λ (u : State). PartsTo wav flags (is_hidden open_to sp) none d u t) there h.2) in
-    part_stretch (Kept open_to flags Q) flags d s (after_part wav flags s) t (a.calmed, q s epc) (a.goes ∙ ap (λ (e : PartEnd). by e) h.1)
+    part_stretch (Kept open_to flags Q) flags d s (after_part wav flags s) t (a.calmed, q s epc esp) (a.goes ∙ ap (λ (e : PartEnd). by e) h.1)
     (subst (λ (u : State). Stretch (Kept open_to flags Q) flags d u t) (sym there) rest)
   where
     by : PartEnd → Result Next ℕ
@@ -170,7 +170,7 @@ free_at r m = record { regs = r; temps = Free; mem = m }
 
 -- WAV from its first part
 pub average_at : DecodedHasOpcode → (open_to : ℕ → Bool) (flags : ℕ) (Q : State → Type 0) (d : ℕ) (none : ℕ → Bool) (r : Regs) (m : List ℕ) (t : State) → flags < 2 ^ 8 → Calmly open_to (free_at r m) → decode_at m r.pc ≡ Ok Wav
-    → Q (free_at r m) → ((v : State) → v.regs.pc ≡ plus r.pc 1 → Q v) → PartsTo wav flags (is_hidden open_to r.sp) none d (free_at r m) t → Stretch (Kept open_to flags Q) flags d (free_at r m) t
+    → Q (free_at r m) → ((v : State) → v.regs.pc ≡ plus r.pc 1 → v.regs.sp ≡ r.sp → Q v) → PartsTo wav flags (is_hidden open_to r.sp) none d (free_at r m) t → Stretch (Kept open_to flags Q) flags d (free_at r m) t
 average_at opcode open_to flags Q d none r m t hf c decoded qs q h = by d h
   where
     s : State

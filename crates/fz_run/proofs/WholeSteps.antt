@@ -37,7 +37,7 @@ abbrev at_temps : State → Temps → State
 at_temps s u = record { regs = s.regs; temps = u; mem = s.mem }
 
 pub rev_step : RevIsWhole → (open_to : ℕ → Bool) (flags : ℕ) (Q : State → Type 0) (d : ℕ) (p : Rule) (ps : List Rule) (s t : State) → flags < 2 ^ 8 → Calmly open_to s → IsRulesStep Rev (rev_form s.regs.y) flags d p ps s t
-    → AllShown (is_hidden open_to s.regs.sp) (rules_read (rev_form s.regs.y) s.regs p ps) → AreApart (rules_written (rev_form s.regs.y) p ps) (six_from s.regs.pc) → ((v : State) → v.regs.pc ≡ s.regs.pc → Q v)
+    → AllShown (is_hidden open_to s.regs.sp) (rules_read (rev_form s.regs.y) s.regs p ps) → AreApart (rules_written (rev_form s.regs.y) p ps) (six_from s.regs.pc) → ((v : State) → v.regs.pc ≡ s.regs.pc → v.regs.sp ≡ s.regs.sp → Q v)
     → Stretch (Kept open_to flags Q) flags d s t
 rev_step whole open_to flags Q d p ps s t hf c h reads apart q =
     let r = s.regs in
@@ -51,7 +51,7 @@ rev_step whole open_to flags Q d p ps s t hf c h reads apart q =
     (parts_at open_to flags Q rev Rev r.sp r.pc d r m (rules_whole (rev_form r.y) flags r Free m p ps) rev_in_parts hf (subst (λ (u : State). Calmly open_to u) e c) h.decoded refl refl q parts))
 
 pub revw_step : RevwIsWhole → (open_to : ℕ → Bool) (flags : ℕ) (Q : State → Type 0) (d : ℕ) (p : Rule) (ps : List Rule) (s t : State) → flags < 2 ^ 8 → Calmly open_to s → IsRulesStep Revw revw_form flags d p ps s t
-    → AllShown (is_hidden open_to s.regs.sp) (rules_read revw_form s.regs p ps) → AreApart (rules_written revw_form p ps) (six_from s.regs.pc) → ((v : State) → v.regs.pc ≡ s.regs.pc → Q v)
+    → AllShown (is_hidden open_to s.regs.sp) (rules_read revw_form s.regs p ps) → AreApart (rules_written revw_form p ps) (six_from s.regs.pc) → ((v : State) → v.regs.pc ≡ s.regs.pc → v.regs.sp ≡ s.regs.sp → Q v)
     → Stretch (Kept open_to flags Q) flags d s t
 revw_step whole open_to flags Q d p ps s t hf c h reads apart q =
     let r = s.regs in
@@ -69,7 +69,7 @@ nothing_shown [] = tt
 nothing_shown (at ∷ ats) = (refl, nothing_shown ats)
 
 pub average_step : WavIsWhole → DecodedHasOpcode → (open_to : ℕ → Bool) (flags : ℕ) (Q : State → Type 0) (d : ℕ) (s t : State) → flags < 2 ^ 8 → Calmly open_to s → IsAverageStep flags d s t → AllShown (is_hidden open_to s.regs.sp) (wav_read s.regs)
-    → Q s → ((v : State) → v.regs.pc ≡ plus s.regs.pc 1 → Q v) → Stretch (Kept open_to flags Q) flags d s t
+    → Q s → ((v : State) → v.regs.pc ≡ plus s.regs.pc 1 → v.regs.sp ≡ s.regs.sp → Q v) → Stretch (Kept open_to flags Q) flags d s t
 average_step whole opcode open_to flags Q d s t hf c h reads qs q =
     let r = s.regs in
     let m = s.mem in

@@ -3,7 +3,6 @@ use Rattle.std.specs.Prelude.{◌≡◌, ℕ, ◌^◌, ◌<◌, ◌≤◌, List,
 use Rattle.fuzzy_meaning.specs.declared.block.Block.{Block}
 use Rattle.fuzzy_meaning.specs.Blocks.{IsValid}
 use Rattle.rule_layout.specs.Layouts.{IsWithinLimits}
-use Rattle.cpu12_isa.specs.Regions.{is_free}
 use Rattle.interrupt_plan.specs.declared.Request.{Request}
 use Rattle.interrupt_plan.specs.Plans.{IsGood}
 use Rattle.codegen.specs.declared.firmware.Firmware.{Firmware}
@@ -16,7 +15,7 @@ use Rattle.run_law.specs.Forms.{RowSeen}
 use Rattle.run_law.specs.Following.{AllComplete}
 use Rattle.fz_run.specs.Forms.{with_writes}
 use Rattle.fz_run.specs.Rows.{first_state, firmware_rows}
-use Rattle.fz_run.specs.Facts.{Facts}
+use Rattle.fz_run.specs.Facts.{FactsAlone}
 use Rattle.fz_run.specs.Following.{rows_of_samples, FollowsAlone}
 
 -- a row's answers and its number of instructions
@@ -36,7 +35,7 @@ pub record AnswerBlock (b : Block) (f : Firmware) (flags : ℕ) (samples : List 
 pub record AnswersUnder (b : Block) (f : Firmware) (flags : ℕ) (samples : List (List ℕ)) (plan : List Request) (rows : List (RowSeen (List ℕ))) : Type 0 where
   pub answers : AnswerBlock b f flags samples rows
   pub ns : List ℕ
-  pub complete : AllComplete (Facts is_free flags) (with_writes flags f) ns samples (first_state f flags)
+  pub complete : AllComplete (FactsAlone flags) (with_writes flags f) ns samples (first_state f flags)
   pub rows_are : rows ≡ rows_of_samples flags f plan 1 ns samples (first_state f flags)
   pub follows : FollowsAlone flags f f.step_bound plan ns samples (first_state f flags)
 

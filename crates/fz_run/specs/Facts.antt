@@ -1,6 +1,7 @@
 -- What each state of a run without interrupts keeps.
-use Rattle.std.specs.Prelude.{◌≡◌, ℕ, Bool, false}
+use Rattle.std.specs.Prelude.{◌≡◌, ℕ, ◌+◌, ◌⊎◌, Bool, false}
 use Rattle.cpu12_isa.specs.Flags.{interrupts_masked, has}
+use Rattle.cpu12_isa.specs.Regions.{stack_end, is_free}
 use Rattle.cpu12_parts.specs.declared.temps.Temps.{Temps}
 use Rattle.cpu12_parts.specs.declared.temps.Temps.TheVariants.{Free, Running, OnStack}
 use Rattle.cpu12_parts.specs.State.{State}
@@ -17,3 +18,8 @@ pub record Facts (open_to : ℕ → Bool) (flags : ℕ) (s : State) : Type 0 whe
   pub shown : IsShownStep open_to flags s
   pub unmasked : has s.regs.ccr interrupts_masked ≡ false
   pub sums : AreNoneOrRunning s.temps
+
+-- the same of a firmware that stands alone, whose SP is at the stack's end, or two bytes lower while a call is open
+pub record FactsAlone (flags : ℕ) (s : State) : Type 0 where
+  pub facts : Facts is_free flags s
+  pub stack : (s.regs.sp + 2 ≡ stack_end) ⊎ (s.regs.sp ≡ stack_end)

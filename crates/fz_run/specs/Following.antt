@@ -11,7 +11,7 @@ use Rattle.interrupt_plan.specs.Plans.{IsGood}
 use Rattle.codegen.specs.declared.firmware.Firmware.{Firmware}
 use Rattle.fz_run.specs.Forms.{given, answer_size, answers_in, with_writes}
 use Rattle.fz_run.specs.Rows.{requests_of}
-use Rattle.fz_run.specs.Facts.{Facts}
+use Rattle.fz_run.specs.Facts.{FactsAlone}
 
 -- what the row of a sample is to be that is answered in n steps without interrupts: each request is taken at its moment
 abbrev pub row_of_sample : ℕ → Firmware → List Request → ℕ → List ℕ → State → RowSeen (List ℕ)
@@ -58,5 +58,5 @@ pub record FollowsAlone (flags : ℕ) (f : Firmware) (most : ℕ) (plan : List R
 -- So does each run under a good plan, where the states of the run without interrupts keep the facts.
 abbrev pub RunsFollowAlone : Type 0
 RunsFollowAlone = (flags : ℕ) (f : Firmware) (most : ℕ) (plan : List Request) (ns : List ℕ) (samples : List (List ℕ)) (s : State)
-    → IsLow f → IsGood plan → AllWithin most ns → AllComplete (Facts is_free flags) (with_writes flags f) ns samples s
+    → IsLow f → IsGood plan → AllWithin most ns → AllComplete (FactsAlone flags) (with_writes flags f) ns samples s
     → FollowsAlone flags f most plan ns samples s

@@ -15,7 +15,7 @@ use Rattle.run_law.specs.Soundness.{Sound, WritesAreQuiet}
 use Rattle.interrupt_plan.specs.Plans.{IsGoodRequest}
 use Rattle.codegen.specs.declared.firmware.Firmware.{Firmware}
 use Rattle.fz_run.specs.Forms.{answer_size, answer_at, answers_at, with_writes}
-use Rattle.fz_run.specs.Facts.{Facts}
+use Rattle.fz_run.specs.Facts.{FactsAlone}
 use Rattle.fz_run.specs.Following.{IsLow, Nothing}
 
 pub leaves_stack : LeavesStack is_free
@@ -46,14 +46,14 @@ same_answers true (suc k) at sp m n l a =
     let next : plus at 2 + 2 * k ≤ free_start = omega arith in
     ap₂ (λ (x : ℕ) (xs : List ℕ). x ∷ xs) (same_answer true at sp m n (omega arith) a) (same_answers true k (plus at 2) sp m n next a)
 
-pub sound : (flags : ℕ) (f : Firmware) → IsLow f → WritesAreQuiet → Sound is_free (with_writes flags f) (Facts is_free flags) IsGoodRequest Nothing
+pub sound : (flags : ℕ) (f : Firmware) → IsLow f → WritesAreQuiet → Sound is_free (with_writes flags f) (FactsAlone flags) IsGoodRequest Nothing
 sound flags f low quiet = record {
   apart = leaves_stack;
-  shown = λ s p. p.shown;
+  shown = λ s p. (let facts = p.facts in facts.shown);
   gives = λ x w s l. record { regs = l.regs; temps = l.temps; mem = same_writes (is_hidden is_free s.regs.sp) (placed f.layout.inputs x ++ (f.layout.ready, 1) ∷ []) w.mem s.mem l.mem.size (λ at h. inl (l.mem.bytes at h)) };
   leaves = λ x w s l. l;
   answers = λ w s l. same_answers f.wide f.outputs f.layout.outputs s.regs.sp w.mem s.mem low.outputs l.mem;
   ends = λ m w s l. ap₂ (λ (p v : ℕ). (p == f.layout.wait) && (v == 0)) (ap (λ (r : Regs). r.pc) l.regs) (l.mem.bytes f.layout.ready (low_shown s.regs.sp f.layout.ready low.ready));
-  quiet = λ done a v s good p may begins own. (let shown = p.shown in (quiet is_free a.writes v s leaves_stack (all_open a.writes good.free) shown.room begins, tt));
+  quiet = λ done a v s good p may begins own. (let facts = p.facts in let shown = facts.shown in (quiet is_free a.writes v s leaves_stack (all_open a.writes good.free) shown.room begins, tt));
   leaves_open = record { gives = λ done x w o. tt; leaves = λ done x w o. tt; pushes = λ done w s p l o. tt; steps = λ done w s p l o. tt };
 }

@@ -4,7 +4,7 @@ ghost use Rattle.cpu12_isa.specs.Regions.{is_free};
 ghost use Rattle.interrupt_plan.specs.Plans.{IsGoodRequest};
 ghost use Rattle.interrupt_plan.specs.declared.Request as plan;
 ghost use Rattle.fz_run.specs.Forms.{with_writes};
-ghost use Rattle.fz_run.specs.Facts.{Facts};
+ghost use Rattle.fz_run.specs.Facts.{FactsAlone};
 ghost use Rattle.fz_run.specs.Following.{Alone, Nothing};
 ghost use Rattle.fz_run.specs.SoundAlone.{sound};
 
@@ -26,7 +26,7 @@ impl SoundForm for StandAlone {
 
     ghost open_to = { λ _. is_free };
 
-    ghost holds = { λ x. Facts is_free x.flags };
+    ghost holds = { λ x. FactsAlone x.flags };
 
     ghost good = { λ _. IsGoodRequest };
 

@@ -10,12 +10,12 @@ use cpu12_parts::laws::{rev_is_whole, revw_is_whole, wav_is_whole};
 use run_law::laws::runs_follow;
 
 /// The run of a firmware that stands alone follows the run without interrupts under every good plan,
-/// where each state of the latter keeps the facts of [`Facts`]: its answers, counts of instructions
+/// where each state of the latter keeps the facts of [`FactsAlone`]: its answers, counts of instructions
 /// and steps are the same, its resumed counts and frames are read off the states without interrupts,
 /// and each of its states is the same but for the bytes that plans may write, the stack below SP,
 /// and WAV's sums between an interrupt and their pull.
 ///
-/// [`Facts`]: the record of that name in the crate's specifications
+/// [`FactsAlone`]: the record of that name in the crate's specifications
 pub fn runs_follow_alone()
     ensures { RunsFollowAlone }
 {

@@ -7,5 +7,3 @@ pub mod Expected
 pub mod Samples
 pub mod Lists
 pub mod Handlers
-pub mod Sessions
-pub mod Positions

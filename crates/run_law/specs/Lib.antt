@@ -3,4 +3,3 @@ pub mod Uninterrupted
 pub mod Soundness
 pub mod Following
 pub mod Moments
-pub mod Sessions

@@ -3,6 +3,7 @@
 use arrayvec::ArrayVec;
 use fz_list::List;
 use fz_num::Dec;
+use thiserror::Error;
 
 /// One value per input, and the byte of each in its input's range.
 #[derive(Drop)]
@@ -14,14 +15,18 @@ pub struct Sample {
 }
 
 /// Why a text is no trace. Rows count from 1, and so do inputs.
-#[derive(Clone, Copy, PartialEq, Eq, Debug)]
+#[derive(Clone, Copy, PartialEq, Eq, Debug, Error)]
 pub enum TraceFault {
     /// There is a row 10001.
+    #[error("too many rows")]
     TooMany,
     /// That row has not one decimal per input.
+    #[error("row {0}: bad row")]
     BadRow(u32),
     /// In that row, the value of that input is the first that is outside its range.
+    #[error("row {0}: input {1} out of range")]
     OutOfRange(u32, u8),
     /// Memory was wanted and not found.
+    #[error("no memory")]
     Memory,
 }

@@ -126,10 +126,21 @@ fn answers_without_interrupts(rt: HostRuntime) -> Result<(), Fail> {
         assert_eq!(rt; rows.len(), 1);
         let row = &rows[0];
         assert_eq!(rt; row.bytes.as_slice(), [byte].as_slice());
-        assert_eq!(rt; row.answers.as_slice(), [byte].as_slice());
+        assert_eq!(rt; row.answers.as_slice(), [u16::from(byte)].as_slice());
         assert_eq!(rt; (row.instrs, row.steps, row.resumed), (28, 36, 0));
         assert_eq!(rt; row.frames.len(), 0);
     }
+    Ok(())
+}
+
+#[test]
+fn reads_wide_answers(rt: HostRuntime) -> Result<(), Fail> {
+    let alloc = rt.alloc();
+    let mut heater = heater(alloc, 36)?;
+    heater.wide = true;
+    let samples = vec![in alloc; sample(alloc, 64)]?;
+    let rows = run(alloc, &heater, samples.as_slice(), &no_interrupts(alloc), 0)?;
+    assert_eq!(rt; rows[0].answers.as_slice(), [0x4000].as_slice());
     Ok(())
 }
 
