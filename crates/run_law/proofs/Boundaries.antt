@@ -1,6 +1,6 @@
 -- All that is taken at one boundary.
-use Rattle.std.proofs.Common.{◌≡◌, ℕ, ◌≤◌, Bool, true, false, ◌&&◌, nat_le, List, [], ◌∷◌, ◌++◌, refl, ap, ap₂, sym, ◌∙◌, subst, inl, inr, ◌⊎◌}
-use Rattle.std.specs.Prelude.{if◌then◌else◌, map}
+use Rattle.std.proofs.Common.{◌≡◌, ℕ, Bool, true, false, ◌&&◌, nat_le, List, [], ◌∷◌, refl, ap, ap₂, sym, ◌∙◌, subst, inl, inr, ◌⊎◌}
+use Rattle.std.specs.Prelude.{if◌then◌else◌}
 use Rattle.std.proofs.lemmas.Bool.{and_parts}
 use Rattle.cpu12_parts.specs.State.{State}
 use Rattle.cpu12_emul.specs.Take.{FrameSeen, frame_of, may_interrupt}
@@ -10,7 +10,7 @@ use Rattle.cpu12_emul.specs.Simulation.{Simulates}
 use Rattle.run_law.specs.Soundness.{AllGood}
 use Rattle.run_law.specs.Following.{onto, asked}
 use Rattle.run_law.proofs.Grounds.{Ground}
-use Rattle.run_law.proofs.Takes.{Settled, settled_near, settled_may, Took, took_one}
+use Rattle.run_law.proofs.Takes.{Settled, settled_near, settled_may, took_one}
 
 -- what is left of the requests, and the frames and the requests of those that are due
 abbrev pub drop_due : {A : Type 0} → (A → ℕ) → Bool → ℕ → List A → List A

@@ -1,5 +1,5 @@
 -- A handler that does listed writes is quiet.
-use Rattle.std.proofs.Common.{◌≡◌, ℕ, ◌+◌, ◌-◌, ◌^◌, ◌<◌, ◌≤◌, Bool, List, length, sym, ap, ◌∙◌, subst, arith, inl, inr}
+use Rattle.std.proofs.Common.{◌≡◌, ℕ, ◌+◌, ◌^◌, ◌<◌, ◌≤◌, Bool, length, sym, ◌∙◌, subst, arith}
 use Rattle.cpu12_isa.specs.declared.instr.Regs.{Regs}
 use Rattle.cpu12_isa.specs.Memory.{plus}
 use Rattle.cpu12_isa.specs.Fits.{FitsRegs}

@@ -1,11 +1,9 @@
 -- The runs of a list of samples go along with the runs without interrupts.
-use Rattle.std.proofs.Common.{◌≡◌, ℕ, suc, Bool, true, false, ◌&&◌, List, [], ◌∷◌, refl, ap, ap₂, sym, ◌∙◌, subst}
+use Rattle.std.proofs.Common.{◌≡◌, ℕ, suc, Bool, false, ◌&&◌, List, [], ◌∷◌, refl, ap₂}
 use Rattle.cpu12_parts.specs.State.{State}
-use Rattle.run_law.specs.Forms.{Form, Ran, run_from, RowSeen, row_of, Rows, put_row, rows_from}
+use Rattle.run_law.specs.Forms.{Form, Ran, run_from, RowSeen, row_of, rows_from}
 use Rattle.run_law.specs.Uninterrupted.{uninterrupted}
-use Rattle.cpu12_emul.specs.Simulation.{Same}
-use Rattle.run_law.specs.Soundness.{AllGood, Ascend}
-use Rattle.run_law.specs.Following.{onto, all_onto, asked, Follows, AllComplete, AllWithin, expected_row, AllFollow, RunsFollow}
+use Rattle.run_law.specs.Following.{onto, Follows, expected_row, AllFollow, RunsFollow}
 use Rattle.run_law.proofs.Grounds.{Ground}
 use Rattle.run_law.proofs.Samples.{run_follows_whole}
 

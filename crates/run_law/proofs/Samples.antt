@@ -1,14 +1,14 @@
 -- The run of one sample goes along with its run without interrupts.
-use Rattle.std.proofs.Common.{◌≡◌, ℕ, zero, suc, ◌+◌, ◌<◌, ◌≤◌, Bool, true, false, not, ◌&&◌, nat_le, Result, Ok, List, [], ◌∷◌, ◌++◌, refl, ap, ap₂, sym, ◌∙◌, subst, arith, inl}
-use Rattle.std.specs.Prelude.{if◌then◌else◌, map}
+use Rattle.std.proofs.Common.{◌≡◌, ℕ, zero, suc, ◌+◌, ◌<◌, ◌≤◌, Bool, true, false, not, ◌&&◌, nat_le, List, [], ◌∷◌, ◌++◌, refl, ap, ap₂, sym, ◌∙◌, subst, arith, inl}
+use Rattle.std.specs.Prelude.{if◌then◌else◌}
 use Rattle.std.proofs.lemmas.List.{map-append}
 use Rattle.cpu12_parts.specs.State.{State}
 use Rattle.cpu12_emul.specs.declared.ends.Stepped.{Stepped}
-use Rattle.cpu12_emul.specs.Step.{Next, next_of}
+use Rattle.cpu12_emul.specs.Step.{next_of}
 use Rattle.cpu12_emul.specs.Take.{FrameSeen, may_interrupt}
-use Rattle.cpu12_emul.specs.Simulation.{Same, IsShownStep}
+use Rattle.cpu12_emul.specs.Simulation.{Same}
 use Rattle.run_law.specs.Forms.{Form, Taking, Ran, takes, is_part, one_if, is_empty, ended, before_rest, then_rest, run_from}
-use Rattle.run_law.specs.Uninterrupted.{stepped, state_by, kind_at, uninterrupted, counted, is_inside, taken_at}
+use Rattle.run_law.specs.Uninterrupted.{stepped, state_by, uninterrupted, counted, is_inside, taken_at}
 use Rattle.run_law.specs.Soundness.{Before, AllSimulate, AllGood, Ascend}
 use Rattle.run_law.specs.Following.{onto, asked, Completes, Follows, RunFollows}
 use Rattle.run_law.proofs.Grounds.{Ground}

@@ -1,5 +1,5 @@
 -- The boundary at which a request is taken.
-use Rattle.std.specs.Prelude.{◌≡◌, ℕ, ◌-◌, ◌<◌, ◌≤◌, Bool, true, false}
+use Rattle.std.specs.Prelude.{◌≡◌, ℕ, ◌-◌, ◌<◌, ◌≤◌, true, false}
 use Rattle.cpu12_parts.specs.State.{State}
 use Rattle.cpu12_emul.specs.Take.{may_interrupt}
 use Rattle.run_law.specs.Uninterrupted.{uninterrupted, first_open}
