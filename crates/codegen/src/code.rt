@@ -170,7 +170,7 @@ pub(crate) fn push_rules(
 
 /// An answer of a byte from the sums of WAV, stored at an address. Where there is no mass, the
 /// default's byte or, with NC, nothing is.
-fn push_byte(items: &mut Vec<Item>, at: u16, default: Option<u8>) -> Result<(), AllocError>
+fn push_byte_answer(items: &mut Vec<Item>, at: u16, default: Option<u8>) -> Result<(), AllocError>
     ensures { OnOk result (items.new.items ≡ items.old.items ++ map Op (quotient_code Width.Byte at default)) }
 {
     match default {
@@ -201,7 +201,7 @@ fn push_byte(items: &mut Vec<Item>, at: u16, default: Option<u8>) -> Result<(), 
 
 /// An answer of a word, in the same way: the quotient is its high byte, and what the remainder makes
 /// its low one.
-fn push_word(items: &mut Vec<Item>, at: u16, default: Option<u8>) -> Result<(), AllocError>
+fn push_word_answer(items: &mut Vec<Item>, at: u16, default: Option<u8>) -> Result<(), AllocError>
     requires { at + 1 < 2 ^ 16 }
     ensures { OnOk result (items.new.items ≡ items.old.items ++ map Op (quotient_code Width.Word at default)) }
 {
@@ -261,8 +261,8 @@ fn push_output(
     )?;
     let default = output.default.map(|x| near(output, x));
     match width {
-        Width::Byte => push_byte(items, at, default),
-        Width::Word => push_word(items, at, default),
+        Width::Byte => push_byte_answer(items, at, default),
+        Width::Word => push_word_answer(items, at, default),
     }
 }
 
