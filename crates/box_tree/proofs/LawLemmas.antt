@@ -1,14 +1,12 @@
 -- A text has one certificate.
-use Rattle.std.proofs.Common.{◌≡◌, ◌≤◌, ◌<◌, ◌+◌, ℕ, List, [], ◌∷◌, ◌++◌, length, get_or, All, refl, sym, ◌∙◌, ap, arith, append_assoc}
+use Rattle.std.proofs.Common.{◌≡◌, ℕ, List, [], ◌∷◌, ◌++◌, length, get_or, All, refl, sym, ◌∙◌, ap, arith}
 use Rattle.std.specs.Prelude.{codes}
-use Rattle.std.proofs.lemmas.List.{append-nil}
 use Rattle.std.proofs.lemmas.List.Elements.{All-head, All-tail}
-use Rattle.arrayvec.specs.ArrayVec.{ArrayVec}
 use Rattle.box_tree.specs.declared.cert.Node.{Node}
 use Rattle.box_tree.specs.declared.cert.Node.TheVariants.{Split, Leaf}
 use Rattle.box_tree.specs.declared.cert.Cert.{Cert}
-use Rattle.box_tree.specs.Certificates.{AreClaims, CertText, IsNode}
-use Rattle.box_tree.specs.Texts.{claim_line, lines_of, node_line, node_lines, pair_numbers, version_line}
+use Rattle.box_tree.specs.Certificates.{IsNode}
+use Rattle.box_tree.specs.Texts.{claim_line, node_line, node_lines, pair_numbers}
 use Rattle.box_tree.specs.Laws.{CertsAreOne}
 use Rattle.box_tree.proofs.HeaderLemmas.{one_claim_line, one_version}
 use Rattle.box_tree.proofs.NodeLemmas.{cut_is_small, line_is_one, pairs_are_small}
