@@ -3,6 +3,7 @@ pub mod Spans
 pub mod Boxes
 pub mod Errors
 pub mod Leaves
+pub mod Faults
 pub mod Bounds
 pub mod Answers
 pub mod Laws
