@@ -1,18 +1,15 @@
 -- A leaf that has a fault does not hold.
-use Rattle.std.proofs.Common.{◌≡◌, ℕ, ◌-◌, ◌<◌, ◌≤◌, List, length, get_or, Some, subst, arith}
-use Rattle.std.specs.Prelude.{IsTrue, slice_get}
+use Rattle.std.proofs.Common.{◌≡◌, ℕ, ◌-◌, ◌≤◌, get_or, subst, arith}
+use Rattle.std.specs.Prelude.{IsTrue}
 use Rattle.std.proofs.lemmas.Option.{slice_get_within, get_or_from_slice_get}
 use Rattle.fz_num.specs.Fractions.{Fraction, over, AtMost, IsBelow}
-use Rattle.fuzzy_meaning.specs.declared.block.Block.{Block}
-use Rattle.fuzzy_meaning.specs.declared.block.Rule.{Rule}
 use Rattle.fuzzy_meaning.specs.Rules.{concludes}
-use Rattle.error_bound.specs.declared.boxes.Interval.{Interval}
 use Rattle.error_bound.specs.declared.boxes.Leaf as the
 use Rattle.error_bound.specs.declared.boxes.LeafFault.{LeafFault}
 use Rattle.error_bound.specs.Spans.{Span, ByteSpan}
 use Rattle.error_bound.specs.Boxes.{rule_span, rule_byte_span}
-use Rattle.error_bound.specs.Leaves.{Holds, strong, silent, IsStrong, IsStill}
-use Rattle.error_bound.specs.Faults.{IsStrongFault, weak, still, IsSilentFault, silent as firing, loud, HasLeafFault, of_strong, of_silent, FaultyLeavesFail}
+use Rattle.error_bound.specs.Leaves.{strong, silent, IsStrong, IsStill}
+use Rattle.error_bound.specs.Faults.{IsStrongFault, weak, still, IsSilentFault, silent as firing, loud, of_strong, of_silent, FaultyLeavesFail}
 use Rattle.error_bound.proofs.ConclusionLemmas.{any-term}
 
 below_not : (f g : Fraction) → IsBelow f g → AtMost g f → ⊥

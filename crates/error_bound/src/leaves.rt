@@ -77,7 +77,7 @@ impl BoxTable {
     }
 
     /// The fault of the first rule that concludes a term of an output and has a strength.
-    fn silent_fault(&self, block: &Block, out: u8) -> Option<LeafFault>
+    pub(crate) fn silent_fault(&self, block: &Block, out: u8) -> Option<LeafFault>
         requires block { IsValid block.now }
         requires table { IsTable block.now self.now }
         ensures still { IfNone result (All (λ r. (t : ℕ) → IsTrue (concludes_it r out t) → IsStill block.now self.now.bytes.0.items r) block.now.rules) }
@@ -147,7 +147,7 @@ fn up_nano(f: Frac) -> Nano
 }
 
 /// Whether a rule concludes a term of an output.
-fn concludes_some(rule: &Rule, out: u8) -> bool
+pub(crate) fn concludes_some(rule: &Rule, out: u8) -> bool
     ensures { result ≡ concludes_any rule.now out }
 {
     rule.concl.as_slice().iter().any(|c| c.0 == out)

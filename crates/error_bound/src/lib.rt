@@ -8,6 +8,7 @@
 
 mod bounds;
 mod boxes;
+mod choosing;
 mod degrees;
 mod grades;
 mod laws;
@@ -17,6 +18,7 @@ mod rules;
 mod tables;
 
 pub use boxes::{ByteBox, Interval, Leaf, LeafFault};
+pub use choosing::best;
 pub use grades::term_error;
 pub use laws::{
     answers_are_near, bounds_are_determined, bounds_fall_inside, cells_have_bounds,

@@ -1,6 +1,6 @@
 use Rattle.std.proofs.Common.{ℕ, ◌*◌, ◌<◌, ◌≤◌, ⊎_elim, sym, subst, arith}
 use Rattle.std.proofs.lemmas.Bool.{cases_lt}
-use Rattle.fz_num.specs.Fractions.{Fraction, over, AtMost, IsBelow}
+use Rattle.fz_num.specs.Fractions.{Fraction, AtMost, IsBelow}
 use Rattle.error_bound.specs.declared.boxes.LeafFault.TheVariants.{Weak}
 use Rattle.error_bound.specs.Faults.{IsStrongFault, weak, still}
 use Rattle.error_bound.specs.Reaches.{span_of, byte_span_of}

@@ -1,4 +1,4 @@
-use Rattle.std.proofs.Common.{◌-◌, sym, subst}
+use Rattle.std.proofs.Common.{sym, subst}
 use Rattle.error_bound.specs.Reaches.{IsReachOfLiteral}
 use Rattle.error_bound.proofs.TableLemmas.{literal_reach}
 use Rattle.error_bound.proofs.reaches.of_literal.Goals as goal

@@ -1,5 +1,5 @@
 use Rattle.std.proofs.Common.{◌≡◌, ℕ, zero, suc, true, ◌-◌, ◌<◌, ◌≤◌, List, length, get_or, Some, refl, sym, ap, ◌∙◌, subst, arith}
-use Rattle.std.specs.Prelude.{slice_get, IsTrue, IfSome}
+use Rattle.std.specs.Prelude.{IsTrue}
 use Rattle.std.proofs.lemmas.Option.{slice_get_read}
 use Rattle.fz_num.specs.Fractions.{over, AtMost}
 use Rattle.fuzzy_meaning.specs.declared.block.Block.{Block}
@@ -7,10 +7,9 @@ use Rattle.fuzzy_meaning.specs.declared.block.Output.{Output}
 use Rattle.fuzzy_meaning.specs.declared.block.Rule.{Rule}
 use Rattle.fuzzy_meaning.specs.Blocks.{IsValid, output_at}
 use Rattle.fuzzy_meaning.proofs.BlockLemmas.{IsSomeAnd-some, IsSomeAnd-within}
-use Rattle.error_bound.specs.declared.boxes.Interval.{Interval}
 use Rattle.error_bound.specs.declared.boxes.Leaf.{Leaf}
 use Rattle.error_bound.specs.declared.rules.BoxTable.{BoxTable}
-use Rattle.error_bound.specs.Boxes.{rule_span, rule_byte_span}
+use Rattle.error_bound.specs.Boxes.{rule_byte_span}
 use Rattle.error_bound.specs.Bounds.{IsBound, errors_from, strong_bound, silent_bound}
 use Rattle.error_bound.specs.CellErrors.{term_errors}
 use Rattle.error_bound.specs.Leaves.{concludes_some, rule_at, IsPairFor, strong, silent}

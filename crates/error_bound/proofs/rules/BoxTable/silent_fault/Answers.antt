@@ -1,11 +1,9 @@
-use Rattle.std.proofs.Common.{◌≡◌, ⊎_elim, true, false, ℕ, ◌+◌, ◌-◌, ◌<◌, ◌≤◌, length, get_or, Some, refl, sym, ap, ◌∙◌, subst, arith}
-use Rattle.std.specs.Prelude.{slice_get, IsTrue}
+use Rattle.std.proofs.Common.{◌≡◌, ⊎_elim, true, false, ◌+◌, ◌-◌, ◌<◌, ◌≤◌, length, get_or, Some, refl, sym, ap, ◌∙◌, subst, arith}
+use Rattle.std.specs.Prelude.{slice_get}
 use Rattle.std.proofs.lemmas.Bool.{cases_lt}
 use Rattle.std.proofs.lemmas.Option.{slice_get_read, slice_get-get_or, get_or_from_slice_get}
-use Rattle.fuzzy_meaning.specs.declared.block.Rule.{Rule}
-use Rattle.fuzzy_meaning.specs.Rules.{concludes}
-use Rattle.error_bound.specs.Boxes.{rule_span, rule_byte_span}
-use Rattle.error_bound.specs.Leaves.{concludes_some, IsStill}
+use Rattle.error_bound.specs.Boxes.{rule_byte_span}
+use Rattle.error_bound.specs.Leaves.{concludes_some}
 use Rattle.error_bound.specs.Faults.{IsFirstFiring, IsSilentFault, of_silent}
 use Rattle.error_bound.specs.Reaches.{span_of}
 use Rattle.error_bound.proofs.ConclusionLemmas.{any-some}
