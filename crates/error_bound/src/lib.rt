@@ -26,3 +26,6 @@ pub use laws::{
 };
 pub use leaves::{leaf_bound, leaf_bound16};
 pub use rules::BoxTable;
+
+#[cfg(test)]
+mod tests;
