@@ -16,8 +16,9 @@ use Rattle.error_bound.specs.declared.boxes.Leaf as the
 use Rattle.error_bound.specs.Boxes.{rule_span, rule_byte_span}
 use Rattle.error_bound.specs.Leaves.{IsStrong, IsStill, strong, silent}
 use Rattle.error_bound.specs.Bounds.{IsBound, bound}
-use Rattle.error_bound.specs.Laws.{IsBox}
-use Rattle.error_bound.proofs.LawLemmas.{term_errors, term_errors-are}
+use Rattle.error_bound.specs.Boxes.{IsBox}
+use Rattle.error_bound.specs.CellErrors.{term_errors}
+use Rattle.error_bound.proofs.LawLemmas.{term_errors-are}
 use Rattle.box_tree.specs.declared.cert.Node.TheVariants.{Split}
 use Rattle.cert_check.specs.Trees.{Part, IsTree, leaf, split, whole}
 use Rattle.cert_check.specs.Acceptance.{HasBound, IsGreatestBound, IsAccepted}

@@ -1,4 +1,8 @@
-//! Certificates: a tree of boxes whose leaves say how near the bytes' answers are.
+//! Which certificates are accepted, and what an accepted one says: a tree of boxes over all bytes
+//! whose leaves hold, with claims that are no less than the errors of the outputs.
+//!
+//! The laws are that an accepted certificate bounds the answers to every list of samples in range,
+//! and that its errors are determined. No call takes memory.
 #![tactic(auto)]
 
 mod laws;

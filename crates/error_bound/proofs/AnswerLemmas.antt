@@ -32,7 +32,7 @@ pub record IsAnswer (b : Block) (bytes : List ℕ) (o : ℕ) (x : Output) (h : �
 pub bound_strong : (x : Output) (h k s : ℕ) → 1 ≤ k → (if k == 0 then silent_bound x else strong_bound x h s k) ≡ strong_bound x h s k
 bound_strong x h k s p = let e : (k == 0) ≡ false = grind (arith, nat_tests) in ap (λ c. cond c (silent_bound x) (strong_bound x h s k)) e
 
-bound_silent : (x : Output) (h k s : ℕ) → k ≡ 0 → (if k == 0 then silent_bound x else strong_bound x h s k) ≡ silent_bound x
+pub bound_silent : (x : Output) (h k s : ℕ) → k ≡ 0 → (if k == 0 then silent_bound x else strong_bound x h s k) ≡ silent_bound x
 bound_silent x h k s p = let e : (k == 0) ≡ true = grind (arith, nat_tests) in ap (λ c. cond c (silent_bound x) (strong_bound x h s k)) e
 
 kept_default : (h : ℕ) (x : Output) (d : Option Dec) (q q' : ℕ) (before : Quotient) → q' ≡ option_map_or (λ d. h * nearest_byte x d) d q → d ≡ None → (q' ≡ q) × (option_map_or quotient_of d before ≡ before)

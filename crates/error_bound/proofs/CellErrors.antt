@@ -9,7 +9,7 @@ use Rattle.fz_num.proofs.Gaps.{gap-near, gap-least}
 use Rattle.byte_scaling.specs.Cells.{IsFromTo, inside, IsInCell}
 use Rattle.fuzzy_meaning.specs.Places.{Points, rise_at, fall_at, degree_at}
 use Rattle.error_bound.specs.Places.{rise_end, low, high}
-use Rattle.error_bound.specs.CellErrors.{cell_error}
+use Rattle.error_bound.specs.CellErrors.{cell_error, cells_error}
 use Rattle.error_bound.proofs.Sides.{IsPeaked, low_bounds, high_bounds, side_rise_proper, side_fall_proper, side_end_proper}
 use Rattle.error_bound.proofs.Limits.{low_greatest, high_least}
 
@@ -20,11 +20,6 @@ Bounds t k w grade p q e = (b : ℕ) → p ≤ b → b ≤ q → (x : Fraction) 
 pub record IsError (t : ℕ) (k : Points) (w : ℕ) (grade : ℕ → ℕ) (p q e : ℕ) : Type 0 where
   pub bounds : Bounds t k w grade p q e
   pub least : (e' : ℕ) → Bounds t k w grade p q e' → e ≤ e'
-
--- of n + 1 cells from p
-abbrev pub cells_error : ℕ → Points → ℕ → (ℕ → ℕ) → ℕ → ℕ → ℕ
-cells_error t k w grade p zero = cell_error t k w grade p
-cells_error t k w grade p (suc n) = max (cells_error t k w grade p n) (cell_error t k w grade (p + suc n))
 
 -- what is near both bounds is near all between
 pub near_between : (t g e : ℕ) (l f h : Fraction) → IsProper l → IsProper h → AtMost l f → AtMost f h → IsNear t g l e → IsNear t g h e → IsNear t g f e

@@ -12,12 +12,13 @@ use Rattle.byte_scaling.specs.Cells.{cell_start, cell_end}
 use Rattle.point_slope.specs.Tables.{row_of, grade_of}
 use Rattle.error_bound.specs.declared.boxes.Interval.{Interval}
 use Rattle.fuzzy_meaning.specs.Places.{points_of}
-use Rattle.error_bound.specs.Boxes.{at_literal}
 use Rattle.error_bound.specs.Errors.{billion, IsTermError, AreTermErrors}
-use Rattle.error_bound.specs.Laws.{CellsHaveBounds, IsBox, TermErrorsAre}
+use Rattle.error_bound.specs.Laws.{CellsHaveBounds, TermErrorsAre}
+use Rattle.error_bound.specs.Boxes.{IsBox}
 use Rattle.error_bound.proofs.Sides.{low_bounds, high_bounds}
 use Rattle.error_bound.proofs.Limits.{low_greatest, high_least}
-use Rattle.error_bound.proofs.CellErrors.{cells_error, cells_bounds, cells_least}
+use Rattle.error_bound.specs.CellErrors.{term_error, term_errors}
+use Rattle.error_bound.proofs.CellErrors.{cells_bounds, cells_least}
 use Rattle.error_bound.proofs.Literals.{width_pos}
 use Rattle.error_bound.proofs.PlaceLemmas.{IsPeaked-points}
 
@@ -41,10 +42,6 @@ cells_bounded i t v vi vt h =
       least = λ u pu g. high_least k (v.from * w) ((v.to + 1) * w) 256 c u (IsPeaked-points i t vt) (omega arith) lt pu g;
     }
 
--- the greatest gap at the bounds of the cells
-abbrev pub term_error : Input → Trapezoid → Interval → ℕ
-term_error i t v = cells_error billion (points_of i t) (distance i.lo i.hi) (grade_of (row_of i t)) v.from (v.to - v.from)
-
 pub term_error-is : (i : Input) (t : Trapezoid) (v : Interval) → IsValidInput i → IsValidTerm i.lo i.hi t → v.from ≤ v.to → IsTermError i t v (term_error i t v)
 term_error-is i t v vi vt h =
     let w = distance i.lo i.hi in
@@ -54,9 +51,6 @@ term_error-is i t v vi vt h =
       covers = λ n h1 h2 x c. cells_bounds billion w (points_of i t) g v.from m n h1 (omega arith) x c;
       least = λ f c. cells_least billion w (points_of i t) g v.from m f (IsPeaked-points i t vt) (width_pos i vi) (omega arith) (λ n h1 h2 x inn. c n h1 (omega arith) x inn);
     }
-
-abbrev pub term_errors : Block → List Interval → ℕ → ℕ → ℕ
-term_errors b box i t = at_literal term_error 0 b box i t
 
 pub term_errors-are : (b : Block) (box : List Interval) → IsValid b → IsBox box → AreTermErrors b box (term_errors b box)
 term_errors-are b box valid some = record {

@@ -18,3 +18,7 @@ pub mod Uniqueness
 pub mod WideLemmas
 pub mod Nested
 pub mod NestedBounds
+pub mod Filling
+pub mod TableLemmas
+pub mod ConclusionLemmas
+pub mod FaultLemmas

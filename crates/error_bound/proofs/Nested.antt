@@ -24,7 +24,8 @@ use Rattle.fuzzy_meaning.specs.Places.{points_of}
 use Rattle.error_bound.specs.Spans.{Span, ByteSpan, span, least_span, greatest_span, byte_span, least_byte_span, greatest_byte_span}
 use Rattle.error_bound.specs.Boxes.{degrees_over, grades_over, least_from, greatest_from, literal_span, literal_byte_span, rule_span, rule_byte_span}
 use Rattle.error_bound.specs.Leaves.{Holds, strong, silent}
-use Rattle.error_bound.specs.Laws.{IsBox, IsInside, LeavesHoldInside}
+use Rattle.error_bound.specs.Laws.{IsInside, LeavesHoldInside}
+use Rattle.error_bound.specs.Boxes.{IsBox}
 use Rattle.error_bound.proofs.LawLemmas.{cells_bounded}
 use Rattle.error_bound.proofs.CellErrors.{low_proper, high_proper}
 use Rattle.error_bound.proofs.Literals.{some_at, width_pos, least_le, le_greatest}

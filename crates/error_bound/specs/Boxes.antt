@@ -19,6 +19,15 @@ use Rattle.fuzzy_meaning.specs.Places.{points_of}
 use Rattle.error_bound.specs.Places.{low, high}
 use Rattle.error_bound.specs.Spans.{Span, ByteSpan, span, byte_span}
 
+-- each interval has at least one byte
+pub record IsBox (box : List Interval) : Type 0 where
+  pub some : (k : ℕ) (v : Interval) → slice_get box k ≡ Some v → (v.from ≤ v.to) × (v.to ≤ 255)
+
+-- one for each input
+pub record IsBoxOf (b : Block) (box : List Interval) : Type 0 where
+  pub count : length box ≡ length b.inputs
+  pub intervals : IsBox box
+
 -- each byte lies in its interval
 pub record LieIn (box : List Interval) (bytes : List ℕ) : Type 0 where
   pub count : length bytes ≡ length box

@@ -9,7 +9,7 @@ use Rattle.byte_scaling.specs.Cells.{cell_start, cell_end}
 use Rattle.error_bound.specs.declared.boxes.Interval.{Interval}
 use Rattle.fuzzy_meaning.specs.Places.{points_of}
 use Rattle.error_bound.specs.Places.{AreBounds}
-use Rattle.error_bound.specs.Boxes.{degrees_over}
+use Rattle.error_bound.specs.Boxes.{IsBox, degrees_over}
 use Rattle.error_bound.specs.Errors.{AreTermErrors}
 use Rattle.error_bound.specs.Leaves.{Holds}
 use Rattle.error_bound.specs.Bounds.{IsBound}
@@ -20,10 +20,6 @@ abbrev pub CellsHaveBounds : Type 0
 CellsHaveBounds = (i : Input) (t : Trapezoid) (v : Interval) → IsValidInput i → IsValidTerm i.lo i.hi t → v.from ≤ v.to →
     let w = distance i.lo i.hi in
     AreBounds (points_of i t) (cell_start w v.from) (cell_end w v.to) (v.to == 255) (degrees_over i t v).low (degrees_over i t v).high
-
--- each interval has at least one byte
-pub record IsBox (box : List Interval) : Type 0 where
-  pub some : (k : ℕ) (v : Interval) → slice_get box k ≡ Some v → (v.from ≤ v.to) × (v.to ≤ 255)
 
 -- there is an eps of each term over a box
 abbrev pub TermErrorsAre : Type 0

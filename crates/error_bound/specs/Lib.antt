@@ -3,6 +3,8 @@ pub mod Spans
 pub mod Boxes
 pub mod Errors
 pub mod Leaves
+pub mod Faults
+pub mod Best
 pub mod Bounds
 pub mod Answers
 pub mod Laws

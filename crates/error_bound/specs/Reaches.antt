@@ -1,11 +1,73 @@
 -- What the code's reaches stand for.
+use Rattle.std.specs.Prelude.{◌≡◌, ℕ, ◌≤◌, List, length, Some, slice_get}
 use Rattle.fz_num.specs.Fracs.{fraction_of, IsTruth}
+use Rattle.fuzzy_meaning.specs.declared.block.Block.{Block}
+use Rattle.fuzzy_meaning.specs.declared.block.Input.{Input}
+use Rattle.fuzzy_meaning.specs.declared.block.Rule.{Rule}
+use Rattle.fuzzy_meaning.specs.declared.block.Trapezoid.{Trapezoid}
+use Rattle.error_bound.specs.declared.boxes.Interval.{Interval}
+use Rattle.error_bound.specs.declared.degrees.Degrees.{Degrees}
 use Rattle.error_bound.specs.declared.reaches.Reach.{Reach}
-use Rattle.error_bound.specs.Spans.{Span}
+use Rattle.error_bound.specs.declared.tables.Row.{Row}
+use Rattle.error_bound.specs.declared.tables.BoxTerms.{BoxTerms}
+use Rattle.error_bound.specs.declared.rules.BoxTable.{BoxTable}
+use Rattle.error_bound.specs.Spans.{Span, ByteSpan}
+use Rattle.error_bound.specs.Boxes.{IsBoxOf, degrees_over, grades_over, literal_span, literal_byte_span, rule_span, rule_byte_span}
+use Rattle.error_bound.specs.Errors.{rule_error}
+use Rattle.error_bound.specs.CellErrors.{term_error, term_errors}
 
-abbrev pub span_of : Reach → Span
-span_of r = record { low = fraction_of r.low; high = fraction_of r.high }
+abbrev pub span_of : Degrees → Span
+span_of d = record { low = fraction_of d.low; high = fraction_of d.high }
 
-pub record AreTruths (r : Reach) : Type 0 where
-  pub low : IsTruth 1000000000000 r.low
-  pub high : IsTruth 1000000000000 r.high
+abbrev pub byte_span_of : Reach → ByteSpan
+byte_span_of r = record { low = r.least; high = r.greatest }
+
+-- fractions of small denominators
+pub record AreTruths (d : Degrees) : Type 0 where
+  pub low : IsTruth 1000000000000 d.low
+  pub high : IsTruth 1000000000000 d.high
+
+pub record IsSmall (r : Reach) : Type 0 where
+  pub degrees : AreTruths r.degrees
+  pub error : r.error ≤ 1000000000
+
+-- the reach of a term over an interval
+pub record IsReachOfTerm (x : Input) (term : Trapezoid) (v : Interval) (r : Reach) : Type 0 where
+  pub value : span_of r.degrees ≡ degrees_over x term v
+  pub bytes : byte_span_of r ≡ grades_over x term v
+  pub error : r.error ≡ term_error x term v
+  pub small : IsSmall r
+
+-- the reaches of an input's terms
+abbrev pub AreInputReaches : Input → Interval → List Reach → Type 0
+AreInputReaches x v rs = (t : ℕ) (term : Trapezoid) → slice_get x.terms t ≡ Some term → (r : Reach) × (slice_get rs t ≡ Some r) × IsReachOfTerm x term v r
+
+-- of all inputs' terms over a box
+pub record AreBoxTerms (b : Block) (terms : BoxTerms) : Type 0 where
+  pub count : length terms.bytes.0.items ≡ length b.inputs
+  pub each : (i : ℕ) (x : Input) → slice_get b.inputs i ≡ Some x → (r : Row) × (slice_get terms.rows i ≡ Some r) × ((v : Interval) → slice_get terms.bytes.0.items i ≡ Some v → AreInputReaches x v r.reaches)
+
+-- the reach of a literal over a box
+pub record IsReachOfLiteral (b : Block) (box : List Interval) (i t : ℕ) (r : Reach) : Type 0 where
+  pub value : span_of r.degrees ≡ literal_span b box i t
+  pub bytes : byte_span_of r ≡ literal_byte_span b box i t
+  pub error : r.error ≡ term_errors b box i t
+  pub small : IsSmall r
+
+pub record HasSmallTruths (q : Reach) : Type 0 where
+  pub low : IsTruth 10000000000000000 q.degrees.low
+  pub high : IsTruth 10000000000000000 q.degrees.high
+
+-- the reach of a rule's strength
+pub record IsReachOfRule (b : Block) (box : List Interval) (r : Rule) (q : Reach) : Type 0 where
+  pub value : span_of q.degrees ≡ rule_span b box r
+  pub bytes : byte_span_of q ≡ rule_byte_span b box r
+  pub error : q.error ≡ rule_error (term_errors b box) r
+  pub truths : HasSmallTruths q
+  pub small : q.error ≤ 3000000000
+
+-- the reaches of all rules over a table's box
+pub record IsTable (b : Block) (t : BoxTable) : Type 0 where
+  pub box_is : IsBoxOf b t.bytes.0.items
+  pub count : length t.rules ≡ 256
+  pub each : (k : ℕ) (r : Rule) → slice_get b.rules k ≡ Some r → (q : Reach) × (slice_get t.rules k ≡ Some q) × IsReachOfRule b t.bytes.0.items r q

@@ -37,20 +37,29 @@ pub record ByteSpan : Type 0 where
   pub low : ℕ
   pub high : ℕ
 
+abbrev pub one_minus_bytes : ByteSpan → ByteSpan
+one_minus_bytes s = record { low = 255 - s.high; high = 255 - s.low }
+
+abbrev pub lesser_bytes : ByteSpan → ByteSpan → ByteSpan
+lesser_bytes s r = record { low = min s.low r.low; high = min s.high r.high }
+
+abbrev pub greater_bytes : ByteSpan → ByteSpan → ByteSpan
+greater_bytes s r = record { low = max s.low r.low; high = max s.high r.high }
+
 abbrev mutual
   pub byte_span : (ℕ → ℕ → ByteSpan) → Condition → ByteSpan
   byte_span s (is i t) = s i t
-  byte_span s (negation c) = let r = byte_span s c in record { low = 255 - r.high; high = 255 - r.low }
+  byte_span s (negation c) = one_minus_bytes (byte_span s c)
   byte_span s (all cs) = least_byte_span s cs
   byte_span s (any cs) = greatest_byte_span s cs
 
   pub least_byte_span : (ℕ → ℕ → ByteSpan) → Conditions → ByteSpan
   least_byte_span s end = record { low = 255; high = 255 }
-  least_byte_span s (also c cs) = let r = byte_span s c in let q = least_byte_span s cs in record { low = min r.low q.low; high = min r.high q.high }
+  least_byte_span s (also c cs) = lesser_bytes (byte_span s c) (least_byte_span s cs)
 
   pub greatest_byte_span : (ℕ → ℕ → ByteSpan) → Conditions → ByteSpan
   greatest_byte_span s end = record { low = 0; high = 0 }
-  greatest_byte_span s (also c cs) = let r = byte_span s c in let q = greatest_byte_span s cs in record { low = max r.low q.low; high = max r.high q.high }
+  greatest_byte_span s (also c cs) = greater_bytes (byte_span s c) (greatest_byte_span s cs)
 
 -- the greatest number of a literal
 abbrev mutual

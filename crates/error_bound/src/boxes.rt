@@ -1,16 +1,50 @@
 //! Boxes of bytes and what a leaf says of one.
+ghost use Rattle.std.specs.Prelude.{◌≡◌};
+
+use arrayvec::ArrayVec;
+use fz_num::Nano;
 
 /// The bytes of an input from `from` to `to`.
-#[derive(Clone, Copy, Debug)]
+#[derive(Clone, Copy, Default, Debug)]
 pub struct Interval {
     pub from: u8,
     pub to: u8,
 }
 
+/// An interval of bytes for each input.
+#[derive(Drop)]
+pub struct ByteBox(pub ArrayVec<Interval, 8>);
+
+impl ByteBox {
+    /// The same box again, which takes no memory.
+    pub fn copied(&self) -> ByteBox
+        ensures { result.0.items ≡ self.now.0.items }
+    {
+        let mut intervals = ArrayVec::new();
+        for interval in self.0.as_slice() {
+            intervals.push(*interval);
+        }
+        ByteBox(intervals)
+    }
+}
+
 /// What a leaf says of an output: the rule `rule` has a strength of at least `k`/255, or, where
-/// both are 0, that no rule fires.
-#[derive(Clone, Copy, Debug)]
+/// both are 0, that no rule fires. Rules count from 1.
+#[derive(Clone, Copy, PartialEq, Eq, Debug)]
 pub struct Leaf {
     pub rule: u16,
     pub k: u8,
+}
+
+/// Why a leaf does not hold on a box.
+#[derive(Clone, Copy, PartialEq, Eq, Debug)]
+pub enum LeafFault {
+    /// That rule's strength goes below `k`/255: as far down as the number says, rounded down.
+    Weak(u16, u8, Nano),
+    /// That rule's strength over bytes goes down to 0.
+    Still(u16),
+    /// That rule's strength goes as high as the number says, rounded up.
+    Silent(u16, Nano),
+    /// That rule's strength over bytes goes as high as that byte.
+    Loud(u16, u8),
 }

@@ -1,6 +1,7 @@
 //! Laws of the definitions.
 ghost use Rattle.error_bound.specs.Laws.{CellsHaveBounds, TermErrorsAre, LeavesHoldInside, BoundsFallInside, BoundsAreDetermined};
 ghost use Rattle.error_bound.specs.Answers.{AnswersAreNear};
+ghost use Rattle.error_bound.specs.Faults.{FaultyLeavesFail};
 
 /// `low` and `high` are the greatest lower and the least upper bound of a term's degrees over the
 /// cells of an interval.
@@ -32,4 +33,9 @@ pub fn bounds_fall_inside()
 /// A leaf has one Bound on a box.
 pub fn bounds_are_determined()
     ensures { BoundsAreDetermined }
+{}
+
+/// A leaf that has a fault does not hold.
+pub fn faulty_leaves_fail()
+    ensures { FaultyLeavesFail }
 {}

@@ -1,15 +1,31 @@
-//! How far the bytes' answers may stand from the exact ones.
+//! How far the answers over bytes may stand from the exact ones: boxes of bytes, the error of a term
+//! over them, and leaves, which say of a box and an output that a rule is strong or that none fires.
+//!
+//! [`leaf_bound`] gives the Bound of a leaf that holds, or exactly its first fault, and a Bound is at
+//! least the distance of each answer from the exact one, in millionths of the output's range
+//! ([`answers_are_near`]). For many leaves of one box a [`BoxTable`] is made once. No call takes memory.
 #![tactic(auto)]
 
+mod bounds;
 mod boxes;
-mod errors;
+mod choosing;
+mod degrees;
+mod grades;
 mod laws;
+mod leaves;
 mod reaches;
+mod rules;
+mod tables;
 
-pub use boxes::{Interval, Leaf};
-pub use errors::term_error;
+pub use boxes::{ByteBox, Interval, Leaf, LeafFault};
+pub use choosing::best;
+pub use grades::term_error;
 pub use laws::{
     answers_are_near, bounds_are_determined, bounds_fall_inside, cells_have_bounds,
-    leaves_hold_inside, term_errors_are,
+    faulty_leaves_fail, leaves_hold_inside, term_errors_are,
 };
-pub use reaches::{Reach, reach_of};
+pub use leaves::{leaf_bound, leaf_bound16};
+pub use rules::BoxTable;
+
+#[cfg(test)]
+mod tests;

@@ -1,131 +1,132 @@
 //! How far truths reach over a box.
-ghost use Rattle.std.specs.Prelude.{◌≡◌, ◌≤◌, length};
-ghost use Rattle.fz_num.specs.Fractions.{one, none};
-ghost use Rattle.fuzzy_meaning.specs.Blocks.{IsValid, IsValidInput, IsValidTerm, IsValidCondition, HasTerm};
+ghost use Rattle.std.specs.Prelude.{◌≡◌, max};
+ghost use Rattle.fuzzy_meaning.specs.Blocks.{IsValid, IsValidCondition, HasTerm};
 ghost use Rattle.fuzzy_meaning.specs.Conditions.{condition_of};
-ghost use Rattle.error_bound.specs.Spans.{span, one_minus_span, lesser_span, greater_span};
-ghost use Rattle.error_bound.specs.Boxes.{degrees_over, literal_span};
-ghost use Rattle.error_bound.specs.Reaches.{span_of, AreTruths};
+ghost use Rattle.error_bound.specs.Spans.{span, byte_span, greatest_literal, one_minus_span, lesser_span, greater_span, one_minus_bytes, lesser_bytes, greater_bytes};
+ghost use Rattle.error_bound.specs.Boxes.{literal_span, literal_byte_span};
+ghost use Rattle.error_bound.specs.CellErrors.{term_errors};
+ghost use Rattle.error_bound.specs.Reaches.{span_of, byte_span_of, IsSmall, AreBoxTerms, IsReachOfLiteral};
 
-use crate::boxes::Interval;
-use crate::errors::{falling, rising};
-use fuzzy_meaning::{Block, Cond, Input, Trapezoid};
-use fz_num::Frac;
+use crate::degrees::{Degrees, NONE, ONE};
+use crate::tables::BoxTerms;
+use fuzzy_meaning::{Block, Cond};
 
-/// From the least to the greatest truth.
-#[derive(Clone, Copy, Debug)]
-pub struct Reach {
-    pub low: Frac,
-    pub high: Frac,
+/// From the least to the greatest truth, of degrees and over bytes, and how far these may be apart,
+/// in parts of 10^9.
+#[derive(Clone, Copy)]
+pub(crate) struct Reach {
+    pub(crate) degrees: Degrees,
+    pub(crate) least: u8,
+    pub(crate) greatest: u8,
+    pub(crate) error: u64,
 }
 
+/// The reach of the least of no truths.
 const ALL: Reach = Reach {
-    low: Frac { num: 1, den: 1 },
-    high: Frac { num: 1, den: 1 },
+    degrees: Degrees {
+        low: ONE,
+        high: ONE,
+    },
+    least: 255,
+    greatest: 255,
+    error: 0,
 };
 
-const NONE: Reach = Reach {
-    low: Frac { num: 0, den: 1 },
-    high: Frac { num: 0, den: 1 },
+/// The reach of the greatest of no truths.
+pub(crate) const NOTHING: Reach = Reach {
+    degrees: Degrees {
+        low: NONE,
+        high: NONE,
+    },
+    least: 0,
+    greatest: 0,
+    error: 0,
 };
 
 impl Reach {
     fn one_minus(self) -> Reach
-        requires { AreTruths self }
-        ensures value { span_of result ≡ one_minus_span (span_of self) }
-        ensures truth { AreTruths result }
+        requires { IsSmall self }
+        ensures value { span_of result.degrees ≡ one_minus_span (span_of self.degrees) }
+        ensures bytes { byte_span_of result ≡ one_minus_bytes (byte_span_of self) }
+        ensures error { result.error ≡ self.error }
+        ensures small { IsSmall result }
     {
         Reach {
-            low: self.high.one_minus(),
-            high: self.low.one_minus(),
+            degrees: self.degrees.one_minus(),
+            least: 255 - self.greatest,
+            greatest: 255 - self.least,
+            error: self.error,
         }
     }
 
     fn min(self, other: Reach) -> Reach
-        requires left { AreTruths self }
-        requires right { AreTruths other }
-        ensures value { span_of result ≡ lesser_span (span_of self) (span_of other) }
-        ensures truth { AreTruths result }
+        requires left { IsSmall self }
+        requires right { IsSmall other }
+        ensures value { span_of result.degrees ≡ lesser_span (span_of self.degrees) (span_of other.degrees) }
+        ensures bytes { byte_span_of result ≡ lesser_bytes (byte_span_of self) (byte_span_of other) }
+        ensures error { result.error ≡ max self.error other.error }
+        ensures small { IsSmall result }
     {
         Reach {
-            low: self.low.min(other.low),
-            high: self.high.min(other.high),
+            degrees: self.degrees.min(other.degrees),
+            least: self.least.min(other.least),
+            greatest: self.greatest.min(other.greatest),
+            error: self.error.max(other.error),
         }
     }
 
     fn max(self, other: Reach) -> Reach
-        requires left { AreTruths self }
-        requires right { AreTruths other }
-        ensures value { span_of result ≡ greater_span (span_of self) (span_of other) }
-        ensures truth { AreTruths result }
+        requires left { IsSmall self }
+        requires right { IsSmall other }
+        ensures value { span_of result.degrees ≡ greater_span (span_of self.degrees) (span_of other.degrees) }
+        ensures bytes { byte_span_of result ≡ greater_bytes (byte_span_of self) (byte_span_of other) }
+        ensures error { result.error ≡ max self.error other.error }
+        ensures small { IsSmall result }
     {
         Reach {
-            low: self.low.max(other.low),
-            high: self.high.max(other.high),
+            degrees: self.degrees.max(other.degrees),
+            least: self.least.max(other.least),
+            greatest: self.greatest.max(other.greatest),
+            error: self.error.max(other.error),
         }
     }
 }
 
-/// Of a term over the cells of an interval.
-pub(crate) fn of_term(input: &Input, term: &Trapezoid, bytes: Interval) -> Reach
-    requires input { IsValidInput input.now }
-    requires term { IsValidTerm input.now.lo input.now.hi term.now }
-    ensures value { span_of result ≡ degrees_over input.now term.now bytes }
-    ensures truth { AreTruths result }
-{
-    let width = input.hi.above(input.lo);
-    let start = u64::from(bytes.from) * width;
-    let end = (u64::from(bytes.to) + 1) * width;
-    Reach {
-        low: rising(input.lo, term.a, term.b, start, true).min(falling(
-            input.lo, term.c, term.d, end,
-        )),
-        high: rising(input.lo, term.a, term.b, end, bytes.to == 255).min(falling(
-            input.lo, term.c, term.d, start,
-        )),
-    }
-}
-
-/// Of a condition over a box.
-pub fn reach_of(cond: &Cond, block: &Block, spans: &[Interval]) -> Reach
+/// The reach of a condition over a box.
+pub(crate) fn reach_of(cond: &Cond, block: &Block, terms: &BoxTerms) -> Reach
     requires cond { IsValidCondition block.now (condition_of cond.now) }
     requires block { IsValid block.now }
-    requires spans { length spans.now ≡ length block.now.inputs }
-    ensures value { span_of result ≡ span (literal_span block.now spans.now) (condition_of cond.now) }
-    ensures truth { AreTruths result }
+    requires terms { AreBoxTerms block.now terms.now }
+    ensures value { span_of result.degrees ≡ span (literal_span block.now terms.now.bytes.0.items) (condition_of cond.now) }
+    ensures bytes { byte_span_of result ≡ byte_span (literal_byte_span block.now terms.now.bytes.0.items) (condition_of cond.now) }
+    ensures error { result.error ≡ greatest_literal (term_errors block.now terms.now.bytes.0.items) (condition_of cond.now) }
+    ensures small { IsSmall result }
 {
     match cond {
-        Cond::Is(input, term) => of_literal(block, *input, *term, spans),
-        Cond::Not(inner) => reach_of(inner, block, spans).one_minus(),
+        Cond::Is(input, term) => of_literal(block, *input, *term, terms),
+        Cond::Not(inner) => reach_of(inner, block, terms).one_minus(),
         Cond::And(parts) => {
             let mut least = ALL;
             for k in (0..parts.len()).rev() {
-                least = reach_of(&parts[k], block, spans).min(least);
+                least = reach_of(&parts[k], block, terms).min(least);
             }
             least
         }
         Cond::Or(parts) => {
-            let mut greatest = NONE;
+            let mut greatest = NOTHING;
             for k in (0..parts.len()).rev() {
-                greatest = reach_of(&parts[k], block, spans).max(greatest);
+                greatest = reach_of(&parts[k], block, terms).max(greatest);
             }
             greatest
         }
     }
 }
 
-fn of_literal(block: &Block, input: u8, term: u8, spans: &[Interval]) -> Reach
+fn of_literal(block: &Block, input: u8, term: u8, terms: &BoxTerms) -> Reach
     requires term { HasTerm block.now input term }
     requires block { IsValid block.now }
-    requires spans { length spans.now ≡ length block.now.inputs }
-    ensures value { span_of result ≡ literal_span block.now spans.now input term }
-    ensures truth { AreTruths result }
+    requires terms { AreBoxTerms block.now terms.now }
+    ensures { IsReachOfLiteral block.now terms.now.bytes.0.items input term result }
 {
-    let place = input as usize - 1;
-    let input = &block.inputs.as_slice()[place];
-    of_term(
-        input,
-        &input.terms.as_slice()[term as usize - 1],
-        spans[place],
-    )
+    terms.rows[input as usize - 1].reaches[term as usize - 1]
 }

@@ -17,7 +17,7 @@ pub use answers::exact;
 pub use block::{Block, Cond, Input, Output, Rule, Trapezoid};
 pub use degrees::{degree, numbers_have_their_degrees};
 pub use examples::{examples_are_valid, heater};
-pub use masses::{mass, strength};
+pub use masses::{concludes, mass, strength};
 pub use truths::truth;
 
 #[cfg(test)]

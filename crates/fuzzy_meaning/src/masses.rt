@@ -54,7 +54,8 @@ pub fn mass(block: &Block, out: u8, term: u8, xs: &[Dec]) -> Frac
     greatest
 }
 
-fn concludes(rule: &Rule, out: u8, term: u8) -> bool
+/// Whether a rule concludes a term of an output.
+pub fn concludes(rule: &Rule, out: u8, term: u8) -> bool
     ensures { result ≡ concludes_of rule.now out term }
 {
     rule.concl

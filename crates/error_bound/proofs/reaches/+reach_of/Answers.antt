@@ -14,7 +14,7 @@ reach_of-requires-in-loop-k t c =
     let valid = subst (λ x. IsValidCondition b x) same c.requires.cond in
     let within : c.loop-k.k - 1 < length items = search rules in
     let part = slice_get_read items (length items) (c.loop-k.k - 1) c.index.result.now refl within c.index.ensures in
-    (search (rules, the_lemmas), (valid_part b items (c.loop-k.k - 1) c.index.result.now (all_parts b (conditions (map condition_of items)) valid) part, (c.requires.block, c.requires.spans)))
+    (search (rules, the_lemmas), (valid_part b items (c.loop-k.k - 1) c.index.result.now (all_parts b (conditions (map condition_of items)) valid) part, (c.requires.block, c.requires.terms)))
 
 pub reach_of-requires-in-loop-k-2 : goal.reach_of-requires-in-loop-k-2
 reach_of-requires-in-loop-k-2 t c =
@@ -24,4 +24,4 @@ reach_of-requires-in-loop-k-2 t c =
     let valid = subst (λ x. IsValidCondition b x) same c.requires.cond in
     let within : c.loop-k-2.k - 1 < length items = search rules in
     let part = slice_get_read items (length items) (c.loop-k-2.k - 1) c.index-in-loop-k-2.result.now refl within c.index-in-loop-k-2.ensures in
-    (search (rules, the_lemmas), (valid_part b items (c.loop-k-2.k - 1) c.index-in-loop-k-2.result.now (all_parts b (conditions (map condition_of items)) valid) part, (c.requires.block, c.requires.spans)))
+    (search (rules, the_lemmas), (valid_part b items (c.loop-k-2.k - 1) c.index-in-loop-k-2.result.now (all_parts b (conditions (map condition_of items)) valid) part, (c.requires.block, c.requires.terms)))

@@ -1,6 +1,6 @@
 use Rattle.std.proofs.Common.{◌+◌, ◌*◌, ◌≤◌, arith, mul-le-mul_right}
 use Rattle.std.proofs.lemmas.Int.{ints}
-use Rattle.error_bound.proofs.reaches.of_term.Goals as goal
+use Rattle.error_bound.proofs.degrees.degrees_of.Goals as goal
 
 pub rising-requires-2-clause-n : goal.rising-requires-2-clause-n
 rising-requires-2-clause-n c =

@@ -1,0 +1,27 @@
+-- Lists that a loop fills place by place.
+use Rattle.std.proofs.Common.{◌≡◌, ⊎_elim, ℕ, zero, suc, ◌+◌, ◌<◌, ◌≤◌, List, [], ◌∷◌, length, Some, refl, ◌∙◌, subst, arith}
+use Rattle.std.specs.Prelude.{slice_get, slice_set}
+use Rattle.std.proofs.lemmas.Bool.{cases_lt}
+
+pub slice_get-set_same : {X : Type 0} (xs : List X) (i : ℕ) (x : X) → i < length xs → slice_get (slice_set xs i x) i ≡ Some x
+slice_get-set_same [] i x h = absurd (omega arith)
+slice_get-set_same (y ∷ xs) zero x h = refl
+slice_get-set_same (y ∷ xs) (suc i) x h = slice_get-set_same xs i x (omega arith)
+
+pub slice_get-set_other : {X : Type 0} (xs : List X) (i j : ℕ) (x : X) → j < i → slice_get (slice_set xs i x) j ≡ slice_get xs j
+slice_get-set_other [] i j x h = refl
+slice_get-set_other (y ∷ xs) zero j x h = absurd (omega arith)
+slice_get-set_other (y ∷ xs) (suc i) zero x h = refl
+slice_get-set_other (y ∷ xs) (suc i) (suc j) x h = slice_get-set_other xs i j x (omega arith)
+
+-- the first t places of ys are filled for those of xs
+abbrev pub AreFilled : {X Y : Type 0} (P : ℕ → X → Y → Type 0) → List X → List Y → ℕ → Type 0
+AreFilled {X} {Y} P xs ys t = (k : ℕ) (x : X) → k < t → slice_get xs k ≡ Some x → (r : Y) × (slice_get ys k ≡ Some r) × P k x r
+
+pub AreFilled-more : {X Y : Type 0} (P : ℕ → X → Y → Type 0) (xs : List X) (ys : List Y) (t : ℕ) (y : Y) → t < length ys → AreFilled P xs ys t → ((x : X) → slice_get xs t ≡ Some x → P t x y) → AreFilled P xs (slice_set ys t y) (t + 1)
+AreFilled-more {X} {Y} P xs ys t y within before here k x lt e = ⊎_elim
+    (λ (l : k < t). let b = before k x l e in (b.0, slice_get-set_other ys t k y l ∙ b.1, b.2))
+    (λ (l : t ≤ k).
+    let same : t ≡ k = omega arith in
+    subst (λ j. slice_get xs j ≡ Some x → (r : Y) × (slice_get (slice_set ys t y) j ≡ Some r) × P j x r) same (λ f. (y, slice_get-set_same ys t y within, here x f)) e)
+    (cases_lt k t)

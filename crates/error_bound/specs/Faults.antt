@@ -1,0 +1,47 @@
+-- Why a leaf does not hold on a box.
+use Rattle.std.specs.Prelude.{◌≡◌, ℕ, ◌*◌, ◌/◌, ◌<◌, ◌≤◌, List, Some, IsTrue}
+use Rattle.fz_num.specs.Fractions.{Fraction, over, AtMost, IsBelow, up_div}
+use Rattle.fuzzy_meaning.specs.declared.block.Block.{Block}
+use Rattle.fuzzy_meaning.specs.declared.block.Rule.{Rule}
+use Rattle.fuzzy_meaning.specs.Rules.{concludes}
+use Rattle.error_bound.specs.declared.boxes.Interval.{Interval}
+use Rattle.error_bound.specs.declared.boxes.Leaf as the
+use Rattle.error_bound.specs.declared.boxes.LeafFault.{LeafFault}
+use Rattle.error_bound.specs.declared.boxes.LeafFault.TheVariants.{Weak, Still, Silent, Loud}
+use Rattle.error_bound.specs.Boxes.{rule_span, rule_byte_span}
+use Rattle.error_bound.specs.Spans.{Span, ByteSpan}
+use Rattle.error_bound.specs.Errors.{billion}
+use Rattle.error_bound.specs.Leaves.{rule_at, concludes_some, IsStill, Holds}
+
+-- in parts of 10^9, rounded down or up
+abbrev pub parts_down : Fraction → ℕ
+parts_down f = f.num * billion / f.den
+
+abbrev pub parts_up : Fraction → ℕ
+parts_up f = up_div (f.num * billion) f.den
+
+-- rule number n concludes a term of output o, and those before it that do have no strength on the box
+pub record IsFirstFiring (b : Block) (box : List Interval) (o n : ℕ) (r : Rule) : Type 0 where
+  pub from : 1 ≤ n
+  pub rule_is : rule_at b n ≡ Some r
+  pub concludes_one : IsTrue (concludes_some r o)
+  pub still_before : (m : ℕ) (q : Rule) → 1 ≤ m → m < n → rule_at b m ≡ Some q → (t : ℕ) → IsTrue (concludes q o t) → IsStill b box q
+
+-- from s and over bytes from m on, a strength goes below k/255, or else over bytes to 0
+pub data IsStrongFault (leaf : the.Leaf) (s : Span) (m : ByteSpan) : LeafFault → Type 0 where
+  weak : IsBelow s.low (over leaf.k 255) → IsStrongFault leaf s m (Weak leaf.rule leaf.k (record { 0 = parts_down s.low }))
+  still : AtMost (over leaf.k 255) s.low → m.low ≡ 0 → IsStrongFault leaf s m (Still leaf.rule)
+
+-- up to s and over bytes up to m, rule number n has a strength, or else one over bytes
+pub data IsSilentFault (n : ℕ) (s : Span) (m : ByteSpan) : LeafFault → Type 0 where
+  silent : 0 < s.high.num → IsSilentFault n s m (Silent n (record { 0 = parts_up s.high }))
+  loud : s.high.num ≡ 0 → 0 < m.high → IsSilentFault n s m (Loud n m.high)
+
+-- of the rule that a strong leaf names; of a silent leaf, of the first rule that has one
+pub data HasLeafFault (b : Block) (box : List Interval) (o : ℕ) (leaf : the.Leaf) (f : LeafFault) : Type 0 where
+  of_strong : (r : Rule) → 1 ≤ leaf.k → rule_at b leaf.rule ≡ Some r → IsStrongFault leaf (rule_span b box r) (rule_byte_span b box r) f → HasLeafFault b box o leaf f
+  of_silent : (n : ℕ) (r : Rule) → leaf.k ≡ 0 → IsFirstFiring b box o n r → IsSilentFault n (rule_span b box r) (rule_byte_span b box r) f → HasLeafFault b box o leaf f
+
+-- a leaf with a fault doesn't hold
+abbrev pub FaultyLeavesFail : Type 0
+FaultyLeavesFail = (b : Block) (box : List Interval) (o : ℕ) (leaf : the.Leaf) (f : LeafFault) → HasLeafFault b box o leaf f → Holds b box o leaf → ⊥

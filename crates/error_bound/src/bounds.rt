@@ -1,0 +1,135 @@
+//! The Bound of a leaf.
+ghost use Rattle.std.specs.Prelude.{◌≡◌, ◌≤◌, ◌<◌, ◌+◌, ◌*◌, min, length, IfSome};
+ghost use Rattle.fz_num.specs.Fractions.{up_div};
+ghost use Rattle.fz_num.specs.Decimals.{distance};
+ghost use Rattle.fuzzy_meaning.specs.Blocks.{IsValidOutput, IsWithin, output_at};
+ghost use Rattle.error_bound.specs.Bounds.{offset as offset_of, greatest_offset as greatest_offset_of, strong_bound as strong_bound_of, silent_bound as silent_bound_of, errors_from};
+ghost use Rattle.error_bound.specs.CellErrors.{term_errors};
+ghost use Rattle.error_bound.specs.Errors.{output_error as output_error_of};
+ghost use Rattle.error_bound.specs.Reaches.{IsTable};
+
+use crate::rules::BoxTable;
+use byte_scaling::near;
+use fuzzy_meaning::{Block, Output, concludes};
+use fz_num::Dec;
+
+/// The Bound of a strong leaf, in millionths of the output's range, for answers in so many parts to
+/// a byte, of the sum of its terms' errors and the part of the rule's strength that is counted on.
+pub(crate) fn strong_bound(output: &Output, parts: u16, sum: u64, k: u8) -> u32
+    requires output { IsValidOutput output.now }
+    requires parts_from { 1 ≤ parts }
+    requires parts_to { parts ≤ 256 }
+    requires sum { sum ≤ 45000000000 }
+    requires k { 1 ≤ k }
+    ensures { result ≡ strong_bound_of output.now parts sum k }
+{
+    let bytes = whole_bytes(output);
+    let steps = 255 * u64::from(parts);
+    let offset = greatest_offset(output);
+    let ends = offset * steps + bytes;
+    let counted = 1_000_000_000 * u64::from(k);
+    let num = product(sum * 255, bytes, steps) + u128::from(ends) * u128::from(counted);
+    in_millionths(num, product(counted, bytes, steps))
+}
+
+/// The Bound of a silent leaf: how far the default's byte is from it, or 0 with NC.
+pub(crate) fn silent_bound(output: &Output) -> u32
+    requires { IsValidOutput output.now }
+    ensures { result ≡ silent_bound_of output.now }
+{
+    match output.default {
+        None => 0,
+        Some(number) => in_millionths(
+            u128::from(offset(output, number)),
+            u128::from(whole_bytes(output)),
+        ),
+    }
+}
+
+/// 255 times an output's range, in 1/10000.
+fn whole_bytes(output: &Output) -> u64
+    requires { IsValidOutput output.now }
+    ensures value { result ≡ 255 * distance output.now.lo output.now.hi }
+    ensures some { 0 < result }
+    ensures small { result ≤ 510002550000 }
+{
+    255 * output.hi.above(output.lo)
+}
+
+fn product(x: u64, bytes: u64, steps: u64) -> u128
+    requires x { x ≤ 11475000000000 }
+    requires bytes { bytes ≤ 510002550000 }
+    requires steps { steps ≤ 65280 }
+    ensures value { result ≡ x * (bytes * steps) }
+    ensures small { result ≤ 382036790174400000000000000000 }
+{
+    u128::from(x) * u128::from(bytes * steps)
+}
+
+/// A fraction in millionths, rounded up, and 1000000 at most.
+fn in_millionths(num: u128, den: u128) -> u32
+    requires num { num ≤ 400000000000000000000000000000 }
+    requires den_from { 0 < den }
+    requires den_to { den ≤ 400000000000000000000000000000 }
+    ensures { result ≡ min 1000000 (up_div (1000000 * num) den) }
+{
+    ((1_000_000 * num + (den - 1)) / den).min(1_000_000) as u32
+}
+
+/// How far a number of an output is from the value of its byte, over `whole_bytes`.
+fn offset(output: &Output, number: Dec) -> u64
+    requires output { IsValidOutput output.now }
+    requires number { IsWithin output.now.lo output.now.hi number }
+    ensures value { result ≡ offset_of output.now number }
+    ensures small { result ≤ 510002550000 }
+{
+    let byte = u64::from(near(output, number));
+    (byte * output.hi.above(output.lo)).abs_diff(number.above(output.lo) * 255)
+}
+
+fn greatest_offset(output: &Output) -> u64
+    requires { IsValidOutput output.now }
+    ensures value { result ≡ greatest_offset_of output.now output.now.singletons }
+    ensures small { result ≤ 510002550000 }
+{
+    let singletons = output.singletons.as_slice();
+    let mut greatest = 0;
+    for k in (0..singletons.len()).rev() {
+        greatest = offset(output, singletons[k]).max(greatest);
+    }
+    greatest
+}
+
+impl BoxTable {
+    /// The sum of the errors of an output's terms, in parts of 10^9.
+    pub(crate) fn sum_of_errors(&self, block: &Block, output: &Output, out: u8) -> u64
+        requires table { IsTable block.now self.now }
+        requires output { IsValidOutput output.now }
+        requires rules { length block.now.rules ≤ 256 }
+        ensures value { result ≡ errors_from block.now (term_errors block.now self.now.bytes.0.items) out 1 output.now.singletons }
+        ensures small { result ≤ 45000000000 }
+    {
+        let mut sum = 0;
+        for k in (0..output.singletons.len()).rev() {
+            sum = self.output_error(block, out, k as u8 + 1) + sum;
+        }
+        sum
+    }
+
+    /// The greatest error of the rules that conclude a term of an output.
+    fn output_error(&self, block: &Block, out: u8, term: u8) -> u64
+        requires table { IsTable block.now self.now }
+        requires rules { length block.now.rules ≤ 256 }
+        ensures value { result ≡ output_error_of block.now (term_errors block.now self.now.bytes.0.items) out term }
+        ensures small { result ≤ 3000000000 }
+    {
+        let rules = block.rules.as_slice();
+        let mut greatest = 0;
+        for k in (0..rules.len()).rev() {
+            if concludes(&rules[k], out, term) {
+                greatest = self.rules[k].error.max(greatest);
+            }
+        }
+        greatest
+    }
+}

@@ -1,0 +1,89 @@
+//! The best leaf of a box.
+ghost use Rattle.std.specs.Prelude.{◌≡◌, ◌≤◌, ◌<◌, ◌+◌, ◌*◌, ◌/◌, ℕ, IfSome, IfNone, length};
+ghost use Rattle.fuzzy_meaning.specs.Blocks.{IsValid};
+ghost use Rattle.error_bound.specs.Best.{IsBest, IsCandidate, IsFirstGreatest};
+ghost use Rattle.error_bound.specs.Boxes.{IsBoxOf};
+ghost use Rattle.error_bound.specs.Reaches.{span_of, byte_span_of, HasSmallTruths, IsTable};
+
+use crate::boxes::{ByteBox, Leaf};
+use crate::leaves::concludes_some;
+use crate::reaches::Reach;
+use crate::rules::BoxTable;
+use fuzzy_meaning::Block;
+
+/// The best leaf of a box for an output, which counts from 1: the silent one where it holds, else of
+/// the strong ones the one with the greatest `k`, of those the one with the first rule, and `None`
+/// exactly where there is none.
+pub fn best(block: &Block, bytes: &ByteBox, out: u8) -> Option<Leaf>
+    requires block { IsValid block.now }
+    requires bytes { IsBoxOf block.now bytes.now.0.items }
+    ensures { IsBest block.now bytes.now.0.items out result }
+{
+    BoxTable::new(block, bytes.copied()).best(block, out)
+}
+
+impl BoxTable {
+    /// The best leaf of the table's box for an output.
+    pub fn best(&self, block: &Block, out: u8) -> Option<Leaf>
+        requires block { IsValid block.now }
+        requires table { IsTable block.now self.now }
+        ensures { IsBest block.now self.now.bytes.0.items out result }
+    {
+        match self.silent_fault(block, out) {
+            None => Some(Leaf { rule: 0, k: 0 }),
+            Some(_) => self.strongest(block, out),
+        }
+    }
+
+    /// The strong leaf with the greatest part, the first rule's on a tie.
+    fn strongest(&self, block: &Block, out: u8) -> Option<Leaf>
+        requires block { IsValid block.now }
+        requires table { IsTable block.now self.now }
+        ensures none { IfNone result ((n k : ℕ) → IsCandidate block.now self.now.bytes.0.items out n k → ⊥) }
+        ensures candidate { IfSome result (λ l. IsCandidate block.now self.now.bytes.0.items out l.rule l.k) }
+        ensures greatest { IfSome result (λ l. IsFirstGreatest (IsCandidate block.now self.now.bytes.0.items out) l.rule l.k) }
+    {
+        let mut rule: u16 = 0;
+        let mut part: u8 = 0;
+        for n in 0..block.rules.len() {
+            let k = self.part_of_rule(block, n as u16, out);
+            if k > part {
+                rule = n as u16 + 1;
+                part = k;
+            }
+        }
+        if part == 0 {
+            None
+        } else {
+            Some(Leaf { rule, k: part })
+        }
+    }
+
+    /// The part of rule number n + 1 that its leaf could count on, or 0.
+    fn part_of_rule(&self, block: &Block, n: u16, out: u8) -> u8
+        requires table { IsTable block.now self.now }
+        requires n { n < length block.now.rules }
+        requires few { length block.now.rules ≤ 256 }
+        ensures candidate { 1 ≤ result → IsCandidate block.now self.now.bytes.0.items out (n + 1) result }
+        ensures only { (k : ℕ) → IsCandidate block.now self.now.bytes.0.items out (n + 1) k → k ≡ result }
+    {
+        if concludes_some(&block.rules.as_slice()[n as usize], out) {
+            part_of(self.rules[n as usize])
+        } else {
+            0
+        }
+    }
+}
+
+/// The strength all over a box in 255ths, rounded down, or 0 where over bytes it is 0 somewhere.
+fn part_of(reach: Reach) -> u8
+    requires { HasSmallTruths reach }
+    ensures part { 1 ≤ (byte_span_of reach).low → result ≡ 255 * (span_of reach.degrees).low.num / (span_of reach.degrees).low.den }
+    ensures none { (byte_span_of reach).low ≡ 0 → result ≡ 0 }
+{
+    if reach.least == 0 {
+        return 0;
+    }
+    let low = reach.degrees.low;
+    (255 * low.num as u128 / low.den as u128) as u8
+}

@@ -1,0 +1,129 @@
+//! From the least to the greatest degree.
+ghost use Rattle.std.specs.Prelude.{◌≡◌, ◌+◌, ◌*◌, ◌==◌, ◌≤◌, IfSome, ◌≤ℤ◌, option_map};
+ghost use Rattle.fz_num.specs.Fractions.{over};
+ghost use Rattle.fz_num.specs.Fracs.{fraction_of, IsTruth};
+ghost use Rattle.fz_num.specs.Decimals.{distance};
+ghost use Rattle.fuzzy_meaning.specs.Blocks.{IsValidInput, IsValidTerm};
+ghost use Rattle.fuzzy_meaning.specs.Places.{rise_at, fall_at};
+ghost use Rattle.error_bound.specs.Places.{rise_end};
+ghost use Rattle.error_bound.specs.Spans.{one_minus_span, lesser_span, greater_span};
+ghost use Rattle.error_bound.specs.Boxes.{degrees_over};
+ghost use Rattle.error_bound.specs.Reaches.{span_of, AreTruths};
+
+use crate::boxes::Interval;
+use fuzzy_meaning::{Input, Trapezoid};
+use fz_num::{Dec, Frac};
+
+pub(crate) const ONE: Frac = Frac { num: 1, den: 1 };
+
+pub(crate) const NONE: Frac = Frac { num: 0, den: 1 };
+
+/// From the least to the greatest degree.
+#[derive(Clone, Copy)]
+pub(crate) struct Degrees {
+    pub(crate) low: Frac,
+    pub(crate) high: Frac,
+}
+
+impl Degrees {
+    pub(crate) fn one_minus(self) -> Degrees
+        requires { AreTruths self }
+        ensures value { span_of result ≡ one_minus_span (span_of self) }
+        ensures truth { AreTruths result }
+    {
+        Degrees {
+            low: self.high.one_minus(),
+            high: self.low.one_minus(),
+        }
+    }
+
+    pub(crate) fn min(self, other: Degrees) -> Degrees
+        requires left { AreTruths self }
+        requires right { AreTruths other }
+        ensures value { span_of result ≡ lesser_span (span_of self) (span_of other) }
+        ensures truth { AreTruths result }
+    {
+        Degrees {
+            low: self.low.min(other.low),
+            high: self.high.min(other.high),
+        }
+    }
+
+    pub(crate) fn max(self, other: Degrees) -> Degrees
+        requires left { AreTruths self }
+        requires right { AreTruths other }
+        ensures value { span_of result ≡ greater_span (span_of self) (span_of other) }
+        ensures truth { AreTruths result }
+    {
+        Degrees {
+            low: self.low.max(other.low),
+            high: self.high.max(other.high),
+        }
+    }
+}
+
+/// Of a term over the cells of an interval, between numbers too.
+pub(crate) fn degrees_of(input: &Input, term: &Trapezoid, bytes: Interval) -> Degrees
+    requires input { IsValidInput input.now }
+    requires term { IsValidTerm input.now.lo input.now.hi term.now }
+    ensures value { span_of result ≡ degrees_over input.now term.now bytes }
+    ensures truth { AreTruths result }
+{
+    let width = input.hi.above(input.lo);
+    let start = u64::from(bytes.from) * width;
+    let end = (u64::from(bytes.to) + 1) * width;
+    Degrees {
+        low: rising(input.lo, term.a, term.b, start, true).min(falling(
+            input.lo, term.c, term.d, end,
+        )),
+        high: rising(input.lo, term.a, term.b, end, bytes.to == 255).min(falling(
+            input.lo, term.c, term.d, start,
+        )),
+    }
+}
+
+/// The rising side at n/256, or its limit from below where the end is open.
+fn rising(lo: Dec, a: Option<Dec>, b: Dec, n: u64, closed: bool) -> Frac
+    requires a { IfSome a (λ p. (lo.0 ≤ℤ p.0) × (p.0 ≤ℤ b.0)) }
+    requires b { lo.0 ≤ℤ b.0 }
+    requires width { distance lo b ≤ 2000000000 }
+    requires n { n ≤ 600000000000 }
+    ensures value { fraction_of result ≡ rise_end closed (option_map (distance lo) a) (distance lo b) (over n 256) }
+    ensures truth { IsTruth 1000000000000 result }
+{
+    let Some(a) = a else {
+        return ONE;
+    };
+    let a = a.above(lo);
+    let b = b.above(lo);
+    if b * 256 < n || (closed && b * 256 == n) {
+        ONE
+    } else if n <= a * 256 {
+        NONE
+    } else {
+        Frac::over(n - a * 256, (b - a) * 256)
+    }
+}
+
+/// The falling side at n/256.
+fn falling(lo: Dec, c: Dec, d: Option<Dec>, n: u64) -> Frac
+    requires c { lo.0 ≤ℤ c.0 }
+    requires d { IfSome d (λ p. (c.0 ≤ℤ p.0) × (distance lo p ≤ 2000000000)) }
+    requires width { distance lo c ≤ 2000000000 }
+    requires n { n ≤ 600000000000 }
+    ensures value { fraction_of result ≡ fall_at (distance lo c) (option_map (distance lo) d) (over n 256) }
+    ensures truth { IsTruth 1000000000000 result }
+{
+    let Some(d) = d else {
+        return ONE;
+    };
+    let c = c.above(lo);
+    let d = d.above(lo);
+    if n <= c * 256 {
+        ONE
+    } else if d * 256 <= n {
+        NONE
+    } else {
+        Frac::over(d * 256 - n, (d - c) * 256)
+    }
+}

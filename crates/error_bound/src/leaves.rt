@@ -1,0 +1,154 @@
+//! Leaves: whether they hold on a box, with which Bound, and the best one of a box.
+ghost use Rattle.std.specs.Prelude.{◌≡◌, ◌↔◌, ◌≤◌, ◌<◌, ◌*◌, ◌/◌, ℕ, IsTrue, IfOk, IfErr, OnOk, All, IfSome, IfNone, Some, length};
+ghost use Rattle.fz_num.specs.Fractions.{over, AtMost, IsBelow};
+ghost use Rattle.fz_num.specs.Fracs.{fraction_of, IsTruth};
+ghost use Rattle.fuzzy_meaning.specs.declared.block.Rule.{Rule as TheRule};
+ghost use Rattle.fuzzy_meaning.specs.Blocks.{IsValid, output_at};
+ghost use Rattle.fuzzy_meaning.specs.Rules.{concludes as concludes_it};
+ghost use Rattle.error_bound.specs.Boxes.{IsBoxOf};
+ghost use Rattle.error_bound.specs.Bounds.{IsBound};
+ghost use Rattle.error_bound.specs.Faults.{HasLeafFault, IsStrongFault, IsSilentFault, parts_up};
+ghost use Rattle.error_bound.specs.Leaves.{rule_at, Holds, IsStill, concludes_some as concludes_any, IsPairFor};
+ghost use Rattle.error_bound.specs.Reaches.{span_of, byte_span_of, HasSmallTruths, IsTable};
+
+use crate::bounds::{silent_bound, strong_bound};
+use crate::boxes::{ByteBox, Leaf, LeafFault};
+use crate::reaches::Reach;
+use crate::rules::BoxTable;
+use fuzzy_meaning::{Block, Rule};
+use fz_num::{Frac, Nano};
+
+/// The Bound of a leaf's pair for an output on a box, in millionths of the output's range, or its
+/// first fault, for answers that are bytes. Outputs count from 1.
+pub fn leaf_bound(block: &Block, bytes: &ByteBox, leaf: &Leaf, out: u8) -> Result<u32, LeafFault>
+    requires block { IsValid block.now }
+    requires bytes { IsBoxOf block.now bytes.now.0.items }
+    requires out_from { 1 ≤ out }
+    requires out_to { out ≤ length block.now.outputs }
+    requires pair { IsPairFor block.now out leaf.now }
+    ensures holds { OnOk result (Holds block.now bytes.now.0.items out leaf.now) }
+    ensures bound { IfOk result (λ n. IfSome (output_at block.now out) (λ x. IsBound block.now bytes.now.0.items out x 1 leaf.now n)) }
+    ensures fault { IfErr result (HasLeafFault block.now bytes.now.0.items out leaf.now) }
+{
+    BoxTable::new(block, bytes.copied()).bound(block, leaf, out, 1)
+}
+
+/// The same for answers of 16 bits.
+pub fn leaf_bound16(block: &Block, bytes: &ByteBox, leaf: &Leaf, out: u8) -> Result<u32, LeafFault>
+    requires block { IsValid block.now }
+    requires bytes { IsBoxOf block.now bytes.now.0.items }
+    requires out_from { 1 ≤ out }
+    requires out_to { out ≤ length block.now.outputs }
+    requires pair { IsPairFor block.now out leaf.now }
+    ensures holds { OnOk result (Holds block.now bytes.now.0.items out leaf.now) }
+    ensures bound { IfOk result (λ n. IfSome (output_at block.now out) (λ x. IsBound block.now bytes.now.0.items out x 256 leaf.now n)) }
+    ensures fault { IfErr result (HasLeafFault block.now bytes.now.0.items out leaf.now) }
+{
+    BoxTable::new(block, bytes.copied()).bound(block, leaf, out, 256)
+}
+
+impl BoxTable {
+    /// The Bound of a leaf's pair for an output on the table's box, or its first fault, for answers in
+    /// so many parts to a byte: one, or 256 for those of 16 bits.
+    pub fn bound(&self, block: &Block, leaf: &Leaf, out: u8, parts: u16) -> Result<u32, LeafFault>
+        requires block { IsValid block.now }
+        requires table { IsTable block.now self.now }
+        requires out_from { 1 ≤ out }
+        requires out_to { out ≤ length block.now.outputs }
+        requires pair { IsPairFor block.now out leaf.now }
+        requires parts_from { 1 ≤ parts }
+        requires parts_to { parts ≤ 256 }
+        ensures holds { OnOk result (Holds block.now self.now.bytes.0.items out leaf.now) }
+        ensures bound { IfOk result (λ n. IfSome (output_at block.now out) (λ x. IsBound block.now self.now.bytes.0.items out x parts leaf.now n)) }
+        ensures fault { IfErr result (HasLeafFault block.now self.now.bytes.0.items out leaf.now) }
+    {
+        let output = &block.outputs.as_slice()[out as usize - 1];
+        if leaf.k == 0 {
+            return match self.silent_fault(block, out) {
+                Some(fault) => Err(fault),
+                None => Ok(silent_bound(output)),
+            };
+        }
+        if let Some(fault) = strong_fault(self.rules[leaf.rule as usize - 1], *leaf) {
+            return Err(fault);
+        }
+        let sum = self.sum_of_errors(block, output, out);
+        Ok(strong_bound(output, parts, sum, leaf.k))
+    }
+
+    /// The fault of the first rule that concludes a term of an output and has a strength.
+    pub(crate) fn silent_fault(&self, block: &Block, out: u8) -> Option<LeafFault>
+        requires block { IsValid block.now }
+        requires table { IsTable block.now self.now }
+        ensures still { IfNone result (All (λ r. (t : ℕ) → IsTrue (concludes_it r out t) → IsStill block.now self.now.bytes.0.items r) block.now.rules) }
+        ensures fault { IfSome result (HasLeafFault block.now self.now.bytes.0.items out (record { rule = 0; k = 0 })) }
+    {
+        let rules = block.rules.as_slice();
+        for n in 0..rules.len() {
+            if concludes_some(&rules[n], out) {
+                if let Some(fault) = firing_fault(self.rules[n], n as u16 + 1) {
+                    return Some(fault);
+                }
+            }
+        }
+        None
+    }
+}
+
+/// The fault of a strong leaf whose rule reaches so far.
+fn strong_fault(reach: Reach, leaf: Leaf) -> Option<LeafFault>
+    requires { HasSmallTruths reach }
+    ensures low { IfNone result (AtMost (over leaf.k 255) (span_of reach.degrees).low) }
+    ensures byte_low { IfNone result (1 ≤ (byte_span_of reach).low) }
+    ensures fault { IfSome result (IsStrongFault leaf (span_of reach.degrees) (byte_span_of reach)) }
+{
+    let low = reach.degrees.low;
+    if is_below(low, leaf.k) {
+        Some(LeafFault::Weak(leaf.rule, leaf.k, low.floor_nano()))
+    } else if reach.least == 0 {
+        Some(LeafFault::Still(leaf.rule))
+    } else {
+        None
+    }
+}
+
+/// The fault of rule number n, which reaches so far, where it has a strength.
+fn firing_fault(reach: Reach, n: u16) -> Option<LeafFault>
+    requires { HasSmallTruths reach }
+    ensures high { IfNone result ((span_of reach.degrees).high.num ≡ 0) }
+    ensures byte_high { IfNone result ((byte_span_of reach).high ≡ 0) }
+    ensures fault { IfSome result (IsSilentFault n (span_of reach.degrees) (byte_span_of reach)) }
+{
+    let high = reach.degrees.high;
+    if high.num > 0 {
+        Some(LeafFault::Silent(n, up_nano(high)))
+    } else if reach.greatest > 0 {
+        Some(LeafFault::Loud(n, reach.greatest))
+    } else {
+        None
+    }
+}
+
+/// Whether a fraction is below k/255.
+fn is_below(f: Frac, k: u8) -> bool
+    requires { IsTruth 10000000000000000 f }
+    ensures { IsTrue result ↔ IsBelow (fraction_of f) (over k 255) }
+{
+    f.num as u128 * 255 < u128::from(k) * f.den as u128
+}
+
+/// A fraction in parts of 10^9, rounded up.
+fn up_nano(f: Frac) -> Nano
+    requires { IsTruth 10000000000000000 f }
+    ensures { result.0 ≡ parts_up (fraction_of f) }
+{
+    let den = f.den as u128;
+    Nano(((f.num as u128 * 1_000_000_000 + (den - 1)) / den) as u64)
+}
+
+/// Whether a rule concludes a term of an output.
+pub(crate) fn concludes_some(rule: &Rule, out: u8) -> bool
+    ensures { result ≡ concludes_any rule.now out }
+{
+    rule.concl.as_slice().iter().any(|c| c.0 == out)
+}

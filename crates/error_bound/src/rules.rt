@@ -1,0 +1,89 @@
+//! The reaches of all rules over a box.
+ghost use Rattle.std.specs.Prelude.{◌≡◌, ◌≤◌, ◌+◌, ◌*◌, ◌/◌, ◌≤ℤ◌, pos, unsigned_abs, if◌then◌else◌, ◌==◌};
+ghost use Rattle.fz_num.specs.Fractions.{up_div};
+ghost use Rattle.fuzzy_meaning.specs.Blocks.{IsValid, IsValidRule};
+ghost use Rattle.error_bound.specs.Boxes.{IsBoxOf};
+ghost use Rattle.error_bound.specs.Errors.{apart};
+ghost use Rattle.error_bound.specs.Reaches.{AreBoxTerms, IsReachOfRule, IsTable};
+
+use crate::boxes::ByteBox;
+use crate::degrees::Degrees;
+use crate::reaches::{NOTHING, Reach, reach_of};
+use crate::tables::BoxTerms;
+use byte_scaling::weight_byte;
+use fuzzy_meaning::{Block, Rule};
+use fz_num::Dec;
+
+/// What leaves need of a box, made once for all of them: how far the strength of each rule reaches.
+#[derive(Drop)]
+pub struct BoxTable {
+    /// The box that the table was made from.
+    pub bytes: ByteBox,
+    pub(crate) rules: [Reach; 256],
+}
+
+impl BoxTable {
+    /// The table of a box. It takes some ten thousand steps for each input that has whole range, and
+    /// then a few for each literal.
+    pub fn new(block: &Block, bytes: ByteBox) -> BoxTable
+        requires block { IsValid block.now }
+        requires bytes { IsBoxOf block.now bytes.0.items }
+        ensures same { result.bytes ≡ bytes }
+        ensures table { IsTable block.now result }
+    {
+        let terms = BoxTerms::new(block, bytes);
+        let mut rules = [NOTHING; 256];
+        let all = block.rules.as_slice();
+        for n in 0..all.len() {
+            rules[n] = reach_of_rule(&all[n], block, &terms);
+        }
+        let BoxTerms { bytes, .. } = terms;
+        BoxTable { bytes, rules }
+    }
+}
+
+/// The reach of a rule's strength.
+fn reach_of_rule(rule: &Rule, block: &Block, terms: &BoxTerms) -> Reach
+    requires rule { IsValidRule block.now rule.now }
+    requires block { IsValid block.now }
+    requires terms { AreBoxTerms block.now terms.now }
+    ensures { IsReachOfRule block.now terms.now.bytes.0.items rule.now result }
+{
+    let truth = reach_of(&rule.cond, block, terms);
+    let weight = rule.weight.unwrap_or(Dec(10_000));
+    let byte = weight_byte(rule.weight);
+    Reach {
+        degrees: Degrees {
+            low: truth.degrees.low.times(weight),
+            high: truth.degrees.high.times(weight),
+        },
+        least: scaled(truth.least, byte),
+        greatest: scaled(truth.greatest, byte),
+        error: truth.error + weight_error(weight, byte) + floor_error(byte),
+    }
+}
+
+/// A truth over bytes, scaled by a weight byte.
+fn scaled(truth: u8, weight: u8) -> u8
+    ensures { result ≡ truth * (weight + 1) / 256 }
+{
+    (u32::from(truth) * (u32::from(weight) + 1) / 256) as u8
+}
+
+/// How far a weight is from the part that its byte takes, in parts of 10^9, rounded up.
+fn weight_error(weight: Dec, byte: u8) -> u64
+    requires from { pos 0 ≤ℤ weight.0 }
+    requires to { weight.0 ≤ℤ pos 10000 }
+    ensures value { result ≡ up_div (apart ((byte + 1) * 10000) (unsigned_abs weight.0 * 256) * 1000000000) 2560000 }
+    ensures small { result ≤ 1000000000 }
+{
+    let apart = ((u64::from(byte) + 1) * 10_000).abs_diff(weight.0 as u64 * 256);
+    (apart * 1_000_000_000 + 2_559_999) / 2_560_000
+}
+
+/// What rounding down may lose under a weight below 1: 1/255 in parts of 10^9, rounded up.
+fn floor_error(byte: u8) -> u64
+    ensures value { result ≡ (if byte == 255 then 0 else up_div 1000000000 255) }
+{
+    if byte == 255 { 0 } else { 3_921_569 }
+}
