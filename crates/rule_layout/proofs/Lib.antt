@@ -16,3 +16,5 @@ pub mod LaidOutLemmas
 pub mod ExampleLemmas
 pub mod PlaceLemmas
 pub mod WidestLemmas
+
+pub mod AlikeLemmas
