@@ -6,6 +6,7 @@ use Rattle.fuzzy_meaning.specs.declared.block.Block.{Block}
 use Rattle.fuzzy_meaning.specs.declared.block.Input.{Input}
 use Rattle.fuzzy_meaning.specs.declared.block.Rule.{Rule}
 use Rattle.fcl_syntax.specs.Readings.{FirstFaultsAreOne}
+use Rattle.fcl_syntax.specs.Text.{IsFirstFault}
 use Rattle.fcl_syntax.specs.View.{view}
 use Rattle.fcl_check.specs.Alike.{AreAlike, AreAlikeRules, SpelledBlocksAreAlike}
 use Rattle.fcl_check.specs.Texts.{LoadFaultsAreOne, SpellsBlock}
@@ -17,7 +18,10 @@ use Rattle.trace_io.specs.declared.sample.Sample.{Sample}
 use Rattle.fz_top.specs.Commands.{Makes}
 use Rattle.fz_top.specs.Firmwares.{GivesFirmware, RefusesText}
 use Rattle.fz_top.specs.Run.{RunMakes}
-use Rattle.fz_top.specs.Runs.{DeedsHaveNoFault}
+use Rattle.fz_top.specs.Errors.{CarriesNoMemory}
+use Rattle.fz_top.specs.Runs.{DeedsHaveNoFault, Runs, World}
+use Rattle.fz_top.specs.Texts.{Text}
+use Rattle.fz_top.specs.declared.command.Command.{Command}
 use Rattle.fz_top.specs.declared.command.Command.TheVariants as command
 use Rattle.fz_top.specs.declared.run.Run.{Run}
 use Rattle.fz_top.specs.declared.status.FclFault.{FclFault}
@@ -63,3 +67,34 @@ module _ (first : FirstFaultsAreOne) (load : LoadFaultsAreOne) (alike : SpelledB
   unfolding Makes
   apart (command.Run run) contents deed s makes fault =
       run_apart run _ _ s makes.block makes.values makes.gives.spelled makes.gives.limits makes.trace fault
+
+-- ---- a fault that is made is no want of memory
+
+text_carries : (text : List ℕ) (f : FclFault) → RefusesText text f → CarriesNoMemory (status.Fcl f)
+text_carries text (fcl.Syntax f) refuses = λ is. subst (IsFirstFault text) is refuses
+text_carries text (fcl.Load f) refuses = refuses.0
+text_carries text (fcl.Layout f) refuses = refuses.0
+
+run_carries : (run : Run) (text samples : List ℕ) (s : Status) → RunMakes run text samples (Err s) → CarriesNoMemory s
+run_carries run text samples (status.Fcl f) makes = text_carries text f makes
+run_carries run text samples (status.Trace f) makes = makes.0
+run_carries run text samples status.Ok makes = tt
+run_carries run text samples status.Usage makes = tt
+run_carries run text samples (status.ReadFault p) makes = tt
+run_carries run text samples status.WriteFault makes = tt
+run_carries run text samples status.Memory makes = tt
+run_carries run text samples (status.TooLong p) makes = tt
+
+faults_carry : (command : Command) (contents : List (List ℕ)) (s : Status) → Makes command contents (Err s) → CarriesNoMemory s
+unfolding Makes
+faults_carry (command.Run run) contents s makes = run_carries run _ _ s makes
+
+pub carries : (words : List Text) (old new : World) (s : Status) → Runs words old new s → CarriesNoMemory s
+carries words old new (status.Fcl f) runs = faults_carry runs.worked.command runs.worked.contents (status.Fcl f) runs.worked.outcome
+carries words old new (status.Trace f) runs = faults_carry runs.worked.command runs.worked.contents (status.Trace f) runs.worked.outcome
+carries words old new status.Ok runs = tt
+carries words old new status.Usage runs = tt
+carries words old new (status.ReadFault p) runs = tt
+carries words old new status.WriteFault runs = tt
+carries words old new status.Memory runs = tt
+carries words old new (status.TooLong p) runs = tt

@@ -6,7 +6,7 @@ ghost use Rattle.fz_top.specs.Commands.{command_in, inputs_of, IsUsage, Makes};
 ghost use Rattle.fz_top.specs.Deeds.{Deed};
 ghost use Rattle.fz_top.specs.Reads.{names_at, AreThere};
 ghost use Rattle.fz_top.specs.Runs.{world, Runs, IsReady, IsReadFault, IsWriteFault, IsTooLong, AreKnown, CanBeDone, HasNoFault, IsMade, RoomFor, Settles};
-ghost use Rattle.fz_top.specs.Errors.{error_line_of, Complains};
+ghost use Rattle.fz_top.specs.Errors.{CarriesNoMemory, error_line_of, Complains};
 ghost use Rattle.fz_top.specs.declared.command.Command.{Command};
 
 use crate::command::command_of;
@@ -68,6 +68,9 @@ pub fn fuzz12<S: Shelf, O: Sink, F: Sink>(
     ensures runs { Runs (texts_of words.now)
         (world (S.files shelf.old) (S.counts shelf.old) (S.asked shelf.old) (O.told out.old) (O.faults out.old))
         (world (S.files shelf.new) (S.counts shelf.new) (S.asked shelf.new) (O.told out.new) (O.faults out.new)) result }
+
+    // want of memory has the status of its own alone
+    ensures carried { CarriesNoMemory result }
 
     // Usage exactly where the words are of no command
     ensures usage_only { result ≡ Status.Usage → IsUsage (texts_of words.now) }

@@ -1,6 +1,7 @@
 use Rattle.std.proofs.Common.{inl, inr}
 use Rattle.fz_top.specs.Texts.{texts_of}
 use Rattle.fz_top.specs.Runs.{IsReady, world}
+use Rattle.fz_top.proofs.DeedLemmas.{carries}
 use Rattle.fz_top.proofs.RunLemmas.{does, no_read_fault, no_write_fault, settles, completes, there, long_status, usage_status, usage_cause}
 use Rattle.fz_top.proofs.program.fuzz12.Goals as goal
 
@@ -45,3 +46,8 @@ returns-clause-done g c = λ command contents deed can why.
           (run.reads_steady sound.0 command can.is (there words old old command contents can.is can.known))
           (run.writes_steady sound.0 sound.1 command contents ready)
     ]
+
+pub returns-clause-carried : goal.returns-clause-carried
+returns-clause-carried g c =
+    let old = world (g.S.Shelf.files c.args.shelf.now) (g.S.Shelf.counts c.args.shelf.now) (g.S.Shelf.asked c.args.shelf.now) (g.O.Sink.told c.args.out.now) (g.O.Sink.faults c.args.out.now) in
+    carries (texts_of c.args.words.now) old _ _ c.run-status.ensures.runs
