@@ -55,8 +55,8 @@ row_apart inputs n row fault s (unread count none) spelled = some_none spelled.v
 row_apart inputs n row fault s (outside values i count are first) spelled =
     let same : s.values ≡ values = let e : Some s.values ≡ Some values = sym spelled.values ∙ are in cc in
     let all : AreWithin (first.inputs_before ++ first.input ∷ first.inputs_after) (first.values_before ++ first.value ∷ first.values_after) =
-        subst (λ (is : List Input). AreWithin is (first.values_before ++ first.value ∷ first.values_after)) first.inputs_are
-        (subst (λ (ds : List Dec). AreWithin inputs ds) (same ∙ first.values_are) spelled.within) in
+    subst (λ (is : List Input). AreWithin is (first.values_before ++ first.value ∷ first.values_after)) first.inputs_are
+    (subst (λ (ds : List Dec). AreWithin inputs ds) (same ∙ first.values_are) spelled.within) in
     first.outside (within_at first.inputs_before first.input first.inputs_after first.values_before first.value first.values_after first.within all)
 
 row_at : (inputs : List Input) (before : List Fields) (row : Fields) (after : List Fields) (samples : List Sample) → SpellSamples inputs (before ++ row ∷ after) samples → (s : Sample) × SpellsSample inputs row s
