@@ -3,3 +3,4 @@ pub mod RunLemmas
 pub mod UsageLemmas
 pub mod LineLemmas
 pub mod AnswerLemmas
+pub mod DeedLemmas

@@ -12,7 +12,7 @@ use Rattle.fz_top.specs.Texts.{Text, word_at, bytes_of}
 use Rattle.fz_top.specs.Commands.{Makes, command_in, inputs_of}
 use Rattle.fz_top.specs.Reads.{ReadsWhole, AreHeld, AreThere, names_at, StopsBy}
 use Rattle.fz_top.specs.Deeds.{Deed, IsFaultOf}
-use Rattle.fz_top.specs.Runs.{Faulted, IsMade, Untouched, IsReadFault, IsTooLong, IsWriteFault, Settles, status_of, IsReady, AreKnown, FileFits, World, world, Worked, Delivered, WriteFailed, PutFailed, ChangesOnly, IsWritten, Runs}
+use Rattle.fz_top.specs.Runs.{CanBeDone, DeedsHaveNoFault, HasNoFault, Faulted, IsMade, Untouched, IsReadFault, IsTooLong, IsWriteFault, Settles, status_of, IsReady, AreKnown, FileFits, World, world, Worked, Delivered, WriteFailed, PutFailed, ChangesOnly, IsWritten, Runs}
 use Rattle.fz_top.specs.declared.command.Command.{Command}
 use Rattle.fz_top.specs.declared.reading.Stop.TheVariants as stop
 use Rattle.fz_top.specs.declared.status.Status.{Status}
@@ -189,6 +189,40 @@ module _ (words : List Text) (old new : World) (command : Command) (contents : L
 
   pub there : AreThere old.files (names_at words (inputs_of command))
   there = known_there old.files (names_at words (inputs_of command)) contents known
+
+-- ---- what can be done is done
+
+abbrev IsDone : Status → Type 0
+IsDone s = (s ≡ status.Ok) ⊎ (s ≡ status.Memory)
+
+pub does : (apart : DeedsHaveNoFault) (words : List Text) (old new : World) (command : Command) (contents : List (List ℕ)) (deed : Deed) → CanBeDone words old.files command contents deed
+    → (s : Status) → Runs words old new s → (IsReadFault s → ⊥) → (IsWriteFault s → ⊥) → IsDone s
+does apart words old new command contents deed can s runs no_read no_write = go (completes words old new command contents can.is can.known s runs no_read no_write)
+  where
+    go : IsMade (Makes command contents) s ⊎ (s ≡ status.Memory) → IsDone s
+    go (inr memory) = inr memory
+    go (inl (Ok made, makes, is)) = inl is
+    go (inl (Err t, makes, is)) = absurd (apart command contents deed t can.makes makes)
+
+pub no_read_fault : (words : List Text) (old new : World) → HasNoFault old new → (s : Status) → Runs words old new s → IsReadFault s → ⊥
+no_read_fault words old new none status.Ok runs is = is
+no_read_fault words old new none status.Usage runs is = is
+no_read_fault words old new none (status.ReadFault p) runs is = none.reads runs.stops.2
+no_read_fault words old new none status.WriteFault runs is = is
+no_read_fault words old new none (status.Fcl f) runs is = is
+no_read_fault words old new none (status.Trace f) runs is = is
+no_read_fault words old new none status.Memory runs is = is
+no_read_fault words old new none (status.TooLong p) runs is = is
+
+pub no_write_fault : (words : List Text) (old new : World) → HasNoFault old new → (s : Status) → Runs words old new s → IsWriteFault s → ⊥
+no_write_fault words old new none status.Ok runs is = is
+no_write_fault words old new none status.Usage runs is = is
+no_write_fault words old new none (status.ReadFault p) runs is = is
+no_write_fault words old new none status.WriteFault runs is = ⊎_elim (λ w. none.writes w.rose) (λ p. none.puts p.rose) runs.3
+no_write_fault words old new none (status.Fcl f) runs is = is
+no_write_fault words old new none (status.Trace f) runs is = is
+no_write_fault words old new none status.Memory runs is = is
+no_write_fault words old new none (status.TooLong p) runs is = is
 
 none_some : {w : Option Command} {c : Command} → w ≡ None → w ≡ Some c → ⊥
 none_some {w} {c} none some = let bad : None ≡ Some c = sym none ∙ some in cc

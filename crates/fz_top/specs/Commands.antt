@@ -12,7 +12,7 @@ use Rattle.fz_top.specs.declared.command.Name.TheVariants as name
 use Rattle.fz_top.specs.declared.status.Status.{Status}
 
 -- the commands by name, each with the number of words that follow
-abbrev pub table : List (Row Name)
+unfoldable pub table : List (Row Name)
 table = row (codes "run") 3 name.Run ∷ []
 
 -- the command of a name, where the words have its form

@@ -1,5 +1,5 @@
 -- The one line on err.
-use Rattle.std.specs.Prelude.{◌≡◌, ◌≤◌, ◌++◌, ℕ, List, [], length, codes, decimal, Option, Result, IsOk, OnOk}
+use Rattle.std.specs.Prelude.{◌≡◌, ◌≢◌, ◌≤◌, ◌++◌, ℕ, List, [], length, codes, decimal, Option, Result, IsOk, OnOk}
 use Rattle.fz_shelf.specs.Faults.{HasCause, Rose}
 use Rattle.fz_shelf.specs.Told.{Taken, gained, GainedPart, HasRoom}
 use Rattle.trace_io.specs.declared.sample.TraceFault.{TraceFault}
@@ -83,6 +83,14 @@ error_line_of words (status.Fcl f) = fcl_line f
 error_line_of words (status.Trace f) = trace_line f
 error_line_of words status.Memory = want_of_memory
 error_line_of words (status.TooLong p) = with_name (codes "too long: ") (word_at words p)
+
+-- the fault that the status carries, if there is one, is not the fault's own want of memory
+abbrev pub CarriesNoMemory : Status → Type 0
+CarriesNoMemory (status.Fcl (fcl.Syntax f)) = f ≢ syntax.Memory
+CarriesNoMemory (status.Fcl (fcl.Load f)) = f ≢ load.Memory
+CarriesNoMemory (status.Fcl (fcl.Layout f)) = f ≢ layout.Memory
+CarriesNoMemory (status.Trace f) = f ≢ trace.Memory
+CarriesNoMemory _ = Unit {0}
 
 -- a text is put: from what the sink told, its faults and its soundness before to those after
 pub record Puts {E : Type 0} (text : List ℕ) (told told' : Option Taken) (faults faults' : ℕ) (sound sound' : Type 0) (result : Result Unit E) : Type 0 where

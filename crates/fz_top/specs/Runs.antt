@@ -120,6 +120,18 @@ pub record IsReady (words : List Text) (old : World) (command : Command) (conten
   pub known : AreKnown old.files (names_at words (inputs_of command)) contents
   pub room : RoomFor words old.files old.told (Makes command contents)
 
+-- the words are of a command whose files are told, and the contents make a deed
+pub record CanBeDone (words : List Text) (files : Names) (command : Command) (contents : List (List ℕ)) (deed : Deed) : Type 0 where
+  pub is : command_in words ≡ Some command
+  pub known : AreKnown files (names_at words (inputs_of command)) contents
+  pub makes : Makes command contents (Ok deed)
+
+-- no read, write or put failed
+pub record HasNoFault (old new : World) : Type 0 where
+  pub reads : Rose old.counts.reads new.counts.reads → ⊥
+  pub writes : Rose old.counts.writes new.counts.writes → ⊥
+  pub puts : Rose old.faults new.faults → ⊥
+
 -- the words are of a command; the shelf tells the files before this word, none too long, and
 -- tells this one as too long
 pub record IsTooLong (words : List Text) (files : Names) (place : ℕ) : Type 0 where
@@ -154,3 +166,7 @@ IsMade makes s = (r : Result Deed Status) × makes r × (s ≡ status_of r)
 -- the same, but for want of memory and faults of the shelf and out
 abbrev pub Settles : (Result Deed Status → Type 0) → Status → Type 0
 Settles makes s = IsMade makes s ⊎ ((s ≡ status.Memory) ⊎ (IsReadFault s ⊎ IsWriteFault s))
+
+-- Contents that make a deed make no fault.
+abbrev pub DeedsHaveNoFault : Type 0
+DeedsHaveNoFault = (command : Command) (contents : List (List ℕ)) (deed : Deed) (s : Status) → Makes command contents (Ok deed) → Makes command contents (Err s) → ⊥

@@ -5,8 +5,9 @@
 //! each has a row of the table and an arm of each match.
 ghost use Rattle.std.specs.Prelude.{◌≡◌, ◌↔◌, ◌≤◌, length, IfOk, IsErrOf, Some, None};
 ghost use Rattle.std.specs.List.{All};
+ghost use Rattle.fz_words.specs.App.{IsRefused};
 ghost use Rattle.fz_top.specs.Texts.{bytes_of, texts_of};
-ghost use Rattle.fz_top.specs.Commands.{IsUsage, Makes, command_in, form_of, inputs_of};
+ghost use Rattle.fz_top.specs.Commands.{IsUsage, Makes, command_in, form_of, inputs_of, name_in, table};
 ghost use Rattle.fz_top.specs.Deeds.{IsResultOf};
 
 use crate::Status;
@@ -65,13 +66,22 @@ impl Command {
     }
 }
 
+/// The name among the words, the program's own name first.
+fn name_of<'a>(alloc: Global, words: &'a [String]) -> Result<Name, Refusal>
+    ensures named { IfOk result (λ n. name_in (texts_of words.now) ≡ Some n) }
+    ensures usage { IsErrOf result Refusal.Usage → name_in (texts_of words.now) ≡ None }
+    ensures law { (name_in (texts_of words.now) ≡ None) ↔ IsRefused table (texts_of words.now) }
+{
+    fz_words::command_of(alloc, COMMANDS.as_slice(), words)
+}
+
 /// The command of the words, the program's name first.
 pub(crate) fn command_of<'a>(alloc: Global, words: &'a [String]) -> Result<Command, Refusal>
     ensures value { IfOk result (λ c. command_in (texts_of words.now) ≡ Some c) }
     ensures usage { IsErrOf result Refusal.Usage → command_in (texts_of words.now) ≡ None }
     ensures law { (command_in (texts_of words.now) ≡ None) ↔ IsUsage (texts_of words.now) }
 {
-    let name = match fz_words::command_of(alloc, COMMANDS.as_slice(), words) {
+    let name = match name_of(alloc, words) {
         Ok(name) => name,
         Err(Refusal::Usage) => return Err(Refusal::Usage),
         Err(Refusal::Memory) => return Err(Refusal::Memory),

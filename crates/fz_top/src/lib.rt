@@ -13,6 +13,7 @@ mod command;
 mod delivery;
 mod errors;
 mod firmware;
+mod laws;
 mod lines;
 mod program;
 mod reading;

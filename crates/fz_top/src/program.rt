@@ -3,14 +3,16 @@ ghost use Rattle.std.specs.Prelude.{◌≡◌, ◌⊎◌, ◌↔◌, length, Non
 ghost use Rattle.fz_shelf.specs.Told.{gained, HasRoom};
 ghost use Rattle.fz_top.specs.Texts.{texts_of};
 ghost use Rattle.fz_top.specs.Commands.{command_in, inputs_of, IsUsage, Makes};
+ghost use Rattle.fz_top.specs.Deeds.{Deed};
 ghost use Rattle.fz_top.specs.Reads.{names_at, AreThere};
-ghost use Rattle.fz_top.specs.Runs.{world, Runs, IsReady, IsReadFault, IsWriteFault, IsTooLong, AreKnown, IsMade, Settles};
-ghost use Rattle.fz_top.specs.Errors.{error_line_of, Complains};
+ghost use Rattle.fz_top.specs.Runs.{world, Runs, IsReady, IsReadFault, IsWriteFault, IsTooLong, AreKnown, CanBeDone, HasNoFault, IsMade, RoomFor, Settles};
+ghost use Rattle.fz_top.specs.Errors.{CarriesNoMemory, error_line_of, Complains};
 ghost use Rattle.fz_top.specs.declared.command.Command.{Command};
 
 use crate::command::command_of;
 use crate::delivery::deliver;
 use crate::errors::report;
+use crate::laws::deeds_have_no_fault;
 use crate::reading::{Stop, read_all};
 use crate::status::Status;
 use fz_shelf::{Shelf, Sink};
@@ -67,6 +69,9 @@ pub fn fuzz12<S: Shelf, O: Sink, F: Sink>(
         (world (S.files shelf.old) (S.counts shelf.old) (S.asked shelf.old) (O.told out.old) (O.faults out.old))
         (world (S.files shelf.new) (S.counts shelf.new) (S.asked shelf.new) (O.told out.new) (O.faults out.new)) result }
 
+    // want of memory has the status of its own alone
+    ensures carried { CarriesNoMemory result }
+
     // Usage exactly where the words are of no command
     ensures usage_only { result ≡ Status.Usage → IsUsage (texts_of words.now) }
     ensures usage_always { IsUsage (texts_of words.now) → (result ≡ Status.Usage) ⊎ (result ≡ Status.Memory) }
@@ -83,6 +88,15 @@ pub fn fuzz12<S: Shelf, O: Sink, F: Sink>(
         → IsReady (texts_of words.now) (world (S.files shelf.old) (S.counts shelf.old) (S.asked shelf.old) (O.told out.old) (O.faults out.old)) command contents
         → IsMade (Makes command contents) result ⊎ (result ≡ Status.Memory) }
 
+    // where the contents make a deed it is done, unless a count rose, and also where the shelf and
+    // out are sound with room
+    ensures done { (command : Command) (contents : List (List ℕ)) (deed : Deed) → CanBeDone (texts_of words.now) (S.files shelf.old) command contents deed
+        → HasNoFault
+        (world (S.files shelf.old) (S.counts shelf.old) (S.asked shelf.old) (O.told out.old) (O.faults out.old))
+        (world (S.files shelf.new) (S.counts shelf.new) (S.asked shelf.new) (O.told out.new) (O.faults out.new))
+        ⊎ (S.sound shelf.old × O.sound out.old × RoomFor (texts_of words.now) (S.files shelf.old) (O.told out.old) (Makes command contents))
+        → (result ≡ Status.Ok) ⊎ (result ≡ Status.Memory) }
+
     // err
     ensures quiet { result ≡ Status.Ok → (F.told err.new ≡ F.told err.old) × (F.faults err.new ≡ F.faults err.old) }
     ensures line { (result ≡ Status.Ok → ⊥) → Complains (error_line_of (texts_of words.now) result) (F.told err.old) (F.told err.new) (F.faults err.old) (F.faults err.new) }
@@ -93,6 +107,7 @@ pub fn fuzz12<S: Shelf, O: Sink, F: Sink>(
     ensures out_sound { O.sound out.old → O.sound out.new }
     ensures err_sound { F.sound err.old → F.sound err.new }
 {
+    deeds_have_no_fault();
     let status = run(alloc, words, shelf, out);
     report(err, words, &status);
     status

@@ -16,3 +16,4 @@ pub mod LaidOutLemmas
 pub mod ExampleLemmas
 pub mod PlaceLemmas
 pub mod WidestLemmas
+pub mod AlikeLemmas

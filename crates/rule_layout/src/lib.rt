@@ -19,7 +19,9 @@ mod slots;
 mod spreading;
 
 pub use flat::{Conjunction, Flat, Form, LayoutFault, Slot};
-pub use laws::{layout_law, mass_law, slot_number_laws, spreading_law};
+pub use laws::{
+    layout_law, layouts_are_one, limits_have_no_fault, mass_law, slot_number_laws, spreading_law,
+};
 pub use layout::spread;
 
 #[cfg(test)]

@@ -5,8 +5,10 @@
 //! exactly the samples that the first rows spell, or the fault of the first row that fails.
 #![tactic(auto)]
 
+mod laws;
 mod sample;
 mod trace;
 
+pub use laws::spelled_traces_have_no_fault;
 pub use sample::{Sample, TraceFault};
 pub use trace::read_trace;

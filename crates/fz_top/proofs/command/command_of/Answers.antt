@@ -3,4 +3,4 @@ use Rattle.fz_top.proofs.UsageLemmas.{usage_law}
 use Rattle.fz_top.proofs.command.command_of.Goals as goal
 
 pub returns-in-Err-Memory-clause-law : goal.returns-in-Err-Memory-clause-law
-returns-in-Err-Memory-clause-law c = usage_law (texts_of c.args.words.now) (rw c.as_slice.ensures at c.command_of.ensures.clap)
+returns-in-Err-Memory-clause-law c = usage_law (texts_of c.args.words.now) c.name_of.ensures.law

@@ -1,6 +1,8 @@
+use Rattle.std.proofs.Common.{inl, inr}
 use Rattle.fz_top.specs.Texts.{texts_of}
-use Rattle.fz_top.specs.Runs.{world}
-use Rattle.fz_top.proofs.RunLemmas.{settles, completes, there, long_status, usage_status, usage_cause}
+use Rattle.fz_top.specs.Runs.{IsReady, world}
+use Rattle.fz_top.proofs.DeedLemmas.{carries}
+use Rattle.fz_top.proofs.RunLemmas.{does, no_read_fault, no_write_fault, settles, completes, there, long_status, usage_status, usage_cause}
 use Rattle.fz_top.proofs.program.fuzz12.Goals as goal
 
 pub returns-clause-settled : goal.returns-clause-settled
@@ -30,3 +32,22 @@ pub returns-clause-usage_always : goal.returns-clause-usage_always
 returns-clause-usage_always g c = λ is.
     let old = world (g.S.Shelf.files c.args.shelf.now) (g.S.Shelf.counts c.args.shelf.now) (g.S.Shelf.asked c.args.shelf.now) (g.O.Sink.told c.args.out.now) (g.O.Sink.faults c.args.out.now) in
     usage_status (texts_of c.args.words.now) old _ _ c.run-status.ensures.runs (c.run-status.ensures.law.1 is)
+
+pub returns-clause-done : goal.returns-clause-done
+returns-clause-done g c = λ command contents deed can why.
+    let old = world (g.S.Shelf.files c.args.shelf.now) (g.S.Shelf.counts c.args.shelf.now) (g.S.Shelf.asked c.args.shelf.now) (g.O.Sink.told c.args.out.now) (g.O.Sink.faults c.args.out.now) in
+    let words = texts_of c.args.words.now in
+    let run = c.run-status.ensures in
+    elim why [
+      | inl none ↦ does c.deeds_have_no_fault.ensures words old _ command contents deed can _ run.runs (no_read_fault words old _ none _ run.runs) (no_write_fault words old _ none _ run.runs)
+      | inr sound ↦
+          let ready : IsReady words old command contents = record { is = can.is; known = can.known; room = sound.2 } in
+          does c.deeds_have_no_fault.ensures words old _ command contents deed can _ run.runs
+          (run.reads_steady sound.0 command can.is (there words old old command contents can.is can.known))
+          (run.writes_steady sound.0 sound.1 command contents ready)
+    ]
+
+pub returns-clause-carried : goal.returns-clause-carried
+returns-clause-carried g c =
+    let old = world (g.S.Shelf.files c.args.shelf.now) (g.S.Shelf.counts c.args.shelf.now) (g.S.Shelf.asked c.args.shelf.now) (g.O.Sink.told c.args.out.now) (g.O.Sink.faults c.args.out.now) in
+    carries (texts_of c.args.words.now) old _ _ c.run-status.ensures.runs

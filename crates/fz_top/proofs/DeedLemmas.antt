@@ -1,0 +1,100 @@
+-- Contents that make a deed make no fault.
+use Rattle.std.proofs.Common.{arith, ◌≡◌, ◌≢◌, ℕ, List, [], ◌∷◌, refl, sym, subst}
+use Rattle.std.specs.Prelude.{map, Result, Ok, Err}
+use Rattle.std.specs.List.{AllZip}
+use Rattle.fuzzy_meaning.specs.declared.block.Block.{Block}
+use Rattle.fuzzy_meaning.specs.declared.block.Input.{Input}
+use Rattle.fuzzy_meaning.specs.declared.block.Rule.{Rule}
+use Rattle.fcl_syntax.specs.Readings.{FirstFaultsAreOne}
+use Rattle.fcl_syntax.specs.Text.{IsFirstFault}
+use Rattle.fcl_syntax.specs.View.{view}
+use Rattle.fcl_check.specs.Alike.{AreAlike, AreAlikeRules, SpelledBlocksAreAlike}
+use Rattle.fcl_check.specs.Texts.{LoadFaultsAreOne, SpellsBlock}
+use Rattle.rule_layout.specs.Alike.{LayoutsAreOne, LimitsHaveNoFault, Saying, SaysTheSame, saying_of}
+use Rattle.rule_layout.specs.Layouts.{IsWithinLimits}
+use Rattle.trace_io.specs.OneReading.{SpelledTracesHaveNoFault}
+use Rattle.trace_io.specs.Traces.{Spells}
+use Rattle.trace_io.specs.declared.sample.Sample.{Sample}
+use Rattle.fz_top.specs.Commands.{Makes}
+use Rattle.fz_top.specs.Firmwares.{GivesFirmware, RefusesText}
+use Rattle.fz_top.specs.Run.{RunMakes}
+use Rattle.fz_top.specs.Errors.{CarriesNoMemory}
+use Rattle.fz_top.specs.Runs.{DeedsHaveNoFault, Runs, World}
+use Rattle.fz_top.specs.Texts.{Text}
+use Rattle.fz_top.specs.declared.command.Command.{Command}
+use Rattle.fz_top.specs.declared.command.Command.TheVariants as command
+use Rattle.fz_top.specs.declared.run.Run.{Run}
+use Rattle.fz_top.specs.declared.status.FclFault.{FclFault}
+use Rattle.fz_top.specs.declared.status.FclFault.TheVariants as fcl
+use Rattle.fz_top.specs.declared.status.Status.{Status}
+use Rattle.fz_top.specs.declared.status.Status.TheVariants as status
+
+rules_say : (ps qs : List Rule) → AllZip AreAlikeRules ps qs → map saying_of ps ≡ map saying_of qs
+rules_say [] [] alike = refl
+rules_say [] (q ∷ qs) alike = absurd alike
+rules_say (p ∷ ps) [] alike = absurd alike
+rules_say (p ∷ ps) (q ∷ qs) alike =
+    let rest = rules_say ps qs alike.1 in
+    λ i. record { condition = alike.0.condition i; weight = alike.0.weight i; conclusions = alike.0.conclusions i } ∷ rest i
+
+says_same : (p q : Block) → AreAlike p q → SaysTheSame p q
+says_same p q alike = record { inputs = alike.inputs; outputs = alike.outputs; rules = rules_say p.rules q.rules alike.rules }
+
+module _ (first : FirstFaultsAreOne) (load : LoadFaultsAreOne) (alike : SpelledBlocksAreAlike) (layouts : LayoutsAreOne) (limits : LimitsHaveNoFault) (traces : SpelledTracesHaveNoFault) where
+  -- a text that gives firmware is not refused
+  text_apart : (text : List ℕ) (block : Block) → SpellsBlock text block → IsWithinLimits block → (f : FclFault) → RefusesText text f → ⊥
+  text_apart text block spelled within (fcl.Syntax f) refuses = (first text).1 f (view spelled.tree) refuses spelled.spelled
+  text_apart text block spelled within (fcl.Load f) refuses = (load text).1 f block refuses.1 spelled
+  text_apart text block spelled within (fcl.Layout f) refuses =
+      let same = says_same refuses.1 block (alike text refuses.1 block refuses.2 spelled) in
+      limits block f within refuses.0 (layouts.fault refuses.1 block f same refuses.3)
+
+  -- a trace of one block's inputs has no fault by those of another that the text spells
+  run_apart : (run : Run) (text samples : List ℕ) (s : Status) → (block : Block) (values : List Sample) → SpellsBlock text block → IsWithinLimits block → Spells block.inputs samples values
+      → RunMakes run text samples (Err s) → ⊥
+  run_apart run text samples (status.Fcl f) block values spelled within trace makes = text_apart text block spelled within f makes
+  run_apart run text samples (status.Trace f) block values spelled within trace makes =
+      let same : block.inputs ≡ makes.1.inputs = (alike text block makes.1 spelled makes.3.spelled).inputs in
+      traces makes.1.inputs samples values f (subst (λ (is : List Input). Spells is samples values) same trace) makes.4
+  run_apart run text samples status.Ok block values spelled within trace makes = makes
+  run_apart run text samples status.Usage block values spelled within trace makes = makes
+  run_apart run text samples (status.ReadFault p) block values spelled within trace makes = makes
+  run_apart run text samples status.WriteFault block values spelled within trace makes = makes
+  run_apart run text samples status.Memory block values spelled within trace makes = makes
+  run_apart run text samples (status.TooLong p) block values spelled within trace makes = makes
+
+  pub apart : DeedsHaveNoFault
+  unfolding Makes
+  apart (command.Run run) contents deed s makes fault =
+      run_apart run _ _ s makes.block makes.values makes.gives.spelled makes.gives.limits makes.trace fault
+
+-- ---- a fault that is made is no want of memory
+
+text_carries : (text : List ℕ) (f : FclFault) → RefusesText text f → CarriesNoMemory (status.Fcl f)
+text_carries text (fcl.Syntax f) refuses = λ is. subst (IsFirstFault text) is refuses
+text_carries text (fcl.Load f) refuses = refuses.0
+text_carries text (fcl.Layout f) refuses = refuses.0
+
+run_carries : (run : Run) (text samples : List ℕ) (s : Status) → RunMakes run text samples (Err s) → CarriesNoMemory s
+run_carries run text samples (status.Fcl f) makes = text_carries text f makes
+run_carries run text samples (status.Trace f) makes = makes.0
+run_carries run text samples status.Ok makes = tt
+run_carries run text samples status.Usage makes = tt
+run_carries run text samples (status.ReadFault p) makes = tt
+run_carries run text samples status.WriteFault makes = tt
+run_carries run text samples status.Memory makes = tt
+run_carries run text samples (status.TooLong p) makes = tt
+
+faults_carry : (command : Command) (contents : List (List ℕ)) (s : Status) → Makes command contents (Err s) → CarriesNoMemory s
+unfolding Makes
+faults_carry (command.Run run) contents s makes = run_carries run _ _ s makes
+
+pub carries : (words : List Text) (old new : World) (s : Status) → Runs words old new s → CarriesNoMemory s
+carries words old new (status.Fcl f) runs = faults_carry runs.worked.command runs.worked.contents (status.Fcl f) runs.worked.outcome
+carries words old new (status.Trace f) runs = faults_carry runs.worked.command runs.worked.contents (status.Trace f) runs.worked.outcome
+carries words old new status.Ok runs = tt
+carries words old new status.Usage runs = tt
+carries words old new (status.ReadFault p) runs = tt
+carries words old new status.WriteFault runs = tt
+carries words old new status.Memory runs = tt
+carries words old new (status.TooLong p) runs = tt

@@ -1,0 +1,19 @@
+//! Laws of what commands make, each the contract of a function that does nothing.
+ghost use Rattle.fz_top.specs.Runs.{DeedsHaveNoFault};
+
+use fcl_check::{load_faults_are_one, spelled_blocks_are_alike};
+use fcl_syntax::first_faults_are_one;
+use rule_layout::{layouts_are_one, limits_have_no_fault};
+use trace_io::spelled_traces_have_no_fault;
+
+/// Contents that make a deed make no fault.
+pub(crate) fn deeds_have_no_fault()
+    ensures { DeedsHaveNoFault }
+{
+    first_faults_are_one();
+    load_faults_are_one();
+    spelled_blocks_are_alike();
+    layouts_are_one();
+    limits_have_no_fault();
+    spelled_traces_have_no_fault()
+}

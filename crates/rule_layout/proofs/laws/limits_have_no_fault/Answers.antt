@@ -1,0 +1,5 @@
+use Rattle.rule_layout.proofs.AlikeLemmas.{no_fault_within}
+use Rattle.rule_layout.proofs.laws.limits_have_no_fault.Goals as goal
+
+pub returns : goal.returns
+returns c = no_fault_within
