@@ -1,3 +1,4 @@
 pub mod Placing
 pub mod Rising
 pub mod Sequences
+pub mod Writing

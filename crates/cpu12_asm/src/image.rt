@@ -1,9 +1,10 @@
 //! Images of memory.
-ghost use Rattle.std.specs.Prelude.{◌≡◌, ◌↔◌, ◌<◌, ◌≤◌, ◌+◌, ◌^◌, ℕ, List, [], ◌++◌, length, Some, None, Ok, Err, IsTrue, IsSome, OnOk, OnErr, IfOk, if◌then◌else◌};
+ghost use Rattle.std.specs.Prelude.{◌≡◌, ◌↔◌, ◌<◌, ◌≤◌, ◌+◌, ◌^◌, ℕ, List, [], ◌++◌, length, Some, None, Ok, Err, IsTrue, IsSome, OnOk, OnErr, IfOk, if◌then◌else◌, slice_index, unwrap_or};
 ghost use Rattle.std.specs.BTreeMap.{is_at};
 ghost use Rattle.std.specs.Ordering.{nat_cmp};
 ghost use Rattle.cpu12_asm.specs.Bytes.{byte_at, start_of, placed, Holds, IsAscending};
 
+use cpu12_isa::mem::Mem;
 use std::alloc::{AllocError, Global};
 use std::collections::BTreeMap;
 use std::marker::Model;
@@ -76,6 +77,15 @@ impl ByteMap {
         match (self.get(0xFFFE), self.get(0xFFFF)) {
             (Some(high), Some(low)) => u16::from(high) * 256 + u16::from(low),
             _ => 0,
+        }
+    }
+
+    /// Writes each byte to its address of a memory, whose other bytes stay.
+    pub fn write_to<M: Mem>(&self, m: &mut M)
+        ensures { (at : ℕ) → at < 2 ^ 16 → slice_index (M.bytes m.new) at ≡ unwrap_or (byte_at self.now at) (slice_index (M.bytes m.old) at) }
+    {
+        for (at, byte) in &self.bytes {
+            m.write(*at, *byte);
         }
     }
 

@@ -139,6 +139,12 @@ every_form =
     ∷ Alone Wav
     ∷ Alone Wavr ∷ []
 
+-- an instruction with operands 0
+abbrev pub sample_of : Made → Instr
+sample_of (Alone i) = i
+sample_of (Of make) = make 0
+sample_of (OfBoth make) = make 0 0
+
 -- the bytes before an opcode
 abbrev pub prebytes : Page → List ℕ
 prebytes One = []
