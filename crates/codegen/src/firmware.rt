@@ -51,8 +51,7 @@ pub fn compile(alloc: Global, block: &Block) -> Result<Firmware, LayoutFault>
         Ok(image) => image,
         Err(AsmFault::Memory) => return Err(LayoutFault::Memory),
         // The parts of a firmware stand one above the other, each with room.
-        Err(AsmFault::Range(_)) => unreachable!(),
-        Err(AsmFault::Overlap(_)) => unreachable!(),
+        Err(_) => unreachable!(),
     };
     let instr_bound = instruction_bound(block, &flat);
     let step_bound = step_bound(block, &flat, instr_bound);
