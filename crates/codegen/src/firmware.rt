@@ -98,8 +98,7 @@ fn compile_at(alloc: Global, width: Width, block: &Block) -> Result<Firmware, La
         Ok(image) => image,
         Err(AsmFault::Memory) => return Err(LayoutFault::Memory),
         // The parts of a firmware stand one above the other, each with room.
-        Err(AsmFault::Range(_)) => unreachable!(),
-        Err(AsmFault::Overlap(_)) => unreachable!(),
+        Err(_) => unreachable!(),
     };
     let instr_bound = instruction_bound(width, block, &flat);
     let step_bound = step_bound(width, block, &flat, instr_bound);

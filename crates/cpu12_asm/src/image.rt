@@ -1,9 +1,10 @@
 //! Images of memory.
-ghost use Rattle.std.specs.Prelude.{◌≡◌, ◌↔◌, ◌<◌, ◌≤◌, ◌+◌, ◌^◌, ℕ, List, [], ◌++◌, length, Some, None, Ok, Err, IsTrue, IsSome, OnOk, OnErr, IfOk, if◌then◌else◌};
+ghost use Rattle.std.specs.Prelude.{◌≡◌, ◌↔◌, ◌<◌, ◌≤◌, ◌+◌, ◌^◌, ℕ, List, [], ◌++◌, length, Some, None, Ok, Err, IsTrue, IsSome, OnOk, OnErr, IfOk, if◌then◌else◌, slice_index, unwrap_or};
 ghost use Rattle.std.specs.BTreeMap.{is_at};
 ghost use Rattle.std.specs.Ordering.{nat_cmp};
 ghost use Rattle.cpu12_asm.specs.Bytes.{byte_at, start_of, placed, Holds, IsAscending};
 
+use cpu12_isa::mem::Mem;
 use std::alloc::{AllocError, Global};
 use std::collections::BTreeMap;
 use std::marker::Model;
@@ -90,11 +91,20 @@ impl ByteMap {
         }
     }
 
+    /// Writes each byte to its address of a memory, whose other bytes stay.
+    pub fn write_to<M: Mem>(&self, m: &mut M)
+        ensures { (at : ℕ) → at < 2 ^ 16 → slice_index (M.bytes m.new) at ≡ unwrap_or (byte_at self.now at) (slice_index (M.bytes m.old) at) }
+    {
+        for (at, byte) in &self.bytes {
+            m.write(*at, *byte);
+        }
+    }
+
     /// Puts bytes one after another from a place, where no byte may be yet, and answers the place
     /// behind them.
     pub(crate) fn put_all(&mut self, place: u32, bytes: &[u8]) -> Result<u32, Refusal>
         requires place { place ≤ 2 ^ 16 }
-        requires few { length bytes.now ≤ 6 }
+        requires few { length bytes.now ≤ 2 ^ 16 }
         ensures behind { IfOk result (λ after. (after ≡ place + length bytes.now) × (after ≤ 2 ^ 16)) }
         ensures held { (given : List (ℕ × ℕ)) → Holds self.old given → OnOk result (Holds self.new (given ++ placed place bytes.now)) }
         ensures past { result ≡ Err Refusal.PastEnd → 2 ^ 16 < place + length bytes.now }

@@ -1,11 +1,10 @@
 -- The memory of an image, byte by byte.
-use Rattle.std.proofs.Common.{◌≡◌, ℕ, zero, suc, ◌+◌, ◌-◌, ◌<◌, Option, Some, None, List, [], ◌∷◌, ◌++◌, length, get_or, refl, ap, sym, ◌∙◌, arith, inl, inr, append_assoc}
+use Rattle.std.proofs.Common.{◌≡◌, ℕ, zero, suc, ◌^◌, ◌<◌, Option, Some, None, List, [], ◌∷◌, ◌++◌, length, get_or, unwrap_or, refl, ap, sym, ◌∙◌, arith, inl, inr}
 use Rattle.std.proofs.lemmas.Bool.{cases_lt}
-use Rattle.std.proofs.lemmas.List.{length-append}
-use Rattle.std.proofs.Math.ListN.{set}
+use Rattle.std.proofs.lemmas.List.{length-append, ext_get_or}
 use Rattle.cpu12_isa.specs.Memory.{zeros}
 use Rattle.cpu12_asm.specs.Bytes.{byte_at}
-use Rattle.cpu12_emul.specs.Image.{byte_or_zero, loaded, HoldsImage}
+use Rattle.cpu12_emul.specs.Image.{byte_or_zero, image_memory, loaded, HoldsImage}
 
 pub length_loaded : (image : List (ℕ × ℕ)) (n : ℕ) → length (loaded image n) ≡ n
 unfolding loaded
@@ -33,45 +32,24 @@ loaded_at image (suc n) at l = elim (cases_lt at n) [
       at_end (loaded image n) (byte_or_zero (byte_at image n)) at (here ∙ sym (length_loaded image n)) ∙ ap (λ (k : ℕ). byte_or_zero (byte_at image k)) (sym here)
 ]
 
--- one place written behind a list
-set_behind : (xs : List ℕ) (u v i : ℕ) (ys : List ℕ) → i ≡ length xs → set (xs ++ (u ∷ ys)) i v ≡ xs ++ (v ∷ ys)
-set_behind [] u v i ys e = rw e refl
-set_behind (x ∷ xs) u v zero ys e = absurd (omega arith)
-set_behind (x ∷ xs) u v (suc i) ys e = ap (λ (l : List ℕ). x ∷ l) (set_behind xs u v i ys (omega arith))
-
--- one byte more is loaded
-pub load_byte : (image : List (ℕ × ℕ)) (n rest byte : ℕ) → 0 < rest → byte_at image n ≡ Some byte → set (loaded image n ++ zeros rest) n byte ≡ loaded image (n + 1) ++ zeros (rest - 1)
-unfolding loaded zeros
-load_byte image n zero byte l e = absurd (omega arith)
-load_byte image n (suc rest) byte l e =
-    let k : suc rest - 1 ≡ rest = omega arith in
-    let m : n + 1 ≡ suc n = omega arith in
-    rw (k, m) (set_behind (loaded image n) 0 byte n (zeros rest) (sym (length_loaded image n))
-    ∙ ap (λ (o : Option ℕ). loaded image n ++ (byte_or_zero o ∷ zeros rest)) (sym e)
-    ∙ sym (append_assoc (loaded image n) (byte_or_zero (byte_at image n) ∷ []) (zeros rest)))
-
-pub load_none : (image : List (ℕ × ℕ)) (n rest : ℕ) → 0 < rest → byte_at image n ≡ None → loaded image n ++ zeros rest ≡ loaded image (n + 1) ++ zeros (rest - 1)
-unfolding loaded zeros
-load_none image n zero l e = absurd (omega arith)
-load_none image n (suc rest) l e =
-    let k : suc rest - 1 ≡ rest = omega arith in
-    let m : n + 1 ≡ suc n = omega arith in
-    rw (k, m) (ap (λ (o : Option ℕ). loaded image n ++ (byte_or_zero o ∷ zeros rest)) (sym e)
-    ∙ sym (append_assoc (loaded image n) (byte_or_zero (byte_at image n) ∷ []) (zeros rest)))
-
-pub load_done : (image : List (ℕ × ℕ)) (n rest : ℕ) → rest ≡ 0 → loaded image n ++ zeros rest ≡ loaded image n
+zero_at : (n at : ℕ) → get_or (zeros n) at 0 ≡ 0
 unfolding zeros
-load_done image n rest e = rw e (nothing_behind (loaded image n))
-  where
-    nothing_behind : (xs : List ℕ) → xs ++ [] ≡ xs
-    nothing_behind [] = refl
-    nothing_behind (x ∷ xs) = ap (λ (l : List ℕ). x ∷ l) (nothing_behind xs)
+zero_at zero at = refl
+zero_at (suc n) zero = refl
+zero_at (suc n) (suc at) = zero_at n at
 
-pub load_start : (image : List (ℕ × ℕ)) (n : ℕ) → zeros n ≡ loaded image 0 ++ zeros n
-unfolding loaded
-load_start image n = refl
+or_zero : (o : Option ℕ) (z : ℕ) → z ≡ 0 → unwrap_or o z ≡ byte_or_zero o
+or_zero None z e = e
+or_zero (Some byte) z e = refl
 
-pub ruleset loads = (load_byte, load_none, load_done, load_start)
+loaded_by : (image : List (ℕ × ℕ)) (m : List ℕ) (n : ℕ) → length m ≡ n → ((at : ℕ) → at < n → get_or m at 0 ≡ unwrap_or (byte_at image at) (get_or (zeros n) at 0)) → m ≡ loaded image n
+loaded_by image m n size bytes = ext_get_or 0 m (loaded image n) (size ∙ sym (length_loaded image n)) (λ at l.
+    (let within : at < n = omega arith in
+    bytes at within ∙ or_zero (byte_at image at) (get_or (zeros n) at 0) (zero_at n at) ∙ sym (loaded_at image n at within)))
+
+-- a memory of zeros that an image was written to
+pub image_memory-written : (image : List (ℕ × ℕ)) (old new : List ℕ) → old ≡ zeros 65536 → length new ≡ 65536 → ((at : ℕ) → at < 2 ^ 16 → get_or new at 0 ≡ unwrap_or (byte_at image at) (get_or old at 0)) → new ≡ image_memory image
+image_memory-written image old new z size bytes = loaded_by image new 65536 size (λ at l. bytes at l ∙ ap (λ (m : List ℕ). unwrap_or (byte_at image at) (get_or m at 0)) z)
 
 pub holds_image : HoldsImage
 holds_image image = (length_loaded image 65536, λ at l. loaded_at image 65536 at l)

@@ -1,5 +1,5 @@
 -- The table of instruction forms (CPU12 Reference Manual, appendix A).
-use Rattle.std.specs.Prelude.{ℕ, ◌^◌, ◌<◌, List, [], ◌∷◌}
+use Rattle.std.specs.Prelude.{ℕ, ◌^◌, ◌<◌, List, [], ◌∷◌, map}
 use Rattle.cpu12_isa.specs.declared.instr.Instr.{Instr}
 use Rattle.cpu12_isa.specs.declared.instr.Instr.TheVariants.{LdaaImmediate, LdaaExtended, LdabImmediate, LdabExtended, LdxImmediate, LdyImmediate, LdsImmediate, StaaExtended, StabExtended, ClrExtended, Coma, CpxImmediate, Beq, Bne, Bcc, Bcs, Bra, JsrExtended, Rts, Andcc, Orcc, TransferXD, TransferYD, Ediv, Fdiv, Rti, Nop, IncExtended, DecExtended, AddaImmediate, AddaExtended, AddbImmediate, AddbExtended, AddbPostIncrementX, AdcaImmediate, SubaImmediate, SubaExtended, CmpaImmediate, CmpaExtended, AndaImmediate, AndaExtended, OraaImmediate, OraaExtended, Inx, Dex, Iny, Dey, Psha, Pula, MovbImmediate, MovbExtended, Mem, Rev, Revw, Wav, Wavr}
 use Rattle.cpu12_isa.specs.declared.form.Form.{Form}
@@ -138,6 +138,16 @@ every_form =
     ∷ Alone Revw
     ∷ Alone Wav
     ∷ Alone Wavr ∷ []
+
+-- an instruction with operands 0
+abbrev pub sample_of : Made → Instr
+sample_of (Alone i) = i
+sample_of (Of make) = make 0
+sample_of (OfBoth make) = make 0 0
+
+-- an instruction of each form
+abbrev pub every : List Instr
+every = map sample_of every_form
 
 -- the bytes before an opcode
 abbrev pub prebytes : Page → List ℕ

@@ -1,6 +1,6 @@
 // The table of instruction forms.
 ghost use Rattle.std.specs.Prelude.{◌≡◌};
-ghost use Rattle.cpu12_isa.specs.Forms.{form_of};
+ghost use Rattle.cpu12_isa.specs.Forms.{form_of, every};
 
 use crate::instr::Instr;
 use crate::mnemonic::Mnemonic;
@@ -140,3 +140,68 @@ impl Instr {
         }
     }
 }
+
+/// An instruction of each form, with operands 0.
+pub const EVERY: [Instr; 56] = [
+    Instr::LdaaImmediate(0),
+    Instr::LdaaExtended(0),
+    Instr::LdabImmediate(0),
+    Instr::LdabExtended(0),
+    Instr::LdxImmediate(0),
+    Instr::LdyImmediate(0),
+    Instr::LdsImmediate(0),
+    Instr::StaaExtended(0),
+    Instr::StabExtended(0),
+    Instr::ClrExtended(0),
+    Instr::Coma,
+    Instr::CpxImmediate(0),
+    Instr::Beq(0),
+    Instr::Bne(0),
+    Instr::Bcc(0),
+    Instr::Bcs(0),
+    Instr::Bra(0),
+    Instr::JsrExtended(0),
+    Instr::Rts,
+    Instr::Andcc(0),
+    Instr::Orcc(0),
+    Instr::TransferXD,
+    Instr::TransferYD,
+    Instr::Ediv,
+    Instr::Fdiv,
+    Instr::Rti,
+    Instr::Nop,
+    Instr::IncExtended(0),
+    Instr::DecExtended(0),
+    Instr::AddaImmediate(0),
+    Instr::AddaExtended(0),
+    Instr::AddbImmediate(0),
+    Instr::AddbExtended(0),
+    Instr::AddbPostIncrementX,
+    Instr::AdcaImmediate(0),
+    Instr::SubaImmediate(0),
+    Instr::SubaExtended(0),
+    Instr::CmpaImmediate(0),
+    Instr::CmpaExtended(0),
+    Instr::AndaImmediate(0),
+    Instr::AndaExtended(0),
+    Instr::OraaImmediate(0),
+    Instr::OraaExtended(0),
+    Instr::Inx,
+    Instr::Dex,
+    Instr::Iny,
+    Instr::Dey,
+    Instr::Psha,
+    Instr::Pula,
+    Instr::MovbImmediate(0, 0),
+    Instr::MovbExtended(0, 0),
+    Instr::Mem,
+    Instr::Rev,
+    Instr::Revw,
+    Instr::Wav,
+    Instr::Wavr,
+];
+
+/// [`EVERY`] has an instruction of each form of the table.
+pub fn every_form_stands()
+    ensures { EVERY ≡ every }
+{}
