@@ -2,3 +2,8 @@ pub mod Placing
 pub mod Rising
 pub mod Sequences
 pub mod Writing
+pub mod Pieces
+pub mod Naming
+pub mod Valuing
+pub mod Overlapping
+pub mod Steps

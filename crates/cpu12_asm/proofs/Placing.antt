@@ -7,7 +7,7 @@ use Rattle.std.specs.BTreeMap.{is_at}
 use Rattle.cpu12_asm.specs.Bytes.{byte_at, IsGivenOnce, FitsMemory, placed, Holds}
 
 -- whether an address is another
-abbrev is_same : ℕ → ℕ → Bool
+abbrev pub is_same : ℕ → ℕ → Bool
 is_same p q = is_at (nat_cmp p) q
 
 is_same-refl : (p : ℕ) → is_same p p ≡ true
@@ -16,7 +16,7 @@ is_same-refl p = grind (arith, nat_tests)
 same_address : (p q : ℕ) → is_same p q ≡ true → p ≡ q
 same_address p q h = grind (arith, nat_tests)
 
-is_same-comm : (p q : ℕ) → is_same p q ≡ is_same q p
+pub is_same-comm : (p q : ℕ) → is_same p q ≡ is_same q p
 is_same-comm p q = grind (arith, nat_tests)
 
 is_same-lt : (p q : ℕ) → p < q → is_same q p ≡ false
@@ -35,7 +35,7 @@ or_else-none : (o : Option ℕ) → or_else o None ≡ o
 or_else-none None = refl
 or_else-none (Some x) = refl
 
-none_in_cond : (b : Bool) (x : ℕ) (o : Option ℕ) → cond b (Some x) o ≡ None → (b ≡ false) × (o ≡ None)
+pub none_in_cond : (b : Bool) (x : ℕ) (o : Option ℕ) → cond b (Some x) o ≡ None → (b ≡ false) × (o ≡ None)
 none_in_cond true x o h = absurd (cc)
 none_in_cond false x o h = (refl, h)
 

@@ -1,2 +1,12 @@
 pub mod Bytes
 pub mod Items
+pub mod Lines
+pub mod Left
+pub mod Expressions
+pub mod Names
+pub mod Statements
+pub mod Told
+pub mod Values
+pub mod Faults
+pub mod Sources
+pub mod Giving

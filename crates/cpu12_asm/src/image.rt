@@ -93,7 +93,7 @@ impl ByteMap {
     /// behind them.
     pub(crate) fn put_all(&mut self, place: u32, bytes: &[u8]) -> Result<u32, Refusal>
         requires place { place ≤ 2 ^ 16 }
-        requires few { length bytes.now ≤ 6 }
+        requires few { length bytes.now ≤ 2 ^ 16 }
         ensures behind { IfOk result (λ after. (after ≡ place + length bytes.now) × (after ≤ 2 ^ 16)) }
         ensures held { (given : List (ℕ × ℕ)) → Holds self.old given → OnOk result (Holds self.new (given ++ placed place bytes.now)) }
         ensures past { result ≡ Err Refusal.PastEnd → 2 ^ 16 < place + length bytes.now }

@@ -20,14 +20,26 @@ pub enum Item {
     Op(Instr),
 }
 
-/// Why items have no image. An item's number counts from 1.
+/// Why items or a source have no image, with the number of the item or the line, from 1.
 #[derive(Clone, Copy, Debug, PartialEq, Eq, Drop, Error)]
 pub enum AsmFault {
-    /// A byte of this item would stand past the last address.
-    #[error("item {0} passes the end of memory")]
+    /// This line has no form of a line, or its operation does not take its operand.
+    #[error("line {0} is malformed")]
+    BadLine(u32),
+    /// A name on this line has no value, or none yet in `ORG` and `EQU`.
+    #[error("line {0} has an unknown name")]
+    UnknownName(u32),
+    /// This line defines a name again.
+    #[error("line {0} defines a name again")]
+    Twice(u32),
+    /// The target of this line's branch is more than 128 bytes back or 127 ahead.
+    #[error("line {0} branches too far")]
+    BranchFar(u32),
+    /// A value on this line is out of range, or a byte of this item or line would stand past the last address.
+    #[error("{0} is out of range")]
     Range(u32),
-    /// A byte of this item stands where an earlier one does.
-    #[error("item {0} writes over an earlier item")]
+    /// A byte of this item or line stands where an earlier one does.
+    #[error("{0} writes over an earlier byte")]
     Overlap(u32),
     /// There was no memory for the image.
     #[error("no memory")]

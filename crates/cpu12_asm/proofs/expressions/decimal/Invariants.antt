@@ -1,0 +1,6 @@
+use Rattle.std.proofs.Common.{◌≡◌, min, take}
+use Rattle.cpu12_asm.specs.Expressions.{decimal_value}
+use Rattle.cpu12_asm.proofs.expressions.decimal.Given as goal
+
+abbrev pub invariant-loop-b : goal.invariant-loop-b
+invariant-loop-b l = l.n ≡ min (decimal_value (take l.b-index l.digits)) 65536
