@@ -53,6 +53,10 @@ pub fn compile(alloc: Global, block: &Block) -> Result<Firmware, LayoutFault>
         // The parts of a firmware stand one above the other, each with room.
         Err(AsmFault::Range(_)) => unreachable!(),
         Err(AsmFault::Overlap(_)) => unreachable!(),
+        Err(AsmFault::BadLine(_)) => unreachable!(),
+        Err(AsmFault::UnknownName(_)) => unreachable!(),
+        Err(AsmFault::Twice(_)) => unreachable!(),
+        Err(AsmFault::BranchFar(_)) => unreachable!(),
     };
     let instr_bound = instruction_bound(block, &flat);
     let step_bound = step_bound(block, &flat, instr_bound);

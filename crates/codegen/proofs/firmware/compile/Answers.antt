@@ -29,6 +29,34 @@ unreachable-requires-in-Err-Overlap c =
     let memory = c.in-Err-Overlap.ensures.rising (main_rises b _ c.requires sizes (c.as_slice.ensures.value ∙ c.in-Ok-firmware_items.ensures)) in
     cc
 
+pub unreachable-requires-in-Err-BadLine : goal.unreachable-requires-in-Err-BadLine
+unreachable-requires-in-Err-BadLine c =
+    let b = c.args.block.now in
+    let sizes : HasSizes b = record { few_slots = omega (arith, c.in-Ok.ensures.laid_out.few_slots, ap length (slots-flat_of c.in-Ok.flat b c.in-Ok.ensures.value)); few_conjunctions = c.in-Ok.ensures.limits.few_conjunctions; short_list = c.in-Ok.ensures.limits.short_list } in
+    let memory = c.in-Err-BadLine.ensures.rising (main_rises b _ c.requires sizes (c.as_slice.ensures.value ∙ c.in-Ok-firmware_items.ensures)) in
+    cc
+
+pub unreachable-requires-in-Err-UnknownName : goal.unreachable-requires-in-Err-UnknownName
+unreachable-requires-in-Err-UnknownName c =
+    let b = c.args.block.now in
+    let sizes : HasSizes b = record { few_slots = omega (arith, c.in-Ok.ensures.laid_out.few_slots, ap length (slots-flat_of c.in-Ok.flat b c.in-Ok.ensures.value)); few_conjunctions = c.in-Ok.ensures.limits.few_conjunctions; short_list = c.in-Ok.ensures.limits.short_list } in
+    let memory = c.in-Err-UnknownName.ensures.rising (main_rises b _ c.requires sizes (c.as_slice.ensures.value ∙ c.in-Ok-firmware_items.ensures)) in
+    cc
+
+pub unreachable-requires-in-Err-Twice : goal.unreachable-requires-in-Err-Twice
+unreachable-requires-in-Err-Twice c =
+    let b = c.args.block.now in
+    let sizes : HasSizes b = record { few_slots = omega (arith, c.in-Ok.ensures.laid_out.few_slots, ap length (slots-flat_of c.in-Ok.flat b c.in-Ok.ensures.value)); few_conjunctions = c.in-Ok.ensures.limits.few_conjunctions; short_list = c.in-Ok.ensures.limits.short_list } in
+    let memory = c.in-Err-Twice.ensures.rising (main_rises b _ c.requires sizes (c.as_slice.ensures.value ∙ c.in-Ok-firmware_items.ensures)) in
+    cc
+
+pub unreachable-requires-in-Err-BranchFar : goal.unreachable-requires-in-Err-BranchFar
+unreachable-requires-in-Err-BranchFar c =
+    let b = c.args.block.now in
+    let sizes : HasSizes b = record { few_slots = omega (arith, c.in-Ok.ensures.laid_out.few_slots, ap length (slots-flat_of c.in-Ok.flat b c.in-Ok.ensures.value)); few_conjunctions = c.in-Ok.ensures.limits.few_conjunctions; short_list = c.in-Ok.ensures.limits.short_list } in
+    let memory = c.in-Err-BranchFar.ensures.rising (main_rises b _ c.requires sizes (c.as_slice.ensures.value ∙ c.in-Ok-firmware_items.ensures)) in
+    cc
+
 pub step_bound-step_bound-requires-clause-short : goal.step_bound-step_bound-requires-clause-short
 step_bound-step_bound-requires-clause-short c = omega (arith, element_count-le c.args.block.now, c.in-Ok.ensures.limits.short_list)
 
