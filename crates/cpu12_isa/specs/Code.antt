@@ -5,7 +5,7 @@ use Rattle.cpu12_isa.specs.declared.form.Form.{Form}
 use Rattle.cpu12_isa.specs.declared.form.Page.{Page}
 use Rattle.cpu12_isa.specs.declared.form.Page.TheVariants.{One, Two, Transfer, AddIndexed}
 use Rattle.cpu12_isa.specs.declared.form.Operand.{Operand}
-use Rattle.cpu12_isa.specs.declared.form.Operand.TheVariants.{Inherent, Byte, Word, Address, Offset, ByteToAddress, AddressToAddress, XToD, YToD, PostIncrementX}
+use Rattle.cpu12_isa.specs.declared.form.Operand.TheVariants.{Word, Address, AddressToAddress}
 use Rattle.cpu12_isa.specs.Memory.{plus, word_of, bytes_at}
 use Rattle.cpu12_isa.specs.Forms.{form_of, Made, Alone, Of, OfBoth, every_form, prebytes, operand_bytes, FitsOperand}
 
