@@ -1,6 +1,10 @@
 //! Certificates as text: a claim for each output, and a tree of boxes in prefix order.
 //!
-//! A [`Cert`] holds the claims and the nodes of the tree.
+//! A [`Cert`] holds the claims and the nodes of the tree. [`read`] answers exactly the certificate that
+//! a text spells, or exactly its first fault; [`write`] answers the text, and what is written is read
+//! to the same. [`Lines`] reads a text node by node without memory: a caller knows at each node which
+//! nodes the text begins with, at the end that they are its certificate, and at a fault that it is
+//! the text's first.
 #![tactic(auto)]
 
 mod cert;
