@@ -96,9 +96,12 @@ fn compile_at(alloc: Global, width: Width, block: &Block) -> Result<Firmware, La
     };
     let image = match assemble_items(alloc, items.as_slice()) {
         Ok(image) => image,
-        Err(AsmFault::Memory) => return Err(LayoutFault::Memory),
-        // The parts of a firmware stand one above the other, each with room.
-        Err(_) => unreachable!(),
+        Err(fault) => {
+            // The parts of a firmware stand one above the other, each with room.
+            let is_memory = matches!(&fault, AsmFault::Memory);
+            prove!(is_memory);
+            return Err(LayoutFault::Memory);
+        }
     };
     let instr_bound = instruction_bound(width, block, &flat);
     let step_bound = step_bound(width, block, &flat, instr_bound);

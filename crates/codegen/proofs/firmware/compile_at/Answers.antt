@@ -1,4 +1,4 @@
-use Rattle.std.proofs.Common.{◌≡◌, Bool, List, length, refl, sym, ap, ◌∙◌, subst, arith, rules}
+use Rattle.std.proofs.Common.{◌≡◌, true, false, Bool, List, length, refl, sym, ap, ◌∙◌, subst, arith, rules}
 use Rattle.cpu12_asm.specs.declared.items.Item.{Item}
 use Rattle.cpu12_asm.specs.Bytes.{Holds}
 use Rattle.cpu12_asm.specs.Items.{given_by}
@@ -10,6 +10,7 @@ use Rattle.codegen.specs.Images.{firmware_items}
 use Rattle.codegen.specs.Bounds.{instruction_bound, step_bound}
 use Rattle.codegen.proofs.Placement.{sizes_by, main_rises, length-main_items, element_count-le}
 use Rattle.codegen.proofs.firmware.compile_at.Goals as goal
+use Rattle.codegen.proofs.firmware.compile_at.Goals.{in-Memory, in_default-matches}
 
 width_back : (w : Width) (wide : Bool) → wide ≡ is_wide w → w ≡ width_of wide
 width_back Byte wide e = ap width_of (sym e)
@@ -21,19 +22,15 @@ assemble_items-requires c =
     let sizes = sizes_by b c.in-Ok.flat c.in-Ok.ensures.value c.in-Ok.ensures.laid_out c.in-Ok.ensures.limits in
     length-main_items b c.args.width _ c.requires sizes (c.as_slice.ensures.value ∙ c.in-Ok-firmware_items.ensures)
 
-pub unreachable-requires : goal.unreachable-requires
-unreachable-requires c =
+pub prove-unreachable-requires : goal.prove-unreachable-requires
+prove-unreachable-requires c =
     let b = c.args.block.now in
     let sizes = sizes_by b c.in-Ok.flat c.in-Ok.ensures.value c.in-Ok.ensures.laid_out c.in-Ok.ensures.limits in
-    let memory = c.in-Err-Range.ensures.rising (main_rises b c.args.width _ c.requires sizes (c.as_slice.ensures.value ∙ c.in-Ok-firmware_items.ensures)) in
-    cc
-
-pub unreachable-requires-in-Err-Overlap : goal.unreachable-requires-in-Err-Overlap
-unreachable-requires-in-Err-Overlap c =
-    let b = c.args.block.now in
-    let sizes = sizes_by b c.in-Ok.flat c.in-Ok.ensures.value c.in-Ok.ensures.laid_out c.in-Ok.ensures.limits in
-    let memory = c.in-Err-Overlap.ensures.rising (main_rises b c.args.width _ c.requires sizes (c.as_slice.ensures.value ∙ c.in-Ok-firmware_items.ensures)) in
-    cc
+    let memory = c.in-Err-assemble_items.ensures.rising (main_rises b c.args.width _ c.requires sizes (c.as_slice.ensures.value ∙ c.in-Ok-firmware_items.ensures)) in
+    elim c.match-matches.branch [
+      | in-Memory w ↦ absurd (let yes : true ≡ false = sym w.matches-is ∙ c.if-prove.true in cc)
+      | in_default-matches w ↦ absurd (w.in_default-matches.not-Memory memory)
+    ]
 
 pub step_bound-step_bound-requires-clause-short : goal.step_bound-step_bound-requires-clause-short
 step_bound-step_bound-requires-clause-short c = omega (arith, element_count-le c.args.block.now, c.in-Ok.ensures.limits.short_list)
