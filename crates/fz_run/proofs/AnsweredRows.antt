@@ -181,7 +181,7 @@ same_answers true m at (suc n) l =
     let f : plus at 2 ≡ at + 2 = omega arith in
     let more : 2 * suc n ≡ 2 + 2 * n = omega arith in
     ap₂ (λ (x : ℕ) (xs : List ℕ). x ∷ xs) (ap (λ (k : ℕ). word_of (get_or m at 0) (get_or m k 0)) e)
-        (ap (λ (k : ℕ). answers_at true n k m) f ∙ same_answers true m (at + 2) n (omega arith))
+    (ap (λ (k : ℕ). answers_at true n k m) f ∙ same_answers true m (at + 2) n (omega arith))
 
 few_bytes : (wide : Bool) (n : ℕ) → n ≤ 4 → answer_size wide * n ≤ 8
 few_bytes false n l = omega arith
@@ -226,7 +226,7 @@ few_steps flags f plan most k (n ∷ ns) (bytes ∷ rest) s h =
     let first = given f.layout bytes s in
     let after = uninterrupted flags n first in
     All-cons (λ (r : RowSeen (List ℕ)). r.steps ≤ most) (row_of_sample flags f (requests_of k plan) n bytes first) (rows_of_samples flags f plan (suc k) ns rest after) h.0
-        (few_steps flags f plan most (suc k) ns rest after h.1)
+    (few_steps flags f plan most (suc k) ns rest after h.1)
 
 -- a firmware waits first where it arrives first
 enough_steps : (w : Width) (b : Block) → length b.outputs ≤ 4 → 3 ≤ step_bound w b
@@ -283,7 +283,7 @@ answers_under_plans laws f flags samples plan hf good b v limits h all =
     let own : IsFirmwareOf b (alone f n) = subst (λ (d : Firmware). IsFirmwareOf b d) same h in
     let from = laws.firmware_answers b (alone f n) v limits own flags samples hf all in
     subst (λ (d : Firmware). AnswersUnder b d flags samples plan (firmware_rows d samples plan flags).rows) (sym same)
-        (under laws b f n flags samples plan from.0 hf v.few_outputs v.few_outputs own (all_short b samples v.few_inputs all) good from.1.0 from.1.1)
+    (under laws b f n flags samples plan from.0 hf v.few_outputs v.few_outputs own (all_short b samples v.few_inputs all) good from.1.0 from.1.1)
   where
     by : Layout → ℕ → Firmware
     by l k = record f { layout = l; outputs = k }
