@@ -37,7 +37,8 @@ fn a_plan_is_read(rt: HostRuntime) -> Result<(), Fail> {
     Ok(())
 }
 
-const NINE_PAIRS: &[u8] = b"1,0,1800,0,1800,0,1800,0,1800,0,1800,0,1800,0,1800,0,1800,0,1800,0";
+const NINE_PAIRS: &[u8] =
+    b"1,0,1800,00,1800,00,1800,00,1800,00,1800,00,1800,00,1800,00,1800,00,1800,00";
 
 const ROWS: [(&[u8], PlanFault); 12] = [
     (b"1,0,17FF,00", PlanFault::NotFree(1, 0x17FF)),

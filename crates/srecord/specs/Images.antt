@@ -28,8 +28,8 @@ abbrev pub data_text : List Piece → List ℕ
 data_text [] = []
 data_text (p ∷ pieces) = record_text 49 p.at p.bytes ++ data_text pieces
 
--- the text of the image of these bytes, with this start: a header, the bytes, how many records they take, and the
--- start. No image has as many records as an address can't count.
+-- the text of the image of these bytes, with this start: a header, the bytes, how many records they take (as the 16 bits
+-- of an address), and the start
 pub record ImageText (bytes : List (ℕ × ℕ)) (start : ℕ) (text : List ℕ) : Type 0 where
   pub pieces : List Piece
   pub cut : AreCut bytes pieces
