@@ -16,6 +16,7 @@ use Rattle.trace_io.specs.OneReading.{SpelledTracesHaveNoFault}
 use Rattle.trace_io.specs.Traces.{Spells}
 use Rattle.trace_io.specs.declared.sample.Sample.{Sample}
 use Rattle.fz_top.specs.Commands.{Makes}
+use Rattle.fz_top.specs.Compile.{CompileMakes}
 use Rattle.fz_top.specs.Firmwares.{GivesFirmware, RefusesText}
 use Rattle.fz_top.specs.Run.{RunMakes}
 use Rattle.fz_top.specs.Errors.{CarriesNoMemory}
@@ -23,6 +24,7 @@ use Rattle.fz_top.specs.Runs.{DeedsHaveNoFault, Runs, World}
 use Rattle.fz_top.specs.Texts.{Text}
 use Rattle.fz_top.specs.declared.command.Command.{Command}
 use Rattle.fz_top.specs.declared.command.Command.TheVariants as command
+use Rattle.fz_top.specs.declared.compile.Compile.{Compile}
 use Rattle.fz_top.specs.declared.run.Run.{Run}
 use Rattle.fz_top.specs.declared.status.FclFault.{FclFault}
 use Rattle.fz_top.specs.declared.status.FclFault.TheVariants as fcl
@@ -63,8 +65,20 @@ module _ (first : FirstFaultsAreOne) (load : LoadFaultsAreOne) (alike : SpelledB
   run_apart run text samples status.Memory block values spelled within trace makes = makes
   run_apart run text samples (status.TooLong p) block values spelled within trace makes = makes
 
+  compile_apart : (compile : Compile) (text : List ℕ) (s : Status) → (block : Block) → SpellsBlock text block → IsWithinLimits block → CompileMakes compile text (Err s) → ⊥
+  compile_apart compile text (status.Fcl f) block spelled within makes = text_apart text block spelled within f makes
+  compile_apart compile text (status.Trace f) block spelled within makes = makes
+  compile_apart compile text status.Ok block spelled within makes = makes
+  compile_apart compile text status.Usage block spelled within makes = makes
+  compile_apart compile text (status.ReadFault p) block spelled within makes = makes
+  compile_apart compile text status.WriteFault block spelled within makes = makes
+  compile_apart compile text status.Memory block spelled within makes = makes
+  compile_apart compile text (status.TooLong p) block spelled within makes = makes
+
   pub apart : DeedsHaveNoFault
   unfolding Makes
+  apart (command.Compile compile) contents deed s makes fault =
+      compile_apart compile _ s makes.block makes.gives.spelled makes.gives.limits fault
   apart (command.Run run) contents deed s makes fault =
       run_apart run _ _ s makes.block makes.values makes.gives.spelled makes.gives.limits makes.trace fault
 
@@ -85,8 +99,19 @@ run_carries run text samples status.WriteFault makes = tt
 run_carries run text samples status.Memory makes = tt
 run_carries run text samples (status.TooLong p) makes = tt
 
+compile_carries : (compile : Compile) (text : List ℕ) (s : Status) → CompileMakes compile text (Err s) → CarriesNoMemory s
+compile_carries compile text (status.Fcl f) makes = text_carries text f makes
+compile_carries compile text (status.Trace f) makes = absurd makes
+compile_carries compile text status.Ok makes = tt
+compile_carries compile text status.Usage makes = tt
+compile_carries compile text (status.ReadFault p) makes = tt
+compile_carries compile text status.WriteFault makes = tt
+compile_carries compile text status.Memory makes = tt
+compile_carries compile text (status.TooLong p) makes = tt
+
 faults_carry : (command : Command) (contents : List (List ℕ)) (s : Status) → Makes command contents (Err s) → CarriesNoMemory s
 unfolding Makes
+faults_carry (command.Compile compile) contents s makes = compile_carries compile _ s makes
 faults_carry (command.Run run) contents s makes = run_carries run _ _ s makes
 
 pub carries : (words : List Text) (old new : World) (s : Status) → Runs words old new s → CarriesNoMemory s

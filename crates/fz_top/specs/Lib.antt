@@ -1,5 +1,6 @@
 pub mod Codes
 pub mod Commands
+pub mod Compile
 pub mod Deeds
 pub mod Errors
 pub mod Firmwares

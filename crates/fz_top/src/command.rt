@@ -11,24 +11,34 @@ ghost use Rattle.fz_top.specs.Commands.{IsUsage, Makes, command_in, form_of, inp
 ghost use Rattle.fz_top.specs.Deeds.{IsResultOf};
 
 use crate::Status;
+use crate::compile::{self, Compile};
 use crate::reading::content;
 use crate::run::{self, Run};
 use crate::work::Work;
+use codegen::Width;
 use fz_words::Refusal;
 use std::alloc::Global;
 
 /// A command by its name alone.
 #[derive(Clone, Copy)]
 pub(crate) enum Name {
+    Compile,
+    Compile16,
     Run,
 }
 
 /// The commands by their names on the command line, each with the number of words that follow.
-static COMMANDS: [(&str, usize, Name); 1] = [("run", 3, Name::Run)];
+static COMMANDS: [(&str, usize, Name); 3] = [
+    ("compile", 2, Name::Compile),
+    ("compile16", 2, Name::Compile16),
+    ("run", 3, Name::Run),
+];
 
 /// A command with what its words give beside the names of files.
 #[derive(Clone, Copy, Debug, PartialEq, Eq)]
 pub enum Command {
+    /// `compile FCL OUT`, and `compile16 FCL OUT`
+    Compile(Compile),
     /// `run FCL TRACE FLAGS`
     Run(Run),
 }
@@ -39,6 +49,8 @@ fn formed(name: Name, words: &[String]) -> Option<Command>
     ensures { result ≡ form_of name (texts_of words.now) }
 {
     match name {
+        Name::Compile => Some(Command::Compile(Compile { width: Width::Byte })),
+        Name::Compile16 => Some(Command::Compile(Compile { width: Width::Word })),
         Name::Run => Run::of(words).map(Command::Run),
     }
 }
@@ -50,6 +62,7 @@ impl Command {
         ensures { result.now ≡ inputs_of self.now }
     {
         match self {
+            Command::Compile(_) => compile::INPUTS.as_slice(),
             Command::Run(_) => run::INPUTS.as_slice(),
         }
     }
@@ -61,6 +74,7 @@ impl Command {
         ensures { IsResultOf (Makes self (bytes_of contents.now)) result }
     {
         match self {
+            Command::Compile(compile) => compile.work(alloc, content(contents, 0)),
             Command::Run(run) => run.work(alloc, content(contents, 0), content(contents, 1)),
         }
     }

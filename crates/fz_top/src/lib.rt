@@ -10,6 +10,7 @@
 #![tactic(auto)]
 
 mod command;
+mod compile;
 mod delivery;
 mod errors;
 mod firmware;
@@ -23,6 +24,7 @@ mod words;
 mod work;
 
 pub use command::Command;
+pub use compile::Compile;
 pub use program::fuzz12;
 pub use run::Run;
 pub use status::{FclFault, Status};

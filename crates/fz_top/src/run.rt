@@ -105,7 +105,7 @@ fn lines(alloc: Global, bound: u32, rows: &[Row]) -> Result<Vec<String>, AllocEr
     ensures { IfOk result (λ lines. text_of lines.items ≡ run_lines bound (map answered rows.now)) }
 {
     let mut lines = Vec::new(alloc);
-    lines.push(labelled(alloc, "instructions ", bound)?)?;
+    lines.push(labelled(alloc, "instructions ", u64::from(bound))?)?;
     for (at, row) in rows.iter().enumerate() {
         lines.push(line_of_sample(alloc, at + 1, row)?)?;
     }
