@@ -16,12 +16,15 @@ use Rattle.trace_io.specs.OneReading.{SpelledTracesHaveNoFault}
 use Rattle.trace_io.specs.Traces.{Spells}
 use Rattle.trace_io.specs.declared.sample.Sample.{Sample}
 use Rattle.fz_top.specs.Commands.{Makes}
+use Rattle.cpu12_asm.specs.Sources.{assembled}
+use Rattle.fz_top.specs.Asm.{AsmMakes, AsmGives}
 use Rattle.fz_top.specs.Compile.{CompileMakes}
 use Rattle.fz_top.specs.Firmwares.{GivesFirmware, RefusesText}
 use Rattle.fz_top.specs.Run.{RunMakes}
+use Rattle.fz_top.specs.Deeds.{Deed}
 use Rattle.fz_top.specs.Errors.{CarriesNoMemory}
 use Rattle.fz_top.specs.Runs.{DeedsHaveNoFault, Runs, World}
-use Rattle.fz_top.specs.Texts.{Text}
+use Rattle.fz_top.specs.Texts.{Text, content_at}
 use Rattle.fz_top.specs.declared.command.Command.{Command}
 use Rattle.fz_top.specs.declared.command.Command.TheVariants as command
 use Rattle.fz_top.specs.declared.compile.Compile.{Compile}
@@ -64,6 +67,7 @@ module _ (first : FirstFaultsAreOne) (load : LoadFaultsAreOne) (alike : SpelledB
   run_apart run text samples status.WriteFault block values spelled within trace makes = makes
   run_apart run text samples status.Memory block values spelled within trace makes = makes
   run_apart run text samples (status.TooLong p) block values spelled within trace makes = makes
+  run_apart run text samples (status.Asm f) block values spelled within trace makes = makes
 
   compile_apart : (compile : Compile) (text : List ℕ) (s : Status) → (block : Block) → SpellsBlock text block → IsWithinLimits block → CompileMakes compile text (Err s) → ⊥
   compile_apart compile text (status.Fcl f) block spelled within makes = text_apart text block spelled within f makes
@@ -74,9 +78,26 @@ module _ (first : FirstFaultsAreOne) (load : LoadFaultsAreOne) (alike : SpelledB
   compile_apart compile text status.WriteFault block spelled within makes = makes
   compile_apart compile text status.Memory block spelled within makes = makes
   compile_apart compile text (status.TooLong p) block spelled within makes = makes
+  compile_apart compile text (status.Asm f) block spelled within makes = makes
+
+  asm_apart : (source : List ℕ) (deed : Deed) (s : Status) → AsmGives source deed → AsmMakes source (Err s) → ⊥
+  asm_apart source deed (status.Asm f) gives makes =
+      let given = gives.assembles in
+      let yes = given.assembled in
+      let no = makes.1 in
+      cc
+  asm_apart source deed (status.Fcl f) gives makes = makes
+  asm_apart source deed (status.Trace f) gives makes = makes
+  asm_apart source deed status.Ok gives makes = makes
+  asm_apart source deed status.Usage gives makes = makes
+  asm_apart source deed (status.ReadFault p) gives makes = makes
+  asm_apart source deed status.WriteFault gives makes = makes
+  asm_apart source deed status.Memory gives makes = makes
+  asm_apart source deed (status.TooLong p) gives makes = makes
 
   pub apart : DeedsHaveNoFault
   unfolding Makes
+  apart command.Asm contents deed s makes fault = asm_apart _ deed s makes fault
   apart (command.Compile compile) contents deed s makes fault =
       compile_apart compile _ s makes.block makes.gives.spelled makes.gives.limits fault
   apart (command.Run run) contents deed s makes fault =
@@ -98,6 +119,7 @@ run_carries run text samples (status.ReadFault p) makes = tt
 run_carries run text samples status.WriteFault makes = tt
 run_carries run text samples status.Memory makes = tt
 run_carries run text samples (status.TooLong p) makes = tt
+run_carries run text samples (status.Asm f) makes = absurd makes
 
 compile_carries : (compile : Compile) (text : List ℕ) (s : Status) → CompileMakes compile text (Err s) → CarriesNoMemory s
 compile_carries compile text (status.Fcl f) makes = text_carries text f makes
@@ -108,9 +130,22 @@ compile_carries compile text (status.ReadFault p) makes = tt
 compile_carries compile text status.WriteFault makes = tt
 compile_carries compile text status.Memory makes = tt
 compile_carries compile text (status.TooLong p) makes = tt
+compile_carries compile text (status.Asm f) makes = absurd makes
+
+asm_carries : (source : List ℕ) (s : Status) → AsmMakes source (Err s) → CarriesNoMemory s
+asm_carries source (status.Asm f) makes = makes.0
+asm_carries source (status.Fcl f) makes = absurd makes
+asm_carries source (status.Trace f) makes = absurd makes
+asm_carries source status.Ok makes = tt
+asm_carries source status.Usage makes = tt
+asm_carries source (status.ReadFault p) makes = tt
+asm_carries source status.WriteFault makes = tt
+asm_carries source status.Memory makes = tt
+asm_carries source (status.TooLong p) makes = tt
 
 faults_carry : (command : Command) (contents : List (List ℕ)) (s : Status) → Makes command contents (Err s) → CarriesNoMemory s
 unfolding Makes
+faults_carry command.Asm contents s makes = asm_carries (content_at contents 0) s makes
 faults_carry (command.Compile compile) contents s makes = compile_carries compile _ s makes
 faults_carry (command.Run run) contents s makes = run_carries run _ _ s makes
 
@@ -123,3 +158,4 @@ carries words old new (status.ReadFault p) runs = tt
 carries words old new status.WriteFault runs = tt
 carries words old new status.Memory runs = tt
 carries words old new (status.TooLong p) runs = tt
+carries words old new (status.Asm f) runs = faults_carry runs.worked.command runs.worked.contents (status.Asm f) runs.worked.outcome

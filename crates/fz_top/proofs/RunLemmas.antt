@@ -117,6 +117,7 @@ stopped words f0 f1 k0 k1 a0 a1 t0 e0 command places contents slice s is files a
     go status.WriteFault fault = absurd fault
     go (status.Fcl f) fault = faulted (status.Fcl f) fault
     go (status.Trace f) fault = faulted (status.Trace f) fault
+    go (status.Asm f) fault = faulted (status.Asm f) fault
     go status.Memory fault = (counts, untouched)
     go (status.TooLong p) fault = absurd fault
 
@@ -176,6 +177,7 @@ module _ (words : List Text) (old new : World) (command : Command) (contents : L
   settles status.WriteFault runs = inr (inr (inr tt))
   settles (status.Fcl f) runs = inl (made_by (Err (status.Fcl f)) runs.worked)
   settles (status.Trace f) runs = inl (made_by (Err (status.Trace f)) runs.worked)
+  settles (status.Asm f) runs = inl (made_by (Err (status.Asm f)) runs.worked)
   settles status.Memory runs = inr (inl refl)
   settles (status.TooLong p) runs =
       let same = same_command runs.is is in
@@ -211,6 +213,7 @@ no_read_fault words old new none (status.ReadFault p) runs is = none.reads runs.
 no_read_fault words old new none status.WriteFault runs is = is
 no_read_fault words old new none (status.Fcl f) runs is = is
 no_read_fault words old new none (status.Trace f) runs is = is
+no_read_fault words old new none (status.Asm f) runs is = is
 no_read_fault words old new none status.Memory runs is = is
 no_read_fault words old new none (status.TooLong p) runs is = is
 
@@ -221,6 +224,7 @@ no_write_fault words old new none (status.ReadFault p) runs is = is
 no_write_fault words old new none status.WriteFault runs is = ⊎_elim (λ w. none.writes w.rose) (λ p. none.puts p.rose) runs.3
 no_write_fault words old new none (status.Fcl f) runs is = is
 no_write_fault words old new none (status.Trace f) runs is = is
+no_write_fault words old new none (status.Asm f) runs is = is
 no_write_fault words old new none status.Memory runs is = is
 no_write_fault words old new none (status.TooLong p) runs is = is
 
@@ -234,6 +238,7 @@ usage_status words old new (status.ReadFault p) runs none = absurd (none_some no
 usage_status words old new status.WriteFault runs none = absurd (none_some none runs.1.is)
 usage_status words old new (status.Fcl f) runs none = absurd (none_some none runs.worked.is)
 usage_status words old new (status.Trace f) runs none = absurd (none_some none runs.worked.is)
+usage_status words old new (status.Asm f) runs none = absurd (none_some none runs.worked.is)
 usage_status words old new status.Memory runs none = inr refl
 usage_status words old new (status.TooLong p) runs none = absurd (none_some none runs.is)
 
@@ -290,6 +295,7 @@ module _ (words : List Text) (old new : World) (place : ℕ) (long : IsTooLong w
   long_status status.WriteFault runs = absurd (no_work (Ok runs.0) runs.1)
   long_status (status.Fcl f) runs = absurd (no_work (Err (status.Fcl f)) runs.worked)
   long_status (status.Trace f) runs = absurd (no_work (Err (status.Trace f)) runs.worked)
+  long_status (status.Asm f) runs = absurd (no_work (Err (status.Asm f)) runs.worked)
   long_status status.Memory runs = inr (inr refl)
   long_status (status.TooLong q) runs =
       let same = same_command runs.is long.is in

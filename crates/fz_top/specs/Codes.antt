@@ -12,3 +12,4 @@ code_of (status.Fcl f) = 4
 code_of (status.Trace f) = 7
 code_of status.Memory = 9
 code_of (status.TooLong p) = 10
+code_of (status.Asm f) = 11

@@ -18,6 +18,7 @@ abbrev pub IsFaultOf : (Result Deed Status → Type 0) → Status → Type 0
 IsFaultOf makes status.Memory = Unit {0}
 IsFaultOf makes (status.Fcl f) = makes (Err (status.Fcl f))
 IsFaultOf makes (status.Trace f) = makes (Err (status.Trace f))
+IsFaultOf makes (status.Asm f) = makes (Err (status.Asm f))
 IsFaultOf makes _ = ⊥
 
 -- what is made, or one of its faults, or want of memory

@@ -2,6 +2,8 @@
 use Rattle.std.specs.Prelude.{◌≡◌, ◌≢◌, ◌≤◌, ◌++◌, ℕ, List, [], length, codes, decimal, Option, Result, IsOk, OnOk}
 use Rattle.fz_shelf.specs.Faults.{HasCause, Rose}
 use Rattle.fz_shelf.specs.Told.{Taken, gained, GainedPart, HasRoom}
+use Rattle.cpu12_asm.specs.declared.items.AsmFault.{AsmFault}
+use Rattle.cpu12_asm.specs.declared.items.AsmFault.TheVariants as asm
 use Rattle.trace_io.specs.declared.sample.TraceFault.{TraceFault}
 use Rattle.trace_io.specs.declared.sample.TraceFault.TheVariants as trace
 use Rattle.fz_top.specs.Lines.{newline}
@@ -73,6 +75,15 @@ trace_line (trace.BadRow row) = with_number (codes "trace: row ") row (codes ": 
 trace_line (trace.OutOfRange row input) = with_two (codes "trace: row ") row (codes ": input ") input (codes " out of range")
 trace_line trace.Memory = want_of_memory
 
+abbrev pub asm_line : AsmFault → List ℕ
+asm_line (asm.BadLine n) = with_number (codes "asm: line ") n (codes ": bad line")
+asm_line (asm.UnknownName n) = with_number (codes "asm: line ") n (codes ": unknown name")
+asm_line (asm.Twice n) = with_number (codes "asm: line ") n (codes ": twice")
+asm_line (asm.BranchFar n) = with_number (codes "asm: line ") n (codes ": branch far")
+asm_line (asm.Range n) = with_number (codes "asm: line ") n (codes ": range")
+asm_line (asm.Overlap n) = with_number (codes "asm: line ") n (codes ": overlap")
+asm_line asm.Memory = want_of_memory
+
 -- the line of a status
 abbrev pub error_line_of : List Text → Status → List ℕ
 error_line_of words status.Ok = []
@@ -83,6 +94,7 @@ error_line_of words (status.Fcl f) = fcl_line f
 error_line_of words (status.Trace f) = trace_line f
 error_line_of words status.Memory = want_of_memory
 error_line_of words (status.TooLong p) = with_name (codes "too long: ") (word_at words p)
+error_line_of words (status.Asm f) = asm_line f
 
 -- the fault that the status carries, if there is one, is not the fault's own want of memory
 abbrev pub CarriesNoMemory : Status → Type 0
@@ -90,6 +102,7 @@ CarriesNoMemory (status.Fcl (fcl.Syntax f)) = f ≢ syntax.Memory
 CarriesNoMemory (status.Fcl (fcl.Load f)) = f ≢ load.Memory
 CarriesNoMemory (status.Fcl (fcl.Layout f)) = f ≢ layout.Memory
 CarriesNoMemory (status.Trace f) = f ≢ trace.Memory
+CarriesNoMemory (status.Asm f) = f ≢ asm.Memory
 CarriesNoMemory _ = Unit {0}
 
 -- a text is put: from what the sink told, its faults and its soundness before to those after

@@ -1,3 +1,4 @@
+pub mod Asm
 pub mod Codes
 pub mod Commands
 pub mod Compile

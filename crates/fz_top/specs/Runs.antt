@@ -102,6 +102,7 @@ Runs words old new (status.Fcl f) = Faulted words old new (status.Fcl f)
 Runs words old new (status.Trace f) = Faulted words old new (status.Trace f)
 Runs words old new status.Memory = (new.counts ≡ old.counts) × Untouched old new
 Runs words old new (status.TooLong p) = Refused words old new (stop.TooLong p)
+Runs words old new (status.Asm f) = Faulted words old new (status.Asm f)
 
 -- the shelf tells these contents, and none is too long
 abbrev pub AreKnown : Names → List Text → List (List ℕ) → Type 0

@@ -11,6 +11,7 @@ ghost use Rattle.fz_top.specs.Commands.{IsUsage, Makes, command_in, form_of, inp
 ghost use Rattle.fz_top.specs.Deeds.{IsResultOf};
 
 use crate::Status;
+use crate::asm;
 use crate::compile::{self, Compile};
 use crate::reading::content;
 use crate::run::{self, Run};
@@ -22,13 +23,15 @@ use std::alloc::Global;
 /// A command by its name alone.
 #[derive(Clone, Copy)]
 pub(crate) enum Name {
+    Asm,
     Compile,
     Compile16,
     Run,
 }
 
 /// The commands by their names on the command line, each with the number of words that follow.
-static COMMANDS: [(&str, usize, Name); 3] = [
+static COMMANDS: [(&str, usize, Name); 4] = [
+    ("asm", 2, Name::Asm),
     ("compile", 2, Name::Compile),
     ("compile16", 2, Name::Compile16),
     ("run", 3, Name::Run),
@@ -37,6 +40,8 @@ static COMMANDS: [(&str, usize, Name); 3] = [
 /// A command with what its words give beside the names of files.
 #[derive(Clone, Copy, Debug, PartialEq, Eq)]
 pub enum Command {
+    /// `asm SRC OUT`
+    Asm,
     /// `compile FCL OUT`, and `compile16 FCL OUT`
     Compile(Compile),
     /// `run FCL TRACE FLAGS`
@@ -49,6 +54,7 @@ fn formed(name: Name, words: &[String]) -> Option<Command>
     ensures { result ≡ form_of name (texts_of words.now) }
 {
     match name {
+        Name::Asm => Some(Command::Asm),
         Name::Compile => Some(Command::Compile(Compile { width: Width::Byte })),
         Name::Compile16 => Some(Command::Compile(Compile { width: Width::Word })),
         Name::Run => Run::of(words).map(Command::Run),
@@ -62,6 +68,7 @@ impl Command {
         ensures { result.now ≡ inputs_of self.now }
     {
         match self {
+            Command::Asm => asm::INPUTS.as_slice(),
             Command::Compile(_) => compile::INPUTS.as_slice(),
             Command::Run(_) => run::INPUTS.as_slice(),
         }
@@ -74,6 +81,7 @@ impl Command {
         ensures { IsResultOf (Makes self (bytes_of contents.now)) result }
     {
         match self {
+            Command::Asm => asm::work(alloc, content(contents, 0)),
             Command::Compile(compile) => compile.work(alloc, content(contents, 0)),
             Command::Run(run) => run.work(alloc, content(contents, 0), content(contents, 1)),
         }

@@ -3,10 +3,11 @@ ghost use Rattle.std.specs.Prelude.{◌≡◌, ◌++◌, length};
 ghost use Rattle.fz_shelf.specs.Told.{gained, HasRoom};
 ghost use Rattle.fz_top.specs.Texts.{texts_of};
 ghost use Rattle.fz_top.specs.Lines.{newline};
-ghost use Rattle.fz_top.specs.Errors.{Puts, Complains, with_name, with_number, with_two, syntax_line, load_line, load_kind, layout_line, fcl_line, trace_line, error_line_of};
+ghost use Rattle.fz_top.specs.Errors.{Puts, Complains, with_name, with_number, with_two, syntax_line, load_line, load_kind, layout_line, fcl_line, trace_line, asm_line, error_line_of};
 
 use crate::words::word;
 use crate::{FclFault, Status};
+use cpu12_asm::AsmFault;
 use fcl_check::LoadFault;
 use fcl_syntax::SyntaxFault;
 use fz_shelf::{Failed, Sink, put_pieces};
@@ -155,6 +156,20 @@ fn put_trace<F: Sink>(err: &mut F, fault: &TraceFault) -> Result<(), Failed>
     }
 }
 
+fn put_asm<F: Sink>(err: &mut F, fault: &AsmFault) -> Result<(), Failed>
+    ensures { Puts (asm_line fault.now) (F.told err.old) (F.told err.new) (F.faults err.old) (F.faults err.new) (F.sound err.old) (F.sound err.new) result }
+{
+    match fault {
+        AsmFault::BadLine(line) => put_number(err, b"asm: line ", *line, b": bad line"),
+        AsmFault::UnknownName(line) => put_number(err, b"asm: line ", *line, b": unknown name"),
+        AsmFault::Twice(line) => put_number(err, b"asm: line ", *line, b": twice"),
+        AsmFault::BranchFar(line) => put_number(err, b"asm: line ", *line, b": branch far"),
+        AsmFault::Range(line) => put_number(err, b"asm: line ", *line, b": range"),
+        AsmFault::Overlap(line) => put_number(err, b"asm: line ", *line, b": overlap"),
+        AsmFault::Memory => put_text(err, b"memory"),
+    }
+}
+
 fn put_line<F: Sink>(err: &mut F, words: &[String], status: &Status) -> Result<(), Failed>
     ensures { Puts (error_line_of (texts_of words.now) status.now) (F.told err.old) (F.told err.new) (F.faults err.old) (F.faults err.new) (F.sound err.old) (F.sound err.new) result }
 {
@@ -170,6 +185,7 @@ fn put_line<F: Sink>(err: &mut F, words: &[String], status: &Status) -> Result<(
         Status::Trace(fault) => put_trace(err, fault),
         Status::Memory => put_text(err, b"memory"),
         Status::TooLong(place) => put_name(err, b"too long: ", word(words, *place)),
+        Status::Asm(fault) => put_asm(err, fault),
     }
 }
 

@@ -9,6 +9,7 @@
 //! before all input is accepted, and with `Ok` out has gained exactly the command's lines.
 #![tactic(auto)]
 
+mod asm;
 mod command;
 mod compile;
 mod delivery;

@@ -1,6 +1,7 @@
 //! How a call of the program ends.
 ghost use Rattle.std.specs.Prelude.{◌≡◌};
 
+use cpu12_asm::AsmFault;
 use fcl_check::LoadFault;
 use fcl_syntax::SyntaxFault;
 use rule_layout::LayoutFault;
@@ -25,6 +26,8 @@ pub enum Status {
     Memory,
     /// The file of that word has more than 1048576 bytes.
     TooLong(u32),
+    /// The text is no source of an image.
+    Asm(AsmFault),
 }
 
 /// Why a text gives no firmware. It never carries want of memory.
@@ -54,6 +57,7 @@ impl Status {
             Status::Trace(_) => 7,
             Status::Memory => 9,
             Status::TooLong(_) => 10,
+            Status::Asm(_) => 11,
         }
     }
 }
