@@ -2,7 +2,7 @@
 ghost use Rattle.std.specs.Prelude.{◌≤◌};
 
 use fz_list::{List, Text};
-use fz_shelf::{MemFile, MemShelf, MemSink};
+use fz_shelf::{MemFile, MemShelf, MemSink, Shelf};
 use fz_top::fuzz12;
 use std::alloc::{AllocError, Global};
 use std::process::Abort;
@@ -172,6 +172,70 @@ const REFUSED: [(&[&str], &str); 7] = [
             FRONT, OPENED, NOTS, NOTS, NOTS, NOTS, NOTS, NOTS, NOTS, NOTS, "NOT ", COLD, BACK,
         ],
         "fcl: at 529: too deep\n",
+    ),
+];
+
+// The records of the block's image, worked out from the instruction table of the CPU12 Reference Manual.
+const RECORDS: &str = "S0070000465A3132F5
+S123C000CF200079100010EFB6100027FB16C01679100020F30BCED000CD1100B6100101E6
+S123C02001791102791103CED800CD110086FF10FD183ACED200CD1102C602183C8E000050
+S110C040270511B7642002C6007B10103DD7
+S10BD00000FF000100FF010024
+S105D20000FF29
+S10BD80000FE02FE01FE03FF1D
+S105FFF2C01534
+S105FFFEC0003D
+S5030008F4
+S903C0003C
+";
+
+const SOURCE: &str = " ORG $C000
+ LDAA #$05
+ COMA
+DONE BRA DONE
+ ORG $FFFE
+ FDB $C000
+";
+
+const SOURCE_RECORDS: &str = "S0070000465A3132F5
+S108C00086054120FE4D
+S105FFFEC0003D
+S5030002FA
+S903C0003C
+";
+
+// A command, the text of its file, the numbers of the writes that fail, the status, the lines on out and on err, and
+// what the file OUT holds then, if that is said.
+const IMAGES: [(&str, &str, &[u32], u8, &str, &str, Option<&str>); 6] = [
+    (
+        "compile",
+        BLOCK,
+        &[],
+        0,
+        "instructions 28\nsteps 36\nbytes 99\n",
+        "",
+        Some(RECORDS),
+    ),
+    (
+        "compile16",
+        BLOCK,
+        &[],
+        0,
+        "instructions 31\nsteps 39\nbytes 112\n",
+        "",
+        None,
+    ),
+    ("compile", "", &[], 4, "", "fcl: at 0: expected\n", Some("")),
+    ("compile", BLOCK, &[1], 3, "", "write fault\n", None),
+    ("asm", SOURCE, &[], 0, "bytes 7\n", "", Some(SOURCE_RECORDS)),
+    (
+        "asm",
+        "A NOP\na NOP\n",
+        &[],
+        11,
+        "",
+        "asm: line 2: twice\n",
+        Some(""),
     ),
 ];
 
@@ -376,6 +440,60 @@ fn answers(rt: HostRuntime) -> Result<(), Fail> {
 fn refused_texts(rt: HostRuntime) -> Result<(), Fail> {
     for (fcl, text) in REFUSED {
         run_of(&rt, rt.alloc(), fcl, "64", 4, "", text)?;
+    }
+    Ok(())
+}
+
+/// A command of two words over a shelf with its file and an empty file OUT.
+fn image_of(
+    rt: &impl Abort,
+    alloc: Global,
+    command: &str,
+    source: &str,
+    failing: &[u32],
+    code: u8,
+    out_text: &str,
+    err_text: &str,
+    records: Option<&str>,
+) -> Result<(), Fail> {
+    let mut image = file(alloc, "out", Vec::new(alloc))?;
+    image.room = 2000;
+    let files = vec![in alloc; file(alloc, "in", source.as_bytes().to_vec(alloc)?)?, image]?;
+    let never = List::new(Vec::new(alloc));
+    let failing = List::new(failing.to_vec(alloc)?);
+    let mut shelf = MemShelf::new(alloc, List::new(files), never, failing)?;
+    let mut words = Vec::new(alloc);
+    for word in ["fuzz12", command, "in", "out"] {
+        words.push(String::from_str(alloc, word)?)?;
+    }
+    let mut out = MemSink::new(alloc, 1000, List::new(Vec::new(alloc)), 1000)?;
+    let mut err = MemSink::new(alloc, 1000, List::new(Vec::new(alloc)), 1000)?;
+    let status = fuzz12(alloc, words.as_slice(), &mut shelf, &mut out, &mut err);
+    assert_eq!(rt; err.bytes(), err_text.as_bytes());
+    assert_eq!(rt; out.bytes(), out_text.as_bytes());
+    assert_eq!(rt; status.code(), code);
+    if let Some(records) = records {
+        let mut held = Vec::new(alloc);
+        assert!(rt; shelf.read("out", &mut held).is_ok());
+        assert_eq!(rt; held.as_slice(), records.as_bytes());
+    }
+    Ok(())
+}
+
+#[test]
+fn images(rt: HostRuntime) -> Result<(), Fail> {
+    for (command, source, failing, code, out, err, records) in IMAGES {
+        image_of(
+            &rt,
+            rt.alloc(),
+            command,
+            source,
+            failing,
+            code,
+            out,
+            err,
+            records,
+        )?;
     }
     Ok(())
 }

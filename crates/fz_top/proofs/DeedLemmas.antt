@@ -1,6 +1,6 @@
 -- Contents that make a deed make no fault.
-use Rattle.std.proofs.Common.{arith, ◌≡◌, ◌≢◌, ℕ, List, [], ◌∷◌, refl, sym, subst}
-use Rattle.std.specs.Prelude.{map, Result, Ok, Err}
+use Rattle.std.proofs.Common.{◌≡◌, ℕ, List, [], ◌∷◌, refl, subst}
+use Rattle.std.specs.Prelude.{map, Err}
 use Rattle.std.specs.List.{AllZip}
 use Rattle.fuzzy_meaning.specs.declared.block.Block.{Block}
 use Rattle.fuzzy_meaning.specs.declared.block.Input.{Input}
@@ -10,16 +10,15 @@ use Rattle.fcl_syntax.specs.Text.{IsFirstFault}
 use Rattle.fcl_syntax.specs.View.{view}
 use Rattle.fcl_check.specs.Alike.{AreAlike, AreAlikeRules, SpelledBlocksAreAlike}
 use Rattle.fcl_check.specs.Texts.{LoadFaultsAreOne, SpellsBlock}
-use Rattle.rule_layout.specs.Alike.{LayoutsAreOne, LimitsHaveNoFault, Saying, SaysTheSame, saying_of}
+use Rattle.rule_layout.specs.Alike.{LayoutsAreOne, LimitsHaveNoFault, SaysTheSame, saying_of}
 use Rattle.rule_layout.specs.Layouts.{IsWithinLimits}
 use Rattle.trace_io.specs.OneReading.{SpelledTracesHaveNoFault}
 use Rattle.trace_io.specs.Traces.{Spells}
 use Rattle.trace_io.specs.declared.sample.Sample.{Sample}
 use Rattle.fz_top.specs.Commands.{Makes}
-use Rattle.cpu12_asm.specs.Sources.{assembled}
 use Rattle.fz_top.specs.Asm.{AsmMakes, AsmGives}
 use Rattle.fz_top.specs.Compile.{CompileMakes}
-use Rattle.fz_top.specs.Firmwares.{GivesFirmware, RefusesText}
+use Rattle.fz_top.specs.Firmwares.{RefusesText}
 use Rattle.fz_top.specs.Run.{RunMakes}
 use Rattle.fz_top.specs.Deeds.{Deed}
 use Rattle.fz_top.specs.Errors.{CarriesNoMemory}

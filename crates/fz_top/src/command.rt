@@ -10,12 +10,11 @@ ghost use Rattle.fz_top.specs.Texts.{bytes_of, texts_of};
 ghost use Rattle.fz_top.specs.Commands.{IsUsage, Makes, command_in, form_of, inputs_of, name_in, table};
 ghost use Rattle.fz_top.specs.Deeds.{IsResultOf};
 
-use crate::Status;
-use crate::asm;
 use crate::compile::{self, Compile};
 use crate::reading::content;
 use crate::run::{self, Run};
 use crate::work::Work;
+use crate::{Status, asm};
 use codegen::Width;
 use fz_words::Refusal;
 use std::alloc::Global;

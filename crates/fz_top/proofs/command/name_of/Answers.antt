@@ -1,5 +1,5 @@
 use Rattle.std.proofs.Common.{◌≡◌, List, ap, subst}
-use Rattle.std.specs.Prelude.{IfOk, IsErrOf, None, Some}
+use Rattle.std.specs.Prelude.{IfOk, None, Some}
 use Rattle.fz_words.specs.App.{IsRefused}
 use Rattle.fz_words.specs.Table.{Row, command_in, rows_of}
 use Rattle.fz_top.specs.Commands.{table}
