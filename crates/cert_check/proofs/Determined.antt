@@ -12,12 +12,13 @@ use Rattle.error_bound.specs.Bounds.{IsBound}
 use Rattle.error_bound.proofs.Literals.{some_at}
 use Rattle.error_bound.proofs.Uniqueness.{bound_unique}
 use Rattle.box_tree.specs.declared.cert.Node.{Node}
+use Rattle.box_tree.specs.declared.cert.Cert.{Cert}
 use Rattle.cert_check.specs.Trees.{left_of, right_of, Part, leaves_of, IsTree, leaf, split, whole}
-use Rattle.cert_check.specs.Acceptance.{HasBound, IsGreatestBound}
+use Rattle.cert_check.specs.Acceptance.{HasBound, IsGreatestBound, IsAccepted}
 use Rattle.cert_check.specs.Laws.{ErrorsAreDetermined}
 
 -- nodes spell one tree
-tree_unique : (box box' : List Interval) (ns ns' : List Node) (ps qs : List Part) (r r' : List Node) → IsTree box ns ps r → IsTree box' ns' qs r' → box ≡ box' → ns ≡ ns' → (ps ≡ qs) × (r ≡ r')
+pub tree_unique : (box box' : List Interval) (ns ns' : List Node) (ps qs : List Part) (r r' : List Node) → IsTree box ns ps r → IsTree box' ns' qs r' → box ≡ box' → ns ≡ ns' → (ps ≡ qs) × (r ≡ r')
 tree_unique box box' ns ns' ps qs r r' (leaf x pairs rest) (leaf x' pairs' rest') eb en =
     let e1 : pairs ≡ pairs' = cc in
     let e2 : rest ≡ rest' = cc in
@@ -35,12 +36,12 @@ tree_unique box box' ns ns' ps qs r r' (split x i c n m rest left right h cut tl
     same_side : (side : ℕ → ℕ → List Interval → List Interval) (i i' c c' : ℕ) (x x' : List Interval) → i ≡ i' → c ≡ c' → x ≡ x' → side (i - 1) c x ≡ side (i' - 1) c' x'
     same_side side i i' c c' x x' e1 e2 e3 = cc
 
-left_count : (k c : ℕ) (x : List Interval) → length (left_of k c x) ≡ length x
+pub left_count : (k c : ℕ) (x : List Interval) → length (left_of k c x) ≡ length x
 left_count k c [] = refl
 left_count zero c (v ∷ vs) = refl
 left_count (suc k) c (v ∷ vs) = ap suc (left_count k c vs)
 
-right_count : (k c : ℕ) (x : List Interval) → length (right_of k c x) ≡ length x
+pub right_count : (k c : ℕ) (x : List Interval) → length (right_of k c x) ≡ length x
 right_count k c [] = refl
 right_count zero c (v ∷ vs) = refl
 right_count (suc k) c (v ∷ vs) = ap suc (right_count k c vs)
@@ -82,15 +83,15 @@ within_list [] k x e = absurd (let z : ⊥ = cc in z)
 within_list (y ∷ ys) zero x e = omega arith
 within_list (y ∷ ys) (suc k) x e = let r : k < length ys = within_list ys k x e in omega arith
 
-map_count : (is : List Input) → length {A = Interval} (map (λ (i : Input). record { from = 0; to = 255 }) is) ≡ length is
+pub map_count : (is : List Input) → length {A = Interval} (map (λ (i : Input). record { from = 0; to = 255 }) is) ≡ length is
 map_count [] = refl
 map_count (i ∷ is) = ap suc (map_count is)
 
-pub determined : ErrorsAreDetermined
-determined b h cert es fs v s t = same_lists es fs (s.errors_count ∙ sym t.errors_count) each
+pub errors_unique : (b : Block) (h : ℕ) (cert cert' : Cert) (es fs : List ℕ) → cert.nodes ≡ cert'.nodes → IsValid b → IsAccepted b h cert es → IsAccepted b h cert' fs → es ≡ fs
+errors_unique b h cert cert' es fs en v s t = same_lists es fs (s.errors_count ∙ sym t.errors_count) each
   where
     u : s.parts ≡ t.parts
-    u = (tree_unique (whole b) (whole b) cert.nodes cert.nodes s.parts t.parts [] [] s.tree t.tree refl refl).0
+    u = (tree_unique (whole b) (whole b) cert.nodes cert'.nodes s.parts t.parts [] [] s.tree t.tree refl en).0
 
     counts : All (λ p. length p.box ≡ length b.inputs) s.parts
     counts = boxes_count (length b.inputs) (whole b) cert.nodes [] s.parts s.tree (map_count b.inputs)
@@ -108,3 +109,6 @@ determined b h cert es fs v s t = same_lists es fs (s.errors_count ∙ sym t.err
       where
         both_ways : {a c : ℕ} → a ≤ c → c ≤ a → a ≡ c
         both_ways h k = omega arith
+
+pub determined : ErrorsAreDetermined
+determined b h cert es fs v s t = errors_unique b h cert cert es fs refl v s t

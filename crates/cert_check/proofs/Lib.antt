@@ -3,3 +3,8 @@ pub mod AcceptedLemmas
 pub mod ExampleLemmas
 pub mod Determined
 pub mod WideAccepted
+pub mod CutLemmas
+pub mod PairLemmas
+pub mod WalkLemmas
+pub mod CheckLemmas
+pub mod FaultLemmas

@@ -14,7 +14,9 @@ use Rattle.error_bound.specs.declared.boxes.Interval.{Interval}
 use Rattle.box_tree.specs.declared.cert.Node.{Node}
 use Rattle.box_tree.specs.declared.cert.Cert.{Cert}
 use Rattle.cert_check.specs.Trees.{Part, IsTree, lies, leaves_with}
+use Rattle.cert_check.specs.declared.checker.CheckFault.{CheckFault}
 use Rattle.cert_check.specs.Acceptance.{IsAccepted}
+use Rattle.cert_check.specs.Faults.{HasCheckFault}
 
 -- each list of bytes of the box lies in exactly one leaf
 abbrev pub OneLeafHasTheBytes : Type 0
@@ -43,3 +45,7 @@ ErrorsAreDetermined = (b : Block) (h : ℕ) (cert : Cert) (es fs : List ℕ) →
 -- one that is accepted for bytes is accepted for 16 bits, and no error rises
 abbrev pub WideIsAccepted : Type 0
 WideIsAccepted = (b : Block) (cert : Cert) (es : List ℕ) → IsValid b → IsAccepted b 1 cert es → (fs : List ℕ) × IsAccepted b 256 cert fs × ((k e f : ℕ) → slice_get es k ≡ Some e → slice_get fs k ≡ Some f → f ≤ e)
+
+-- a certificate with a fault is not accepted
+abbrev pub FaultyCertsFail : Type 0
+FaultyCertsFail = (b : Block) (h : ℕ) (cert : Cert) (errors : List ℕ) (fault : CheckFault) → IsValid b → HasCheckFault b h cert fault → IsAccepted b h cert errors → ⊥

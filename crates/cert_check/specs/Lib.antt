@@ -1,4 +1,6 @@
 pub mod Trees
 pub mod Acceptance
+pub mod Faults
+pub mod Walks
 pub mod Laws
 pub mod Examples

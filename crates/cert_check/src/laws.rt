@@ -1,5 +1,5 @@
 //! Laws of the definitions.
-ghost use Rattle.cert_check.specs.Laws.{OneLeafHasTheBytes, AcceptedAnswersAreNear, ErrorsAreDetermined, WideIsAccepted};
+ghost use Rattle.cert_check.specs.Laws.{OneLeafHasTheBytes, AcceptedAnswersAreNear, ErrorsAreDetermined, FaultyCertsFail, WideIsAccepted};
 ghost use Rattle.cert_check.specs.Examples.{ExamplesAreAccepted};
 
 /// Each list of bytes of a box lies in exactly one leaf of a tree over it.
@@ -16,6 +16,11 @@ pub fn accepted_answers_are_near()
 /// A certificate is accepted with one list of errors.
 pub fn errors_are_determined()
     ensures { ErrorsAreDetermined }
+{}
+
+/// A certificate with a fault is not accepted.
+pub fn faulty_certs_fail()
+    ensures { FaultyCertsFail }
 {}
 
 /// A certificate that is accepted for bytes is accepted for 16 bits, and no error rises.

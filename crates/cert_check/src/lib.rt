@@ -1,13 +1,19 @@
 //! Which certificates are accepted, and what an accepted one says: a tree of boxes over all bytes
 //! whose leaves hold, with claims that are no less than the errors of the outputs.
 //!
-//! The laws are that an accepted certificate bounds the answers to every list of samples in range,
-//! and that its errors are determined. No call takes memory.
+//! [`check`] answers exactly the errors that a certificate is accepted with, or exactly its first
+//! [`CheckFault`]; [`check16`] the same for answers of 16 bits. The laws are that an accepted
+//! certificate bounds the answers to every list of samples in range, that its errors are determined,
+//! and that one with a fault is not accepted.
 #![tactic(auto)]
 
+mod checker;
 mod laws;
+mod pairs;
+mod walk;
 
+pub use checker::{CheckFault, check, check16};
 pub use laws::{
-    accepted_answers_are_near, errors_are_determined, examples_are_accepted,
+    accepted_answers_are_near, errors_are_determined, examples_are_accepted, faulty_certs_fail,
     one_leaf_has_the_bytes, wide_is_accepted,
 };

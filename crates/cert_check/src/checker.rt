@@ -1,0 +1,95 @@
+//! Whether a certificate is accepted, with which errors, or its first fault.
+ghost use Rattle.std.specs.Prelude.{◌≡◌, ◌≢◌, ◌≤◌, ◌<◌, ◌+◌, ℕ, List, length, IfOk, IfErr, IfSome, IfNone, Some, slice_get};
+ghost use Rattle.fuzzy_meaning.specs.Blocks.{IsValid};
+ghost use Rattle.box_tree.specs.Certificates.{IsCert};
+ghost use Rattle.cert_check.specs.Acceptance.{IsAccepted};
+ghost use Rattle.cert_check.specs.Faults.{HasCheckFault, IsFirstOver, AreClaimed};
+
+use crate::walk::errors_of;
+use box_tree::Cert;
+use error_bound::LeafFault;
+use fuzzy_meaning::Block;
+use std::alloc::Global;
+use thiserror::Error;
+
+/// Why a certificate is not accepted. Lines count from 1, and the first node's is line 3; outputs and
+/// rules count from 1.
+#[derive(Clone, Copy, PartialEq, Eq, Debug, Error)]
+pub enum CheckFault {
+    /// So many claims, and so many outputs.
+    #[error("{0} claims for {1} outputs")]
+    Outputs(u32, u32),
+    /// That line cuts an input that the block does not have, or not inside its interval.
+    #[error("line {0} cuts no interval")]
+    BadCut(u32),
+    /// A pair on that line names no rule that concludes a term of its output.
+    #[error("line {0} names no rule of its output")]
+    BadRule(u32),
+    /// A pair on that line does not hold on its box.
+    #[error("line {0} does not hold")]
+    Leaf(u32, LeafFault),
+    /// That output's claim, and its error, which is greater.
+    #[error("output {0} has a claim of {1} and an error of {2}")]
+    Claimed(u8, u32, u32),
+    /// There was no memory for the errors or for the boxes still to come.
+    #[error("no memory")]
+    Memory,
+}
+
+/// The error of each output in millionths of its range, for answers that are bytes, or the
+/// certificate's first fault: in the order of its lines, on a line in the order of its pairs, and
+/// its claims last.
+pub fn check(alloc: Global, block: &Block, cert: &Cert) -> Result<Vec<u32>, CheckFault>
+    requires block { IsValid block.now }
+    requires cert { IsCert cert.now }
+    ensures accepted { IfOk result (λ errors. IsAccepted block.now 1 cert.now errors.items) }
+    ensures fault { IfErr result (λ fault. fault ≢ CheckFault.Memory → HasCheckFault block.now 1 cert.now fault) }
+{
+    checked(alloc, block, cert, 1)
+}
+
+/// The same for answers of 16 bits.
+pub fn check16(alloc: Global, block: &Block, cert: &Cert) -> Result<Vec<u32>, CheckFault>
+    requires block { IsValid block.now }
+    requires cert { IsCert cert.now }
+    ensures accepted { IfOk result (λ errors. IsAccepted block.now 256 cert.now errors.items) }
+    ensures fault { IfErr result (λ fault. fault ≢ CheckFault.Memory → HasCheckFault block.now 256 cert.now fault) }
+{
+    checked(alloc, block, cert, 256)
+}
+
+/// The same for answers in so many parts to a byte.
+fn checked(alloc: Global, block: &Block, cert: &Cert, parts: u16) -> Result<Vec<u32>, CheckFault>
+    requires block { IsValid block.now }
+    requires cert { IsCert cert.now }
+    requires parts_from { 1 ≤ parts }
+    requires parts_to { parts ≤ 256 }
+    ensures accepted { IfOk result (λ errors. IsAccepted block.now parts cert.now errors.items) }
+    ensures fault { IfErr result (λ fault. fault ≢ CheckFault.Memory → HasCheckFault block.now parts cert.now fault) }
+{
+    let outputs = block.outputs.len();
+    let claims = cert.claims.as_slice();
+    if claims.len() != outputs {
+        return Err(CheckFault::Outputs(claims.len() as u32, outputs as u32));
+    }
+    let errors = errors_of(alloc, block, cert.nodes.as_slice(), parts)?;
+    match first_over(errors.as_slice(), claims) {
+        Some(o) => Err(CheckFault::Claimed(o as u8 + 1, claims[o], errors[o])),
+        None => Ok(errors),
+    }
+}
+
+/// The place of the first error that is greater than its claim.
+fn first_over(errors: &[u32], claims: &[u32]) -> Option<usize>
+    requires { length errors.now ≡ length claims.now }
+    ensures within { IfSome result (λ o. o < length errors.now) }
+    ensures over { IfSome result (IsFirstOver errors.now claims.now) }
+    ensures none { IfNone result (AreClaimed errors.now claims.now) }
+{
+    for o in 0..errors.len() {
+        if errors[o] > claims[o] {
+            return Some(o);
+        }
+    }
+    None
+}

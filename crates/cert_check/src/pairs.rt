@@ -1,0 +1,91 @@
+//! The pairs of a leaf's line: whether they hold on its box, and with which Bounds.
+ghost use Rattle.std.specs.Prelude.{◌≡◌, ◌≢◌, ◌↔◌, ◌≤◌, ◌<◌, ◌+◌, ◌-◌, ℕ, length, All, OnOk, IfOk, IfErr, IfSome, IsTrue, Some, slice_get};
+ghost use Rattle.fuzzy_meaning.specs.Blocks.{IsValid, output_at};
+ghost use Rattle.error_bound.specs.Boxes.{IsBoxOf};
+ghost use Rattle.error_bound.specs.Leaves.{Holds, IsPairFor, concludes_some as concludes_any};
+ghost use Rattle.error_bound.specs.Bounds.{IsBound};
+ghost use Rattle.error_bound.specs.Reaches.{IsTable};
+ghost use Rattle.cert_check.specs.Trees.{leaves_of};
+ghost use Rattle.cert_check.specs.Faults.{AllHold, IsPairFault, HasPartFault};
+ghost use Rattle.cert_check.specs.Walks.{Raises};
+
+use crate::checker::CheckFault;
+use error_bound::{BoxTable, ByteBox, Leaf};
+use fuzzy_meaning::{Block, Rule};
+
+/// Raises the error of each output to the Bound of its pair on a box, or tells the first pair that
+/// is at fault.
+pub(crate) fn raise_errors(
+    errors: &mut [u32],
+    block: &Block,
+    bytes: ByteBox,
+    pairs: &[(u16, u8)],
+    parts: u16,
+    line: u32,
+) -> Result<(), CheckFault>
+    requires block { IsValid block.now }
+    requires bytes { IsBoxOf block.now bytes.0.items }
+    requires pairs { length pairs.now ≡ length block.now.outputs }
+    requires errors { length errors.old ≡ length block.now.outputs }
+    requires parts_from { 1 ≤ parts }
+    requires parts_to { parts ≤ 256 }
+    ensures hold { OnOk result (AllHold block.now (record { box = bytes.0.items; pairs = leaves_of pairs.now })) }
+    ensures raised { OnOk result (Raises block.now parts (record { box = bytes.0.items; pairs = leaves_of pairs.now }) errors.old errors.new) }
+    ensures fault { IfErr result (HasPartFault block.now (record { box = bytes.0.items; pairs = leaves_of pairs.now }) line) }
+{
+    let table = BoxTable::new(block, bytes);
+    for o in 0..pairs.len() {
+        let (rule, k) = pairs[o];
+        let bound = pair_bound(block, &table, Leaf { rule, k }, o as u8 + 1, parts, line)?;
+        errors[o] = errors[o].max(bound);
+    }
+    Ok(())
+}
+
+/// The Bound of a pair for an output on a table's box, or its fault.
+fn pair_bound(
+    block: &Block,
+    table: &BoxTable,
+    pair: Leaf,
+    out: u8,
+    parts: u16,
+    line: u32,
+) -> Result<u32, CheckFault>
+    requires block { IsValid block.now }
+    requires table { IsTable block.now table.now }
+    requires out_from { 1 ≤ out }
+    requires out_to { out ≤ length block.now.outputs }
+    requires parts_from { 1 ≤ parts }
+    requires parts_to { parts ≤ 256 }
+    ensures holds { OnOk result (Holds block.now table.now.bytes.0.items out pair) }
+    ensures bound { IfOk result (λ n. IfSome (output_at block.now out) (λ x. IsBound block.now table.now.bytes.0.items out x parts pair n)) }
+    ensures fault { IfErr result (IsPairFault block.now table.now.bytes.0.items out pair line) }
+{
+    if !is_pair_for(block, pair.rule, pair.k, out) {
+        return Err(CheckFault::BadRule(line));
+    }
+    match table.bound(block, &pair, out, parts) {
+        Ok(bound) => Ok(bound),
+        Err(fault) => Err(CheckFault::Leaf(line, fault)),
+    }
+}
+
+/// Whether a pair is silent, or names a rule that concludes a term of an output.
+fn is_pair_for(block: &Block, rule: u16, k: u8, out: u8) -> bool
+    ensures { IsTrue result ↔ IsPairFor block.now out (record { rule = rule; k = k }) }
+{
+    if rule == 0 || k == 0 {
+        return rule == 0 && k == 0;
+    }
+    match block.rules.as_slice().get(rule as usize - 1) {
+        Some(rule) => concludes_some(rule, out),
+        None => false,
+    }
+}
+
+/// Whether a rule concludes a term of an output.
+fn concludes_some(rule: &Rule, out: u8) -> bool
+    ensures { result ≡ concludes_any rule.now out }
+{
+    rule.concl.as_slice().iter().any(|c| c.0 == out)
+}
