@@ -16,15 +16,12 @@ use Rattle.error_bound.specs.Boxes.{IsBoxOf}
 use Rattle.box_tree.specs.declared.cert.Node.{Node}
 use Rattle.box_tree.specs.declared.cert.Node.TheVariants.{Split, Leaf}
 use Rattle.box_tree.specs.Trees.{open_from, leaf_count}
-use Rattle.cert_check.specs.Trees.{Part, IsTree, leaf, split, leaves_of, left_of, right_of, IsCut, whole}
+use Rattle.cert_check.specs.Trees.{Part, IsTree, leaf, split, part_of, left_of, right_of, IsCut, whole}
 use Rattle.cert_check.specs.Acceptance.{HasBound, IsGreatestBound, IsAccepted}
 use Rattle.cert_check.specs.Faults.{AllHold, Reaches, line_at, root, in_left, in_right}
 use Rattle.cert_check.specs.Walks.{stack_of, Raises}
 use Rattle.cert_check.proofs.CutLemmas.{IsBox-left, IsBox-right}
 use Rattle.cert_check.proofs.Determined.{left_count, right_count, map_count}
-
-abbrev pub part_of : List Interval → ArrayVec (ℕ × ℕ) → Part
-part_of box pairs = record { box = box; pairs = leaves_of pairs.items }
 
 -- nodes begin with a tree for each box
 abbrev pub AreTrees : List (List Interval) → List Node → List Part → List Node → Type 0
@@ -57,9 +54,9 @@ one_of : {X : Type 0} (P : X → Type 0) (x : X) → P x → All P (x ∷ [])
 one_of P x h zero d l = h
 one_of P x h (suc k) d l = absurd (omega arith)
 
-reached_leaf : (b : Block) (box : List Interval) (boxes : List (List Interval)) (pairs : ArrayVec (ℕ × ℕ)) (nodes : List Node) (found : List Interval) (rest : List Node) → AllHold b (part_of box pairs)
+reached_leaf : (b : Block) (box : List Interval) (boxes : List (List Interval)) (pairs : ArrayVec (ℕ × ℕ)) (nodes : List Node) (found : List Interval) (rest : List Node) → AllHold b (part_of box pairs.items)
     → AreReached b boxes nodes found rest → AreReached b (box ∷ boxes) (Leaf pairs ∷ nodes) found rest
-reached_leaf b box boxes pairs nodes found rest hold more = inr (part_of box pairs ∷ [], nodes, leaf box pairs nodes, one_of (AllHold b) (part_of box pairs) hold, more)
+reached_leaf b box boxes pairs nodes found rest hold more = inr (part_of box pairs.items ∷ [], nodes, leaf box pairs nodes, one_of (AllHold b) (part_of box pairs.items) hold, more)
 
 -- e is the greatest Bound of the leaves, or 0 where there is none
 pub record IsGreatestSoFar (b : Block) (o : ℕ) (x : Output) (h : ℕ) (parts : List Part) (e : ℕ) : Type 0 where
@@ -134,10 +131,10 @@ walked_split b h nodes rest box boxes errors i c some cut w =
       greatest = w.greatest;
     }
 
-pub walked_leaf : (b : Block) (h : ℕ) (nodes rest : List Node) (box : List Interval) (boxes : List (List Interval)) (errors new : List ℕ) (pairs : ArrayVec (ℕ × ℕ)) → AllHold b (part_of box pairs) → Raises b h (part_of box pairs) errors new
+pub walked_leaf : (b : Block) (h : ℕ) (nodes rest : List Node) (box : List Interval) (boxes : List (List Interval)) (errors new : List ℕ) (pairs : ArrayVec (ℕ × ℕ)) → AllHold b (part_of box pairs.items) → Raises b h (part_of box pairs.items) errors new
     → HasWalked b h nodes (Leaf pairs ∷ rest) (box ∷ boxes) errors → HasWalked b h nodes rest boxes new
 walked_leaf b h nodes rest box boxes errors new pairs hold raised w =
-    let p = part_of box pairs in
+    let p = part_of box pairs.items in
     record {
       are_boxes = All-tail (IsBoxOf b) box boxes w.are_boxes;
       open_count = w.open_count;

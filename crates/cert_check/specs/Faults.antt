@@ -12,23 +12,28 @@ use Rattle.box_tree.specs.declared.cert.Node.TheVariants.{Split, Leaf}
 use Rattle.box_tree.specs.declared.cert.Cert.{Cert}
 use Rattle.cert_check.specs.declared.checker.CheckFault.{CheckFault}
 use Rattle.cert_check.specs.declared.checker.CheckFault.TheVariants as fault
-use Rattle.cert_check.specs.Trees.{Part, IsTree, leaves_of, left_of, right_of, IsCut, whole}
+use Rattle.cert_check.specs.Trees.{Part, IsTree, part_of, left_of, right_of, IsCut, whole}
 use Rattle.cert_check.specs.Acceptance.{IsAccepted}
 
 -- a leaf's pairs hold for the outputs before number o
 abbrev pub HoldBefore : Block → Part → ℕ → Type 0
-HoldBefore b p o = (n : ℕ) (leaf : the.Leaf) → 1 ≤ n → n < o → slice_get p.pairs (n - 1) ≡ Some leaf → Holds b p.box n leaf
+HoldBefore b p o =
+    (n : ℕ) (leaf : the.Leaf) → 1 ≤ n → n < o → slice_get p.pairs (n - 1) ≡ Some leaf → Holds b p.box n leaf
 
 abbrev pub AllHold : Block → Part → Type 0
 AllHold b p = HoldBefore b p (length b.outputs + 1)
 
--- nodes begin with a tree over the box, in which the last of them, rest, begin with a part over the box found, and all leaves before it hold
+-- nodes begin with a tree over the box, in which the last of them, rest, begin with a part over the box found,
+-- and all leaves before it hold
 pub data Reaches (b : Block) : List Interval → List Node → List Interval → List Node → Type 0 where
   root : (box : List Interval) (nodes : List Node) → Reaches b box nodes box nodes
-  in_left : (box : List Interval) (i c : ℕ) (nodes : List Node) (found : List Interval) (rest : List Node) → 1 ≤ i → IsCut (i - 1) c box
+  in_left : (box : List Interval) (i c : ℕ) (nodes : List Node) (found : List Interval) (rest : List Node)
+      → 1 ≤ i → IsCut (i - 1) c box
       → Reaches b (left_of (i - 1) c box) nodes found rest → Reaches b box (Split i c ∷ nodes) found rest
-  in_right : (box : List Interval) (i c : ℕ) (nodes mid : List Node) (parts : List Part) (found : List Interval) (rest : List Node) → 1 ≤ i → IsCut (i - 1) c box
-      → IsTree (left_of (i - 1) c box) nodes parts mid → All (AllHold b) parts → Reaches b (right_of (i - 1) c box) mid found rest → Reaches b box (Split i c ∷ nodes) found rest
+  in_right : (box : List Interval) (i c : ℕ) (nodes mid : List Node) (parts : List Part) (found : List Interval)
+      (rest : List Node) → 1 ≤ i → IsCut (i - 1) c box
+      → IsTree (left_of (i - 1) c box) nodes parts mid → All (AllHold b) parts
+      → Reaches b (right_of (i - 1) c box) mid found rest → Reaches b box (Split i c ∷ nodes) found rest
 
 -- the line of the first of the nodes that end a certificate's
 abbrev pub line_at : List Node → List Node → ℕ
@@ -51,10 +56,13 @@ pub record HasPartFault (b : Block) (p : Part) (line : ℕ) (f : CheckFault) : T
 
 -- the first fault of a tree over all bytes
 pub data HasTreeFault (b : Block) (nodes : List Node) : CheckFault → Type 0 where
-  bad_cut : (box : List Interval) (i c : ℕ) (rest : List Node) → Reaches b (whole b) nodes box (Split i c ∷ rest) → (IsCut (i - 1) c box → ⊥)
+  bad_cut : (box : List Interval) (i c : ℕ) (rest : List Node) → Reaches b (whole b) nodes box (Split i c ∷ rest)
+      → (IsCut (i - 1) c box → ⊥)
       → HasTreeFault b nodes (fault.BadCut (line_at nodes (Split i c ∷ rest)))
-  bad_leaf : (box : List Interval) (pairs : ArrayVec (ℕ × ℕ)) (rest : List Node) (f : CheckFault) → Reaches b (whole b) nodes box (Leaf pairs ∷ rest)
-      → HasPartFault b (record { box = box; pairs = leaves_of pairs.items }) (line_at nodes (Leaf pairs ∷ rest)) f → HasTreeFault b nodes f
+  bad_leaf : (box : List Interval) (pairs : ArrayVec (ℕ × ℕ)) (rest : List Node) (f : CheckFault)
+      → Reaches b (whole b) nodes box (Leaf pairs ∷ rest)
+      → HasPartFault b (part_of box pairs.items) (line_at nodes (Leaf pairs ∷ rest)) f
+      → HasTreeFault b nodes f
 
 -- no error is greater than its claim
 abbrev pub AreClaimed : List ℕ → List ℕ → Type 0
@@ -69,9 +77,12 @@ pub record IsFirstOver (errors claims : List ℕ) (k : ℕ) : Type 0 where
   pub over : claim < error
   pub before : (j e c : ℕ) → j < k → slice_get errors j ≡ Some e → slice_get claims j ≡ Some c → e ≤ c
 
--- the first fault of a certificate, for answers in h parts to a byte: its claims come last, with the errors that it would be accepted with
+-- the first fault of a certificate, for answers in h parts to a byte: its claims come last, with the errors that
+-- it would be accepted with
 pub data HasCheckFault (b : Block) (h : ℕ) (cert : Cert) : CheckFault → Type 0 where
-  outputs : length cert.claims ≢ length b.outputs → HasCheckFault b h cert (fault.Outputs (length cert.claims) (length b.outputs))
+  outputs : length cert.claims ≢ length b.outputs
+      → HasCheckFault b h cert (fault.Outputs (length cert.claims) (length b.outputs))
   tree : (f : CheckFault) → length cert.claims ≡ length b.outputs → HasTreeFault b cert.nodes f → HasCheckFault b h cert f
-  claimed : (errors : List ℕ) (k : ℕ) (over : IsFirstOver errors cert.claims k) → length cert.claims ≡ length b.outputs → IsAccepted b h (record { claims = errors; nodes = cert.nodes }) errors
+  claimed : (errors : List ℕ) (k : ℕ) (over : IsFirstOver errors cert.claims k) → length cert.claims ≡ length b.outputs
+      → IsAccepted b h (record { claims = errors; nodes = cert.nodes }) errors
       → HasCheckFault b h cert (fault.Claimed (k + 1) over.claim over.error)

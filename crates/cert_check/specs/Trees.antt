@@ -43,6 +43,10 @@ pub record Part : Type 0 where
 abbrev pub leaves_of : List (ℕ × ℕ) → List the.Leaf
 leaves_of pairs = map (λ p. record { rule = p.0; k = p.1 }) pairs
 
+-- a leaf of a tree, over its box
+abbrev pub part_of : List Interval → List (ℕ × ℕ) → Part
+part_of box pairs = record { box = box; pairs = leaves_of pairs }
+
 -- nodes begin with a tree over the box that has these leaves, from the left; the rest follows it. Inputs count from 1
 pub data IsTree : List Interval → List Node → List Part → List Node → Type 0 where
   leaf : (box : List Interval) (pairs : ArrayVec (ℕ × ℕ)) (rest : List Node) → IsTree box (Leaf pairs ∷ rest) (record { box = box; pairs = leaves_of pairs.items } ∷ []) rest

@@ -14,4 +14,5 @@ stack_of boxes = map (λ x. x.0.items) (reverse boxes)
 -- each output's error rises to its Bound on the leaf
 pub record Raises (b : Block) (h : ℕ) (p : Part) (old new : List ℕ) : Type 0 where
   pub count : length new ≡ length old
-  pub each : (k : ℕ) (x : Output) → slice_get b.outputs k ≡ Some x → (n : ℕ) × HasBound b (k + 1) x h p n × (slice_get new k ≡ Some (max (slice_index old k) n))
+  pub each : (k : ℕ) (x : Output) → slice_get b.outputs k ≡ Some x
+      → (n : ℕ) × HasBound b (k + 1) x h p n × (slice_get new k ≡ Some (max (slice_index old k) n))

@@ -43,7 +43,8 @@ pub fn check(alloc: Global, block: &Block, cert: &Cert) -> Result<Vec<u32>, Chec
     requires block { IsValid block.now }
     requires cert { IsCert cert.now }
     ensures accepted { IfOk result (λ errors. IsAccepted block.now 1 cert.now errors.items) }
-    ensures fault { IfErr result (λ fault. fault ≢ CheckFault.Memory → HasCheckFault block.now 1 cert.now fault) }
+    ensures fault { IfErr result (λ fault.
+        fault ≢ CheckFault.Memory → HasCheckFault block.now 1 cert.now fault) }
 {
     checked(alloc, block, cert, 1)
 }
@@ -53,7 +54,8 @@ pub fn check16(alloc: Global, block: &Block, cert: &Cert) -> Result<Vec<u32>, Ch
     requires block { IsValid block.now }
     requires cert { IsCert cert.now }
     ensures accepted { IfOk result (λ errors. IsAccepted block.now 256 cert.now errors.items) }
-    ensures fault { IfErr result (λ fault. fault ≢ CheckFault.Memory → HasCheckFault block.now 256 cert.now fault) }
+    ensures fault { IfErr result (λ fault.
+        fault ≢ CheckFault.Memory → HasCheckFault block.now 256 cert.now fault) }
 {
     checked(alloc, block, cert, 256)
 }
@@ -65,7 +67,8 @@ fn checked(alloc: Global, block: &Block, cert: &Cert, parts: u16) -> Result<Vec<
     requires parts_from { 1 ≤ parts }
     requires parts_to { parts ≤ 256 }
     ensures accepted { IfOk result (λ errors. IsAccepted block.now parts cert.now errors.items) }
-    ensures fault { IfErr result (λ fault. fault ≢ CheckFault.Memory → HasCheckFault block.now parts cert.now fault) }
+    ensures fault { IfErr result (λ fault.
+        fault ≢ CheckFault.Memory → HasCheckFault block.now parts cert.now fault) }
 {
     let outputs = block.outputs.len();
     let claims = cert.claims.as_slice();

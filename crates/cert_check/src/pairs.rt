@@ -5,7 +5,7 @@ ghost use Rattle.error_bound.specs.Boxes.{IsBoxOf};
 ghost use Rattle.error_bound.specs.Leaves.{Holds, IsPairFor, concludes_some as concludes_any};
 ghost use Rattle.error_bound.specs.Bounds.{IsBound};
 ghost use Rattle.error_bound.specs.Reaches.{IsTable};
-ghost use Rattle.cert_check.specs.Trees.{leaves_of};
+ghost use Rattle.cert_check.specs.Trees.{part_of};
 ghost use Rattle.cert_check.specs.Faults.{AllHold, IsPairFault, HasPartFault};
 ghost use Rattle.cert_check.specs.Walks.{Raises};
 
@@ -29,9 +29,9 @@ pub(crate) fn raise_errors(
     requires errors { length errors.old ≡ length block.now.outputs }
     requires parts_from { 1 ≤ parts }
     requires parts_to { parts ≤ 256 }
-    ensures hold { OnOk result (AllHold block.now (record { box = bytes.0.items; pairs = leaves_of pairs.now })) }
-    ensures raised { OnOk result (Raises block.now parts (record { box = bytes.0.items; pairs = leaves_of pairs.now }) errors.old errors.new) }
-    ensures fault { IfErr result (HasPartFault block.now (record { box = bytes.0.items; pairs = leaves_of pairs.now }) line) }
+    ensures hold { OnOk result (AllHold block.now (part_of bytes.0.items pairs.now)) }
+    ensures raised { OnOk result (Raises block.now parts (part_of bytes.0.items pairs.now) errors.old errors.new) }
+    ensures fault { IfErr result (HasPartFault block.now (part_of bytes.0.items pairs.now) line) }
 {
     let table = BoxTable::new(block, bytes);
     for o in 0..pairs.len() {
@@ -58,7 +58,8 @@ fn pair_bound(
     requires parts_from { 1 ≤ parts }
     requires parts_to { parts ≤ 256 }
     ensures holds { OnOk result (Holds block.now table.now.bytes.0.items out pair) }
-    ensures bound { IfOk result (λ n. IfSome (output_at block.now out) (λ x. IsBound block.now table.now.bytes.0.items out x parts pair n)) }
+    ensures bound { IfOk result (λ n. IfSome (output_at block.now out)
+        (λ x. IsBound block.now table.now.bytes.0.items out x parts pair n)) }
     ensures fault { IfErr result (IsPairFault block.now table.now.bytes.0.items out pair line) }
 {
     if !is_pair_for(block, pair.rule, pair.k, out) {

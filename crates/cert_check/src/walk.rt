@@ -31,7 +31,8 @@ pub(crate) fn errors_of(
     requires few_leaves { leaf_count nodes.now ≤ 4096 }
     requires parts_from { 1 ≤ parts }
     requires parts_to { parts ≤ 256 }
-    ensures errors { IfOk result (λ errors. IsAccepted block.now parts (record { claims = errors.items; nodes = nodes.now }) errors.items) }
+    ensures errors { IfOk result (λ errors.
+        IsAccepted block.now parts (record { claims = errors.items; nodes = nodes.now }) errors.items) }
     ensures fault { IfErr result (λ fault. fault ≢ CheckFault.Memory → HasTreeFault block.now nodes.now fault) }
 {
     let mut errors = zeros(alloc, block.outputs.len())?;
@@ -94,8 +95,10 @@ fn push_halves(
     requires input { 1 ≤ input }
     requires bytes { IsBox bytes.0.items }
     ensures cut { OnOk result (IsCut (input - 1) cut bytes.0.items) }
-    ensures boxes { OnOk result (stack_of boxes.new.items ≡ left_of (input - 1) cut bytes.0.items ∷ right_of (input - 1) cut bytes.0.items ∷ stack_of boxes.old.items) }
-    ensures fault { IfErr result (λ fault. fault ≢ CheckFault.Memory → (fault ≡ CheckFault.BadCut line) × (IsCut (input - 1) cut bytes.0.items → ⊥)) }
+    ensures boxes { OnOk result (stack_of boxes.new.items ≡ left_of (input - 1) cut bytes.0.items
+        ∷ right_of (input - 1) cut bytes.0.items ∷ stack_of boxes.old.items) }
+    ensures fault { IfErr result (λ fault. fault ≢ CheckFault.Memory →
+        (fault ≡ CheckFault.BadCut line) × (IsCut (input - 1) cut bytes.0.items → ⊥)) }
 {
     let place = input as usize - 1;
     match interval_cut(&bytes, place, cut) {
@@ -111,7 +114,8 @@ fn push_halves(
 
 /// The interval at a place, if the cut is inside it.
 fn interval_cut(bytes: &ByteBox, place: usize, cut: u8) -> Option<Interval>
-    ensures inside { IfSome result (λ v. IsCut place cut bytes.now.0.items × (slice_get bytes.now.0.items place ≡ Some v)) }
+    ensures inside { IfSome result (λ v.
+        IsCut place cut bytes.now.0.items × (slice_get bytes.now.0.items place ≡ Some v)) }
     ensures none { IfNone result (IsCut place cut bytes.now.0.items → ⊥) }
 {
     let interval = *bytes.0.as_slice().get(place)?;

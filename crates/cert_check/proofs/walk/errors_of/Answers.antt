@@ -7,10 +7,10 @@ use Rattle.error_bound.specs.declared.boxes.ByteBox.{ByteBox}
 use Rattle.box_tree.specs.declared.cert.Node.TheVariants.{Split, Leaf}
 use Rattle.box_tree.specs.Certificates.{IsCut, IsNode}
 use Rattle.cert_check.specs.declared.checker.CheckFault.TheVariants as fault
-use Rattle.cert_check.specs.Trees.{leaves_of, whole}
+use Rattle.cert_check.specs.Trees.{part_of, whole}
 use Rattle.cert_check.specs.Faults.{AllHold, HasTreeFault, HasPartFault, bad_cut, bad_leaf}
 use Rattle.cert_check.specs.Walks.{stack_of, Raises}
-use Rattle.cert_check.proofs.WalkLemmas.{HasWalked, part_of, walked_none, walked_before, walked_to, walked_box, walked_split, walked_leaf, walked_open, walked_end, line-here, few_nodes}
+use Rattle.cert_check.proofs.WalkLemmas.{HasWalked, walked_none, walked_before, walked_to, walked_box, walked_split, walked_leaf, walked_open, walked_end, line-here, few_nodes}
 use Rattle.cert_check.proofs.walk.errors_of.Goals.{in-Some+in-Split+in_ok-push_halves-in-Split, in-Some+in-Leaf+in_ok-raise_errors-in-Leaf, in_default}
 use Rattle.cert_check.proofs.walk.errors_of.Goals as goal
 
@@ -66,8 +66,8 @@ returns-in_err-raise_errors-in-Leaf-clause-fault c =
     let to = walked_to b c.args.parts nodes node (drop (n + 1) nodes) box (stack_of c.pop.new.self.items) c.loop-n.errors.items w in
     let e = c.in_err-raise_errors-in-Leaf.field-0.0 in
     let p = err_from_is_err_and c.from_residual-in_err-raise_errors-in-Leaf.result c.from_residual-in_err-raise_errors-in-Leaf.ensures.1 in
-    let f = subst (λ xs. HasPartFault b (record { box = box; pairs = leaves_of xs }) (n + 3) e) c.as_slice.ensures.value c.in_err-raise_errors-in-Leaf.ensures.fault in
-    let at = subst (λ l. HasPartFault b (part_of box c.in-Leaf.pairs) l e) (sym (line-here nodes n node c.loop-n-test.true)) f in
+    let f = subst (λ xs. HasPartFault b (part_of box xs) (n + 3) e) c.as_slice.ensures.value c.in_err-raise_errors-in-Leaf.ensures.fault in
+    let at = subst (λ l. HasPartFault b (part_of box c.in-Leaf.pairs.items) l e) (sym (line-here nodes n node c.loop-n-test.true)) f in
     rw (p.1, p.2) (λ real. bad_leaf box c.in-Leaf.pairs (drop (n + 1) nodes) e to at)
 
 pub loop-n-preserved : goal.loop-n-preserved
@@ -93,9 +93,9 @@ loop-n-preserved c =
           let node = Leaf w.in-Leaf.pairs in
           let box = w.in-Some.bytes.0.items in
           let before = walked_before b h nodes n c.loop-n.boxes.items c.pop.new.self.items w.in-Some.bytes c.index-nodes-n.result node errors c.loop-n-test.true c.index-nodes-n.is w.in-Leaf.is w.in-Some.ensures.items c.loop-n.invariant in
-          let hold = subst (λ xs. AllHold b (record { box = box; pairs = leaves_of xs })) w.as_slice.ensures.value w.in_ok-raise_errors-in-Leaf.ensures.hold in
-          let raised = subst (λ xs. Raises b h (record { box = box; pairs = leaves_of xs }) errors w.raise_errors.new.errors) w.as_slice.ensures.value
-          (subst (λ es. Raises b h (record { box = box; pairs = leaves_of w.as_slice.result.now }) es w.raise_errors.new.errors) w.deref_mut.ensures.value w.in_ok-raise_errors-in-Leaf.ensures.raised) in
+          let hold = subst (λ xs. AllHold b (part_of box xs)) w.as_slice.ensures.value w.in_ok-raise_errors-in-Leaf.ensures.hold in
+          let raised = subst (λ xs. Raises b h (part_of box xs) errors w.raise_errors.new.errors) w.as_slice.ensures.value
+          (subst (λ es. Raises b h (part_of box w.as_slice.result.now) es w.raise_errors.new.errors) w.deref_mut.ensures.value w.in_ok-raise_errors-in-Leaf.ensures.raised) in
           let next = walked_leaf b h nodes rest box stack errors w.raise_errors.new.errors w.in-Leaf.pairs hold raised before in
           subst (λ (v : Vec ByteBox). HasWalked b h nodes rest (stack_of v.items) c.match-pop.errors.items) (sym w.boxes-is)
           (subst (λ (v : Vec ℕ). HasWalked b h nodes rest stack v.items) (sym w.errors-is)
