@@ -17,3 +17,6 @@ pub use laws::{
     accepted_answers_are_near, errors_are_determined, examples_are_accepted, faulty_certs_fail,
     one_leaf_has_the_bytes, wide_is_accepted,
 };
+
+#[cfg(test)]
+mod tests;
