@@ -17,7 +17,8 @@ cut_at zero c (w ∷ vs) v e f t =
     (omega arith, omega arith)
 cut_at (suc k) c (w ∷ vs) v e f t = cut_at k c vs v e f t
 
-pub cut_inside : (k c : ℕ) (box : List Interval) (v : Interval) → slice_get box k ≡ Some v → IsCut k c box → (v.from < c) × (c ≤ v.to)
+pub cut_inside : (k c : ℕ) (box : List Interval) (v : Interval) → slice_get box k ≡ Some v → IsCut k c box
+    → (v.from < c) × (c ≤ v.to)
 cut_inside k c [] v e h = absurd h
 cut_inside zero c (w ∷ vs) v e h =
     let s : w ≡ v = cc in
@@ -34,14 +35,16 @@ cut_nowhere zero c (w ∷ vs) e h = absurd (let z : ⊥ = cc in z)
 cut_nowhere (suc k) c (w ∷ vs) e h = cut_nowhere k c vs e h
 
 -- the halves are the box with another interval
-pub set-left : (k c : ℕ) (box : List Interval) (v : Interval) → slice_get box k ≡ Some v → set box k (record { from = v.from; to = c - 1 }) ≡ left_of k c box
+pub set-left : (k c : ℕ) (box : List Interval) (v : Interval) → slice_get box k ≡ Some v
+    → set box k (record { from = v.from; to = c - 1 }) ≡ left_of k c box
 set-left k c [] v e = absurd (let z : ⊥ = cc in z)
 set-left zero c (w ∷ vs) v e =
     let s : v ≡ w = cc in
     ap (λ (i : Interval). record { from = i.from; to = c - 1 } ∷ vs) s
 set-left (suc k) c (w ∷ vs) v e = ap (λ xs. w ∷ xs) (set-left k c vs v e)
 
-pub set-right : (k c : ℕ) (box : List Interval) (v : Interval) → slice_get box k ≡ Some v → set box k (record { from = c; to = v.to }) ≡ right_of k c box
+pub set-right : (k c : ℕ) (box : List Interval) (v : Interval) → slice_get box k ≡ Some v
+    → set box k (record { from = c; to = v.to }) ≡ right_of k c box
 set-right k c [] v e = absurd (let z : ⊥ = cc in z)
 set-right zero c (w ∷ vs) v e =
     let s : v ≡ w = cc in
@@ -63,6 +66,9 @@ IsBox-cons w vs f t h = record { some = at }
         (omega arith, omega arith)
     at (suc k) v e = h.some k v e
 
+IsBox-after : (w : Interval) (vs ws : List Interval) → IsBox (w ∷ vs) → IsBox ws → IsBox (w ∷ ws)
+IsBox-after w vs ws b h = let o = b.some 0 w refl in IsBox-cons w ws o.0 o.1 h
+
 pub IsBox-left : (k c : ℕ) (box : List Interval) → IsBox box → IsCut k c box → IsBox (left_of k c box)
 IsBox-left k c [] b h = b
 IsBox-left zero c (w ∷ vs) b h =
@@ -71,9 +77,7 @@ IsBox-left zero c (w ∷ vs) b h =
     let h1 = h.1 in
     let o1 = o.1 in
     IsBox-cons (record { from = w.from; to = c - 1 }) vs (omega arith) (omega arith) (IsBox-tail w vs b)
-IsBox-left (suc k) c (w ∷ vs) b h =
-    let o = b.some 0 w refl in
-    IsBox-cons w (left_of k c vs) o.0 o.1 (IsBox-left k c vs (IsBox-tail w vs b) h)
+IsBox-left (suc k) c (w ∷ vs) b h = IsBox-after w vs (left_of k c vs) b (IsBox-left k c vs (IsBox-tail w vs b) h)
 
 pub IsBox-right : (k c : ℕ) (box : List Interval) → IsBox box → IsCut k c box → IsBox (right_of k c box)
 IsBox-right k c [] b h = b
@@ -82,18 +86,19 @@ IsBox-right zero c (w ∷ vs) b h =
     let h1 = h.1 in
     let o1 = o.1 in
     IsBox-cons (record { from = c; to = w.to }) vs h1 o1 (IsBox-tail w vs b)
-IsBox-right (suc k) c (w ∷ vs) b h =
-    let o = b.some 0 w refl in
-    IsBox-cons w (right_of k c vs) o.0 o.1 (IsBox-right k c vs (IsBox-tail w vs b) h)
+IsBox-right (suc k) c (w ∷ vs) b h = IsBox-after w vs (right_of k c vs) b (IsBox-right k c vs (IsBox-tail w vs b) h)
 
 -- all bytes of one input more
 abbrev all_bytes : List Input → List Interval
 all_bytes is = map (λ (_ : Input). record { from = 0; to = 255 }) is
 
-suc_more : (is : List Input) (k : ℕ) → k < length is → take (suc k) (all_bytes is) ≡ take k (all_bytes is) ++ record { from = 0; to = 255 } ∷ []
+suc_more : (is : List Input) (k : ℕ) → k < length is
+    → take (suc k) (all_bytes is) ≡ take k (all_bytes is) ++ record { from = 0; to = 255 } ∷ []
 suc_more [] k h = absurd (omega arith)
 suc_more (i ∷ is) zero h = refl
 suc_more (i ∷ is) (suc k) h = ap (λ xs. record { from = 0; to = 255 } ∷ xs) (suc_more is k (omega arith))
 
-pub whole_more : (b : Block) (k : ℕ) → k < length b.inputs → take (k + 1) (whole b) ≡ take k (whole b) ++ record { from = 0; to = 255 } ∷ []
-whole_more b k h = let e : suc k ≡ k + 1 = omega arith in subst (λ n. take n (whole b) ≡ take k (whole b) ++ record { from = 0; to = 255 } ∷ []) e (suc_more b.inputs k h)
+pub whole_more : (b : Block) (k : ℕ) → k < length b.inputs
+    → take (k + 1) (whole b) ≡ take k (whole b) ++ record { from = 0; to = 255 } ∷ []
+whole_more b k h = let e : suc k ≡ k + 1 = omega arith in subst
+    (λ n. take n (whole b) ≡ take k (whole b) ++ record { from = 0; to = 255 } ∷ []) e (suc_more b.inputs k h)

@@ -30,17 +30,22 @@ record Halves (box : List Interval) (i c : ℕ) (nodes : List Node) (parts : Lis
   right_tree : IsTree (right_of (i - 1) c box) mid right rest
   parts_are : left ++ right ≡ parts
 
-halves : (box : List Interval) (nodes : List Node) (parts : List Part) (rest : List Node) → IsTree box nodes parts rest → (i c : ℕ) (below : List Node) → nodes ≡ Split i c ∷ below → Halves box i c below parts rest
+halves : (box : List Interval) (nodes : List Node) (parts : List Part) (rest : List Node) → IsTree box nodes parts rest
+    → (i c : ℕ) (below : List Node) → nodes ≡ Split i c ∷ below → Halves box i c below parts rest
 halves box nodes parts rest (leaf x pairs r) i c below e = absurd (let z : ⊥ = cc in z)
 halves box nodes parts rest (split x j d n m r left right some cut tl tr) i c below e =
     let ei : j ≡ i = cc in
     let ec : d ≡ c = cc in
     let en : n ≡ below = cc in
-    subst (λ k. Halves x k c below (left ++ right) r) ei (subst (λ k. Halves x j k below (left ++ right) r) ec (subst (λ k. Halves x j d k (left ++ right) r) en
+    subst (λ k. Halves x k c below (left ++ right) r) ei
+    (subst (λ k. Halves x j k below (left ++ right) r) ec (subst (λ k. Halves x j d k (left ++ right) r) en
     (record { left = left; right = right; mid = m; cut = cut; left_tree = tl; right_tree = tr; parts_are = refl })))
 
-one_part : (box : List Interval) (nodes : List Node) (parts : List Part) (rest : List Node) → IsTree box nodes parts rest → (pairs : ArrayVec (ℕ × ℕ)) (below : List Node) → nodes ≡ Leaf pairs ∷ below → record { box = box; pairs = leaves_of pairs.items } ∷ [] ≡ parts
-one_part box nodes parts rest (leaf x pairs' r) pairs below e = let s : pairs ≡ pairs' = cc in ap (λ (a : ArrayVec (ℕ × ℕ)). record { box = x; pairs = leaves_of a.items } ∷ []) s
+one_part : (box : List Interval) (nodes : List Node) (parts : List Part) (rest : List Node) → IsTree box nodes parts rest
+    → (pairs : ArrayVec (ℕ × ℕ)) (below : List Node) → nodes ≡ Leaf pairs ∷ below
+    → record { box = box; pairs = leaves_of pairs.items } ∷ [] ≡ parts
+one_part box nodes parts rest (leaf x pairs' r) pairs below e = let s : pairs ≡ pairs' = cc in ap
+    (λ (a : ArrayVec (ℕ × ℕ)). record { box = x; pairs = leaves_of a.items } ∷ []) s
 one_part box nodes parts rest (split x j d n m r left right some cut tl tr) pairs below e = absurd (let z : ⊥ = cc in z)
 
 All-front : {X : Type 0} (P : X → Type 0) (xs ys : List X) → All P (xs ++ ys) → All P xs
@@ -53,20 +58,28 @@ All-back P [] ys a = a
 All-back P (x ∷ xs) ys a = All-back P xs ys (λ j e m. a (suc j) e (omega arith))
 
 -- what is reached in a tree is a tree, whose leaves are among its leaves
-inside : (b : Block) (P : Part → Type 0) (box : List Interval) (nodes : List Node) (found : List Interval) (rest : List Node) → Reaches b box nodes found rest → (parts : List Part) (after : List Node) → IsTree box nodes parts after → All P parts
+inside : (b : Block) (P : Part → Type 0) (box : List Interval) (nodes : List Node) (found : List Interval)
+    (rest : List Node) → Reaches b box nodes found rest → (parts : List Part) (after : List Node)
+    → IsTree box nodes parts after → All P parts
     → (ps : List Part) × (behind : List Node) × IsTree found rest ps behind × All P ps
 inside b P box nodes found rest (root x ns) parts after t a = (parts, after, t, a)
 inside b P box nodes found rest (in_left x i c ns f r some cut reach) parts after t a =
     let h = halves x (Split i c ∷ ns) parts after t i c ns refl in
-    inside b P (left_of (i - 1) c x) ns f r reach h.left h.mid h.left_tree (All-front P h.left h.right (subst (λ ps. All P ps) (sym h.parts_are) a))
+    inside b P (left_of (i - 1) c x) ns f r reach h.left h.mid h.left_tree
+    (All-front P h.left h.right (subst (λ ps. All P ps) (sym h.parts_are) a))
 inside b P box nodes found rest (in_right x i c ns m qs f r some cut first hold reach) parts after t a =
     let h = halves x (Split i c ∷ ns) parts after t i c ns refl in
-    let same : h.mid ≡ m = (tree_unique (left_of (i - 1) c x) (left_of (i - 1) c x) ns ns h.left qs h.mid m h.left_tree first refl refl).1 in
-    inside b P (right_of (i - 1) c x) m f r reach h.right after (subst (λ k. IsTree (right_of (i - 1) c x) k h.right after) same h.right_tree) (All-back P h.left h.right (subst (λ ps. All P ps) (sym h.parts_are) a))
+    let same : h.mid ≡ m = (tree_unique (left_of (i - 1) c x) (left_of (i - 1) c x) ns ns h.left qs h.mid m h.left_tree
+    first refl refl).1 in
+    inside b P (right_of (i - 1) c x) m f r reach h.right after
+    (subst (λ k. IsTree (right_of (i - 1) c x) k h.right after) same h.right_tree)
+    (All-back P h.left h.right (subst (λ ps. All P ps) (sym h.parts_are) a))
 
-some-conclusion : (o t : ℕ) (cs : List (ℕ × ℕ)) → list_any (λ c. (c.0 == o) && (c.1 == t)) cs ≡ true → list_any (λ c. c.0 == o) cs ≡ true
+some-conclusion : (o t : ℕ) (cs : List (ℕ × ℕ)) → list_any (λ c. (c.0 == o) && (c.1 == t)) cs ≡ true
+    → list_any (λ c. c.0 == o) cs ≡ true
 some-conclusion o t [] h = absurd (let z : ⊥ = cc in z)
-some-conclusion o t (c ∷ cs) h = by_head (c.0 == o) (c.1 == t) (list_any (λ c. (c.0 == o) && (c.1 == t)) cs) (list_any (λ c. c.0 == o) cs) h (some-conclusion o t cs)
+some-conclusion o t (c ∷ cs) h = by_head (c.0 == o) (c.1 == t) (list_any (λ c. (c.0 == o) && (c.1 == t)) cs)
+    (list_any (λ c. c.0 == o) cs) h (some-conclusion o t cs)
   where
     by_head : (a d p q : Bool) → ((a && d) || p) ≡ true → (p ≡ true → q ≡ true) → (a || q) ≡ true
     by_head true d p q e f = refl
@@ -78,7 +91,8 @@ Holds-pair b box o pair (strong r some_rule some_part small at is) = record {
   silent = λ z. absurd (omega arith);
   strong = λ z. some_rule;
   part = small;
-  concludes_one = λ z. IsSomeAnd-at (λ r. IsTrue (concludes_some r o)) (rule_at b pair.rule) r at (some-conclusion o is.term r.concl is.concludes_it);
+  concludes_one = λ z. IsSomeAnd-at (λ r. IsTrue (concludes_some r o)) (rule_at b pair.rule) r at
+      (some-conclusion o is.term r.concl is.concludes_it);
 }
 Holds-pair b box o pair (silent no_rule no_part still) = record {
   silent = λ z. no_rule;
@@ -87,17 +101,20 @@ Holds-pair b box o pair (silent no_rule no_part still) = record {
   concludes_one = λ z. absurd (omega arith);
 }
 
-pair_fails : (b : Block) (box : List Interval) (o : ℕ) (pair : the.Leaf) (line : ℕ) (f : CheckFault) → IsPairFault b box o pair line f → Holds b box o pair → ⊥
+pair_fails : (b : Block) (box : List Interval) (o : ℕ) (pair : the.Leaf) (line : ℕ) (f : CheckFault)
+    → IsPairFault b box o pair line f → Holds b box o pair → ⊥
 pair_fails b box o pair line f (bad_rule n) h = n (Holds-pair b box o pair h)
 pair_fails b box o pair line f (fails g p e) h = faulty_fail b box o pair g e h
 
-part_fails : (b : Block) (h : ℕ) (p : Part) (line : ℕ) (f : CheckFault) (x : Output) (n : ℕ) (fault : HasPartFault b p line f) → HasBound b fault.output x h p n → ⊥
+part_fails : (b : Block) (h : ℕ) (p : Part) (line : ℕ) (f : CheckFault) (x : Output) (n : ℕ)
+    (fault : HasPartFault b p line f) → HasBound b fault.output x h p n → ⊥
 part_fails b h p line f x n fault bound =
     let s : Some bound.leaf ≡ Some fault.leaf = sym bound.pair_is ∙ fault.pair_is in
     let same : bound.leaf ≡ fault.leaf = cc in
     pair_fails b p.box fault.output fault.leaf line f fault.is (subst (λ l. Holds b p.box fault.output l) same bound.holds)
 
-tree_fails : (b : Block) (h : ℕ) (cert : Cert) (errors : List ℕ) (f : CheckFault) → HasTreeFault b cert.nodes f → IsAccepted b h cert errors → ⊥
+tree_fails : (b : Block) (h : ℕ) (cert : Cert) (errors : List ℕ) (f : CheckFault) → HasTreeFault b cert.nodes f
+    → IsAccepted b h cert errors → ⊥
 tree_fails b h cert errors f (bad_cut box i c rest reach outside) a =
     let t = inside b (λ _. Unit {0}) (whole b) cert.nodes box (Split i c ∷ rest) reach a.parts [] a.tree (λ k d l. tt) in
     outside (halves box (Split i c ∷ rest) t.0 t.1 t.2 i c rest refl).cut
@@ -112,7 +129,8 @@ tree_fails b h cert errors f (bad_leaf box pairs rest g reach fault) a =
     let each : All P a.parts = (a.greatest o x.0 e.0 from x.1 e.1).each in
     let t = inside b P (whole b) cert.nodes box (Leaf pairs ∷ rest) reach a.parts [] a.tree each in
     let p : Part = record { box = box; pairs = leaves_of pairs.items } in
-    let here : P p = (subst (λ ps. All P ps) (sym (one_part box (Leaf pairs ∷ rest) t.0 t.1 t.2 pairs rest refl)) t.3) 0 p (omega arith) in
+    let here : P p = (subst (λ ps. All P ps) (sym (one_part box (Leaf pairs ∷ rest) t.0 t.1 t.2 pairs rest refl)) t.3) 0 p
+    (omega arith) in
     part_fails b h p (line_at cert.nodes (Leaf pairs ∷ rest)) g x.0 here.0 fault here.1
 
 pub certs_fail : FaultyCertsFail

@@ -21,7 +21,8 @@ use Rattle.cert_check.specs.Walks.{Raises}
 pub at_place : {X : Type 0} (xs : List X) (k : ℕ) (x : X) → k < length xs → x ≡ get_or xs k x → slice_get xs k ≡ Some x
 at_place xs k x within e = slice_get-get_or xs k x within ∙ ap (λ y. Some y) (sym e)
 
-pub leaf_at : (pairs : List (ℕ × ℕ)) (k : ℕ) (p : ℕ × ℕ) → slice_get pairs k ≡ Some p → slice_get (leaves_of pairs) k ≡ Some (record { rule = p.0; k = p.1 })
+pub leaf_at : (pairs : List (ℕ × ℕ)) (k : ℕ) (p : ℕ × ℕ) → slice_get pairs k ≡ Some p
+    → slice_get (leaves_of pairs) k ≡ Some (record { rule = p.0; k = p.1 })
 leaf_at [] k p e = absurd (let z : ⊥ = cc in z)
 leaf_at (q ∷ qs) zero p e = let s : q ≡ p = cc in ap (λ (r : ℕ × ℕ). Some (record { rule = r.0; k = r.1 })) s
 leaf_at (q ∷ qs) (suc k) p e = leaf_at qs k p e
@@ -30,7 +31,8 @@ pub IsSomeAnd-at : {X : Type 0} (P : X → Type 0) (o : Option X) (x : X) → o 
 IsSomeAnd-at P o x e h = rw e h
 
 module _ (b : Block) (o : ℕ) (pair : Leaf) (some_rule : pair.rule ≢ 0) (some_part : pair.k ≢ 0) (small : pair.k ≤ 255) where
-  pub pair_named : (r : Rule) (t : Bool) → rule_at b pair.rule ≡ Some r → t ≡ concludes_some r o → (IsTrue t → IsPairFor b o pair) × (IsPairFor b o pair → IsTrue t)
+  pub pair_named : (r : Rule) (t : Bool) → rule_at b pair.rule ≡ Some r → t ≡ concludes_some r o → (IsTrue t
+      → IsPairFor b o pair) × (IsPairFor b o pair → IsTrue t)
   pair_named r t er et = (to, from)
     where
       to : IsTrue t → IsPairFor b o pair
@@ -38,22 +40,26 @@ module _ (b : Block) (o : ℕ) (pair : Leaf) (some_rule : pair.rule ≢ 0) (some
         silent = λ z. absurd (some_part z);
         strong = λ z. omega (arith, some_rule);
         part = small;
-        concludes_one = λ z. IsSomeAnd-at (λ r. IsTrue (concludes_some r o)) (rule_at b pair.rule) r er (subst (λ u. IsTrue u) et h);
+        concludes_one = λ z. IsSomeAnd-at (λ r. IsTrue (concludes_some r o)) (rule_at b pair.rule) r er
+            (subst (λ u. IsTrue u) et h);
       }
 
       from : IsPairFor b o pair → IsTrue t
-      from p = subst (λ u. IsTrue u) (sym et) (IsSomeAnd-some (λ r. IsTrue (concludes_some r o)) (rule_at b pair.rule) r er (p.concludes_one (omega (arith, some_part))))
+      from p = subst (λ u. IsTrue u) (sym et) (IsSomeAnd-some (λ r. IsTrue (concludes_some r o)) (rule_at b pair.rule) r er
+          (p.concludes_one (omega (arith, some_part))))
 
   pub pair_unnamed : length b.rules ≤ pair.rule - 1 → IsPairFor b o pair → ⊥
   pair_unnamed past p =
-      let w = IsSomeAnd-within (λ r. IsTrue (concludes_some r o)) b.rules (pair.rule - 1) (p.concludes_one (omega (arith, some_part))) in
+      let w = IsSomeAnd-within (λ r. IsTrue (concludes_some r o)) b.rules (pair.rule - 1)
+      (p.concludes_one (omega (arith, some_part))) in
       omega (arith, w, past)
 
 -- the error at place k rises to the Bound of the leaf's pair
 abbrev pub IsRaised : Block → ℕ → Part → List ℕ → ℕ → Output → ℕ → Type 0
 IsRaised b h p old k x e = (n : ℕ) × HasBound b (k + 1) x h p n × (e ≡ max (slice_index old k) n)
 
-pub HoldBefore-more : (b : Block) (p : Part) (k : ℕ) → HoldBefore b p (k + 1) → ((leaf : Leaf) → slice_get p.pairs k ≡ Some leaf → Holds b p.box (k + 1) leaf) → HoldBefore b p (k + 1 + 1)
+pub HoldBefore-more : (b : Block) (p : Part) (k : ℕ) → HoldBefore b p (k + 1) → ((leaf : Leaf)
+    → slice_get p.pairs k ≡ Some leaf → Holds b p.box (k + 1) leaf) → HoldBefore b p (k + 1 + 1)
 HoldBefore-more b p k before here n leaf from to e = ⊎_elim
     (λ (l : n < k + 1). before n leaf from l e)
     (λ (l : k + 1 ≤ n).
@@ -62,10 +68,14 @@ HoldBefore-more b p k before here n leaf from to e = ⊎_elim
     subst (λ m. Holds b p.box m leaf) en (here leaf (subst (λ j. slice_get p.pairs j ≡ Some leaf) ek e)))
     (cases_lt n (k + 1))
 
-pub HasBound-at : (b : Block) (k : ℕ) (x : Output) (h : ℕ) (p : Part) (leaf : Leaf) (n : ℕ) → slice_get p.pairs k ≡ Some leaf → Holds b p.box (k + 1) leaf → IsBound b p.box (k + 1) x h leaf n → HasBound b (k + 1) x h p n
-HasBound-at b k x h p leaf n e holds bound = let ek : k ≡ k + 1 - 1 = omega arith in record { leaf = leaf; pair_is = subst (λ j. slice_get p.pairs j ≡ Some leaf) ek e; holds = holds; bound_is = bound }
+pub HasBound-at : (b : Block) (k : ℕ) (x : Output) (h : ℕ) (p : Part) (leaf : Leaf) (n : ℕ)
+    → slice_get p.pairs k ≡ Some leaf → Holds b p.box (k + 1) leaf → IsBound b p.box (k + 1) x h leaf n
+    → HasBound b (k + 1) x h p n
+HasBound-at b k x h p leaf n e holds bound = let ek : k ≡ k + 1 - 1 = omega arith in record
+    { leaf = leaf; pair_is = subst (λ j. slice_get p.pairs j ≡ Some leaf) ek e; holds = holds; bound_is = bound }
 
-pub Raises-filled : (b : Block) (h : ℕ) (p : Part) (old new : List ℕ) (t : ℕ) → length b.outputs ≤ t → length new ≡ length old → AreFilled (IsRaised b h p old) b.outputs new t → Raises b h p old new
+pub Raises-filled : (b : Block) (h : ℕ) (p : Part) (old new : List ℕ) (t : ℕ) → length b.outputs ≤ t
+    → length new ≡ length old → AreFilled (IsRaised b h p old) b.outputs new t → Raises b h p old new
 Raises-filled b h p old new t all count filled = record {
   count = count;
   each = λ k x e.
@@ -75,9 +85,13 @@ Raises-filled b h p old new t all count filled = record {
 }
 
 -- the loop's list after one more place
-pub IsRaised-more : (b : Block) (h : ℕ) (p : Part) (old new : List ℕ) (k n e : ℕ) (leaf : Leaf) → length b.outputs ≤ length new → slice_get p.pairs k ≡ Some leaf → Holds b p.box (k + 1) leaf → slice_index new k ≡ slice_index old k → e ≡ max (slice_index new k) n
-    → IfSome (output_at b (k + 1)) (λ x. IsBound b p.box (k + 1) x h leaf n) → k < length new → AreFilled (IsRaised b h p old) b.outputs new k → AreFilled (IsRaised b h p old) b.outputs (slice_set new k e) (k + 1)
-IsRaised-more b h p old new k n e leaf all pair holds same is bound within filled = AreFilled-more (IsRaised b h p old) b.outputs new k e within filled
+pub IsRaised-more : (b : Block) (h : ℕ) (p : Part) (old new : List ℕ) (k n e : ℕ) (leaf : Leaf)
+    → length b.outputs ≤ length new → slice_get p.pairs k ≡ Some leaf → Holds b p.box (k + 1) leaf
+    → slice_index new k ≡ slice_index old k → e ≡ max (slice_index new k) n
+    → IfSome (output_at b (k + 1)) (λ x. IsBound b p.box (k + 1) x h leaf n) → k < length new
+    → AreFilled (IsRaised b h p old) b.outputs new k → AreFilled (IsRaised b h p old) b.outputs (slice_set new k e) (k + 1)
+IsRaised-more b h p old new k n e leaf all pair holds same is bound within filled = AreFilled-more (IsRaised b h p old)
+    b.outputs new k e within filled
     (λ x ex.
     let ek : k ≡ k + 1 - 1 = omega arith in
     let out : output_at b (k + 1) ≡ Some x = subst (λ j. slice_get b.outputs j ≡ Some x) ek ex in

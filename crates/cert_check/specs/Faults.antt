@@ -17,8 +17,7 @@ use Rattle.cert_check.specs.Acceptance.{IsAccepted}
 
 -- a leaf's pairs hold for the outputs before number o
 abbrev pub HoldBefore : Block → Part → ℕ → Type 0
-HoldBefore b p o =
-    (n : ℕ) (leaf : the.Leaf) → 1 ≤ n → n < o → slice_get p.pairs (n - 1) ≡ Some leaf → Holds b p.box n leaf
+HoldBefore b p o = (n : ℕ) (leaf : the.Leaf) → 1 ≤ n → n < o → slice_get p.pairs (n - 1) ≡ Some leaf → Holds b p.box n leaf
 
 abbrev pub AllHold : Block → Part → Type 0
 AllHold b p = HoldBefore b p (length b.outputs + 1)
@@ -40,9 +39,11 @@ abbrev pub line_at : List Node → List Node → ℕ
 line_at nodes rest = length nodes - length rest + 3
 
 -- why a pair on a line fails for output o
-pub data IsPairFault (b : Block) (box : List Interval) (o : ℕ) (leaf : the.Leaf) (line : ℕ) : CheckFault → Type 0 where
+pub data IsPairFault (b : Block) (box : List Interval) (o : ℕ) (leaf : the.Leaf) (line : ℕ)
+    : CheckFault → Type 0 where
   bad_rule : (IsPairFor b o leaf → ⊥) → IsPairFault b box o leaf line (fault.BadRule line)
-  fails : (f : LeafFault) → IsPairFor b o leaf → HasLeafFault b box o leaf f → IsPairFault b box o leaf line (fault.Leaf line f)
+  fails : (f : LeafFault) → IsPairFor b o leaf → HasLeafFault b box o leaf f
+      → IsPairFault b box o leaf line (fault.Leaf line f)
 
 -- of a leaf on a line, the fault of its first pair that has one
 pub record HasPartFault (b : Block) (p : Part) (line : ℕ) (f : CheckFault) : Type 0 where
@@ -82,7 +83,9 @@ pub record IsFirstOver (errors claims : List ℕ) (k : ℕ) : Type 0 where
 pub data HasCheckFault (b : Block) (h : ℕ) (cert : Cert) : CheckFault → Type 0 where
   outputs : length cert.claims ≢ length b.outputs
       → HasCheckFault b h cert (fault.Outputs (length cert.claims) (length b.outputs))
-  tree : (f : CheckFault) → length cert.claims ≡ length b.outputs → HasTreeFault b cert.nodes f → HasCheckFault b h cert f
-  claimed : (errors : List ℕ) (k : ℕ) (over : IsFirstOver errors cert.claims k) → length cert.claims ≡ length b.outputs
+  tree : (f : CheckFault) → length cert.claims ≡ length b.outputs → HasTreeFault b cert.nodes f
+      → HasCheckFault b h cert f
+  claimed : (errors : List ℕ) (k : ℕ) (over : IsFirstOver errors cert.claims k)
+      → length cert.claims ≡ length b.outputs
       → IsAccepted b h (record { claims = errors; nodes = cert.nodes }) errors
       → HasCheckFault b h cert (fault.Claimed (k + 1) over.claim over.error)

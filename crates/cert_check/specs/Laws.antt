@@ -48,4 +48,6 @@ WideIsAccepted = (b : Block) (cert : Cert) (es : List ℕ) → IsValid b → IsA
 
 -- a certificate with a fault is not accepted
 abbrev pub FaultyCertsFail : Type 0
-FaultyCertsFail = (b : Block) (h : ℕ) (cert : Cert) (errors : List ℕ) (fault : CheckFault) → IsValid b → HasCheckFault b h cert fault → IsAccepted b h cert errors → ⊥
+FaultyCertsFail =
+    (b : Block) (h : ℕ) (cert : Cert) (errors : List ℕ) (fault : CheckFault) → IsValid b
+    → HasCheckFault b h cert fault → IsAccepted b h cert errors → ⊥

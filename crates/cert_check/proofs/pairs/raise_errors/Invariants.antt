@@ -10,6 +10,7 @@ abbrev pub invariant-loop-o : goal.invariant-loop-o
 invariant-loop-o l = record {
   count : length l.errors ≡ length l.fn.errors;
   hold : HoldBefore l.block (record { box = l.table.bytes.0.items; pairs = leaves_of l.pairs }) (l.o + 1);
-  raised : AreFilled (IsRaised l.block l.parts (record { box = l.table.bytes.0.items; pairs = leaves_of l.pairs }) l.fn.errors) l.block.outputs l.errors l.o;
+  raised : AreFilled (IsRaised l.block l.parts (record { box = l.table.bytes.0.items; pairs = leaves_of l.pairs })
+      l.fn.errors) l.block.outputs l.errors l.o;
   same : (k : ℕ) → l.o ≤ k → slice_index l.errors k ≡ slice_index l.fn.errors k;
 }

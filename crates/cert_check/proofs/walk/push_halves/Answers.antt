@@ -19,5 +19,6 @@ returns-in_ok-push-in-Some-clause-boxes c =
     let i = c.in-Some.ensures.inside in
     let left = c.with_interval-left.ensures ∙ set-left place c.args.cut box c.in-Some.field-0 i.1 in
     let right = c.with_interval-right.ensures ∙ set-right place c.args.cut box c.in-Some.field-0 i.1 in
-    let both = ap₂ (λ (x : List Interval) (xs : List (List Interval)). x ∷ xs) left (c.in_ok-push-in-Some.ensures.boxes ∙ ap (λ (x : List Interval). x ∷ stack_of c.args.boxes.now.items) right) in
+    let both = ap₂ (λ (x : List Interval) (xs : List (List Interval)). x ∷ xs) left
+    (c.in_ok-push-in-Some.ensures.boxes ∙ ap (λ (x : List Interval). x ∷ stack_of c.args.boxes.now.items) right) in
     subst (λ xs. OnOk c.push-in-Some.result (stack_of c.push-in-Some.new.boxes.items ≡ xs)) both c.push-in-Some.ensures.boxes

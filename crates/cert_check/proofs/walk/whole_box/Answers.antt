@@ -9,5 +9,6 @@ loop-input-preserved c =
     let within = subst (λ is. k < length is) c.as_slice-input-items.ensures c.loop-input-test.true in
     record {
       count = omega (arith, c.push.ensures.len, c.loop-input.invariant.count);
-      items = c.push.ensures.items ∙ ap (λ (xs : List Interval). xs ++ record { from = 0; to = 255 } ∷ []) c.loop-input.invariant.items ∙ sym (whole_more c.args.block.now k within);
+      items = c.push.ensures.items ∙ ap (λ (xs : List Interval). xs ++ record { from = 0; to = 255 } ∷ [])
+          c.loop-input.invariant.items ∙ sym (whole_more c.args.block.now k within);
     }

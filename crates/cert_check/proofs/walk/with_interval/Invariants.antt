@@ -3,4 +3,8 @@ use Rattle.std.specs.Prelude.{set}
 use Rattle.cert_check.proofs.walk.with_interval.Given as goal
 
 abbrev pub invariant-loop-k : goal.invariant-loop-k
-invariant-loop-k l = record { count : length l.intervals.items ≡ l.k; items : l.intervals.items ≡ take l.k (set l.bytes.0.items l.place l.new) }
+invariant-loop-k l = record {
+  count : length l.intervals.items ≡ l.k;
+  items : l.intervals.items ≡ take l.k
+      (set l.bytes.0.items l.place l.new);
+}
