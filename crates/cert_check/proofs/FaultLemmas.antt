@@ -113,6 +113,9 @@ part_fails b h p line f x n fault bound =
     let same : bound.leaf ≡ fault.leaf = cc in
     pair_fails b p.box fault.output fault.leaf line f fault.is (subst (λ l. Holds b p.box fault.output l) same bound.holds)
 
+only_part : (P : Part → Type 0) (p : Part) (parts : List Part) → p ∷ [] ≡ parts → All P parts → P p
+only_part P p parts e a = subst (λ ps. All P ps) (sym e) a 0 p (omega arith)
+
 tree_fails : (b : Block) (h : ℕ) (cert : Cert) (errors : List ℕ) (f : CheckFault) → HasTreeFault b cert.nodes f
     → IsAccepted b h cert errors → ⊥
 tree_fails b h cert errors f (bad_cut box i c rest reach outside) a =
@@ -129,8 +132,7 @@ tree_fails b h cert errors f (bad_leaf box pairs rest g reach fault) a =
     let each : All P a.parts = (a.greatest o x.0 e.0 from x.1 e.1).each in
     let t = inside b P (whole b) cert.nodes box (Leaf pairs ∷ rest) reach a.parts [] a.tree each in
     let p : Part = record { box = box; pairs = leaves_of pairs.items } in
-    let here : P p = (subst (λ ps. All P ps) (sym (one_part box (Leaf pairs ∷ rest) t.0 t.1 t.2 pairs rest refl)) t.3) 0 p
-    (omega arith) in
+    let here : P p = only_part P p t.0 (one_part box (Leaf pairs ∷ rest) t.0 t.1 t.2 pairs rest refl) t.3 in
     part_fails b h p (line_at cert.nodes (Leaf pairs ∷ rest)) g x.0 here.0 fault here.1
 
 pub certs_fail : FaultyCertsFail
