@@ -1,3 +1,6 @@
 pub mod Records
 pub mod Images
 pub mod Runs
+pub mod Lines
+pub mod Texts
+pub mod Reading

@@ -2,12 +2,19 @@
 //!
 //! [`write`] answers the records of an image: a header, the bytes by ascending addresses, their
 //! count, and the start. Each record of bytes takes as many neighbouring bytes as there are, up to 32.
+//! [`read`] answers the image that a text gives, line by line, or exactly the text's first fault.
 #![tactic(auto)]
 
+mod fault;
+mod fields;
+mod lines;
 mod pieces;
+mod reader;
 mod records;
 mod writer;
 
+pub use fault::SrecFault;
+pub use reader::read;
 pub use writer::write;
 
 #[cfg(test)]

@@ -21,7 +21,7 @@ fn body_of_record(address: u16, bytes: &[u8]) -> ArrayVec<u8, 40>
 }
 
 /// The one's complement of the low byte of the sum.
-fn checksum(body: &[u8]) -> u8
+pub(crate) fn checksum(body: &[u8]) -> u8
     requires { length body.now ≤ 256 }
     ensures { result ≡ checksum_of body.now }
 {
