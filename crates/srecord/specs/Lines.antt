@@ -63,9 +63,12 @@ HasGoodFields kind bytes at payload = HasFields kind bytes at payload (checksum_
 -- line number n has no kind or no bytes
 pub data OpeningFails (line : List ℕ) (n : ℕ) : SrecFault → Type 0 where
   wide : BeginsWide line → OpeningFails line n (Wide n)
-  unopened : (BeginsWide line → ⊥) → ((kind : Kind) (bytes : List ℕ) → Opens line kind bytes → ⊥) → OpeningFails line n (BadLine n)
+  unopened : (BeginsWide line → ⊥) → ((kind : Kind) (bytes : List ℕ) → Opens line kind bytes → ⊥)
+      → OpeningFails line n (BadLine n)
 
 -- the bytes of line number n are no fields, or have another checksum
 pub data FieldsFail (kind : Kind) (bytes : List ℕ) (n : ℕ) : SrecFault → Type 0 where
-  unread : ((at : ℕ) (payload : List ℕ) (sum : ℕ) → HasFields kind bytes at payload sum → ⊥) → FieldsFail kind bytes n (BadLine n)
-  bad_sum : (at : ℕ) (payload : List ℕ) (sum : ℕ) → HasFields kind bytes at payload sum → sum ≢ checksum_of (body_of at payload) → FieldsFail kind bytes n (BadSum n sum (checksum_of (body_of at payload)))
+  unread : ((at : ℕ) (payload : List ℕ) (sum : ℕ) → HasFields kind bytes at payload sum → ⊥)
+      → FieldsFail kind bytes n (BadLine n)
+  bad_sum : (at : ℕ) (payload : List ℕ) (sum : ℕ) → HasFields kind bytes at payload sum
+      → sum ≢ checksum_of (body_of at payload) → FieldsFail kind bytes n (BadSum n sum (checksum_of (body_of at payload)))

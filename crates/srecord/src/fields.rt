@@ -75,7 +75,8 @@ fn refusal(error: FromHexError, number: u32) -> SrecFault
 
 /// The kind of a line, and the bytes that its digits spell.
 pub(crate) fn opened(alloc: Global, line: &[u8], number: u32) -> Result<(Kind, Vec<u8>), SrecFault>
-    ensures { MatchResult result (λ r. Opens line.now r.0 r.1.items) (λ fault. fault ≢ SrecFault.Memory → OpeningFails line.now number fault) }
+    ensures { MatchResult result (λ r. Opens line.now r.0 r.1.items)
+        (λ fault. fault ≢ SrecFault.Memory → OpeningFails line.now number fault) }
 {
     let (digit, digits) = match parts_of(line) {
         Some(parts) => parts,
@@ -107,8 +108,10 @@ fn fits(kind: Kind, address: u16, payload: &[u8]) -> bool
 
 /// The fields of bytes, if the first counts those behind it.
 fn split(bytes: &[u8]) -> Option<Fields<'_>>
-    ensures { MatchOption result ((at : ℕ) (payload : List ℕ) (sum : ℕ) → bytes.now ≢ body_of at payload ++ sum ∷ [])
-        (λ f. (bytes.now ≡ body_of f.address f.payload.now ++ f.sum ∷ []) × (f.want ≡ checksum_of (body_of f.address f.payload.now))) }
+    ensures { MatchOption result
+        ((at : ℕ) (payload : List ℕ) (sum : ℕ) → bytes.now ≢ body_of at payload ++ sum ∷ [])
+        (λ f. (bytes.now ≡ body_of f.address f.payload.now ++ f.sum ∷ [])
+        × (f.want ≡ checksum_of (body_of f.address f.payload.now))) }
 {
     if bytes.len() < 4 || usize::from(bytes[0]) + 1 != bytes.len() {
         return None;
@@ -124,7 +127,8 @@ fn split(bytes: &[u8]) -> Option<Fields<'_>>
 
 /// The fields of a record of this kind and these bytes, whose checksum is right.
 pub(crate) fn fields_of(kind: Kind, bytes: &[u8], number: u32) -> Result<Fields<'_>, SrecFault>
-    ensures { MatchResult result (λ f. HasGoodFields kind bytes.now f.address f.payload.now) (FieldsFail kind bytes.now number) }
+    ensures { MatchResult result (λ f. HasGoodFields kind bytes.now f.address f.payload.now)
+        (FieldsFail kind bytes.now number) }
 {
     let fields = match split(bytes) {
         Some(fields) => fields,

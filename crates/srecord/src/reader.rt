@@ -27,8 +27,12 @@ impl Reader {
         requires room { kind ≡ Kind.Bytes → fields.now.address + length fields.now.payload.now ≤ 65536 }
         requires few { self.old.records < number }
         ensures few { OnOk result (self.new.records ≤ number) }
-        ensures follows { (g : Given) → Has self.old g → OnOk result (MayFollow g kind fields.now.address fields.now.payload.now × Has self.new (given_with g kind fields.now.address fields.now.payload.now)) }
-        ensures fault { (g : Given) → Has self.old g → IfErr result (λ fault. fault ≢ SrecFault.Memory → RecordFails g number kind fields.now.address fields.now.payload.now fault) }
+        ensures follows { (g : Given) → Has self.old g
+            → OnOk result (MayFollow g kind fields.now.address fields.now.payload.now
+            × Has self.new (given_with g kind fields.now.address fields.now.payload.now)) }
+        ensures fault { (g : Given) → Has self.old g
+            → IfErr result (λ fault. fault ≢ SrecFault.Memory
+            → RecordFails g number kind fields.now.address fields.now.payload.now fault) }
     {
         match kind {
             Kind::Header => {}
@@ -53,8 +57,10 @@ impl Reader {
     fn take_line(&mut self, alloc: Global, line: &[u8], number: u32) -> Result<(), SrecFault>
         requires few { self.old.records < number }
         ensures few { OnOk result (self.new.records ≤ number) }
-        ensures given { (before : List (List ℕ)) (g : Given) → Give before g → Has self.old g → OnOk result ((h : Given) × Give (before ++ line.now ∷ []) h × Has self.new h) }
-        ensures fault { (g : Given) → Has self.old g → IfErr result (λ fault. fault ≢ SrecFault.Memory → LineFails g number line.now fault) }
+        ensures given { (before : List (List ℕ)) (g : Given) → Give before g → Has self.old g
+            → OnOk result ((h : Given) × Give (before ++ line.now ∷ []) h × Has self.new h) }
+        ensures fault { (g : Given) → Has self.old g
+            → IfErr result (λ fault. fault ≢ SrecFault.Memory → LineFails g number line.now fault) }
     {
         if self.start.is_some() {
             return Err(SrecFault::AfterEnd(number));
@@ -68,7 +74,8 @@ impl Reader {
 /// Puts bytes one after another from an address, and answers whether none of them was taken.
 fn put_bytes(bytes: &mut ByteMap, address: u16, payload: &[u8]) -> Result<bool, SrecFault>
     requires { address + length payload.now ≤ 65536 }
-    ensures put { result ≡ Ok true → (q : ℕ) → byte_at bytes.new q ≡ with_bytes (byte_at bytes.old) address payload.now q }
+    ensures put { result ≡ Ok true
+        → (q : ℕ) → byte_at bytes.new q ≡ with_bytes (byte_at bytes.old) address payload.now q }
     ensures free { result ≡ Ok true → IsFree (byte_at bytes.old) address payload.now }
     ensures taken { result ≡ Ok false → IsTaken (byte_at bytes.old) address payload.now }
     ensures memory { IfErr result (λ fault. fault ≡ SrecFault.Memory) }

@@ -3,6 +3,13 @@ use cpu12_asm::{ByteMap, Image};
 use std::alloc::{AllocError, Global};
 use std::test::Fail;
 
+const SMALL: &[u8] = b"S0070000465A3132F5
+S108C00086054120FE4D
+S105FFFEC0003D
+S5030002FA
+S903C0003C
+";
+
 fn put(bytes: &mut ByteMap, at: u16, new: &[u8]) -> Result<(), AllocError> {
     let mut next = at;
     for byte in new {
@@ -22,13 +29,7 @@ fn a_small_image(rt: HostRuntime) -> Result<(), Fail> {
         start: 0xC000,
     };
     let text = write(rt.alloc(), &image)?;
-    let want: &[u8] = b"S0070000465A3132F5
-S108C00086054120FE4D
-S105FFFEC0003D
-S5030002FA
-S903C0003C
-";
-    assert_eq!(rt; text.as_slice(), want);
+    assert_eq!(rt; text.as_slice(), SMALL);
     Ok(())
 }
 
@@ -42,4 +43,79 @@ fn a_run_is_cut_at_32(rt: HostRuntime) -> Result<(), Fail> {
     let end: &[u8] = b"00001C\nS104C020001B\nS5030002FA\nS9030000FC\n";
     assert!(rt; text.ends_with(end));
     Ok(())
+}
+
+#[test]
+fn a_small_image_is_read(rt: HostRuntime) -> Result<(), Fail> {
+    let image = read(rt.alloc(), SMALL)?;
+    assert_eq!(rt; image.start, 0xC000);
+    assert_eq!(rt; image.bytes.len(), 7);
+    assert!(rt; image.bytes.get(0xC004) == Some(0xFE) && image.bytes.get(0xFFFE) == Some(0xC0));
+    Ok(())
+}
+
+/// How many bytes and which start a text gives, or its first fault.
+fn read_from(alloc: Global, text: &[u8]) -> Option<Result<(usize, u16), SrecFault>> {
+    if text.len() > 1_048_576 {
+        return None;
+    }
+    Some(read(alloc, text).map(|image| (image.bytes.len(), image.start)))
+}
+
+const GOOD: [(&[u8], (usize, u16)); 6] = [
+    (b"S903C0003C\n", (0, 0xC000)),
+    (b"S903C0003C", (0, 0xC000)),
+    (b"s108c00086054120fe4d\r\ns903c0003c\r\n", (5, 0xC000)),
+    (b"S104FFFF00FD\nS5030001FB\nS9030000FC", (1, 0)),
+    (b"S1031234B6\nS5030001FB\nS5030001FB\nS9030000FC\n", (0, 0)),
+    (b"S5030000FC\nS0030000FC\nS0030000FC\nS9030000FC\n", (0, 0)),
+];
+
+#[test]
+fn images(rt: HostRuntime) {
+    for (text, want) in GOOD {
+        assert!(rt; read_from(rt.alloc(), text) == Some(Ok(want)), "{text:?}");
+    }
+}
+
+const BAD: [(&[u8], SrecFault); 20] = [
+    (b"", SrecFault::NoEnd),
+    (b"S0030000FC\n", SrecFault::NoEnd),
+    (b"S903C0003D", SrecFault::BadSum(1, 0x3D, 0x3C)),
+    (b"S105FFFF0000FC", SrecFault::BadLine(1)),
+    (b"S2", SrecFault::Wide(1)),
+    (b"s3xyz", SrecFault::Wide(1)),
+    (b"S0030000FC\nS70500000000FA", SrecFault::Wide(2)),
+    (b"S804000000FB", SrecFault::Wide(1)),
+    (b"\n", SrecFault::BadLine(1)),
+    (b"S", SrecFault::BadLine(1)),
+    (b"S403C0003C", SrecFault::BadLine(1)),
+    (b"S603C0003C", SrecFault::BadLine(1)),
+    (b"S904C0003B", SrecFault::BadLine(1)),
+    (b"S904C000003B", SrecFault::BadLine(1)),
+    (b"S504000000FB", SrecFault::BadLine(1)),
+    (b"S903C0003C\r", SrecFault::BadLine(1)),
+    (b"S903C0003C ", SrecFault::BadLine(1)),
+    (
+        b"S104C000013A\nS105BFFF02033A",
+        SrecFault::BadSum(2, 0x3A, 0x37),
+    ),
+    (b"S104C000013A\nS105BFFF020337", SrecFault::Overlap(2)),
+    (b"S5030002FA\nS9030000FC", SrecFault::CountDiffers(2, 0)),
+];
+
+const LATE: [(&[u8], SrecFault); 3] = [
+    (b"S903C0003C\n\n", SrecFault::AfterEnd(2)),
+    (b"S903C0003C\nS2\n", SrecFault::AfterEnd(2)),
+    (b"S903C0003C\nS903C0003C", SrecFault::AfterEnd(2)),
+];
+
+#[test]
+fn faults(rt: HostRuntime) {
+    for (text, want) in BAD {
+        assert!(rt; read_from(rt.alloc(), text) == Some(Err(want)), "{text:?}");
+    }
+    for (text, want) in LATE {
+        assert!(rt; read_from(rt.alloc(), text) == Some(Err(want)), "{text:?}");
+    }
 }
