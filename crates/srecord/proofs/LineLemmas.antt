@@ -11,7 +11,7 @@ use Rattle.std.specs.Str.Lines.{lines, lines_of_parts, strip_carriage_return}
 abbrev pub parts : List ℕ → List (List ℕ)
 parts text = slice_split (λ b. b == 10) text
 
-first_ends : (line : List ℕ) (behind : List (List ℕ)) → 0 < length behind → lines_of_parts (line ∷ behind) ≡ strip_carriage_return line ∷ lines_of_parts behind
+pub first_ends : (line : List ℕ) (behind : List (List ℕ)) → 0 < length behind → lines_of_parts (line ∷ behind) ≡ strip_carriage_return line ∷ lines_of_parts behind
 first_ends line [] some = absurd (omega arith)
 first_ends line (next ∷ behind) some = refl
 

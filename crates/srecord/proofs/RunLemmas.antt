@@ -4,6 +4,7 @@ use Rattle.std.specs.Prelude.{◌==◌, ◌⊎◌}
 use Rattle.std.proofs.Math.Seq.{take-suc}
 use Rattle.std.proofs.lemmas.Bool.Decides.{nat_tests}
 use Rattle.std.proofs.lemmas.List.{length-map, length-take-le}
+use Rattle.hex.specs.Hex.{IsBytes}
 use Rattle.cpu12_asm.specs.Bytes.{placed}
 use Rattle.srecord.specs.Images.{AreCut, IsPiece, Piece, StartsAt, data_text, next, none}
 use Rattle.srecord.specs.Records.{record_text}
@@ -38,14 +39,16 @@ abbrev pub piece_of : ℕ → List (ℕ × ℕ) → Piece
 piece_of n bytes = record { at = address_at bytes 0; bytes = bytes_only (take n bytes) }
 
 pub cut_more : (n : ℕ) (bytes : List (ℕ × ℕ)) (pieces : List Piece) → 1 ≤ n → n ≤ 32 → n ≤ length bytes → IsRun (address_at bytes 0) (take n bytes) → (n ≡ 32) ⊎ (StartsAt (address_at bytes 0 + n) (drop n bytes) → ⊥)
-    → AreCut (drop n bytes) pieces → AreCut bytes (piece_of n bytes ∷ pieces)
-cut_more n bytes pieces some few within run ends cut =
+    → address_at bytes 0 + n ≤ 65536 → IsBytes (bytes_only (take n bytes)) → AreCut (drop n bytes) pieces → AreCut bytes (piece_of n bytes ∷ pieces)
+cut_more n bytes pieces some few within run ends fits are cut =
     let count : length (bytes_only (take n bytes)) ≡ n = rw length-map (length-take-le n bytes within) in
     let whole : placed (address_at bytes 0) (bytes_only (take n bytes)) ++ drop n bytes ≡ bytes =
     ap (λ (l : List (ℕ × ℕ)). l ++ drop n bytes) (run_placed (address_at bytes 0) (take n bytes) run) ∙ take-append-drop n bytes in
     let good : IsPiece (piece_of n bytes) (drop n bytes) = record {
       some = omega (arith, count);
       few = omega (arith, count);
+      fits = omega (arith, count, fits);
+      are_bytes = are;
       ends = subst (λ (k : ℕ). (k ≡ 32) ⊎ (StartsAt (address_at bytes 0 + k) (drop n bytes) → ⊥)) (sym count) ends;
     } in
     subst (λ (l : List (ℕ × ℕ)). AreCut l (piece_of n bytes ∷ pieces)) whole (next (piece_of n bytes) (drop n bytes) pieces good cut)

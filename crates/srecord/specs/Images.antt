@@ -1,6 +1,7 @@
 -- The records of an image.
-use Rattle.std.specs.Prelude.{◌≡◌, ◌⊎◌, ℕ, ◌+◌, ◌%◌, ◌≤◌, List, [], ◌∷◌, ◌++◌, length, codes}
+use Rattle.std.specs.Prelude.{◌≡◌, ◌⊎◌, ℕ, ◌+◌, ◌%◌, ◌<◌, ◌≤◌, List, [], ◌∷◌, ◌++◌, length, codes}
 use Rattle.cpu12_asm.specs.Bytes.{placed}
+use Rattle.hex.specs.Hex.{IsBytes}
 use Rattle.srecord.specs.Records.{record_text}
 
 -- the bytes of one record, and the address of the first
@@ -13,10 +14,12 @@ abbrev pub StartsAt : ℕ → List (ℕ × ℕ) → Type 0
 StartsAt at [] = ⊥
 StartsAt at (b ∷ bytes) = b.0 ≡ at
 
--- a piece of 1 to 32 bytes, that could not be longer before the bytes that follow
+-- a piece of 1 to 32 bytes within the memory, that could not be longer before the bytes that follow
 pub record IsPiece (p : Piece) (behind : List (ℕ × ℕ)) : Type 0 where
   pub some : 1 ≤ length p.bytes
   pub few : length p.bytes ≤ 32
+  pub fits : p.at + length p.bytes ≤ 65536
+  pub are_bytes : IsBytes p.bytes
   pub ends : (length p.bytes ≡ 32) ⊎ (StartsAt (p.at + length p.bytes) behind → ⊥)
 
 -- bytes cut into pieces from the first on
@@ -33,4 +36,5 @@ data_text (p ∷ pieces) = record_text 49 p.at p.bytes ++ data_text pieces
 pub record ImageText (bytes : List (ℕ × ℕ)) (start : ℕ) (text : List ℕ) : Type 0 where
   pub pieces : List Piece
   pub cut : AreCut bytes pieces
+  pub fits : start < 65536
   pub records : text ≡ record_text 48 0 (codes "FZ12") ++ (data_text pieces ++ (record_text 53 (length pieces % 65536) [] ++ record_text 57 start []))

@@ -2,7 +2,8 @@
 //!
 //! [`write`] answers the records of an image: a header, the bytes by ascending addresses, their
 //! count, and the start. Each record of bytes takes as many neighbouring bytes as there are, up to 32.
-//! [`read`] answers the image that a text gives, line by line, or exactly the text's first fault.
+//! [`read`] answers the image that a text gives, or exactly the text's first fault. What is written gives
+//! the same image again.
 #![tactic(auto)]
 
 mod fault;

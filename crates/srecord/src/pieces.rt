@@ -1,5 +1,6 @@
 //! The bytes of an image, cut into records.
 ghost use Rattle.std.specs.Prelude.{◌≡◌, ◌≤◌, ◌<◌, ◌+◌, ◌⊎◌, ◌++◌, ℕ, List, length, map, take, drop, slice_index_or, IfOk, OnOk};
+ghost use Rattle.hex.specs.Hex.{IsBytes};
 ghost use Rattle.srecord.specs.Images.{AreCut, Piece, StartsAt, data_text};
 ghost use Rattle.srecord.specs.Records.{record_text};
 ghost use Rattle.srecord.specs.Runs.{IsRun, address_at, bytes_only};
@@ -11,6 +12,12 @@ use std::alloc::{AllocError, Global};
 /// The most bytes of a record.
 const MOST_BYTES: usize = 32;
 
+fn address_of(byte: &(u16, u8)) -> u16
+    ensures { result ≡ byte.now.0 }
+{
+    byte.0
+}
+
 /// How many of the bytes go into the first record.
 fn piece_len(bytes: &[(u16, u8)]) -> usize
     requires { 0 < length bytes.now }
@@ -18,11 +25,15 @@ fn piece_len(bytes: &[(u16, u8)]) -> usize
     ensures few { result ≤ MOST_BYTES }
     ensures within { result ≤ length bytes.now }
     ensures run { IsRun (address_at bytes.now 0) (take result bytes.now) }
+    ensures fits { address_at bytes.now 0 + result ≤ 65536 }
     ensures ends { (result ≡ MOST_BYTES) ⊎ (StartsAt (address_at bytes.now 0 + result) (drop result bytes.now) → ⊥) }
 {
-    let first = usize::from(bytes[0].0);
+    let first = usize::from(address_of(&bytes[0]));
     let mut len = 1;
-    while len < bytes.len() && len < MOST_BYTES && usize::from(bytes[len].0) == first + len {
+    while len < bytes.len()
+        && len < MOST_BYTES
+        && usize::from(address_of(&bytes[len])) == first + len
+    {
         len += 1;
     }
     len
@@ -32,7 +43,9 @@ fn piece_len(bytes: &[(u16, u8)]) -> usize
 fn put_piece(alloc: Global, text: &mut Vec<u8>, bytes: &[(u16, u8)]) -> Result<(), AllocError>
     requires some { 0 < length bytes.now }
     requires few { length bytes.now ≤ MOST_BYTES }
-    ensures { OnOk result (text.new.items ≡ text.old.items ++ record_text 49 (address_at bytes.now 0) (bytes_only bytes.now)) }
+    ensures record { OnOk result
+        (text.new.items ≡ text.old.items ++ record_text 49 (address_at bytes.now 0) (bytes_only bytes.now)) }
+    ensures bytes { IsBytes (bytes_only bytes.now) }
 {
     let mut piece: ArrayVec<u8, 32> = ArrayVec::new();
     for byte in bytes {

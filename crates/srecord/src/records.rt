@@ -1,5 +1,6 @@
 //! The text of one record.
 ghost use Rattle.std.specs.Prelude.{◌≡◌, ◌≤◌, ◌++◌, length, sum, OnOk};
+ghost use Rattle.hex.specs.Hex.{IsBytes};
 ghost use Rattle.srecord.specs.Records.{body_of, checksum_of, record_text};
 
 use arrayvec::ArrayVec;
@@ -41,7 +42,8 @@ pub(crate) fn put_record(
     bytes: &[u8],
 ) -> Result<(), AllocError>
     requires { length bytes.now ≤ 32 }
-    ensures { OnOk result (text.new.items ≡ text.old.items ++ record_text digit address bytes.now) }
+    ensures record { OnOk result (text.new.items ≡ text.old.items ++ record_text digit address bytes.now) }
+    ensures bytes { IsBytes bytes.now }
 {
     let mut body = body_of_record(address, bytes);
     let sum = checksum(body.as_slice());
