@@ -73,17 +73,21 @@ is_counted bytes at payload sum is =
     let first : get_or bytes 0 0 ≡ length payload + 3 = ap (λ (b : List ℕ). get_or b 0 0) is in
     (omega (arith, count), omega (arith, count, first))
 
-snoc_same : (xs ys : List ℕ) (x y : ℕ) → length xs ≡ length ys → xs ++ x ∷ [] ≡ ys ++ y ∷ [] → xs ≡ ys
+pub snoc_same : {X : Type 0} (xs ys : List X) (x y : X) → length xs ≡ length ys → xs ++ x ∷ [] ≡ ys ++ y ∷ [] → xs ≡ ys
 snoc_same xs ys x y as_long same =
     sym (take-append_seam xs (x ∷ [])) ∙ ap (take (length xs)) same ∙ ap (λ (n : ℕ). take n (ys ++ y ∷ [])) as_long ∙ take-append_seam ys (y ∷ [])
+
+module _ (a at : ℕ) (p payload : List ℕ) (s sum : ℕ) (same : body_of a p ++ s ∷ [] ≡ body_of at payload ++ sum ∷ []) where
+  pub same_address : a ≡ at
+  same_address = omega (arith, ap (λ (b : List ℕ). get_or b 1 0) same, ap (λ (b : List ℕ). get_or b 2 0) same)
+
+  pub same_payload : p ≡ payload
+  same_payload = let count : length p ≡ length payload = omega (arith, ap (λ (b : List ℕ). get_or b 0 0) same) in snoc_same p payload s sum count (ap (drop 3) same)
 
 pub only_fields : (kind : Kind) (at : ℕ) (payload : List ℕ) (sum : ℕ) (bytes : List ℕ) → bytes ≡ body_of at payload ++ sum ∷ [] → (FitsKind kind at payload → ⊥) → (n : ℕ) → FieldsFail kind bytes n (BadLine n)
 only_fields kind at payload sum bytes is unfit n = unread (λ a p s h.
     (let same : body_of a p ++ s ∷ [] ≡ body_of at payload ++ sum ∷ [] = sym h.bytes_are ∙ is in
-    let count : length p ≡ length payload = omega (arith, ap (λ (b : List ℕ). get_or b 0 0) same) in
-    let address : a ≡ at = omega (arith, ap (λ (b : List ℕ). get_or b 1 0) same, ap (λ (b : List ℕ). get_or b 2 0) same) in
-    let all : p ≡ payload = snoc_same p payload s sum count (ap (drop 3) same) in
-    unfit (subst (FitsKind kind at) all (subst (λ (x : ℕ). FitsKind kind x p) address h.fits))))
+    unfit (subst (FitsKind kind at) (same_payload a at p payload s sum same) (subst (λ (x : ℕ). FitsKind kind x p) (same_address a at p payload s sum same) h.fits))))
 
 pub wrong_sum : (kind : Kind) (bytes : List ℕ) (at : ℕ) (payload : List ℕ) (sum want n : ℕ) → bytes ≡ body_of at payload ++ sum ∷ [] → FitsKind kind at payload → want ≡ checksum_of (body_of at payload) → sum ≢ want → FieldsFail kind bytes n (BadSum n sum want)
 wrong_sum kind bytes at payload sum want n is fit right other =

@@ -4,3 +4,4 @@ pub mod Runs
 pub mod Lines
 pub mod Texts
 pub mod Reading
+pub mod Laws

@@ -8,6 +8,7 @@
 
 mod fault;
 mod fields;
+mod laws;
 mod lines;
 mod pieces;
 mod reader;
@@ -15,6 +16,7 @@ mod records;
 mod writer;
 
 pub use fault::SrecFault;
+pub use laws::images_are_one;
 pub use reader::read;
 pub use writer::write;
 

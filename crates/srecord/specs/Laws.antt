@@ -1,0 +1,15 @@
+-- What holds of every text of records.
+use Rattle.std.specs.Prelude.{◌≡◌, ℕ, List}
+use Rattle.cpu12_asm.specs.Bytes.{byte_at}
+use Rattle.cpu12_asm.specs.declared.image.Image.{Image}
+use Rattle.srecord.specs.declared.fault.SrecFault.{SrecFault}
+use Rattle.srecord.specs.Texts.{GivesImage, HasFault}
+
+-- a text gives one image at most: one start, and one byte or none at each address
+abbrev pub ImagesAreOne : Type 0
+ImagesAreOne = (text : List ℕ) (a b : Image) → GivesImage text a → GivesImage text b
+    → (a.start ≡ b.start) × ((q : ℕ) → byte_at a.bytes q ≡ byte_at b.bytes q)
+
+-- a text that gives an image has no fault
+abbrev pub ImagesHaveNoFault : Type 0
+ImagesHaveNoFault = (text : List ℕ) (image : Image) (fault : SrecFault) → GivesImage text image → HasFault text fault → ⊥
