@@ -5,15 +5,26 @@ use Rattle.std.specs.Str.Lines.{lines}
 use Rattle.cpu12_asm.specs.Bytes.{byte_at}
 use Rattle.srecord.specs.declared.fault.SrecFault.{SrecFault}
 use Rattle.srecord.specs.declared.fault.SrecFault.TheVariants.{CountDiffers, NoEnd}
+use Rattle.srecord.specs.declared.fields.Kind.{Kind}
 use Rattle.srecord.specs.declared.fields.Kind.TheVariants.{Count}
 use Rattle.srecord.specs.declared.reader.Reader.{Reader}
-use Rattle.srecord.specs.Texts.{Give, Given, HasFault, IsTaken, LineFails, RecordFails, at_line, count_differs, no_end, none, nothing_given}
+use Rattle.srecord.specs.Lines.{HasGoodFields, Opens}
+use Rattle.srecord.specs.Texts.{Give, Given, HasFault, IsRecord, IsTaken, LineFails, RecordFails, at_line, count_differs, no_end, none, nothing_given}
 use Rattle.srecord.specs.Reading.{HasRead}
+
+pub is_record_there : (line : List ℕ) (kind : Kind) (at : ℕ) (payload bytes seen : List ℕ) → seen ≡ bytes → Opens line kind bytes → HasGoodFields kind seen at payload
+    → IsRecord line kind at payload
+is_record_there line kind at payload bytes seen same opens fields = record {
+  bytes = bytes;
+  opens = opens;
+  fields = subst (λ (b : List ℕ). HasGoodFields kind b at payload) same fields;
+}
 
 pub taken_too : (bytes given : ℕ → Option ℕ) → ((q : ℕ) → bytes q ≡ given q) → (at : ℕ) (payload : List ℕ) → IsTaken bytes at payload → IsTaken given at payload
 taken_too bytes given same at payload t = (t.0, t.1, subst (λ (o : Option ℕ). IsSome o) (same (at + t.0)) t.2)
 
-pub counted_otherwise : (g : Given) (n at count records : ℕ) (payload : List ℕ) → count ≡ at → records ≡ g.records → count ≢ records → RecordFails g n Count at payload (CountDiffers count records)
+pub counted_otherwise : (g : Given) (n at count records : ℕ) (payload : List ℕ) → count ≡ at → records ≡ g.records → count ≢ records
+    → RecordFails g n Count at payload (CountDiffers count records)
 counted_otherwise g n at count records payload count_is records_are other =
     subst (λ (c : ℕ). RecordFails g n Count at payload (CountDiffers c records)) (sym count_is)
     (subst (λ (r : ℕ). RecordFails g n Count at payload (CountDiffers at r)) (sym records_are) (count_differs at payload (λ same. other (count_is ∙ same ∙ sym records_are))))
@@ -41,6 +52,7 @@ without_start text rest count reader h ended no_start =
     let all : lines text ≡ h.before = h.lines_are ∙ ap (λ (r : List ℕ). h.before ++ lines r) ended ∙ append-nil h.before in
     no_end h.given (subst (λ (l : List (List ℕ)). Give l h.given) (sym all) h.give) (sym h.has.start ∙ no_start)
 
-pub fails_there : (text rest line behind : List ℕ) (count : ℕ) (reader : Reader) (fault : SrecFault) (h : HasRead text count rest reader) → lines rest ≡ line ∷ lines behind → LineFails h.given (count + 1) line fault → HasFault text fault
+pub fails_there : (text rest line behind : List ℕ) (count : ℕ) (reader : Reader) (fault : SrecFault) (h : HasRead text count rest reader)
+    → lines rest ≡ line ∷ lines behind → LineFails h.given (count + 1) line fault → HasFault text fault
 fails_there text rest line behind count reader fault h first fails =
     at_line h.before (lines behind) line h.given fault (h.lines_are ∙ ap (λ (l : List (List ℕ)). h.before ++ l) first) h.give (subst (λ (n : ℕ). LineFails h.given (n + 1) line fault) (sym h.number) fails)

@@ -39,7 +39,8 @@ address_in body = get_or body 1 0 * 256 + get_or body 2 0
 abbrev pub payload_in : List ℕ → List ℕ
 payload_in body = take (length body - 3) (drop 3 body)
 
-pub is_body : (bytes body back : List ℕ) (high low : ℕ) → bytes ≡ body ++ back → 3 ≤ length body → get_or bytes 0 0 ≡ length body → high ≡ get_or body 1 0 → low ≡ get_or body 2 0 → get_or bytes 2 0 < 256
+pub is_body : (bytes body back : List ℕ) (high low : ℕ) → bytes ≡ body ++ back → 3 ≤ length body → get_or bytes 0 0 ≡ length body
+    → high ≡ get_or body 1 0 → low ≡ get_or body 2 0 → get_or bytes 2 0 < 256
     → body_of (high * 256 + low) (payload_in body) ≡ body
 is_body bytes [] back high low split some count high_is low_is byte = absurd (omega arith)
 is_body bytes (b0 ∷ []) back high low split some count high_is low_is byte = absurd (omega arith)
@@ -84,11 +85,13 @@ module _ (a at : ℕ) (p payload : List ℕ) (s sum : ℕ) (same : body_of a p +
   pub same_payload : p ≡ payload
   same_payload = let count : length p ≡ length payload = omega (arith, ap (λ (b : List ℕ). get_or b 0 0) same) in snoc_same p payload s sum count (ap (drop 3) same)
 
-pub only_fields : (kind : Kind) (at : ℕ) (payload : List ℕ) (sum : ℕ) (bytes : List ℕ) → bytes ≡ body_of at payload ++ sum ∷ [] → (FitsKind kind at payload → ⊥) → (n : ℕ) → FieldsFail kind bytes n (BadLine n)
+pub only_fields : (kind : Kind) (at : ℕ) (payload : List ℕ) (sum : ℕ) (bytes : List ℕ) → bytes ≡ body_of at payload ++ sum ∷ []
+    → (FitsKind kind at payload → ⊥) → (n : ℕ) → FieldsFail kind bytes n (BadLine n)
 only_fields kind at payload sum bytes is unfit n = unread (λ a p s h.
     (let same : body_of a p ++ s ∷ [] ≡ body_of at payload ++ sum ∷ [] = sym h.bytes_are ∙ is in
     unfit (subst (FitsKind kind at) (same_payload a at p payload s sum same) (subst (λ (x : ℕ). FitsKind kind x p) (same_address a at p payload s sum same) h.fits))))
 
-pub wrong_sum : (kind : Kind) (bytes : List ℕ) (at : ℕ) (payload : List ℕ) (sum want n : ℕ) → bytes ≡ body_of at payload ++ sum ∷ [] → FitsKind kind at payload → want ≡ checksum_of (body_of at payload) → sum ≢ want → FieldsFail kind bytes n (BadSum n sum want)
+pub wrong_sum : (kind : Kind) (bytes : List ℕ) (at : ℕ) (payload : List ℕ) (sum want n : ℕ) → bytes ≡ body_of at payload ++ sum ∷ []
+    → FitsKind kind at payload → want ≡ checksum_of (body_of at payload) → sum ≢ want → FieldsFail kind bytes n (BadSum n sum want)
 wrong_sum kind bytes at payload sum want n is fit right other =
     subst (λ (w : ℕ). FieldsFail kind bytes n (BadSum n sum w)) (sym right) (bad_sum at payload sum (record { bytes_are = is; fits = fit }) (λ same. other (same ∙ sym right)))

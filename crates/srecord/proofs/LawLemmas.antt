@@ -112,7 +112,8 @@ first_lines b before after l line m count same =
     sym (take-append_seam b (l ∷ [])) ∙ ap (take (length b)) same ∙ ap (λ (n : ℕ). take n (before ++ line ∷ after)) long ∙ take-append-add before (line ∷ after) (suc m)
 
 -- a line among others was good where it stands
-given_there : (ls : List (List ℕ)) (h : Given) → Give ls h → (before : List (List ℕ)) (line : List ℕ) (after : List (List ℕ)) (n : ℕ) → length after ≡ n → ls ≡ before ++ line ∷ after → (g : Given) × Last before line g
+given_there : (ls : List (List ℕ)) (h : Given) → Give ls h → (before : List (List ℕ)) (line : List ℕ) (after : List (List ℕ)) (n : ℕ)
+    → length after ≡ n → ls ≡ before ++ line ∷ after → (g : Given) × Last before line g
 given_there ls h give before line [] n count same = (h, last_given ls h give before line same)
 given_there ls h give before line (x ∷ after) zero count same = absurd (omega arith)
 given_there _ _ none before line (x ∷ after) (suc m) count same = absurd (omega (arith, ap length same, length-append before (line ∷ x ∷ after)))
@@ -128,7 +129,8 @@ opens n line k bytes _ one (wide w) =
     wide_has_no_kind one.digit k (ap is_wide (digit_same line one.digit w.digit one.digits w.digits one.parts w.parts) ∙ w.wide) one.kind_is
 opens n line k bytes _ one (unopened narrow never) = never k bytes one
 
-has_fields : (n : ℕ) (k : Kind) (bytes : List ℕ) (at : ℕ) (payload : List ℕ) (fault : SrecFault) → HasFields k bytes at payload (checksum_of (body_of at payload)) → FieldsFail k bytes n fault → ⊥
+has_fields : (n : ℕ) (k : Kind) (bytes : List ℕ) (at : ℕ) (payload : List ℕ) (fault : SrecFault)
+    → HasFields k bytes at payload (checksum_of (body_of at payload)) → FieldsFail k bytes n fault → ⊥
 has_fields n k bytes at payload _ one (unread never) = never at payload (checksum_of (body_of at payload)) one
 has_fields n k bytes at payload _ one (bad_sum a p sum other wrong) =
     let same : body_of a p ++ sum ∷ [] ≡ body_of at payload ++ checksum_of (body_of at payload) ∷ [] = sym other.bytes_are ∙ one.bytes_are in
@@ -136,7 +138,10 @@ has_fields n k bytes at payload _ one (bad_sum a p sum other wrong) =
     let all = same_payload a at p payload sum _ same in
     let body : body_of a p ≡ body_of at payload = ap (λ (x : ℕ). body_of x p) address ∙ ap (body_of at) all in
     let sums : sum ∷ [] ≡ checksum_of (body_of at payload) ∷ [] =
-    sym (drop-append_seam (body_of a p) (sum ∷ [])) ∙ ap (drop (length (body_of a p))) same ∙ ap (λ (b : List ℕ). drop (length b) (body_of at payload ++ checksum_of (body_of at payload) ∷ [])) body ∙ drop-append_seam (body_of at payload) (checksum_of (body_of at payload) ∷ []) in
+    sym (drop-append_seam (body_of a p) (sum ∷ []))
+    ∙ ap (drop (length (body_of a p))) same
+    ∙ ap (λ (b : List ℕ). drop (length b) (body_of at payload ++ checksum_of (body_of at payload) ∷ [])) body
+    ∙ drop-append_seam (body_of at payload) (checksum_of (body_of at payload) ∷ []) in
     wrong (ap (λ (l : List ℕ). get_or l 0 0) sums ∙ ap checksum_of (sym body))
 
 follows_well : (g : Given) (n : ℕ) (k : Kind) (at : ℕ) (payload : List ℕ) (fault : SrecFault) → MayFollow g k at payload → RecordFails g n k at payload fault → ⊥

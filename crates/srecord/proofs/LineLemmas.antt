@@ -16,7 +16,8 @@ first_ends line [] some = absurd (omega arith)
 first_ends line (next ∷ behind) some = refl
 
 -- a line with its end
-pub lines_cut : (text : List ℕ) (n : ℕ) → n ≡ position_or_len (λ b. b == 10) text → n < length text → lines text ≡ strip_carriage_return (take n text) ∷ lines (take (length text - (n + 1)) (drop (n + 1) text))
+pub lines_cut : (text : List ℕ) (n : ℕ) → n ≡ position_or_len (λ b. b == 10) text → n < length text
+    → lines text ≡ strip_carriage_return (take n text) ∷ lines (take (length text - (n + 1)) (drop (n + 1) text))
 lines_cut text n is lt =
     let within : position_or_len (λ b. b == 10) text < length text = subst (λ (k : ℕ). k < length text) is lt in
     let first : parts text ≡ take n text ∷ parts (drop (n + 1) text) = slice_split_first (λ b. b == 10) text 0 within ∙ ap (λ (k : ℕ). take k text ∷ parts (drop (k + 1) text)) (sym is) in

@@ -24,7 +24,8 @@ unfolding IsStrictlySortedBy
 rise [] ascend = tt
 rise (b ∷ bytes) ascend = (omega arith, rise_above b.0 bytes ascend.0 ascend.1)
 
-pub rise_behind : (low at : ℕ) (bytes : List ℕ) (behind : List (ℕ × ℕ)) → 1 ≤ length bytes → RiseFrom low (placed at bytes ++ behind) → (low ≤ at) × RiseFrom (at + length bytes) behind
+pub rise_behind : (low at : ℕ) (bytes : List ℕ) (behind : List (ℕ × ℕ)) → 1 ≤ length bytes → RiseFrom low (placed at bytes ++ behind)
+    → (low ≤ at) × RiseFrom (at + length bytes) behind
 rise_behind low at [] behind some rises = absurd (omega arith)
 rise_behind low at (b ∷ []) behind some rises = rises
 rise_behind low at (b ∷ c ∷ bytes) behind some rises =

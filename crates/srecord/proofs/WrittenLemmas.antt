@@ -16,7 +16,8 @@ use Rattle.srecord.proofs.WrittenLines.{AreBytes, are_bytes_all, is_record, line
 abbrev pub piece_line : Piece → List ℕ
 piece_line p = record_line 49 p.at p.bytes
 
-lines_pieces : (bytes : List (ℕ × ℕ)) (pieces : List Piece) → AreCut bytes pieces → (low : ℕ) → RiseFrom low bytes → (rest : List ℕ) → lines (data_text pieces ++ rest) ≡ map piece_line pieces ++ lines rest
+lines_pieces : (bytes : List (ℕ × ℕ)) (pieces : List Piece) → AreCut bytes pieces → (low : ℕ) → RiseFrom low bytes → (rest : List ℕ)
+    → lines (data_text pieces ++ rest) ≡ map piece_line pieces ++ lines rest
 lines_pieces _ _ nothing_cut low rises rest = refl
 lines_pieces _ _ (next p behind pieces good cut) low rises rest =
     let r = rise_behind low p.at p.bytes behind good.some rises in
@@ -54,7 +55,8 @@ or_else-cond false v o f free = refl
 within : (at n q : ℕ) → (nat_le at q && nat_lt q (at + n)) ≡ true → q < at + n
 within at n q h = grind (arith, nat_tests)
 
-bytes_joined : (at : ℕ) (bytes : List ℕ) (behind : List (ℕ × ℕ)) (f : ℕ → Option ℕ) (q : ℕ) → RiseFrom (at + length bytes) behind → or_else (byte_at behind q) (with_bytes f at bytes q) ≡ or_else (byte_at (placed at bytes ++ behind) q) (f q)
+bytes_joined : (at : ℕ) (bytes : List ℕ) (behind : List (ℕ × ℕ)) (f : ℕ → Option ℕ) (q : ℕ) → RiseFrom (at + length bytes) behind
+    → or_else (byte_at behind q) (with_bytes f at bytes q) ≡ or_else (byte_at (placed at bytes ++ behind) q) (f q)
 bytes_joined at bytes behind f q rises =
     or_else-cond (nat_le at q && nat_lt q (at + length bytes)) (slice_index bytes (q - at)) (byte_at behind q) (f q) (λ h. none_below (at + length bytes) q behind rises (within at (length bytes) q h))
     ∙ ap (λ (o : Option ℕ). or_else o (f q)) (sym (byte_at-placed_then at q bytes behind))
@@ -70,7 +72,8 @@ pub record GivePieces (before : List (List ℕ)) (bytes : List (ℕ × ℕ)) (pi
   pub start : given.start ≡ None
   pub bytes_are : (q : ℕ) → given.bytes q ≡ or_else (byte_at bytes q) (g.bytes q)
 
-give_pieces : (bytes : List (ℕ × ℕ)) (pieces : List Piece) → AreCut bytes pieces → (low : ℕ) → RiseFrom low bytes → (before : List (List ℕ)) (g : Given) → Give before g → g.start ≡ None → ((q : ℕ) → low ≤ q → g.bytes q ≡ None) → GivePieces before bytes pieces g
+give_pieces : (bytes : List (ℕ × ℕ)) (pieces : List Piece) → AreCut bytes pieces → (low : ℕ) → RiseFrom low bytes
+    → (before : List (List ℕ)) (g : Given) → Give before g → g.start ≡ None → ((q : ℕ) → low ≤ q → g.bytes q ≡ None) → GivePieces before bytes pieces g
 give_pieces _ _ nothing_cut low rises before g give start free = record {
   given = g;
   give = subst (λ (l : List (List ℕ)). Give l g) (sym (append-nil before)) give;

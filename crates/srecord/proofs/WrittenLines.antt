@@ -67,7 +67,8 @@ digits_other v (b ∷ bytes) are none =
     let lows = has_no_with v (slice_index upper_digits (b % 16)) (encode_with upper_digits bytes) (low_other v b none) (digits_other v bytes are.1 none) in
     has_no_with v (slice_index upper_digits (b / 16)) (slice_index upper_digits (b % 16) ∷ encode_with upper_digits bytes) (high_other v b are.0 none) lows
 
-line_other : (v digit at : ℕ) (bytes : List ℕ) → AreBytes (record_bytes at bytes) → hex_digit_value v ≡ None → (0x53 == v) ≡ false → (digit == v) ≡ false → HasNo v (record_line digit at bytes)
+line_other : (v digit at : ℕ) (bytes : List ℕ) → AreBytes (record_bytes at bytes) → hex_digit_value v ≡ None → (0x53 == v) ≡ false
+    → (digit == v) ≡ false → HasNo v (record_line digit at bytes)
 line_other v digit at bytes are none letter kind =
     let digits = encode_upper (record_bytes at bytes) in
     has_no_with v 0x53 (digit ∷ digits) letter (has_no_with v digit digits kind (digits_other v (record_bytes at bytes) are none))
@@ -75,7 +76,8 @@ line_other v digit at bytes are none letter kind =
 keeps_end : (line : List ℕ) → 0 < length line → All (λ c. (c == 13) ≡ false) line → strip_carriage_return line ≡ line
 keeps_end line some other = ap (λ b. cond b (take (length line - 1) line) line) (other (length line - 1) 0 (omega arith))
 
-pub lines_record : (digit at : ℕ) (bytes rest : List ℕ) → at < 65536 → length bytes ≤ 32 → AreBytes bytes → (digit == 10) ≡ false → (digit == 13) ≡ false → lines (record_text digit at bytes ++ rest) ≡ record_line digit at bytes ∷ lines rest
+pub lines_record : (digit at : ℕ) (bytes rest : List ℕ) → at < 65536 → length bytes ≤ 32 → AreBytes bytes → (digit == 10) ≡ false
+    → (digit == 13) ≡ false → lines (record_text digit at bytes ++ rest) ≡ record_line digit at bytes ∷ lines rest
 lines_record digit at bytes rest fits few are no_feed no_return =
     let all = record_bytes_are at bytes fits few are in
     let line = record_line digit at bytes in
@@ -85,7 +87,8 @@ lines_record digit at bytes rest fits few are no_feed no_return =
     ∙ first_ends line (parts rest) (let some = length-slice_split (λ b. b == 10) rest in omega arith)
     ∙ ap (λ (l : List ℕ). l ∷ lines rest) (keeps_end line (omega arith) (line_other 13 digit at bytes all refl refl no_return))
 
-pub is_record : (digit : ℕ) (kind : Kind) (at : ℕ) (bytes : List ℕ) → kind_of digit ≡ Some kind → at < 65536 → length bytes ≤ 32 → AreBytes bytes → FitsKind kind at bytes → IsRecord (record_line digit at bytes) kind at bytes
+pub is_record : (digit : ℕ) (kind : Kind) (at : ℕ) (bytes : List ℕ) → kind_of digit ≡ Some kind → at < 65536 → length bytes ≤ 32 → AreBytes bytes
+    → FitsKind kind at bytes → IsRecord (record_line digit at bytes) kind at bytes
 is_record digit kind at bytes kind_is fits few are fit = record {
   bytes = record_bytes at bytes;
   opens = record { digit = digit; digits = encode_upper (record_bytes at bytes); parts = refl; kind_is = kind_is; bytes_are = decode_of-encode_upper (record_bytes at bytes) (bytes_at (record_bytes at bytes) (record_bytes_are at bytes fits few are)) };

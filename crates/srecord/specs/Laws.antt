@@ -12,4 +12,5 @@ ImagesAreOne = (text : List ℕ) (a b : Image) → GivesImage text a → GivesIm
 
 -- a text that gives an image has no fault
 abbrev pub ImagesHaveNoFault : Type 0
-ImagesHaveNoFault = (text : List ℕ) (image : Image) (fault : SrecFault) → GivesImage text image → HasFault text fault → ⊥
+ImagesHaveNoFault = (text : List ℕ) (image : Image) (fault : SrecFault) → GivesImage text image
+    → HasFault text fault → ⊥

@@ -71,4 +71,5 @@ pub data FieldsFail (kind : Kind) (bytes : List ℕ) (n : ℕ) : SrecFault → T
   unread : ((at : ℕ) (payload : List ℕ) (sum : ℕ) → HasFields kind bytes at payload sum → ⊥)
       → FieldsFail kind bytes n (BadLine n)
   bad_sum : (at : ℕ) (payload : List ℕ) (sum : ℕ) → HasFields kind bytes at payload sum
-      → sum ≢ checksum_of (body_of at payload) → FieldsFail kind bytes n (BadSum n sum (checksum_of (body_of at payload)))
+      → sum ≢ checksum_of (body_of at payload)
+      → FieldsFail kind bytes n (BadSum n sum (checksum_of (body_of at payload)))

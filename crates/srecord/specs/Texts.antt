@@ -64,7 +64,8 @@ pub data Give : List (List ℕ) → Given → Type 0 where
 
 -- what is wrong with a record behind lines that give this
 pub data RecordFails (g : Given) (n : ℕ) : Kind → ℕ → List ℕ → SrecFault → Type 0 where
-  overlap : (at : ℕ) (payload : List ℕ) → IsTaken g.bytes at payload → RecordFails g n Bytes at payload (Overlap n)
+  overlap : (at : ℕ) (payload : List ℕ) → IsTaken g.bytes at payload
+      → RecordFails g n Bytes at payload (Overlap n)
   count_differs : (at : ℕ) (payload : List ℕ) → at ≢ g.records
       → RecordFails g n Count at payload (CountDiffers at g.records)
 
@@ -87,5 +88,6 @@ pub record GivesImage (text : List ℕ) (image : Image) : Type 0 where
 -- a text's first fault: that of the first line that fails, or else that there is no start
 pub data HasFault (text : List ℕ) : SrecFault → Type 0 where
   at_line : (before after : List (List ℕ)) (line : List ℕ) (g : Given) (fault : SrecFault)
-      → lines text ≡ before ++ line ∷ after → Give before g → LineFails g (length before + 1) line fault → HasFault text fault
+      → lines text ≡ before ++ line ∷ after → Give before g
+      → LineFails g (length before + 1) line fault → HasFault text fault
   no_end : (g : Given) → Give (lines text) g → g.start ≡ None → HasFault text NoEnd

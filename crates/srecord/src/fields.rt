@@ -1,8 +1,8 @@
 //! The fields of a line.
-ghost use Rattle.std.specs.Prelude.{◌≡◌, ◌≢◌, ◌≤◌, ◌<◌, ◌+◌, ◌*◌, ◌↔◌, ◌++◌, ℕ, List, [], ◌∷◌, length, sum, MatchOption, MatchResult, IsTrue, Some, None};
-ghost use Rattle.hex.specs.Hex.{decode_of};
+ghost use Rattle.std.specs.Prelude.{◌≡◌, ◌≢◌, ◌+◌, ◌↔◌, ◌++◌, ℕ, List, [], ◌∷◌, sum, MatchOption, MatchResult, IsTrue, Some, None};
 ghost use Rattle.srecord.specs.Records.{body_of, checksum_of};
-ghost use Rattle.srecord.specs.Lines.{FitsKind, HasFields, HasGoodFields, FieldsFail, Opens, OpeningFails, is_wide, kind_of, parts_of};
+ghost use Rattle.srecord.specs.Lines.{FieldsFail, FitsKind, HasGoodFields, Opens, OpeningFails};
+ghost use Rattle.srecord.specs.Lines.{is_wide, kind_of, parts_of};
 
 use crate::fault::SrecFault;
 use crate::records::checksum;

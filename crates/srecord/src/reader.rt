@@ -1,5 +1,5 @@
 //! Images from records.
-ghost use Rattle.std.specs.Prelude.{◌≡◌, ◌≢◌, ◌≤◌, ◌<◌, ◌+◌, ℕ, List, [], ◌∷◌, ◌++◌, length, MatchResult, IfOk, IfErr, OnOk, Ok, true, false};
+ghost use Rattle.std.specs.Prelude.{◌≡◌, ◌≢◌, ◌≤◌, ◌<◌, ◌+◌, ℕ, List, [], ◌∷◌, ◌++◌, length, IfOk, IfErr, OnOk, Ok, true, false};
 ghost use Rattle.cpu12_asm.specs.Bytes.{byte_at};
 ghost use Rattle.srecord.specs.Texts.{GivesImage, HasFault, IsFree, IsTaken, with_bytes};
 
@@ -19,8 +19,8 @@ struct Reader {
 }
 
 impl Reader {
-    ghost use Rattle.srecord.specs.Texts.{Give, Given, IsRecord, LineFails, MayFollow, RecordFails, given_with};
-    ghost use Rattle.srecord.specs.Reading.{Has, HasRead};
+    ghost use Rattle.srecord.specs.Texts.{Give, Given, LineFails, MayFollow, RecordFails, given_with};
+    ghost use Rattle.srecord.specs.Reading.{Has};
 
     /// Takes what a record gives.
     fn take_record(&mut self, kind: Kind, fields: &Fields<'_>, number: u32) -> Result<(), SrecFault>

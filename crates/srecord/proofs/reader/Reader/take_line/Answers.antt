@@ -1,9 +1,9 @@
 use Rattle.std.proofs.Common.{◌≡◌, List, ℕ, rules, subst}
 use Rattle.std.specs.Prelude.{Err}
 use Rattle.std.proofs.lemmas.Result.{IfErr-weaker, on_ok_weaker}
-use Rattle.srecord.specs.Lines.{FieldsFail, HasGoodFields}
-use Rattle.srecord.specs.Texts.{IsRecord, after_end, fields_fail, given_with, more, opening_fails, record_fails}
-use Rattle.srecord.proofs.ByteLemmas.{has_no_start, has_start}
+use Rattle.srecord.specs.Lines.{FieldsFail}
+use Rattle.srecord.specs.Texts.{after_end, fields_fail, given_with, more, opening_fails, record_fails}
+use Rattle.srecord.proofs.ByteLemmas.{has_no_start, has_start, is_record_there}
 use Rattle.srecord.proofs.reader.Reader.take_line.Goals as goal
 
 pub returns-then-is_some-clause-fault : goal.returns-then-is_some-clause-fault
@@ -25,11 +25,7 @@ returns-clause-given c = λ before g give h.
     let kind = c.in_ok-kind.kind in
     let at = c.in_ok-fields.fields.address in
     let payload = c.in_ok-fields.fields.payload.now in
-    let is_record : IsRecord c.args.line.now kind at payload = record {
-      bytes = c.in_ok-kind.bytes.items;
-      opens = c.in_ok-kind.ensures;
-      fields = subst (λ (b : List ℕ). HasGoodFields kind b at payload) c.deref.ensures.value c.in_ok-fields.ensures;
-    } in
+    let is_record = is_record_there c.args.line.now kind at payload c.in_ok-kind.bytes.items c.deref.result.now c.deref.ensures.value c.in_ok-kind.ensures c.in_ok-fields.ensures in
     let no_start = has_no_start c.args.self.now.start g.start c.if-is_some.ensures h.start in
     on_ok_weaker c.take_record.result (λ k. (given_with g kind at payload, more before g c.args.line.now kind at payload give no_start is_record k.0, k.1)) (c.take_record.ensures.follows g h)
 
@@ -38,10 +34,6 @@ returns-clause-fault c = λ g h.
     let kind = c.in_ok-kind.kind in
     let at = c.in_ok-fields.fields.address in
     let payload = c.in_ok-fields.fields.payload.now in
-    let is_record : IsRecord c.args.line.now kind at payload = record {
-      bytes = c.in_ok-kind.bytes.items;
-      opens = c.in_ok-kind.ensures;
-      fields = subst (λ (b : List ℕ). HasGoodFields kind b at payload) c.deref.ensures.value c.in_ok-fields.ensures;
-    } in
+    let is_record = is_record_there c.args.line.now kind at payload c.in_ok-kind.bytes.items c.deref.result.now c.deref.ensures.value c.in_ok-kind.ensures c.in_ok-fields.ensures in
     let no_start = has_no_start c.args.self.now.start g.start c.if-is_some.ensures h.start in
     IfErr-weaker c.take_record.result _ _ (λ fault fails want. record_fails kind at payload fault no_start is_record (fails want)) (c.take_record.ensures.fault g h)
