@@ -14,3 +14,5 @@ pub mod AnsweredRows
 pub mod Requests
 pub mod StandAlone
 pub mod UsedLaws
+pub mod Comings
+pub mod Outlooks

@@ -68,12 +68,12 @@ no_step {S = S} {A = A} {B = B} g n m inside taken qs qs2 s t byte i j r fs fs2 
     let rs = taken_there inside taken b fs fs2 ef ta in
     ap (λ (o : Ran A B). after i j r fs (brief o)) (one ∙ two) ∙ cc
 
-at_rest : {S A B : Type 0} (g : Form S A B) (n m : ℕ) (inside : Bool) (qs : List A) (s : State) → g.ends m s ≡ true → run_from g n m inside qs s ≡ ended true qs s
+pub at_rest : {S A B : Type 0} (g : Form S A B) (n m : ℕ) (inside : Bool) (qs : List A) (s : State) → g.ends m s ≡ true → run_from g n m inside qs s ≡ ended true qs s
 unfolding run_from
 at_rest g zero m inside qs s e = rw e refl
 at_rest g (suc n) m inside qs s e = rw e refl
 
-spent : {S A B : Type 0} (g : Form S A B) (n m : ℕ) (inside : Bool) (qs : List A) (s : State) → n ≡ 0 → run_from g n m inside qs s ≡ ended (g.ends m s) qs s
+pub spent : {S A B : Type 0} (g : Form S A B) (n m : ℕ) (inside : Bool) (qs : List A) (s : State) → n ≡ 0 → run_from g n m inside qs s ≡ ended (g.ends m s) qs s
 unfolding run_from
 spent g zero m inside qs s z = refl
 spent g (suc n) m inside qs s z = absurd (omega arith)
@@ -105,3 +105,32 @@ from_nothing b =
   where
     by : ℕ → ℕ → ℕ → Brief
     by i j r = record { arrived = b.arrived; state = b.state; instrs = i; steps = j; resumed = r; frames = b.frames }
+
+-- the states at the boundaries, by the first of them
+pub states_onward : {S A B : Type 0} (g : Form S A B) (n m : ℕ) (inside : Bool) (qs qs2 : List A) (s t : State) (next : Next) (fs fs2 : List (ℕ × FrameSeen)) → g.ends m s ≡ false
+    → with_frames fs (takes g m qs s) ≡ record { state = t; frames = fs2; left = qs2 } → next_of g.flags t ≡ Ok next
+    → (run_from g (suc n) m inside qs s).states ≡ t ∷ (run_from g n (m + 1) (is_part next.kind) qs2 next.state).states
+unfolding run_from
+states_onward {S = S} {A = A} {B = B} g n m inside qs qs2 s t next fs fs2 on te ne =
+    let b : Taking A B = takes g m qs s in
+    let es : b.state ≡ t = ap (λ (k : Brought A). k.state) te in
+    let el : b.left ≡ qs2 = ap (λ (k : Brought A). k.left) te in
+    let m1 : suc m ≡ m + 1 = omega arith in
+    let rest : Bool → State → Ran A B = λ k u. run_from g n (suc m) k b.left u in
+    let one : run_from g (suc n) m inside qs s ≡ then_rest inside b rest (next_of g.flags b.state) = rw on refl in
+    let two : then_rest inside b rest (next_of g.flags b.state) ≡ before_rest inside b next.kind (run_from g n (suc m) (is_part next.kind) b.left next.state) =
+    ap (then_rest inside b rest) (ap (next_of g.flags) es ∙ ne) in
+    ap (λ (r : Ran A B). r.states) (one ∙ two)
+    ∙ ap₂ (λ (u : State) (r : Ran A B). u ∷ r.states) es (ap₂ (λ (k : ℕ) (l : List A). run_from g n k (is_part next.kind) l next.state) m1 el)
+
+pub states_stuck : {S A B : Type 0} (g : Form S A B) (n m : ℕ) (inside : Bool) (qs qs2 : List A) (s t : State) (byte : ℕ) (fs fs2 : List (ℕ × FrameSeen)) → g.ends m s ≡ false
+    → with_frames fs (takes g m qs s) ≡ record { state = t; frames = fs2; left = qs2 } → next_of g.flags t ≡ Err byte
+    → (run_from g (suc n) m inside qs s).states ≡ t ∷ []
+unfolding run_from
+states_stuck {S = S} {A = A} {B = B} g n m inside qs qs2 s t byte fs fs2 on te ne =
+    let b : Taking A B = takes g m qs s in
+    let es : b.state ≡ t = ap (λ (k : Brought A). k.state) te in
+    let rest : Bool → State → Ran A B = λ k u. run_from g n (suc m) k b.left u in
+    let one : run_from g (suc n) m inside qs s ≡ then_rest inside b rest (next_of g.flags b.state) = rw on refl in
+    let two : then_rest inside b rest (next_of g.flags b.state) ≡ stuck inside b = ap (then_rest inside b rest) (ap (next_of g.flags) es ∙ ne) in
+    ap (λ (r : Ran A B). r.states) (one ∙ two) ∙ ap (λ (u : State). u ∷ []) es

@@ -9,12 +9,7 @@ use Rattle.cpu12_emul.specs.declared.ends.Frame.{Frame}
 use Rattle.interrupt_plan.specs.declared.Request.{Request}
 use Rattle.interrupt_plan.specs.Plans.{NotAfter, Ascends, IsGoodRequest, IsGood}
 use Rattle.fz_run.specs.Rows.{is_of, requests_of}
-use Rattle.fz_run.specs.Slices.{requests_first, requests_after, HasRoom, HaveRoom}
-
--- the samples do not fall, from number k on
-abbrev pub Follow : ℕ → List Request → Type 0
-Follow k [] = Unit {0}
-Follow k (r ∷ rs) = (k ≤ r.sample) × Follow r.sample rs
+use Rattle.fz_run.specs.Slices.{Follow, requests_first, requests_after, HasRoom, HaveRoom}
 
 follow_before : (j k : ℕ) (plan : List Request) → Follow k plan → j ≤ k → Follow j plan
 follow_before j k [] h l = tt

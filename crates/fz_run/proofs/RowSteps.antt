@@ -5,8 +5,8 @@ use Rattle.interrupt_plan.specs.declared.Request.{Request}
 use Rattle.trace_io.specs.declared.sample.Sample.{Sample}
 use Rattle.run_law.specs.Forms.{Form, Ran, run_from, RowSeen, row_of, Rows, put_row, rows_from}
 use Rattle.fz_run.specs.Rows.{input_bytes, requests_of}
-use Rattle.fz_run.specs.Slices.{requests_first}
-use Rattle.fz_run.proofs.PlanSlices.{Follow, first_are, later_are}
+use Rattle.fz_run.specs.Slices.{Follow, requests_first}
+use Rattle.fz_run.proofs.PlanSlices.{first_are, later_are}
 
 abbrev pub Plain : Type 0
 Plain = Form (List ℕ) Request (Unit {0})
@@ -35,7 +35,7 @@ unfolding rows_from
 no_row g most plan k s = refl
 
 -- the first row, and those of the plan that is left
-one_row : (g : Plain) (most : ℕ) (plan : List Request) (k : ℕ) (bytes : List ℕ) (rest : List (List ℕ)) (s : State) (r : Ran Request (Unit {0})) → Follow k plan
+pub one_row : (g : Plain) (most : ℕ) (plan : List Request) (k : ℕ) (bytes : List ℕ) (rest : List (List ℕ)) (s : State) (r : Ran Request (Unit {0})) → Follow k plan
     → r ≡ run_from g most 0 false (requests_first k plan) (g.give bytes s)
     → rows_under g most plan k (bytes ∷ rest) s ≡ put_row (row_of g bytes r) r (rows_under g most (drop (length (requests_first k plan)) plan) (k + 1) rest (g.leave bytes r.state))
 unfolding rows_from

@@ -2,6 +2,9 @@ pub mod Forms
 pub mod Rows
 pub mod Rest
 pub mod Slices
+pub mod Positions
+pub mod Sessions
+pub mod Outlooks
 pub mod Facts
 pub mod Stretches
 pub mod Following

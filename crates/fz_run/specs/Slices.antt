@@ -24,3 +24,8 @@ HaveRoom k (suc n) plan (room ∷ rooms) = HasRoom (requests_first k plan) room 
 abbrev pub requests_after : ℕ → ℕ → List Request → List Request
 requests_after k zero plan = plan
 requests_after k (suc n) plan = requests_after (suc k) n (drop (length (requests_first k plan)) plan)
+
+-- the samples do not fall, from number k on
+abbrev pub Follow : ℕ → List Request → Type 0
+Follow k [] = Unit {0}
+Follow k (r ∷ rs) = (k ≤ r.sample) × Follow r.sample rs

@@ -13,10 +13,13 @@
 #![tactic(auto)]
 
 pub mod alone;
+mod boundary;
 pub mod handler;
 pub mod laws;
 mod ports;
+mod progress;
 mod rows;
 pub mod sample;
+pub mod session;
 
 pub use rows::{Row, run, run_on};

@@ -96,7 +96,7 @@ pub fn run(
 }
 
 /// Does steps until PC is at LOOP, at most `budget` and as long as one is defined.
-fn arrive<M: Mem>(m: &mut Machine<M>, loop_at: u16, budget: u32)
+pub(crate) fn arrive<M: Mem>(m: &mut Machine<M>, loop_at: u16, budget: u32)
     ensures state { m.new.state ≡ arrival m.old.flags loop_at budget m.old.state }
     ensures flags { m.new.flags ≡ m.old.flags }
 {
@@ -113,7 +113,7 @@ fn arrive<M: Mem>(m: &mut Machine<M>, loop_at: u16, budget: u32)
 }
 
 /// How many of these requests, from the first on, are of sample `k`.
-fn count_of(requests: &[Request], k: usize) -> usize
+pub(crate) fn count_of(requests: &[Request], k: usize) -> usize
     ensures { result ≡ length (requests_first k requests.now) }
 {
     let mut count = 0;
@@ -127,7 +127,7 @@ fn count_of(requests: &[Request], k: usize) -> usize
 }
 
 /// Room for the frames of each sample.
-fn make_rooms(
+pub(crate) fn make_rooms(
     alloc: Global,
     samples: usize,
     plan: &[Request],
@@ -183,7 +183,7 @@ fn run_one<M: Mem, H: Handler<Request>>(
     }
 }
 
-fn copy_of(bytes: &[u8]) -> ArrayVec<u8, 8>
+pub(crate) fn copy_of(bytes: &[u8]) -> ArrayVec<u8, 8>
     requires { length bytes.now ≤ 8 }
     ensures { result.items ≡ bytes.now }
 {

@@ -33,7 +33,7 @@ pub struct Tally {
     pub frames: Vec<(u32, Frame)>,
 }
 
-fn is_part(kind: Stepped) -> bool
+pub(crate) fn is_part(kind: Stepped) -> bool
     ensures { result ≡ is_part kind }
 {
     match kind {
@@ -42,27 +42,27 @@ fn is_part(kind: Stepped) -> bool
     }
 }
 
-fn one_if(b: bool) -> u32
+pub(crate) fn one_if(b: bool) -> u32
     ensures one { result ≡ one_if b }
     ensures most { result ≤ 1 }
 {
     if b { 1 } else { 0 }
 }
 
-fn both(a: bool, b: bool) -> bool
+pub(crate) fn both(a: bool, b: bool) -> bool
     ensures { result ≡ (a && b) }
 {
     a && b
 }
 
-fn less(a: usize, b: usize) -> bool
+pub(crate) fn less(a: usize, b: usize) -> bool
     ensures { result ≡ nat_lt a b }
 {
     a < b
 }
 
 #[tactic(auto, using(crate::proofs::Takings::length_seen))]
-fn count(frames: &Vec<(u32, Frame)>) -> usize
+pub(crate) fn count(frames: &Vec<(u32, Frame)>) -> usize
     ensures { result ≡ length (frames_seen frames.now.items) }
 {
     frames.len()
@@ -107,7 +107,7 @@ fn take_next<M: Mem, R, H: Handler<R>>(
 }
 
 /// Takes all requests that are due.
-fn take_due<M: Mem, R, H: Handler<R>>(
+pub(crate) fn take_due<M: Mem, R, H: Handler<R>>(
     m: &mut Machine<M>,
     h: &H,
     firmware: &Firmware,

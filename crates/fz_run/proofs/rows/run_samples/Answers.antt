@@ -8,8 +8,8 @@ use Rattle.run_law.specs.Forms.{Ran, run_from}
 use Rattle.fz_run.specs.Rows.{row_seen, input_bytes}
 use Rattle.fz_run.specs.Forms.{given, stand_alone}
 use Rattle.run_law.specs.Forms.{row_of}
-use Rattle.fz_run.specs.Slices.{HasRoom, HaveRoom, requests_first}
-use Rattle.fz_run.proofs.PlanSlices.{Follow, follow_good, first_few, later_follow, room_first, slice_first, rest_further, count_there}
+use Rattle.fz_run.specs.Slices.{Follow, HasRoom, HaveRoom, requests_first}
+use Rattle.fz_run.proofs.PlanSlices.{follow_good, first_few, later_follow, room_first, slice_first, rest_further, count_there}
 use Rattle.fz_run.proofs.RowSteps.{rows_under, samples_here, found_start, found_more, found_all}
 use Rattle.fz_run.proofs.rows.run_samples.Goals as goal
 

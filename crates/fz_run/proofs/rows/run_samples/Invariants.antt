@@ -1,8 +1,7 @@
 use Rattle.std.proofs.Common.{◌≡◌, ◌≤◌, ◌+◌, ◌-◌, map, length, drop, vec_len, vec_capacity}
 use Rattle.fz_run.specs.Rows.{row_seen, input_bytes}
 use Rattle.fz_run.specs.Forms.{stand_alone}
-use Rattle.fz_run.specs.Slices.{HaveRoom}
-use Rattle.fz_run.proofs.PlanSlices.{Follow}
+use Rattle.fz_run.specs.Slices.{Follow, HaveRoom}
 use Rattle.fz_run.proofs.RowSteps.{rows_under, Found}
 use Rattle.fz_run.proofs.rows.run_samples.Given as goal
 

@@ -1,0 +1,47 @@
+use Rattle.std.proofs.Common.{◌≡◌, ◌∙◌, ◌+◌, ◌-◌, ◌&&◌, ℕ, Bool, suc, false, nat_lt, length, drop, ap, ap₂, sym, arith}
+use Rattle.std.specs.Prelude.{if◌then◌else◌}
+use Rattle.cpu12_parts.specs.State.{State}
+use Rattle.cpu12_emul.specs.Step.{next_of}
+use Rattle.run_law.specs.Forms.{one_if}
+use Rattle.fz_run.specs.declared.boundary.Stand.{Stand}
+use Rattle.fz_run.specs.declared.sample.Tally.{Tally}
+use Rattle.fz_run.specs.Forms.{stand_alone}
+use Rattle.fz_run.specs.Rows.{frames_seen}
+use Rattle.fz_run.specs.Sessions.{PlanForm, at_end, by_step}
+use Rattle.fz_run.proofs.Comings.{Takes, over_here, spent_here, taken_here}
+use Rattle.fz_run.proofs.boundary.come.Goals as goal
+
+pub returns-then-is_idle-clause-coming : goal.returns-then-is_idle-clause-coming
+returns-then-is_idle-clause-coming g c =
+    let a = c.args in
+    over_here (stand_alone a.m.now.flags a.firmware.now (g.H.Handler.moment a.h.now) (g.H.Handler.take a.h.now)) a.requests.now a.st.now a.m.now.state (sym c.is_idle.ensures ∙ c.if-is_idle.true)
+
+pub returns-then-st-eq0-clause-coming : goal.returns-then-st-eq0-clause-coming
+returns-then-st-eq0-clause-coming g c =
+    let a = c.args in
+    spent_here (stand_alone a.m.now.flags a.firmware.now (g.H.Handler.moment a.h.now) (g.H.Handler.take a.h.now)) a.requests.now a.st.now a.m.now.state c.if-st-eq0.true (sym c.is_idle.ensures ∙ c.if-is_idle.false ∙ sym c.requires.on.1)
+
+pub returns-clause-coming : goal.returns-clause-coming
+returns-clause-coming g c =
+    let a = c.args in
+    let st = a.st.now in
+    let form : PlanForm = stand_alone a.m.now.flags a.firmware.now (g.H.Handler.moment a.h.now) (g.H.Handler.take a.h.now) in
+    let n = c.take_due.new in
+    let inside : n.t.inside ≡ st.tally.inside = ap (λ k. k.inside) c.take_due.ensures.rest in
+    let t2 : Tally = record n.t { resumed = n.t.resumed + c.one_if.result } in
+    let st2 : Stand = record { tally = t2; left = st.left - 1; over = st.over } in
+    let taken : Bool = c.less-taken.result in
+    let one : c.one_if.result ≡ one_if (st.tally.inside && taken) = c.one_if.ensures.one ∙ ap one_if (c.both.ensures ∙ ap (λ (b : Bool). b && taken) inside) in
+    let resumed : n.t.resumed ≡ st.tally.resumed = ap (λ k. k.resumed) c.take_due.ensures.rest in
+    let k : Takes st st2 taken = record {
+      left = omega arith;
+      moment = ap (λ k. k.moment) c.take_due.ensures.rest;
+      inside = inside;
+      instrs = ap (λ k. k.instrs) c.take_due.ensures.rest;
+      arrived = ap (λ k. k.arrived) c.take_due.ensures.rest ∙ c.requires.on.1;
+      resumed = ap₂ (λ (x y : ℕ). x + y) resumed one;
+      taken_is = c.less-taken.ensures ∙ ap₂ nat_lt c.count-before.ensures c.count.ensures;
+    } in
+    let s2 : State = n.m.state in
+    ap (λ (b : Bool). if b then at_end t2 s2 else by_step form a.requests.now st2 s2 (next_of a.m.now.flags s2)) c.requires.on.0
+    ∙ taken_here form a.requests.now st st2 a.m.now.state s2 taken (sym c.is_idle.ensures ∙ c.if-is_idle.false) k c.take_due.ensures.takes

@@ -1,0 +1,110 @@
+// A boundary of a sample: what is taken there, and the step after it.
+ghost use Rattle.std.specs.Prelude.{ℕ, ◌≡◌, ◌≤◌, ◌<◌, ◌+◌, ◌-◌, ◌^◌, true, false, length, vec_len, vec_capacity, List};
+ghost use Rattle.interrupt_plan.specs.declared.Request.{Request as Asked};
+ghost use Rattle.fz_run.specs.Forms.{stand_alone};
+ghost use Rattle.fz_run.specs.Sessions.{PlanForm, before_takes, after_takes, after_state, at_end, IsSteady};
+
+use crate::handler::Handler;
+use crate::ports::is_idle;
+use crate::sample::{Tally, both, count, is_part, less, one_if, take_due};
+use codegen::Firmware;
+use cpu12_emul::machine::Machine;
+use cpu12_isa::mem::Mem;
+use interrupt_plan::Request;
+
+/// Where a sample's run stands.
+#[derive(Drop)]
+pub struct Stand {
+    /// What was counted.
+    pub tally: Tally,
+    /// How many more steps may be done.
+    pub left: u32,
+    /// Whether the sample is over.
+    pub over: bool,
+}
+
+/// Comes to a boundary: the sample is over where the firmware waits or no step is left, else what is
+/// due is taken.
+pub(crate) fn come<M: Mem, H: Handler<Request>>(
+    m: &mut Machine<M>,
+    h: &H,
+    firmware: &Firmware,
+    requests: &[Request],
+    st: &mut Stand,
+)
+    requires on { (st.old.over ≡ false) × (st.old.tally.arrived ≡ false) }
+    requires room { vec_len st.old.tally.frames + (length requests.now - st.old.tally.next) ≤ vec_capacity st.old.tally.frames }
+    requires counts { (st.old.tally.instrs ≤ st.old.tally.moment) × (st.old.tally.resumed ≤ st.old.tally.moment) }
+    requires sum { st.old.tally.moment + st.old.left < 2 ^ 32 }
+    ensures coming { after_takes (stand_alone m.old.flags firmware.now (H.moment h.now) (H.take h.now)) requests.now st.new m.new.state
+        ≡ before_takes (stand_alone m.old.flags firmware.now (H.moment h.now) (H.take h.now)) requests.now st.old m.old.state }
+    ensures moment { st.new.tally.moment ≡ st.old.tally.moment }
+    ensures room { vec_len st.new.tally.frames + (length requests.now - st.new.tally.next) ≤ vec_capacity st.new.tally.frames }
+    ensures counts { (st.new.tally.instrs ≤ st.new.tally.moment) × (st.new.tally.resumed ≤ st.new.tally.moment + 1) }
+    ensures on { st.new.over ≡ false → (st.new.tally.arrived ≡ false) × (st.new.tally.moment + st.new.left + 1 < 2 ^ 32) }
+    ensures flags { m.new.flags ≡ m.old.flags }
+{
+    if is_idle(&firmware.layout, m) {
+        st.tally.arrived = true;
+        st.over = true;
+        return;
+    }
+    if st.left == 0 {
+        st.over = true;
+        return;
+    }
+    let before = count(&st.tally.frames);
+    take_due(m, h, firmware, requests, &mut st.tally);
+    let taken = less(before, count(&st.tally.frames));
+    st.tally.resumed += one_if(both(st.tally.inside, taken));
+    st.left -= 1;
+}
+
+/// Does a step from a boundary. Answers whether one was defined.
+pub(crate) fn step_on<M: Mem>(m: &mut Machine<M>, st: &mut Stand) -> bool
+    requires on { st.old.over ≡ false }
+    requires counts { (st.old.tally.instrs ≤ st.old.tally.moment) × (st.old.tally.moment + 1 < 2 ^ 32) }
+    ensures goes { result ≡ true → (g : PlanForm) (qs : List Asked) → g.flags ≡ m.old.flags → after_takes g qs st.old m.old.state ≡ after_state m.old.state (before_takes g qs st.new m.new.state) }
+    ensures stuck { result ≡ false → (g : PlanForm) (qs : List Asked) → g.flags ≡ m.old.flags → after_takes g qs st.old m.old.state ≡ at_end st.old.tally m.old.state }
+    ensures same { result ≡ false → (st.new ≡ st.old) × (m.new ≡ m.old) }
+    ensures rest { result ≡ true → st.new ≡ record st.old { tally = record (st.old.tally) { moment = st.old.tally.moment + 1; inside = st.new.tally.inside; instrs = st.new.tally.instrs } } }
+    ensures counts { result ≡ true → st.new.tally.instrs ≤ st.new.tally.moment }
+    ensures flags { m.new.flags ≡ m.old.flags }
+{
+    match m.step() {
+        Ok(kind) => {
+            st.tally.inside = is_part(kind);
+            st.tally.instrs += one_if(!st.tally.inside);
+            st.tally.moment += 1;
+            true
+        }
+        Err(_) => false,
+    }
+}
+
+/// Goes on to the next boundary of the sample. Answers whether there is one.
+pub(crate) fn pass<M: Mem, H: Handler<Request>>(
+    m: &mut Machine<M>,
+    h: &H,
+    firmware: &Firmware,
+    requests: &[Request],
+    st: &mut Stand,
+) -> bool
+    requires steady { IsSteady requests.now st.old }
+    ensures goes { result ≡ true → after_takes (stand_alone m.old.flags firmware.now (H.moment h.now) (H.take h.now)) requests.now st.old m.old.state
+        ≡ after_state m.old.state (after_takes (stand_alone m.old.flags firmware.now (H.moment h.now) (H.take h.now)) requests.now st.new m.new.state) }
+    ensures ends { result ≡ false → after_takes (stand_alone m.old.flags firmware.now (H.moment h.now) (H.take h.now)) requests.now st.old m.old.state ≡ at_end st.old.tally m.old.state }
+    ensures same { result ≡ false → (st.new ≡ st.old) × (m.new ≡ m.old) }
+    ensures moment { result ≡ true → st.new.tally.moment ≡ st.old.tally.moment + 1 }
+    ensures steady { IsSteady requests.now st.new }
+    ensures flags { m.new.flags ≡ m.old.flags }
+{
+    if st.over {
+        return false;
+    }
+    if !step_on(m, st) {
+        return false;
+    }
+    come(m, h, firmware, requests, st);
+    true
+}

@@ -1,0 +1,131 @@
+//! A run that stops at each boundary.
+ghost use Rattle.std.specs.Prelude.{ℕ, ◌≡◌, ◌≤◌, ◌∷◌, [], true, false, min, map, slice_index, IfOk};
+ghost use Rattle.interrupt_plan.specs.Plans.{IsGood};
+ghost use Rattle.fz_run.specs.Rows.{row_seen, input_bytes, first_state, firmware_rows};
+ghost use Rattle.fz_run.specs.Outlooks.{from_here, at_position, of_run};
+
+use crate::progress::{Progress, advance, before_samples, begin, drive, into_rows};
+use crate::rows::{Row, arrive, make_rooms};
+use codegen::Firmware;
+use cpu12_emul::machine::Machine;
+use cpu12_isa::instr::Regs;
+use cpu12_isa::mem::{Mem, Memory};
+use interrupt_plan::Plan;
+use std::alloc::Global;
+use std::marker::Model;
+use trace_io::Sample;
+
+/// A run of a firmware over a trace under a plan, which stands at one of its positions: the pairs of a
+/// sample, counted from 1, and a boundary in it, in order. The state at one is that after what is
+/// taken there. A run over no sample has the one position 0 of sample 0.
+#[derive(Drop)]
+pub struct Session<'a, M: Mem> {
+    machine: Machine<M>,
+    firmware: &'a Firmware,
+    samples: &'a [Sample],
+    plan: &'a Plan,
+    progress: Progress,
+}
+
+impl<'a, M: Mem> Model for Session<'a, M> {
+    ghost use Rattle.fz_run.specs.Outlooks.{Outlook, outlook_at, IsUnderWay};
+
+    ghost Value = { Outlook };
+
+    ghost view = { λ a. outlook_at a.machine.flags a.firmware.now a.samples.now a.plan.now a.progress a.machine.state };
+
+    ghost invariant = { λ a. IsUnderWay a.firmware.now a.samples.now a.plan.now a.progress };
+}
+
+impl<'a, M: Mem> Session<'a, M> {
+    /// A session at the first position of a run. Bits of `flags` give the flags that the CPU12
+    /// Reference Manual leaves undefined. All memory is taken here.
+    pub fn new(
+        alloc: Global,
+        firmware: &'a Firmware,
+        samples: &'a [Sample],
+        plan: &'a Plan,
+        flags: u8,
+    ) -> Result<Session<'a, M>, Memory>
+        requires outputs { firmware.now.outputs ≤ 4 }
+        requires plan { IsGood plan.now }
+        ensures { IfOk result (λ s. from_here s ≡ of_run (first_state firmware.now flags) (firmware_rows firmware.now (map input_bytes samples.now) plan.now flags)) }
+    {
+        let rooms = make_rooms(alloc, samples.len(), plan.as_slice())?;
+        let Ok(rows) = Vec::with_capacity(alloc, samples.len()) else {
+            return Err(Memory);
+        };
+        let mut machine = Machine::new(alloc, &firmware.image, flags)?;
+        arrive(&mut machine, firmware.layout.wait, firmware.step_bound);
+        let requests = plan.as_slice();
+        let mut progress = before_samples(alloc, firmware, samples, requests, rooms, rows);
+        begin(&mut machine, firmware, samples, requests, &mut progress);
+        Ok(Session {
+            machine,
+            firmware,
+            samples,
+            plan,
+            progress,
+        })
+    }
+
+    /// Goes on to the next position. Answers false, and changes nothing, exactly at the last.
+    pub fn advance(&mut self) -> bool
+        ensures goes { result ≡ true → self.old ≡ at_position self.old.here (from_here self.new) }
+        ensures ends { result ≡ false → (self.old.later ≡ []) × (self.new ≡ self.old) }
+    {
+        advance(
+            &mut self.machine,
+            self.firmware,
+            self.samples,
+            self.plan.as_slice(),
+            &mut self.progress,
+        )
+    }
+
+    /// The registers.
+    pub fn regs(&self) -> Regs
+        ensures { result ≡ self.now.here.state.regs }
+    {
+        self.machine.regs()
+    }
+
+    /// The byte at an address.
+    pub fn byte(&self, address: u16) -> u8
+        ensures { result ≡ slice_index self.now.here.state.mem address }
+    {
+        self.machine.peek(address)
+    }
+
+    /// The position: the sample, of those past 4294967295 that number, and the boundary.
+    pub fn at(&self) -> (u32, u32)
+        ensures sample { result.0 ≡ min self.now.here.sample 4294967295 }
+        ensures moment { result.1 ≡ self.now.here.moment }
+    {
+        let sample = u32::try_from(self.progress.number).unwrap_or(u32::MAX);
+        (sample, self.progress.stand.tally.moment)
+    }
+
+    /// Goes on to the last position, and answers all rows of the run and the memory of its last state.
+    pub fn finish(self) -> (Vec<Row>, M)
+        ensures rows { map row_seen result.0.items ≡ self.entry.rows }
+        ensures memory { M.bytes result.1 ≡ self.entry.state.mem }
+    {
+        let Session {
+            mut machine,
+            firmware,
+            samples,
+            plan,
+            mut progress,
+        } = self;
+        drive(
+            &mut machine,
+            firmware,
+            samples,
+            plan.as_slice(),
+            &mut progress,
+        );
+        let rows = into_rows(&machine, firmware, progress);
+        (rows, machine.into_mem())
+    }
+}
