@@ -1,15 +1,13 @@
 -- Where whole instructions answer all samples, so do the rows under every good plan.
-use Rattle.std.proofs.Common.{◌≡◌, ◌==◌, ℕ, zero, suc, ◌+◌, ◌-◌, ◌*◌, ◌^◌, ◌<◌, ◌≤◌, Bool, true, false, List, [], ◌∷◌, length, map, get_or, refl, ap, ap₂, sym, ◌∙◌, subst, arith, inl, inr, ◌⊎◌}
+use Rattle.std.proofs.Common.{◌≡◌, ◌==◌, ℕ, zero, suc, ◌+◌, ◌*◌, ◌^◌, ◌<◌, ◌≤◌, Bool, true, false, List, [], ◌∷◌, length, map, get_or, refl, ap, ap₂, sym, ◌∙◌, subst, arith, inl, inr, ◌⊎◌}
 use Rattle.std.specs.Prelude.{All}
 use Rattle.std.proofs.Math.ListN.{set}
 use Rattle.std.proofs.lemmas.Bool.Decides.{nat_tests}
 use Rattle.std.proofs.lemmas.List.Elements.{All-cons}
 use Rattle.fuzzy_meaning.specs.declared.block.Block.{Block}
-use Rattle.fuzzy_meaning.specs.Blocks.{IsValid}
-use Rattle.rule_layout.specs.Layouts.{IsWithinLimits}
 use Rattle.cpu12_isa.specs.Act.{write_all}
 use Rattle.cpu12_isa.specs.Memory.{plus, placed, word_of}
-use Rattle.cpu12_isa.specs.Regions.{stack_start, stack_end, free_start, is_free}
+use Rattle.cpu12_isa.specs.Regions.{stack_start, stack_end, is_free}
 use Rattle.cpu12_parts.specs.State.{State}
 use Rattle.cpu12_parts.specs.Executions.{Execution, all_steps}
 use Rattle.cpu12_emul.specs.Image.{image_memory}
@@ -19,9 +17,8 @@ use Rattle.interrupt_plan.specs.Plans.{IsGood}
 use Rattle.codegen.specs.declared.firmware.Firmware.{Firmware}
 use Rattle.codegen.specs.declared.layout.Layout.{Layout}
 use Rattle.codegen.specs.declared.width.Width.{Width}
-use Rattle.codegen.specs.declared.width.Width.TheVariants.{Byte, Word}
 use Rattle.codegen.specs.Layouts.{main_layout}
-use Rattle.codegen.specs.Widths.{width_of, places, answer}
+use Rattle.codegen.specs.Widths.{width_of, answer}
 use Rattle.codegen.specs.Bounds.{instruction_bound, step_bound}
 use Rattle.codegen.specs.Interruptible.{is_idle, IsInterruptible, IsShownInstruction, IsInterruptibleStep}
 use Rattle.codegen.specs.Answers as answers
@@ -33,12 +30,12 @@ use Rattle.codegen.specs.Uninterrupted.{AreAnswersOf}
 use Rattle.run_law.specs.Forms.{RowSeen, rows_from}
 use Rattle.run_law.specs.Uninterrupted.{uninterrupted, counted}
 use Rattle.run_law.specs.Following.{Completes, AllComplete, AllWithin}
-use Rattle.fz_run.specs.Forms.{given, answer_size, answer_at, answers_at, answers_in, with_writes}
+use Rattle.fz_run.specs.Forms.{given, answer_size, answers_at, answers_in, with_writes}
 use Rattle.fz_run.specs.Rows.{requests_of, arrival, first_state, firmware_rows}
 use Rattle.fz_run.specs.Facts.{FactsAlone}
 use Rattle.fz_run.specs.Following.{row_of_sample, rows_of_samples, IsLow, FollowsAlone}
 use Rattle.fz_run.specs.Stretches.{Stretch, Went, Kept, Calmly}
-use Rattle.fz_run.specs.Answering.{answer_of_row, AnswerBlock, AnswersItsBlock, AnswersUnder, AnswersUnderPlans}
+use Rattle.fz_run.specs.Answering.{answer_of_row, AnswersItsBlock, AnswersUnder, AnswersUnderPlans}
 use Rattle.fz_run.proofs.Arrivals.{arrives_plainly}
 use Rattle.fz_run.proofs.PortBytes.{write_last}
 use Rattle.fz_run.proofs.PlainSteps.{plain_step}

@@ -1,15 +1,14 @@
 -- What is to come of a sample is the same before and after what is taken at a boundary.
-use Rattle.std.proofs.Common.{◌≡◌, ℕ, suc, ◌+◌, ◌-◌, ◌<◌, Bool, true, false, ◌&&◌, nat_lt, Result, Ok, Err, List, [], ◌∷◌, length, drop, refl, ap, ap₂, sym, ◌∙◌, subst, arith}
+use Rattle.std.proofs.Common.{◌≡◌, ℕ, suc, ◌+◌, Bool, true, false, ◌&&◌, nat_lt, Result, Ok, Err, List, length, drop, refl, ap, ap₂, sym, ◌∙◌}
 use Rattle.cpu12_parts.specs.State.{State}
 use Rattle.cpu12_emul.specs.Step.{Next, next_of}
 use Rattle.cpu12_emul.specs.Take.{FrameSeen}
-use Rattle.run_law.specs.Forms.{Ran, takes, is_part, one_if, run_from}
+use Rattle.run_law.specs.Forms.{Ran, takes, one_if}
 use Rattle.interrupt_plan.specs.declared.Request.{Request}
 use Rattle.fz_run.specs.declared.boundary.Stand.{Stand}
-use Rattle.fz_run.specs.declared.sample.Tally.{Tally}
-use Rattle.fz_run.specs.Rest.{Brief, with_frames, rest_of, rest_at, counted_at}
+use Rattle.fz_run.specs.Rest.{Brief, with_frames, counted_at}
 use Rattle.fz_run.specs.Rows.{frames_seen}
-use Rattle.fz_run.specs.Sessions.{PlanForm, Coming, before_takes, after_takes, at_end, by_step}
+use Rattle.fz_run.specs.Sessions.{PlanForm, Coming, before_takes, at_end, by_step}
 use Rattle.fz_run.proofs.Onward.{onward, no_step, at_rest, spent, rest_at_end, rest_spent, states_onward, states_stuck}
 
 coming : Brief → List State → Coming

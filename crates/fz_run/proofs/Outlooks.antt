@@ -5,7 +5,7 @@ use Rattle.std.specs.Global.{Global}
 use Rattle.cpu12_parts.specs.State.{State}
 use Rattle.cpu12_emul.specs.declared.ends.Frame.{Frame}
 use Rattle.cpu12_emul.specs.Step.{Next, next_of}
-use Rattle.run_law.specs.Forms.{Ran, run_from, RowSeen, row_of, Rows, put_row}
+use Rattle.run_law.specs.Forms.{Ran, run_from, RowSeen, row_of, Rows}
 use Rattle.interrupt_plan.specs.declared.Request.{Request}
 use Rattle.fz_run.specs.declared.boundary.Stand.{Stand}
 use Rattle.fz_run.specs.declared.sample.Tally.{Tally}

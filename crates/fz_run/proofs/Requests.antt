@@ -1,11 +1,6 @@
 -- Good requests, and bytes that no plan writes.
-use Rattle.std.proofs.Common.{◌≡◌, ℕ, zero, suc, ◌+◌, ◌<◌, ◌≤◌, Bool, true, false, ◌&&◌, nat_lt, nat_le, List, [], ◌∷◌, sym, ◌∙◌, subst, arith, refl, inl, inr, ◌⊎◌}
+use Rattle.std.proofs.Common.{◌≡◌, ℕ, suc, ◌<◌, ◌≤◌, Bool, true, false, List, [], ◌∷◌, sym, ◌∙◌, subst, arith, refl, inl, inr, ◌⊎◌}
 use Rattle.std.specs.Prelude.{All}
-use Rattle.std.proofs.lemmas.Bool.{and_parts, ltb-true}
-use Rattle.std.proofs.lemmas.Bool.Decides.{nat_tests}
-use Rattle.cpu12_isa.specs.Memory.{plus, from}
-use Rattle.cpu12_isa.specs.Agreement.{AllShown}
-use Rattle.cpu12_isa.specs.Regions.{free_start, stack_start, is_free, is_hidden, LeavesStack}
 use Rattle.interrupt_plan.specs.declared.Request.{Request}
 use Rattle.interrupt_plan.specs.Plans.{NotAfter, Ascends, IsGoodRequest, IsGood}
 use Rattle.fz_run.specs.Rows.{is_of, requests_of}

@@ -1,9 +1,9 @@
 -- The rows of a list of samples by the first of them.
-use Rattle.std.proofs.Common.{◌≡◌, ◌≤◌, ◌<◌, ◌+◌, ℕ, suc, true, false, List, [], ◌∷◌, ◌++◌, length, map, get_or, drop, drop-cons, refl, ap, sym, ◌∙◌, arith, append_assoc, append-nil}
+use Rattle.std.proofs.Common.{◌≡◌, ◌≤◌, ◌<◌, ◌+◌, ℕ, suc, true, false, List, [], ◌∷◌, length, map, get_or, drop, drop-cons, refl, ap, sym, ◌∙◌, arith}
 use Rattle.cpu12_parts.specs.State.{State}
 use Rattle.interrupt_plan.specs.declared.Request.{Request}
 use Rattle.trace_io.specs.declared.sample.Sample.{Sample}
-use Rattle.run_law.specs.Forms.{Form, Ran, run_from, RowSeen, row_of, Rows, put_row, rows_from}
+use Rattle.run_law.specs.Forms.{Form, Ran, run_from, row_of, Rows, put_row, rows_from}
 use Rattle.fz_run.specs.Rows.{input_bytes, requests_of}
 use Rattle.fz_run.specs.Slices.{Follow, requests_first}
 use Rattle.fz_run.proofs.PlanSlices.{first_are, later_are}
@@ -50,42 +50,8 @@ one_row g most plan k bytes rest s r h e =
     with_ran : Ran Request (Unit {0}) → Rows (List ℕ) Request (Unit {0})
     with_ran t = put_row (row_of g bytes t) t (rows_under g most plan (suc k) rest (g.leave bytes t.state))
 
--- what is found after one row more
-pub record Found (g : Plain) (most : ℕ) (plan : List Request) (k : ℕ) (rest : List (List ℕ)) (s : State) (rows : List (RowSeen (List ℕ))) (all : Rows (List ℕ) Request (Unit {0})) : Type 0 where
-  pub rows_are : rows ++ (rows_under g most plan k rest s).rows ≡ all.rows
-  pub state_is : (rows_under g most plan k rest s).state ≡ all.state
-
-pub found_more : (g : Plain) (most : ℕ) (plan plan2 : List Request) (k : ℕ) (samples : List (List ℕ)) (bytes : List ℕ) (rest : List (List ℕ)) (s t : State) (rows rows2 : List (RowSeen (List ℕ))) (row : RowSeen (List ℕ)) (all : Rows (List ℕ) Request (Unit {0})) (requests : List Request)
-    → Found g most plan k samples s rows all → Follow k plan → samples ≡ bytes ∷ rest → requests ≡ requests_first k plan → plan2 ≡ drop (length (requests_first k plan)) plan
-    → row ≡ row_of g bytes (run_from g most 0 false requests (g.give bytes s)) → t ≡ g.leave bytes (run_from g most 0 false requests (g.give bytes s)).state → rows2 ≡ rows ++ row ∷ []
-    → Found g most plan2 (k + 1) rest t rows2 all
-found_more g most plan plan2 k samples bytes rest s t rows rows2 row all requests f h es eq ep er et e2 =
-    let r : Ran Request (Unit {0}) = run_from g most 0 false requests (g.give bytes s) in
-    let u : State = g.leave bytes r.state in
-    let one : rows_under g most plan k samples s ≡ put_row (row_of g bytes r) r (rows_under g most (drop (length (requests_first k plan)) plan) (k + 1) rest u) =
-    ap (λ (l : List (List ℕ)). rows_under g most plan k l s) es ∙ one_row g most plan k bytes rest s r h (ap (λ (qs : List Request). run_from g most 0 false qs (g.give bytes s)) eq) in
-    let there : rows_under g most (drop (length (requests_first k plan)) plan) (k + 1) rest u ≡ rows_under g most plan2 (k + 1) rest t =
-    ap (λ (p : List Request). rows_under g most p (k + 1) rest u) (sym ep) ∙ ap (λ (v : State). rows_under g most plan2 (k + 1) rest v) (sym et) in
-    let all2 : rows_under g most plan k samples s ≡ put_row row r (rows_under g most plan2 (k + 1) rest t) =
-    one ∙ ap (λ (rs : Rows (List ℕ) Request (Unit {0})). put_row (row_of g bytes r) r rs) there ∙ ap (λ (x : RowSeen (List ℕ)). put_row x r (rows_under g most plan2 (k + 1) rest t)) (sym er) in
-    record {
-      rows_are = ap (λ (l : List (RowSeen (List ℕ))). l ++ (rows_under g most plan2 (k + 1) rest t).rows) e2
-          ∙ append_assoc rows (row ∷ []) (rows_under g most plan2 (k + 1) rest t).rows
-          ∙ ap (λ (rs : Rows (List ℕ) Request (Unit {0})). rows ++ rs.rows) (sym all2) ∙ f.rows_are;
-      state_is = ap (λ (rs : Rows (List ℕ) Request (Unit {0})). rs.state) (sym all2) ∙ f.state_is;
-    }
-
-pub found_all : (g : Plain) (most : ℕ) (plan : List Request) (k : ℕ) (samples : List (List ℕ)) (s : State) (rows : List (RowSeen (List ℕ))) (all : Rows (List ℕ) Request (Unit {0})) → Found g most plan k samples s rows all → samples ≡ []
-    → (rows ≡ all.rows) × (s ≡ all.state)
-found_all g most plan k samples s rows all f e =
-    let none = ap (λ (l : List (List ℕ)). rows_under g most plan k l s) e ∙ no_row g most plan k s in
-    (sym (append-nil rows) ∙ ap (λ (rs : Rows (List ℕ) Request (Unit {0})). rows ++ rs.rows) (sym none) ∙ f.rows_are, ap (λ (rs : Rows (List ℕ) Request (Unit {0})). rs.state) (sym none) ∙ f.state_is)
-
 -- the sample that is next, and those that are left
 pub samples_here : (samples : List Sample) (i : ℕ) (d : Sample) → i < length samples → d ≡ get_or samples i d → map input_bytes (drop i samples) ≡ input_bytes d ∷ map input_bytes (drop (i + 1) samples)
 samples_here samples i d h e =
     let n : suc i ≡ i + 1 = omega arith in
     ap (map input_bytes) (drop-cons samples i d h) ∙ ap (λ (s : Sample). input_bytes s ∷ map input_bytes (drop (suc i) samples)) (sym e) ∙ ap (λ (j : ℕ). input_bytes d ∷ map input_bytes (drop j samples)) n
-
-pub found_start : (g : Plain) (most : ℕ) (plan : List Request) (k : ℕ) (samples : List (List ℕ)) (s : State) (rows : List (RowSeen (List ℕ))) → rows ≡ [] → Found g most plan k samples s rows (rows_under g most plan k samples s)
-found_start g most plan k samples s rows e = record { rows_are = ap (λ (l : List (RowSeen (List ℕ))). l ++ (rows_under g most plan k samples s).rows) e; state_is = refl }

@@ -1,24 +1,17 @@
 -- A firmware that stands alone is sound under requests that list writes, and so its runs follow those without interrupts.
-use Rattle.std.proofs.Common.{◌≡◌, ℕ, zero, suc, ◌-◌, ◌+◌, ◌*◌, ◌<◌, ◌≤◌, Bool, true, false, not, List, [], ◌∷◌, ◌++◌, length, refl, ap, ap₂, sym, ◌∙◌, subst, arith, inl, inr, ◌⊎◌}
-use Rattle.std.specs.Prelude.{All, ◌==◌, ◌&&◌}
-use Rattle.cpu12_isa.specs.declared.instr.Regs.{Regs}
-use Rattle.cpu12_isa.specs.declared.instr.Write.{Write}
-use Rattle.cpu12_isa.specs.Agreement.{Agree}
-use Rattle.cpu12_isa.specs.Memory.{plus, placed, word_of}
-use Rattle.cpu12_isa.specs.Regions.{free_start, is_free, is_hidden}
-use Rattle.cpu12_isa.proofs.Lemmas.{agree_self, same_writes}
+use Rattle.std.proofs.Common.{◌≡◌, ℕ, zero, suc, ◌-◌, ◌+◌, ◌≤◌, true, not, List, [], ◌∷◌, refl, ap, ap₂, ◌∙◌, arith, inl, inr, ◌⊎◌}
+use Rattle.cpu12_isa.specs.Regions.{is_free, is_hidden}
+use Rattle.cpu12_isa.proofs.Lemmas.{agree_self}
 use Rattle.cpu12_parts.specs.State.{State}
-use Rattle.cpu12_emul.specs.Take.{FrameSeen, may_interrupt}
-use Rattle.cpu12_emul.specs.Simulation.{AreOpen, IsShownStep}
-use Rattle.run_law.specs.Forms.{RowSeen, Rows, rows_from}
+use Rattle.cpu12_emul.specs.Take.{may_interrupt}
+use Rattle.run_law.specs.Forms.{RowSeen}
 use Rattle.run_law.specs.Uninterrupted.{stepped, uninterrupted, counted, first_open, taken_at, resumed_of, frames_of}
-use Rattle.run_law.specs.Soundness.{Before, Sound, WritesAreQuiet}
+use Rattle.run_law.specs.Soundness.{Before}
 use Rattle.run_law.specs.Following.{AllComplete, RunsFollow, expected_rows}
 use Rattle.interrupt_plan.specs.declared.Request.{Request}
 use Rattle.interrupt_plan.specs.Plans.{IsGoodRequest}
 use Rattle.codegen.specs.declared.firmware.Firmware.{Firmware}
-use Rattle.codegen.specs.declared.layout.Layout.{Layout}
-use Rattle.fz_run.specs.Forms.{given, answer_size, answer_at, answers_at, answers_in, with_writes}
+use Rattle.fz_run.specs.Forms.{given, answers_in, with_writes}
 use Rattle.fz_run.specs.Rows.{requests_of}
 use Rattle.fz_run.specs.Facts.{FactsAlone}
 use Rattle.fz_run.specs.Following.{IsLow, Nothing, rows_of_samples, RunsFollowAlone}

@@ -1,9 +1,9 @@
 -- The rows of a firmware that stands alone, read off its runs without interrupts.
-use Rattle.std.specs.Prelude.{◌≡◌, ℕ, suc, ◌+◌, ◌*◌, ◌<◌, ◌≤◌, Bool, true, List, [], ◌∷◌}
+use Rattle.std.specs.Prelude.{◌≡◌, ℕ, suc, ◌+◌, ◌*◌, ◌<◌, ◌≤◌, true, List, [], ◌∷◌}
 use Rattle.cpu12_isa.specs.Regions.{free_start, is_free}
 use Rattle.cpu12_parts.specs.State.{State}
 use Rattle.cpu12_emul.specs.Simulation.{Same}
-use Rattle.run_law.specs.Forms.{RowSeen, Rows, rows_from}
+use Rattle.run_law.specs.Forms.{RowSeen, rows_from}
 use Rattle.run_law.specs.Uninterrupted.{uninterrupted, counted, resumed_of, frames_of}
 use Rattle.run_law.specs.Following.{AllComplete, AllWithin, RowsSimulate, last_uninterrupted}
 use Rattle.interrupt_plan.specs.declared.Request.{Request}

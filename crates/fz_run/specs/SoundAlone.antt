@@ -9,7 +9,6 @@ use Rattle.cpu12_isa.specs.Agreement.{Agree}
 use Rattle.cpu12_isa.specs.Memory.{plus, placed, word_of}
 use Rattle.cpu12_isa.specs.Regions.{free_start, stack_start, is_free, is_hidden, LeavesStack}
 use Rattle.cpu12_isa.proofs.Lemmas.{same_writes}
-use Rattle.cpu12_parts.specs.State.{State}
 use Rattle.cpu12_emul.specs.Simulation.{AreOpen}
 use Rattle.run_law.specs.Soundness.{Sound, WritesAreQuiet}
 use Rattle.interrupt_plan.specs.Plans.{IsGoodRequest}

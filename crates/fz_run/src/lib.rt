@@ -8,8 +8,8 @@
 //! The rows and the memory are exactly those of the run's definition over the machine's steps and
 //! interrupts, for every firmware, every list of samples and every good plan: a run that meets a
 //! byte that is no instruction, or that spends its bound on steps, ends where it stands. All memory
-//! is taken before the first step. [`sample::run_sample`] is generic in what an interrupt does, its
-//! [`handler::Handler`].
+//! is taken before the first step. [`run_on`] is a [`Session`] driven to its end: a run that stops at
+//! each boundary. What an interrupt does is its [`handler::Handler`].
 #![tactic(auto)]
 
 pub mod alone;
@@ -20,6 +20,7 @@ mod ports;
 mod progress;
 mod rows;
 pub mod sample;
-pub mod session;
+mod session;
 
 pub use rows::{Row, run, run_on};
+pub use session::Session;

@@ -1,16 +1,12 @@
 //! A list of samples under a plan.
-ghost use Rattle.std.specs.Prelude.{ℕ, ◌≡◌, ◌≤◌, ◌<◌, ◌+◌, List, [], false, length, map, take, drop, vec_len, vec_capacity, IfOk};
+ghost use Rattle.std.specs.Prelude.{ℕ, ◌≡◌, ◌≤◌, ◌+◌, length, map, IfOk};
 ghost use Rattle.interrupt_plan.specs.Plans.{IsGood};
-ghost use Rattle.run_law.specs.Forms.{run_from, row_of, rows_from};
-ghost use Rattle.fz_run.specs.Forms.{given, stand_alone};
-ghost use Rattle.fz_run.specs.Rows.{is_of, requests_of, row_seen, arrival, input_bytes, firmware_rows};
-ghost use Rattle.fz_run.specs.Slices.{HaveRoom, HasRoom, requests_first};
+ghost use Rattle.fz_run.specs.Rows.{row_seen, arrival, input_bytes, firmware_rows};
+ghost use Rattle.fz_run.specs.Slices.{HaveRoom, requests_first};
 ghost use Rattle.fz_run.specs.Answering.{AnswersItsBlock};
 
-use crate::handler::{Handler, ListedWrites};
 use crate::laws::answers_under_plans;
-use crate::ports::{answers, give};
-use crate::sample::run_sample;
+use crate::session::Session;
 use arrayvec::ArrayVec;
 use codegen::Firmware;
 use cpu12_emul::ends::Frame;
@@ -59,23 +55,8 @@ pub fn run_on<M: Mem>(
     ensures memory { IfOk result (λ r. M.bytes r.1 ≡ (firmware_rows firmware.now (map input_bytes samples.now) plan.now flags).state.mem) }
 {
     answers_under_plans();
-    let rooms = make_rooms(alloc, samples.len(), plan.as_slice())?;
-    let Ok(rows) = Vec::with_capacity(alloc, samples.len()) else {
-        return Err(Memory);
-    };
-    let mut m = Machine::new(alloc, &firmware.image, flags)?;
-    arrive(&mut m, firmware.layout.wait, firmware.step_bound);
-    let rows = run_samples(
-        &mut m,
-        &ListedWrites,
-        firmware,
-        firmware.step_bound,
-        samples,
-        plan.as_slice(),
-        rooms,
-        rows,
-    );
-    Ok((rows, m.into_mem()))
+    let session = Session::new(alloc, firmware, samples, plan, flags)?;
+    Ok(session.finish())
 }
 
 /// The rows that `run_on` answers, over a memory of its own.
@@ -155,34 +136,6 @@ pub(crate) fn make_rooms(
     Ok(rooms)
 }
 
-/// Runs one sample.
-fn run_one<M: Mem, H: Handler<Request>>(
-    m: &mut Machine<M>,
-    h: &H,
-    firmware: &Firmware,
-    budget: u32,
-    sample: &Sample,
-    requests: &[Request],
-    frames: Vec<(u32, Frame)>,
-) -> Row
-    requires outputs { firmware.now.outputs ≤ 4 }
-    requires room { HasRoom requests.now frames }
-    ensures row { row_seen result ≡ row_of (stand_alone m.old.flags firmware.now (H.moment h.now) (H.take h.now)) (input_bytes sample.now) (run_from (stand_alone m.old.flags firmware.now (H.moment h.now) (H.take h.now)) budget 0 false requests.now (given firmware.now.layout (input_bytes sample.now) m.old.state)) }
-    ensures state { m.new.state ≡ (run_from (stand_alone m.old.flags firmware.now (H.moment h.now) (H.take h.now)) budget 0 false requests.now (given firmware.now.layout (input_bytes sample.now) m.old.state)).state }
-    ensures flags { m.new.flags ≡ m.old.flags }
-{
-    give(&firmware.layout, m, sample.bytes.as_slice());
-    let tally = run_sample(m, h, firmware, requests, budget, frames);
-    Row {
-        bytes: copy_of(sample.bytes.as_slice()),
-        answers: answers(firmware, m),
-        instrs: tally.instrs,
-        steps: tally.moment,
-        resumed: tally.resumed,
-        frames: List::new(tally.frames),
-    }
-}
-
 pub(crate) fn copy_of(bytes: &[u8]) -> ArrayVec<u8, 8>
     requires { length bytes.now ≤ 8 }
     ensures { result.items ≡ bytes.now }
@@ -190,49 +143,6 @@ pub(crate) fn copy_of(bytes: &[u8]) -> ArrayVec<u8, 8>
     let mut copy = ArrayVec::new();
     copy.try_extend_from_slice(bytes).unwrap();
     copy
-}
-
-/// Runs all samples. `rooms` has room for the frames of each, and `rows` for the rows.
-fn run_samples<M: Mem, H: Handler<Request>>(
-    m: &mut Machine<M>,
-    h: &H,
-    firmware: &Firmware,
-    budget: u32,
-    samples: &[Sample],
-    plan: &[Request],
-    mut rooms: VecDeque<Vec<(u32, Frame)>>,
-    mut rows: Vec<Row>,
-) -> Vec<Row>
-    requires outputs { firmware.now.outputs ≤ 4 }
-    requires plan { IsGood plan.now }
-    requires rooms { HaveRoom 1 (length samples.now) plan.now rooms.items }
-    requires none { rows.items ≡ [] }
-    requires room { length samples.now ≤ vec_capacity rows }
-    ensures rows { map row_seen result.items ≡ (rows_from (stand_alone m.old.flags firmware.now (H.moment h.now) (H.take h.now)) budget (λ k. requests_of k plan.now) 1 (map input_bytes samples.now) m.old.state).rows }
-    ensures state { m.new.state ≡ (rows_from (stand_alone m.old.flags firmware.now (H.moment h.now) (H.take h.now)) budget (λ k. requests_of k plan.now) 1 (map input_bytes samples.now) m.old.state).state }
-    ensures flags { m.new.flags ≡ m.old.flags }
-{
-    let mut next = 0;
-    let mut first = 0;
-    while next < samples.len() {
-        let Some(frames) = rooms.pop_front() else {
-            unreachable!()
-        };
-        let count = count_of(&plan[first..], next + 1);
-        let row = run_one(
-            m,
-            h,
-            firmware,
-            budget,
-            &samples[next],
-            &plan[first..first + count],
-            frames,
-        );
-        rows.push(row).unwrap();
-        first += count;
-        next += 1;
-    }
-    rows
 }
 
 #[cfg(test)]

@@ -1,14 +1,11 @@
-// One sample under its requests.
-ghost use Rattle.std.specs.Prelude.{ℕ, ◌≡◌, ◌≤◌, ◌<◌, ◌+◌, ◌-◌, ◌^◌, ◌&&◌, suc, Bool, true, false, length, vec_len, vec_capacity, drop, nat_lt, []};
-ghost use Rattle.cpu12_parts.specs.State.{State};
-ghost use Rattle.run_law.specs.Forms.{takes, is_part, one_if, run_from};
-ghost use Rattle.codegen.specs.Interruptible.{is_idle};
+// What is taken at a boundary, and what is counted.
+ghost use Rattle.std.specs.Prelude.{◌≡◌, ◌≤◌, ◌<◌, ◌+◌, ◌-◌, ◌&&◌, true, length, vec_len, vec_capacity, drop, nat_lt};
+ghost use Rattle.run_law.specs.Forms.{takes, is_part, one_if};
 ghost use Rattle.fz_run.specs.Forms.{stand_alone};
 ghost use Rattle.fz_run.specs.Rows.{frames_seen};
-ghost use Rattle.fz_run.specs.Rest.{is_due, with_frames, brief, rest_at, counted_at};
+ghost use Rattle.fz_run.specs.Rest.{is_due, with_frames};
 
 use crate::handler::Handler;
-use crate::ports::is_idle;
 use codegen::Firmware;
 use cpu12_emul::ends::{Frame, Stepped};
 use cpu12_emul::machine::Machine;
@@ -124,81 +121,4 @@ pub(crate) fn take_due<M: Mem, R, H: Handler<R>>(
     while is_due(m, h, requests, t) {
         take_next(m, h, firmware, requests, t);
     }
-}
-
-/// Takes what is due, and does a step. Answers whether one was defined.
-fn advance<M: Mem, R, H: Handler<R>>(
-    m: &mut Machine<M>,
-    h: &H,
-    firmware: &Firmware,
-    requests: &[R],
-    t: &mut Tally,
-) -> bool
-    requires on { is_idle firmware.now.layout m.old.state ≡ false }
-    requires room { vec_len t.old.frames + (length requests.now - t.old.next) ≤ vec_capacity t.old.frames }
-    requires moment { t.old.moment + 1 < 2 ^ 32 }
-    requires counts { (t.old.instrs ≤ t.old.moment) × (t.old.resumed ≤ t.old.moment) }
-    ensures goes { result ≡ true → (n : ℕ) → rest_at (stand_alone m.old.flags firmware.now (H.moment h.now) (H.take h.now)) (suc n) requests.now t.old m.old.state
-        ≡ rest_at (stand_alone m.old.flags firmware.now (H.moment h.now) (H.take h.now)) n requests.now t.new m.new.state }
-    ensures stuck { result ≡ false → t.old.arrived ≡ false → (n : ℕ) → rest_at (stand_alone m.old.flags firmware.now (H.moment h.now) (H.take h.now)) (suc n) requests.now t.old m.old.state
-        ≡ counted_at t.new m.new.state }
-    ensures arrived { t.new.arrived ≡ t.old.arrived }
-    ensures room { vec_len t.new.frames + (length requests.now - t.new.next) ≤ vec_capacity t.new.frames }
-    ensures counts { result ≡ true → (t.new.moment ≡ t.old.moment + 1) × (t.new.instrs ≤ t.new.moment) × (t.new.resumed ≤ t.new.moment) }
-    ensures flags { m.new.flags ≡ m.old.flags }
-{
-    let before = count(&t.frames);
-    take_due(m, h, firmware, requests, t);
-    let taken = less(before, count(&t.frames));
-    t.resumed += one_if(both(t.inside, taken));
-    match m.step() {
-        Ok(kind) => {
-            t.inside = is_part(kind);
-            t.instrs += one_if(!t.inside);
-            t.moment += 1;
-            true
-        }
-        Err(_) => false,
-    }
-}
-
-/// Runs a sample that was given, from its boundary 0 until the firmware waits again, and answers what was
-/// counted. The run ends where it stands where no step is defined, or after `budget` steps. `frames`
-/// is empty, with room for a frame of each request; no memory is taken.
-pub fn run_sample<M: Mem, R, H: Handler<R>>(
-    m: &mut Machine<M>,
-    h: &H,
-    firmware: &Firmware,
-    requests: &[R],
-    budget: u32,
-    frames: Vec<(u32, Frame)>,
-) -> Tally
-    requires room { length requests.now ≤ vec_capacity frames }
-    requires none { frames.items ≡ [] }
-    ensures run { brief (run_from (stand_alone m.old.flags firmware.now (H.moment h.now) (H.take h.now)) budget 0 false requests.now m.old.state)
-        ≡ counted_at result m.new.state }
-    ensures flags { m.new.flags ≡ m.old.flags }
-{
-    let mut t = Tally {
-        arrived: false,
-        moment: 0,
-        inside: false,
-        next: 0,
-        instrs: 0,
-        resumed: 0,
-        frames,
-    };
-    let mut left = budget;
-    while left > 0 {
-        if is_idle(&firmware.layout, m) {
-            t.arrived = true;
-            return t;
-        }
-        if !advance(m, h, firmware, requests, &mut t) {
-            return t;
-        }
-        left -= 1;
-    }
-    t.arrived = is_idle(&firmware.layout, m);
-    t
 }

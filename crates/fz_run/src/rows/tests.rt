@@ -268,3 +268,40 @@ fn ends_where_no_step_is_defined(rt: HostRuntime) -> Result<(), Fail> {
     assert_eq!(rt; (rows[0].instrs, rows[0].steps), (0, 0));
     Ok(())
 }
+
+/// Goes on by so many positions.
+fn go_on(session: &mut Session<'_, FlatMem>, count: u32) {
+    for _ in 0..count {
+        session.advance();
+    }
+}
+
+#[test]
+fn stands_at_each_position(rt: HostRuntime) -> Result<(), Fail> {
+    let alloc = rt.alloc();
+    let heater = heater(alloc, 36)?;
+    let samples = vec![in alloc; sample(alloc, 64)]?;
+    let plan = once(alloc, 26)?;
+    let mut session: Session<FlatMem> = Session::new(
+        alloc,
+        &heater,
+        samples.as_slice(),
+        &plan,
+        0x00,
+    )?;
+    assert_eq!(rt; session.at(), (1, 0));
+    go_on(&mut session, 14);
+    assert_eq!(rt; (session.at(), session.regs().pc), ((1, 14), 0xC031));
+    go_on(&mut session, 3);
+    assert_eq!(rt; (session.at(), session.regs().pc), ((1, 17), 0xC031));
+    go_on(&mut session, 16);
+    let regs = session.regs();
+    assert_eq!(rt; (session.at(), session.byte(0x1010)), ((1, 33), 0x40));
+    assert_eq!(rt; (regs.pc, regs.a, regs.b), (0xC04C, 0x00, 0x40));
+    assert_eq!(rt; (regs.x, regs.y, regs.sp), (0x00FF, 0x0040, 0x1FFE));
+    go_on(&mut session, 3);
+    assert_eq!(rt; (session.at(), session.advance()), ((1, 36), false));
+    let (rows, _memory) = session.finish();
+    assert_eq!(rt; rows[0].answers.as_slice(), [64].as_slice());
+    Ok(())
+}

@@ -1,4 +1,4 @@
-use Rattle.std.proofs.Common.{◌≡◌, ◌∙◌, ◌+◌, ◌-◌, ◌&&◌, ℕ, Bool, suc, false, nat_lt, length, drop, ap, ap₂, sym, arith}
+use Rattle.std.proofs.Common.{◌≡◌, ◌∙◌, ◌+◌, ◌-◌, ◌&&◌, ℕ, Bool, nat_lt, ap, ap₂, sym, arith}
 use Rattle.std.specs.Prelude.{if◌then◌else◌}
 use Rattle.cpu12_parts.specs.State.{State}
 use Rattle.cpu12_emul.specs.Step.{next_of}
@@ -6,7 +6,6 @@ use Rattle.run_law.specs.Forms.{one_if}
 use Rattle.fz_run.specs.declared.boundary.Stand.{Stand}
 use Rattle.fz_run.specs.declared.sample.Tally.{Tally}
 use Rattle.fz_run.specs.Forms.{stand_alone}
-use Rattle.fz_run.specs.Rows.{frames_seen}
 use Rattle.fz_run.specs.Sessions.{PlanForm, at_end, by_step}
 use Rattle.fz_run.proofs.Comings.{Takes, over_here, spent_here, taken_here}
 use Rattle.fz_run.proofs.boundary.come.Goals as goal

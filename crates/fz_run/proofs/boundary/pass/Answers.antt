@@ -1,4 +1,4 @@
-use Rattle.std.proofs.Common.{◌≡◌, refl}
+use Rattle.std.proofs.Common.{refl}
 use Rattle.fz_run.specs.Forms.{stand_alone}
 use Rattle.fz_run.proofs.boundary.pass.Goals as goal
 

@@ -1,6 +1,6 @@
 use Rattle.std.proofs.Common.{◌∙◌, ◌++◌, ◌∷◌, [], ◌-◌, arith, ap, ap₂, List, ℕ}
 use Rattle.cpu12_isa.specs.Memory.{plus}
-use Rattle.fz_run.specs.Forms.{answer_size, answers_at}
+use Rattle.fz_run.specs.Forms.{answers_at}
 use Rattle.fz_run.proofs.PortBytes.{answer_more}
 use Rattle.fz_run.proofs.ports.answers.Goals as goal
 

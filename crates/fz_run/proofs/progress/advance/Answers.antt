@@ -1,9 +1,9 @@
-use Rattle.std.proofs.Common.{◌≡◌, ◌∙◌, List, map, drop, ap, arith}
+use Rattle.std.proofs.Common.{List, map, drop, ap, arith}
 use Rattle.std.proofs.lemmas.List.{drop_all}
 use Rattle.interrupt_plan.specs.declared.Request.{Request}
 use Rattle.fz_run.specs.Forms.{with_writes}
 use Rattle.fz_run.specs.Rows.{row_seen, input_bytes}
-use Rattle.fz_run.specs.Sessions.{PlanForm, Coming, after_takes}
+use Rattle.fz_run.specs.Sessions.{PlanForm, after_takes}
 use Rattle.fz_run.specs.Outlooks.{requests_at}
 use Rattle.fz_run.proofs.Outlooks.{states_here, outlook_goes, outlook_last}
 use Rattle.fz_run.proofs.progress.advance.Goals as goal

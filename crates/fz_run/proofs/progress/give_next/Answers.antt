@@ -10,11 +10,11 @@ use Rattle.fz_run.specs.Forms.{with_writes}
 use Rattle.fz_run.specs.Rest.{counted_at}
 use Rattle.fz_run.specs.Rows.{row_seen, input_bytes}
 use Rattle.fz_run.specs.Slices.{Follow, HasRoom, HaveRoom, requests_first}
-use Rattle.fz_run.specs.Sessions.{PlanForm, Coming, before_takes, after_takes}
+use Rattle.fz_run.specs.Sessions.{PlanForm, before_takes, after_takes}
 use Rattle.fz_run.specs.Outlooks.{ahead, row_by, with_row, rows_here}
 use Rattle.fz_run.proofs.PlanSlices.{first_few, later_follow, room_first, slice_first, rest_further, count_there}
 use Rattle.fz_run.proofs.RowSteps.{samples_here}
-use Rattle.fz_run.proofs.Outlooks.{coming_of, fresh, states_here, fresh_coming, given_ahead, given_room}
+use Rattle.fz_run.proofs.Outlooks.{coming_of, states_here, fresh_coming, given_ahead, given_room}
 use Rattle.fz_run.proofs.progress.give_next.Goals as goal
 
 pub come-requires-clause-room : goal.come-requires-clause-room

@@ -1,5 +1,6 @@
-use Rattle.std.proofs.Common.{◌≡◌, map, rules}
+use Rattle.std.proofs.Common.{◌≡◌, ◌∙◌, map, ap}
 use Rattle.fz_run.specs.Rows.{row_seen, input_bytes, firmware_rows}
+use Rattle.fz_run.specs.Outlooks.{Ahead}
 use Rattle.fz_run.proofs.AnsweredRows.{answers_its_block}
 use Rattle.fz_run.proofs.rows.run_on.Goals as goal
 
@@ -7,6 +8,12 @@ pub returns-clause-answers : goal.returns-clause-answers
 returns-clause-answers g c =
     let a = c.args in
     let samples = map input_bytes a.samples.now in
-    let rows = map row_seen c.run_samples-rows.result.items in
-    let are : rows ≡ (firmware_rows a.firmware.now samples a.plan.now a.flags).rows = search rules in
+    let rows = map row_seen c.finish.result.0.items in
+    let are : rows ≡ (firmware_rows a.firmware.now samples a.plan.now a.flags).rows = c.finish.ensures.rows ∙ ap (λ (x : Ahead). x.rows) c.in_ok-session.ensures in
     answers_its_block c.answers_under_plans.ensures a.firmware.now a.flags samples a.plan.now rows c.ranges.flags.fits c.requires.plan are
+
+pub returns-clause-rows : goal.returns-clause-rows
+returns-clause-rows g c = c.finish.ensures.rows ∙ ap (λ (x : Ahead). x.rows) c.in_ok-session.ensures
+
+pub returns-clause-memory : goal.returns-clause-memory
+returns-clause-memory g c = c.finish.ensures.memory ∙ ap (λ (x : Ahead). x.state.mem) c.in_ok-session.ensures
