@@ -1,5 +1,6 @@
--- A session: where it stands in a run, and what is to come.
-use Rattle.std.specs.Prelude.{◌≡◌, ◌≤◌, ◌<◌, ℕ, ◌+◌, ◌-◌, ◌^◌, not, Bool, false, if◌then◌else◌, Result, Ok, Err, List, [], ◌∷◌, length, drop, vec_len, vec_capacity}
+-- What is to come of a sample's run, at a boundary of it.
+use Rattle.std.specs.Prelude.{◌≡◌, ◌≤◌, ◌<◌, ℕ, ◌+◌, ◌-◌, ◌^◌, not, Bool, false, if◌then◌else◌}
+use Rattle.std.specs.Prelude.{Result, Ok, Err, List, [], ◌∷◌, length, drop, vec_len, vec_capacity}
 use Rattle.cpu12_parts.specs.State.{State}
 use Rattle.cpu12_emul.specs.Step.{Next, next_of}
 use Rattle.run_law.specs.Forms.{Form, is_part, one_if, run_from}
@@ -35,11 +36,13 @@ at_end t s = record { brief = counted_at t s; states = s ∷ [] }
 abbrev pub stepped_tally : Tally → Bool → Tally
 stepped_tally t part = record t { moment = t.moment + 1; inside = part; instrs = t.instrs + one_if (not part) }
 
--- and after it
+-- after what is taken, by the step from there
 abbrev pub by_step : PlanForm → List Request → Stand → State → Result Next ℕ → Coming
-by_step g qs st s (Ok next) = after_state s (before_takes g qs (record st { tally = stepped_tally st.tally (is_part next.kind) }) next.state)
+by_step g qs st s (Ok next) =
+    after_state s (before_takes g qs (record st { tally = stepped_tally st.tally (is_part next.kind) }) next.state)
 by_step g qs st s (Err byte) = at_end st.tally s
 
+-- at a boundary, after what is taken there
 abbrev pub after_takes : PlanForm → List Request → Stand → State → Coming
 after_takes g qs st s = if st.over then at_end st.tally s else by_step g qs st s (next_of g.flags s)
 

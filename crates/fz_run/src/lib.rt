@@ -19,7 +19,7 @@ pub mod laws;
 mod ports;
 mod progress;
 mod rows;
-pub mod sample;
+mod sample;
 mod session;
 
 pub use rows::{Row, run, run_on};

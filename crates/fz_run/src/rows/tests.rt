@@ -294,7 +294,10 @@ fn stands_at_each_position(rt: HostRuntime) -> Result<(), Fail> {
     assert_eq!(rt; (session.at(), session.regs().pc), ((1, 14), 0xC031));
     go_on(&mut session, 3);
     assert_eq!(rt; (session.at(), session.regs().pc), ((1, 17), 0xC031));
-    go_on(&mut session, 16);
+    go_on(&mut session, 9);
+    let regs = session.regs();
+    assert_eq!(rt; (session.at(), regs.pc, regs.sp), ((1, 26), 0xC03C, 0x1FF8));
+    go_on(&mut session, 7);
     let regs = session.regs();
     assert_eq!(rt; (session.at(), session.byte(0x1010)), ((1, 33), 0x40));
     assert_eq!(rt; (regs.pc, regs.a, regs.b), (0xC04C, 0x00, 0x40));
