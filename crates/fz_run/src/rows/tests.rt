@@ -140,6 +140,7 @@ fn reads_wide_answers(rt: HostRuntime) -> Result<(), Fail> {
     heater.wide = true;
     let samples = vec![in alloc; sample(alloc, 64)]?;
     let rows = run(alloc, &heater, samples.as_slice(), &no_interrupts(alloc), 0)?;
+    assert_eq!(rt; rows.len(), 1);
     assert_eq!(rt; rows[0].answers.as_slice(), [0x4000].as_slice());
     Ok(())
 }
@@ -305,6 +306,7 @@ fn stands_at_each_position(rt: HostRuntime) -> Result<(), Fail> {
     go_on(&mut session, 3);
     assert_eq!(rt; (session.at(), session.advance()), ((1, 36), false));
     let (rows, _memory) = session.finish();
+    assert_eq!(rt; rows.len(), 1);
     assert_eq!(rt; rows[0].answers.as_slice(), [64].as_slice());
     Ok(())
 }
