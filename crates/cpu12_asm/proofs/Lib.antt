@@ -1,5 +1,6 @@
 pub mod Placing
 pub mod Rising
+pub mod Algebra
 pub mod Sequences
 pub mod Writing
 pub mod Pieces

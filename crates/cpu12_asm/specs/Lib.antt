@@ -1,5 +1,6 @@
 pub mod Bytes
 pub mod Items
+pub mod Rising
 pub mod Lines
 pub mod Left
 pub mod Expressions

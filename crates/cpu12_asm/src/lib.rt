@@ -13,6 +13,7 @@ mod expressions;
 mod faults;
 mod image;
 mod items;
+pub mod laws;
 mod lines;
 mod operands;
 mod sources;

@@ -8,7 +8,7 @@ use Rattle.cpu12_isa.specs.Memory.{from, bytes_at}
 use Rattle.cpu12_isa.specs.Code.{FitsOperands, decode_at}
 use Rattle.cpu12_isa.specs.Meaning.{act_of}
 use Rattle.cpu12_isa.specs.Fits.{FitsRegs, FitsWrites, AreBytes, StaysFit, BytesStay, DecodedFits}
-use Rattle.cpu12_isa.proofs.Lemmas.{outcome_bind, bytes_at_fit}
+use Rattle.cpu12_isa.proofs.Algebra.{outcome_bind, bytes_at_fit}
 use Rattle.cpu12_parts.specs.declared.temps.Temps.{Temps}
 use Rattle.cpu12_parts.specs.declared.temps.Temps.TheVariants.{Free, Running, OnStack}
 use Rattle.cpu12_parts.specs.State.{State, Outcome}

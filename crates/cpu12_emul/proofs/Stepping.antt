@@ -7,8 +7,8 @@ use Rattle.cpu12_isa.specs.Act.{Act, Give, Get, outcome, read_by, bind, get_all,
 use Rattle.cpu12_isa.specs.Memory.{plus, from, bytes_at}
 use Rattle.cpu12_isa.specs.Code.{decode_at, decode_of, six_from}
 use Rattle.cpu12_isa.specs.Meaning.{act_of, is_plain}
-use Rattle.cpu12_isa.specs.Agreement.{Agree}
-use Rattle.cpu12_isa.proofs.Lemmas.{outcome_bind, read_by_bind, same_outcome, same_writes}
+use Rattle.cpu12_isa.specs.Agreement.{Agree, WritesAgree}
+use Rattle.cpu12_isa.proofs.Algebra.{outcome_bind, read_by_bind, same_outcome}
 use Rattle.cpu12_parts.specs.declared.temps.Temps.{Temps}
 use Rattle.cpu12_parts.specs.declared.temps.Temps.TheVariants.{Running}
 use Rattle.cpu12_parts.specs.declared.temps.PartEnd.TheVariants.{More}
@@ -21,10 +21,10 @@ use Rattle.cpu12_emul.specs.Step.{Left, Next, step_act, instruction_act, left_by
 use Rattle.cpu12_isa.specs.Regions.{is_hidden}
 use Rattle.cpu12_emul.specs.Simulation.{Same, Parked, AreSumsReady, HasRoom, IsShownStep, StepsAlike, StepAgrees, WavrGoesOn, StepKeeps, PlainIsStep, PartIsStep, SumsAreStep, left_of}
 
-pub step_agrees : StepAgrees
-step_agrees flags r t m n l hidden later a shown is u = (
+pub step_agrees : WritesAgree → StepAgrees
+step_agrees agree flags r t m n l hidden later a shown is u = (
   same_outcome hidden m n a (step_act flags r t) shown ∙ is,
-  same_writes later l.writes m n a.size (λ at w. elim (u at w) [ inl e ↦ inl (a.bytes at e) | inr k ↦ inr k ]),
+  agree l.writes m n hidden later a u,
 )
 
 -- a step where no sums run goes by six bytes
@@ -158,27 +158,27 @@ alike_by open_to flags s t k e a = record {
   same = record { regs = refl; temps = refl; mem = a };
 }
 
-step_same : (open_to : ℕ → Bool) (flags : ℕ) (s t : State) → Same open_to s t → IsShownStep open_to flags t → StepsAlike open_to flags s t
-step_same open_to flags s t l k =
-    let both = step_agrees flags t.regs t.temps s.mem t.mem k.left (is_hidden open_to t.regs.sp) (is_hidden open_to k.left.regs.sp) l.mem k.reads k.goes k.covers in
+step_same : StepAgrees → (open_to : ℕ → Bool) (flags : ℕ) (s t : State) → Same open_to s t → IsShownStep open_to flags t → StepsAlike open_to flags s t
+step_same agrees open_to flags s t l k =
+    let both = agrees flags t.regs t.temps s.mem t.mem k.left (is_hidden open_to t.regs.sp) (is_hidden open_to k.left.regs.sp) l.mem k.reads k.goes k.covers in
     alike_by open_to flags s t k
     (ap (λ (r : Regs). outcome (step_act flags r s.temps) s.mem) l.regs ∙ ap (λ (u : Temps). outcome (step_act flags t.regs u) s.mem) l.temps ∙ both.0)
     both.1
 
-step_parked : (open_to : ℕ → Bool) (flags : ℕ) (s t : State) → Parked open_to s t → IsShownStep open_to flags t → StepsAlike open_to flags s t
-step_parked open_to flags s t l k =
+step_parked : StepAgrees → WavrGoesOn → (open_to : ℕ → Bool) (flags : ℕ) (s t : State) → Parked open_to s t → IsShownStep open_to flags t → StepsAlike open_to flags s t
+step_parked agrees goes_on open_to flags s t l k =
     let good : AreSumsReady open_to t (Running l.product l.weight) = subst (λ (u : Temps). AreSumsReady open_to t u) l.running k.sums in
     let room : HasRoom t = k.room in
     let fits = room.fits in
     let code : get_or s.mem t.regs.pc 0 ≡ 60 = l.mem.bytes t.regs.pc good.3 ∙ good.2 in
-    let both = step_agrees flags t.regs t.temps s.mem t.mem k.left (is_hidden open_to t.regs.sp) (is_hidden open_to k.left.regs.sp) l.mem k.reads k.goes k.covers in
+    let both = agrees flags t.regs t.temps s.mem t.mem k.left (is_hidden open_to t.regs.sp) (is_hidden open_to k.left.regs.sp) l.mem k.reads k.goes k.covers in
     alike_by open_to flags s t k
     (ap (λ (r : Regs). outcome (step_act flags r s.temps) s.mem) l.regs
-    ∙ wavr_goes_on flags t.regs s.temps l.product l.weight s.mem l.temps fits.sp good.0 good.1 code l.sums
+    ∙ goes_on flags t.regs s.temps l.product l.weight s.mem l.temps fits.sp good.0 good.1 code l.sums
     ∙ ap (λ (u : Temps). outcome (step_act flags t.regs u) s.mem) (sym l.running)
     ∙ both.0)
     both.1
 
-pub step_keeps : StepKeeps
-step_keeps open_to flags s t (inl l) k = step_same open_to flags s t l k
-step_keeps open_to flags s t (inr l) k = step_parked open_to flags s t l k
+pub step_keeps : StepAgrees → WavrGoesOn → StepKeeps
+step_keeps agrees goes_on open_to flags s t (inl l) k = step_same agrees open_to flags s t l k
+step_keeps agrees goes_on open_to flags s t (inr l) k = step_parked agrees goes_on open_to flags s t l k

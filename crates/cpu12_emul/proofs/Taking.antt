@@ -1,25 +1,23 @@
 -- Interrupts keep the simulation.
-use Rattle.std.proofs.Common.{◌≡◌, ℕ, zero, suc, ◌+◌, ◌-◌, ◌*◌, ◌/◌, ◌%◌, ◌^◌, ◌<◌, ◌≤◌, Bool, true, false, ◌&&◌, nat_lt, nat_le, List, [], ◌∷◌, ◌++◌, length, refl, ap, ap₂, sym, ◌∙◌, subst, arith, inl, inr, ◌⊎◌, lit≤}
+use Rattle.std.proofs.Common.{◌≡◌, ℕ, ◌+◌, ◌-◌, ◌%◌, ◌^◌, ◌<◌, Bool, true, false, ◌&&◌, nat_lt, nat_le, List, [], ◌∷◌, ◌++◌, length, refl, ap, ap₂, sym, ◌∙◌, subst, arith, inl, inr, lit≤}
 use Rattle.std.proofs.lemmas.Bool.{or_parts, false≢true}
-use Rattle.std.proofs.lemmas.Bool.Decides.{nat_tests}
 use Rattle.cpu12_isa.specs.declared.instr.Regs.{Regs}
-use Rattle.cpu12_isa.specs.declared.instr.Ccr.{Ccr}
 use Rattle.cpu12_isa.specs.declared.instr.Write.{Write}
 use Rattle.cpu12_isa.specs.Act.{write_all}
 use Rattle.cpu12_isa.specs.Memory.{plus, from, placed, bytes_at}
-use Rattle.cpu12_isa.specs.Flags.{put, pulled_flags, interrupts_masked}
 use Rattle.cpu12_isa.specs.Registers.{frame_bytes, pulled}
-use Rattle.cpu12_isa.specs.Agreement.{Agree, AllShown, IsWritten}
-use Rattle.cpu12_isa.specs.Regions.{stack_start, stack_end, is_hidden, LeavesStack}
+use Rattle.cpu12_isa.specs.Agreement.{Agree, IsWritten}
+use Rattle.cpu12_isa.specs.Regions.{stack_start, is_hidden, LeavesStack}
 use Rattle.cpu12_isa.specs.Fits.{FitsRegs}
-use Rattle.cpu12_isa.proofs.Lemmas.{unwritten, length_writes, agree_with, place_of, read_placed, bytes_unwritten, bytes_split, same_bytes, pulled_again, agree_less, shown_from, push_agrees}
+use Rattle.cpu12_isa.specs.Interrupts.{FrameComesBack, HidesMoreAbove, ShowsFromSp, HidesPushed}
+use Rattle.cpu12_isa.proofs.Algebra.{unwritten, length_writes, agree_with, place_of, read_placed, bytes_unwritten, bytes_split, same_bytes}
 use Rattle.cpu12_parts.specs.declared.temps.Temps.{Temps}
-use Rattle.cpu12_parts.specs.declared.temps.Temps.TheVariants.{Free, Running, OnStack}
+use Rattle.cpu12_parts.specs.declared.temps.Temps.TheVariants.{Running}
 use Rattle.cpu12_parts.specs.State.{State}
 use Rattle.cpu12_parts.specs.Sums.{sum_bytes}
-use Rattle.cpu12_parts.specs.Cuts.{suspended, wav}
 use Rattle.cpu12_parts.specs.Laws.{IsOff}
-use Rattle.cpu12_parts.proofs.Lemmas.{pushed_sums, suspends, suspends_not, temps_cases}
+use Rattle.cpu12_parts.specs.Inside.{pushed_sums, PushesRunning, PushesNone}
+use Rattle.cpu12_parts.proofs.Algebra.{temps_cases}
 use Rattle.cpu12_emul.specs.Take.{pairs_of, pushed, written, framed, taken, FrameSeen, frame_size, frame_of, frame_in}
 use Rattle.cpu12_emul.specs.Simulation.{AreOpen, Same, Parked, HasRoom, TakesQuietly, TakeKeeps, FrameIsOnStack}
 
@@ -28,28 +26,22 @@ open_writes : (open_to : ℕ → Bool) (ws : List Write) (at : ℕ) → AreOpen 
 open_writes open_to [] at g w = absurd w
 open_writes open_to (x ∷ ws) at g w = elim w [ inl e ↦ subst (λ (k : ℕ). open_to k ≡ true) (sym e) g.0 | inr k ↦ open_writes open_to ws at g.1 k ]
 
--- the frame that was pushed is pulled
-frame_back : (r : Regs) → FitsRegs r → pulled (record r { sp = plus r.sp 65527; ccr = put r.ccr interrupts_masked true }) (frame_bytes r) ≡ r
-frame_back r f =
-    let x : r.x / 2 ^ 8 * 2 ^ 8 + r.x % 2 ^ 8 ≡ r.x = omega arith in
-    let y : r.y / 2 ^ 8 * 2 ^ 8 + r.y % 2 ^ 8 ≡ r.y = omega arith in
-    let p : r.pc / 2 ^ 8 * 2 ^ 8 + r.pc % 2 ^ 8 ≡ r.pc = omega arith in
-    let sp : plus (plus r.sp 65527) 9 ≡ r.sp = omega arith in
-    let c : pulled_flags (put r.ccr interrupts_masked true) r.ccr.0 ≡ r.ccr = pulled_again r.ccr f.ccr in
-    let there : ℕ → ℕ → ℕ → ℕ → Ccr → Regs = λ a b i j d. record r { x = a; y = b; pc = i; sp = j; ccr = d } in
-    ap (λ (n : ℕ). there n (r.y / 2 ^ 8 * 2 ^ 8 + r.y % 2 ^ 8) (r.pc / 2 ^ 8 * 2 ^ 8 + r.pc % 2 ^ 8) (plus (plus r.sp 65527) 9) (pulled_flags (put r.ccr interrupts_masked true) r.ccr.0)) x
-    ∙ ap (λ (n : ℕ). there r.x n (r.pc / 2 ^ 8 * 2 ^ 8 + r.pc % 2 ^ 8) (plus (plus r.sp 65527) 9) (pulled_flags (put r.ccr interrupts_masked true) r.ccr.0)) y
-    ∙ ap (λ (n : ℕ). there r.x r.y n (plus (plus r.sp 65527) 9) (pulled_flags (put r.ccr interrupts_masked true) r.ccr.0)) p
-    ∙ ap (λ (n : ℕ). there r.x r.y r.pc n (pulled_flags (put r.ccr interrupts_masked true) r.ccr.0)) sp
-    ∙ ap (there r.x r.y r.pc r.sp) c
+-- the laws of what an interrupt pushes and hides
+pub record Pushes : Type 0 where
+  pub frame_comes_back : FrameComesBack
+  pub more : HidesMoreAbove
+  pub shown : ShowsFromSp
+  pub pushed : HidesPushed
+  pub running : PushesRunning
+  pub none : PushesNone
 
-pub takes_quietly : TakesQuietly
-takes_quietly open_to ws s leaves good z f a b =
+pub takes_quietly : Pushes → TakesQuietly
+takes_quietly laws open_to ws s leaves good z f a b =
     let base : ℕ = plus s.regs.sp 65527 in
     let bytes : List ℕ = frame_bytes s.regs in
     let low : plus s.regs.sp 65527 ≡ s.regs.sp - 9 = omega arith in
     let wrote : Agree (is_hidden open_to s.regs.sp) (pushed s).mem s.mem =
-    subst (λ (k : ℕ). Agree (is_hidden open_to s.regs.sp) (write_all (placed k (frame_bytes s.regs)) s.mem) s.mem) (sym low) (push_agrees open_to s.regs.sp 9 (frame_bytes s.regs) s.mem b refl (omega arith)) in
+    subst (λ (k : ℕ). Agree (is_hidden open_to s.regs.sp) (write_all (placed k (frame_bytes s.regs)) s.mem) s.mem) (sym low) (laws.pushed open_to s.regs.sp 9 (frame_bytes s.regs) s.mem b refl (omega arith)) in
     let closed : (at : ℕ) → open_to at ≡ false → IsWritten (pairs_of ws) at → ⊥ = λ at h w. false≢true (sym h ∙ open_writes open_to ws at good w) in
     let after : Agree (is_hidden open_to s.regs.sp) (written ws (pushed s)).mem (pushed s).mem = record {
       size = length_writes (pairs_of ws) (pushed s).mem;
@@ -60,7 +52,7 @@ takes_quietly open_to ws s leaves good z f a b =
     (let o = open_writes open_to ws ((plus s.regs.sp 65527 + k) % 2 ^ 16) good w in elim (leaves ((plus s.regs.sp 65527 + k) % 2 ^ 16) o) [ inl q ↦ omega arith | inr q ↦ omega arith ])) in
     let back : bytes_at (pushed s).mem (from (plus s.regs.sp 65527) 9) ≡ frame_bytes s.regs = read_placed (frame_bytes s.regs) (plus s.regs.sp 65527) s.mem (omega arith) (lit≤ tt) z in
     record {
-      regs = ap (pulled (pushed s).regs) (still ∙ back) ∙ frame_back s.regs f;
+      regs = ap (pulled (pushed s).regs) (still ∙ back) ∙ laws.frame_comes_back s.regs f;
       temps = refl;
       mem = agree_with (is_hidden open_to s.regs.sp) (written ws (pushed s)).mem (pushed s).mem s.mem after wrote;
     }
@@ -69,8 +61,8 @@ fits_at : (r : Regs) (k : ℕ) → FitsRegs r → k < 2 ^ 16 → FitsRegs (recor
 fits_at r k f h = record { a = f.a; b = f.b; x = f.x; y = f.y; sp = h; pc = f.pc; ccr = f.ccr }
 
 -- an interrupt where the sums run parks them
-parks : (open_to : ℕ → Bool) (ws : List Write) (s t : State) (p w : ℕ) → LeavesStack open_to → AreOpen open_to ws → HasRoom t → Same open_to s t → s.temps ≡ Running p w → Parked open_to (taken ws s) t
-parks open_to ws s t p w leaves good room l run =
+parks : Pushes → (open_to : ℕ → Bool) (ws : List Write) (s t : State) (p w : ℕ) → LeavesStack open_to → AreOpen open_to ws → HasRoom t → Same open_to s t → s.temps ≡ Running p w → Parked open_to (taken ws s) t
+parks laws open_to ws s t p w leaves good room l run =
     let x = pushed_sums s.regs p w s.mem in
     let fits = room.fits in
     let lo = room.low in
@@ -79,11 +71,11 @@ parks open_to ws s t p w leaves good room l run =
     let size : length s.mem ≡ 65536 = l.mem.size ∙ room.size in
     let base : plus s.regs.sp 65530 ≡ t.regs.sp - 6 = omega arith in
     let wrote : Agree (is_hidden open_to t.regs.sp) (write_all (placed (plus s.regs.sp 65530) (sum_bytes p w)) s.mem) s.mem =
-    subst (λ (k : ℕ). Agree (is_hidden open_to t.regs.sp) (write_all (placed k (sum_bytes p w)) s.mem) s.mem) (sym base) (push_agrees open_to t.regs.sp 6 (sum_bytes p w) s.mem hi refl (omega arith)) in
+    subst (λ (k : ℕ). Agree (is_hidden open_to t.regs.sp) (write_all (placed k (sum_bytes p w)) s.mem) s.mem) (sym base) (laws.pushed open_to t.regs.sp 6 (sum_bytes p w) s.mem hi refl (omega arith)) in
     let fits_s : FitsRegs s.regs = subst (λ (r : Regs). FitsRegs r) (sym l.regs) fits in
-    let u = takes_quietly open_to ws x leaves good (length_writes (placed (plus s.regs.sp 65530) (sum_bytes p w)) s.mem ∙ size) (fits_at s.regs (plus s.regs.sp 65530) fits_s (omega arith)) (omega arith) (omega arith) in
+    let u = takes_quietly laws open_to ws x leaves good (length_writes (placed (plus s.regs.sp 65530) (sum_bytes p w)) s.mem ∙ size) (fits_at s.regs (plus s.regs.sp 65530) fits_s (omega arith)) (omega arith) (omega arith) in
     let got : bytes_at (framed ws x).mem (from (plus s.regs.sp 65530) 6) ≡ bytes_at x.mem (from (plus s.regs.sp 65530) 6) =
-    same_bytes (is_hidden open_to (plus s.regs.sp 65530)) (framed ws x).mem x.mem u.mem (from (plus s.regs.sp 65530) 6) (shown_from open_to (plus s.regs.sp 65530) (plus s.regs.sp 65530) 6 leaves (omega arith) (omega arith) (omega arith)) in
+    same_bytes (is_hidden open_to (plus s.regs.sp 65530)) (framed ws x).mem x.mem u.mem (from (plus s.regs.sp 65530) 6) (laws.shown open_to (plus s.regs.sp 65530) (plus s.regs.sp 65530) 6 leaves (omega arith) (omega arith) (omega arith)) in
     let there : bytes_at x.mem (from (plus s.regs.sp 65530) 6) ≡ sum_bytes p w = read_placed (sum_bytes p w) (plus s.regs.sp 65530) s.mem (omega arith) (lit≤ tt) size in
     let at : plus s.regs.sp 65530 ≡ plus t.regs.sp 65530 = omega arith in
     let parked : Parked open_to (framed ws x) t = record {
@@ -93,23 +85,23 @@ parks open_to ws s t p w leaves good room l run =
       temps = inr refl;
       regs = u.regs ∙ ap (λ (r : Regs). record r { sp = plus r.sp 65530 }) l.regs;
       sums = subst (λ (k : ℕ). bytes_at (framed ws x).mem (from k 6) ≡ sum_bytes p w) at (got ∙ there);
-      mem = agree_with (is_hidden open_to t.regs.sp) (framed ws x).mem x.mem t.mem (agree_less open_to (plus s.regs.sp 65530) t.regs.sp (framed ws x).mem x.mem (omega arith) u.mem)
+      mem = agree_with (is_hidden open_to t.regs.sp) (framed ws x).mem x.mem t.mem (laws.more open_to (plus s.regs.sp 65530) t.regs.sp (framed ws x).mem x.mem (omega arith) u.mem)
           (agree_with (is_hidden open_to t.regs.sp) x.mem s.mem t.mem wrote l.mem);
     } in
-    subst (λ (v : State). Parked open_to (framed ws v) t) (sym (suspends s p w run)) parked
+    subst (λ (v : State). Parked open_to (framed ws v) t) (sym (laws.running s p w run)) parked
 
 -- a further one leaves them
-stays_parked : (open_to : ℕ → Bool) (ws : List Write) (s t : State) → LeavesStack open_to → AreOpen open_to ws → HasRoom t → Parked open_to s t → Parked open_to (taken ws s) t
-stays_parked open_to ws s t leaves good room l =
+stays_parked : Pushes → (open_to : ℕ → Bool) (ws : List Write) (s t : State) → LeavesStack open_to → AreOpen open_to ws → HasRoom t → Parked open_to s t → Parked open_to (taken ws s) t
+stays_parked laws open_to ws s t leaves good room l =
     let fits = room.fits in
     let lo = room.low in
     let hi = room.high in
     let sp : s.regs.sp ≡ plus t.regs.sp 65530 = ap (λ (r : Regs). r.sp) l.regs in
     let size : length s.mem ≡ 65536 = l.mem.size ∙ room.size in
     let fits_s : FitsRegs s.regs = subst (λ (r : Regs). FitsRegs r) (sym l.regs) (fits_at t.regs (plus t.regs.sp 65530) fits (omega arith)) in
-    let u = takes_quietly open_to ws s leaves good size fits_s (omega arith) (omega arith) in
+    let u = takes_quietly laws open_to ws s leaves good size fits_s (omega arith) (omega arith) in
     let got : bytes_at (framed ws s).mem (from (plus t.regs.sp 65530) 6) ≡ bytes_at s.mem (from (plus t.regs.sp 65530) 6) =
-    same_bytes (is_hidden open_to s.regs.sp) (framed ws s).mem s.mem u.mem (from (plus t.regs.sp 65530) 6) (shown_from open_to s.regs.sp (plus t.regs.sp 65530) 6 leaves (omega arith) (omega arith) (omega arith)) in
+    same_bytes (is_hidden open_to s.regs.sp) (framed ws s).mem s.mem u.mem (from (plus t.regs.sp 65530) 6) (laws.shown open_to s.regs.sp (plus t.regs.sp 65530) 6 leaves (omega arith) (omega arith) (omega arith)) in
     let parked : Parked open_to (framed ws s) t = record {
       product = l.product;
       weight = l.weight;
@@ -117,31 +109,31 @@ stays_parked open_to ws s t leaves good room l =
       temps = l.temps;
       regs = u.regs ∙ l.regs;
       sums = got ∙ l.sums;
-      mem = agree_with (is_hidden open_to t.regs.sp) (framed ws s).mem s.mem t.mem (agree_less open_to s.regs.sp t.regs.sp (framed ws s).mem s.mem (omega arith) u.mem) l.mem;
+      mem = agree_with (is_hidden open_to t.regs.sp) (framed ws s).mem s.mem t.mem (laws.more open_to s.regs.sp t.regs.sp (framed ws s).mem s.mem (omega arith) u.mem) l.mem;
     } in
-    subst (λ (v : State). Parked open_to (framed ws v) t) (sym (suspends_not s l.temps)) parked
+    subst (λ (v : State). Parked open_to (framed ws v) t) (sym (laws.none s l.temps)) parked
 
 -- where no sums run the state stays the same
-stays_same : (open_to : ℕ → Bool) (ws : List Write) (s t : State) → LeavesStack open_to → AreOpen open_to ws → HasRoom t → Same open_to s t → IsOff s.temps → Same open_to (taken ws s) t
-stays_same open_to ws s t leaves good room l off =
+stays_same : Pushes → (open_to : ℕ → Bool) (ws : List Write) (s t : State) → LeavesStack open_to → AreOpen open_to ws → HasRoom t → Same open_to s t → IsOff s.temps → Same open_to (taken ws s) t
+stays_same laws open_to ws s t leaves good room l off =
     let lo = room.low in
     let hi = room.high in
     let sp : s.regs.sp ≡ t.regs.sp = ap (λ (r : Regs). r.sp) l.regs in
     let fits_s : FitsRegs s.regs = subst (λ (r : Regs). FitsRegs r) (sym l.regs) room.fits in
-    let u = takes_quietly open_to ws s leaves good (l.mem.size ∙ room.size) fits_s (omega arith) (omega arith) in
+    let u = takes_quietly laws open_to ws s leaves good (l.mem.size ∙ room.size) fits_s (omega arith) (omega arith) in
     let same : Same open_to (framed ws s) t = record {
       regs = u.regs ∙ l.regs;
       temps = u.temps ∙ l.temps;
       mem = agree_with (is_hidden open_to t.regs.sp) (framed ws s).mem s.mem t.mem (subst (λ (k : ℕ). Agree (is_hidden open_to k) (framed ws s).mem s.mem) sp u.mem) l.mem;
     } in
-    subst (λ (v : State). Same open_to (framed ws v) t) (sym (suspends_not s off)) same
+    subst (λ (v : State). Same open_to (framed ws v) t) (sym (laws.none s off)) same
 
-pub take_keeps : TakeKeeps
-take_keeps open_to ws s t leaves good room (inl l) = elim (temps_cases s.temps) [
-  | inl off ↦ inl (stays_same open_to ws s t leaves good room l off)
-  | inr run ↦ inr (parks open_to ws s t run.0 run.1 leaves good room l run.2)
+pub take_keeps : Pushes → TakeKeeps
+take_keeps laws open_to ws s t leaves good room (inl l) = elim (temps_cases s.temps) [
+  | inl off ↦ inl (stays_same laws open_to ws s t leaves good room l off)
+  | inr run ↦ inr (parks laws open_to ws s t run.0 run.1 leaves good room l run.2)
 ]
-take_keeps open_to ws s t leaves good room (inr l) = inr (stays_parked open_to ws s t leaves good room l)
+take_keeps laws open_to ws s t leaves good room (inr l) = inr (stays_parked laws open_to ws s t leaves good room l)
 
 -- the nine bytes stand on the stack
 nine_there : (s : State) → length s.mem ≡ 65536 → bytes_at (pushed s).mem (from (plus s.regs.sp 65527) 9) ≡ frame_bytes s.regs
@@ -164,10 +156,10 @@ fifteen_there r p w m size =
 frame_from : State → ℕ → FrameSeen
 frame_from v n = record { pc = v.regs.pc; sp = plus v.regs.sp 65527; bytes = bytes_at (pushed v).mem (from (plus v.regs.sp 65527) n) }
 
-plain_frame : (s : State) → IsOff s.temps → length s.mem ≡ 65536 → frame_of s ≡ record { pc = s.regs.pc; sp = plus s.regs.sp 65527; bytes = frame_bytes s.regs }
+plain_frame : PushesNone → (s : State) → IsOff s.temps → length s.mem ≡ 65536 → frame_of s ≡ record { pc = s.regs.pc; sp = plus s.regs.sp 65527; bytes = frame_bytes s.regs }
 unfolding frame_from
-plain_frame s off size =
-    ap (λ (v : State). frame_from v (frame_size s.temps)) (suspends_not s off)
+plain_frame none s off size =
+    ap (λ (v : State). frame_from v (frame_size s.temps)) (none s off)
     ∙ ap (frame_from s) (size_of s.temps off)
     ∙ ap (by s) (nine_there s size)
   where
@@ -178,12 +170,12 @@ plain_frame s off size =
     by : State → List ℕ → FrameSeen
     by v b = record { pc = v.regs.pc; sp = plus v.regs.sp 65527; bytes = b }
 
-full_frame : (s : State) (p w : ℕ) → s.temps ≡ Running p w → length s.mem ≡ 65536
+full_frame : PushesRunning → (s : State) (p w : ℕ) → s.temps ≡ Running p w → length s.mem ≡ 65536
     → frame_of s ≡ record { pc = s.regs.pc; sp = plus s.regs.sp 65521; bytes = frame_bytes s.regs ++ sum_bytes p w }
 unfolding frame_from
-full_frame s p w e size =
+full_frame running s p w e size =
     let sp : plus (plus s.regs.sp 65530) 65527 ≡ plus s.regs.sp 65521 = omega arith in
-    ap₂ frame_from (suspends s p w e) (ap frame_size e)
+    ap₂ frame_from (running s p w e) (ap frame_size e)
     ∙ ap₂ (by s) sp (fifteen_there s.regs p w s.mem size)
   where
     by : State → ℕ → List ℕ → FrameSeen
@@ -193,8 +185,8 @@ frame_in_off : (s : State) (t : Temps) → IsOff t → frame_in s t ≡ record {
 frame_in_off s t (inl e) = ap (frame_in s) e
 frame_in_off s t (inr e) = ap (frame_in s) e
 
-pub frame_is_on_stack : FrameIsOnStack
-frame_is_on_stack s size low = elim (temps_cases s.temps) [
-  | inl off ↦ plain_frame s off size ∙ sym (frame_in_off s s.temps off)
-  | inr run ↦ full_frame s run.0 run.1 run.2 size ∙ sym (ap (frame_in s) run.2)
+pub frame_is_on_stack : PushesRunning → PushesNone → FrameIsOnStack
+frame_is_on_stack running none s size low = elim (temps_cases s.temps) [
+  | inl off ↦ plain_frame none s off size ∙ sym (frame_in_off s s.temps off)
+  | inr run ↦ full_frame running s run.0 run.1 run.2 size ∙ sym (ap (frame_in s) run.2)
 ]

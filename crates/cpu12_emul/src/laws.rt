@@ -5,8 +5,10 @@ ghost use Rattle.cpu12_emul.specs.Fits.{StepFits};
 ghost use Rattle.cpu12_emul.specs.Image.{HoldsImage};
 ghost use Rattle.cpu12_emul.specs.Simulation.{StepAgrees, WavrGoesOn, StepKeeps, TakesQuietly, TakeKeeps, FrameIsOnStack, PlainIsStep, PartIsStep, SumsAreStep};
 
-use cpu12_isa::laws::{bytes_stay, decoded_fits, stays_fit};
-use cpu12_parts::laws::{rev_fits, revw_fits, wav_fits};
+use cpu12_isa::laws::{
+    bytes_stay, decoded_fits, frame_comes_back, stack_is_hidden, stays_fit, writes_agree,
+};
+use cpu12_parts::laws::{rev_fits, revw_fits, wav_fits, wav_suspends};
 
 /// A memory made from an image holds just its bytes.
 pub fn holds_image()
@@ -41,7 +43,9 @@ pub fn sums_are_step()
 /// Two states that agree outside hidden bytes step alike, where what is read is shown.
 pub fn step_agrees()
     ensures { StepAgrees }
-{}
+{
+    writes_agree();
+}
 
 /// A step with WAV's sums on the stack is that with the sums running.
 pub fn wavr_goes_on()
@@ -51,22 +55,35 @@ pub fn wavr_goes_on()
 /// A step keeps the simulation.
 pub fn step_keeps()
     ensures { StepKeeps }
-{}
+{
+    step_agrees();
+    wavr_goes_on();
+}
 
 /// An interrupt that writes open bytes changes nothing but these and bytes below SP.
 pub fn takes_quietly()
     ensures { TakesQuietly }
-{}
+{
+    frame_comes_back();
+    stack_is_hidden();
+    wav_suspends();
+}
 
 /// An interrupt that writes open bytes keeps the simulation.
 pub fn take_keeps()
     ensures { TakeKeeps }
-{}
+{
+    frame_comes_back();
+    stack_is_hidden();
+    wav_suspends();
+}
 
 /// A frame is the registers' nine bytes, and the sums' six where they run.
 pub fn frame_is_on_stack()
     ensures { FrameIsOnStack }
-{}
+{
+    wav_suspends();
+}
 
 /// A step leaves registers, sums and bytes that fit.
 pub fn step_fits()

@@ -116,7 +116,7 @@ impl<M: Mem> Machine<M> {
     }
 
     /// The step of an instruction that stands at PC, where no sums run.
-    #[tactic(auto, using(cpu12_isa::proofs::Lemmas::outcome_bind))]
+    #[tactic(auto, using(cpu12_isa::proofs::Algebra::outcome_bind))]
     fn instruction(&mut self, i: &Instr) -> Stepped
         ensures next { applied (outcome (instruction_act self.old.flags self.old.state.regs self.old.state.temps (Ok i.now)) self.old.state.mem) self.old.state.mem
             ≡ Ok (record { state = self.new.state; kind = result }) }
@@ -140,7 +140,7 @@ impl<M: Mem> Machine<M> {
     /// One step: where WAV's sums run its next part, else a plain instruction or one part by the bytes
     /// at PC. A `Trap` comes exactly where `decode` answers it; it leaves the machine as it was, and
     /// never comes while sums run.
-    #[tactic(auto, using(cpu12_isa::proofs::Lemmas::outcome_bind))]
+    #[tactic(auto, using(cpu12_isa::proofs::Algebra::outcome_bind))]
     pub fn step(&mut self) -> Result<Stepped, Trap>
         ensures next { MatchResult result
             (λ kind. next_of self.old.flags self.old.state ≡ Ok (record { state = self.new.state; kind = kind }))

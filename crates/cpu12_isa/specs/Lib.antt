@@ -9,3 +9,4 @@ pub mod Code
 pub mod Agreement
 pub mod Fits
 pub mod Regions
+pub mod Interrupts

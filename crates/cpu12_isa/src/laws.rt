@@ -3,6 +3,7 @@ ghost use Rattle.cpu12_isa.specs.Meaning.{Effect};
 ghost use Rattle.cpu12_isa.specs.Code.{DecodedHasOpcode};
 ghost use Rattle.cpu12_isa.specs.Fits.{StaysFit, BytesStay, DecodedFits};
 ghost use Rattle.cpu12_isa.specs.Agreement.{ReadsAlone, WritesAgree, WritesStay};
+ghost use Rattle.cpu12_isa.specs.Interrupts.{FrameComesBack, HidesMoreAbove, ShowsFromSp, HidesPushed};
 
 /// What an instruction does depends on the bytes that it reads alone.
 pub fn reads_alone()
@@ -37,4 +38,17 @@ pub fn decoded_fits()
 /// What is decoded has its opcode there, and its page's byte before it.
 pub fn decoded_has_opcode()
     ensures { DecodedHasOpcode }
+{}
+
+/// What an interrupt pushes of the registers is pulled again.
+pub fn frame_comes_back()
+    ensures { FrameComesBack }
+{}
+
+/// Of the stack the bytes below SP are hidden, and no others: what is pushed is, and more where SP is
+/// higher.
+pub fn stack_is_hidden()
+    ensures more { HidesMoreAbove }
+    ensures shown { ShowsFromSp }
+    ensures pushed { HidesPushed }
 {}

@@ -5,4 +5,5 @@ pub mod RevWalks
 pub mod OverCuts
 pub mod PartFits
 pub mod OneWay
-pub mod Lemmas
+pub mod Inside
+pub mod Algebra

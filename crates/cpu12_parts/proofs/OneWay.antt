@@ -1,14 +1,14 @@
 -- A whole instruction leads to one state, by one number of parts.
-use Rattle.std.proofs.Common.{◌≡◌, ◌⊎◌, inl, inr, ℕ, suc, ◌-◌, ◌<◌, ◌≤◌, Bool, true, false, cond, Ok, Err, Result, List, [], ◌∷◌, ◌++◌, length, refl, sym, ap, ap₂, ◌∙◌, subst, arith}
+use Rattle.std.proofs.Common.{◌≡◌, inl, inr, ℕ, ◌<◌, ◌≤◌, Bool, true, false, cond, Ok, Err, Result, List, [], ◌∷◌, ◌++◌, length, refl, sym, ap, ap₂, ◌∙◌, subst, arith}
 use Rattle.cpu12_isa.specs.declared.instr.Instr.{Instr}
 use Rattle.cpu12_isa.specs.declared.instr.Instr.TheVariants.{Rev, Revw, Wav, Nop}
 use Rattle.cpu12_isa.specs.Code.{decode_at}
 use Rattle.cpu12_isa.specs.Memory.{plus}
 use Rattle.cpu12_isa.specs.Meaning.{is_plain}
 use Rattle.cpu12_parts.specs.State.{State}
-use Rattle.cpu12_parts.specs.Rules.{Rule, Form, rev_form, revw_form, elements_of, further_elements, Listed, AreNames, AreRules, AreWeights, rules_whole}
-use Rattle.cpu12_parts.specs.Whole.{after_plain, IsPlainStep, IsRulesStep, IsAverageStep, IsWholeStep}
-use Rattle.cpu12_parts.specs.Executions.{Execution, IsStepBefore, IsUntil, ExecutionsAreOne}
+use Rattle.cpu12_parts.specs.Rules.{Rule, Form, rev_form, revw_form, elements_of, Listed, AreNames, AreRules, AreWeights, rules_whole}
+use Rattle.cpu12_parts.specs.Whole.{after_plain, IsRulesStep, IsWholeStep}
+use Rattle.cpu12_parts.specs.Executions.{Execution, IsStepBefore, ExecutionsAreOne}
 
 abbrev instr_of : Result Instr ℕ → Instr
 instr_of (Ok i) = i

@@ -1,10 +1,10 @@
 -- The law over all cuts, for each instruction.
 use Rattle.std.proofs.Common.{ℕ, ◌-◌, Bool, false, List, [], ◌∷◌, length, refl, sym, subst}
-use Rattle.cpu12_isa.specs.Agreement.{AllShown}
+use Rattle.cpu12_isa.specs.Agreement.{AllShown, WritesAgree}
 use Rattle.cpu12_parts.specs.declared.temps.Temps.{Temps}
 use Rattle.cpu12_parts.specs.State.{State}
 use Rattle.cpu12_parts.specs.Cuts.{Kind, rev, revw, wav}
-use Rattle.cpu12_parts.specs.Owed.{Whole, WholeRules, WholeAverage, whole_rev, whole_revw, MakesWhole, OverCuts}
+use Rattle.cpu12_parts.specs.Owed.{Whole, WholeAverage, whole_rev, whole_revw, MakesWhole, OverCuts}
 use Rattle.cpu12_parts.specs.Rules.{rev_form, revw_form, rules_read, rules_written, rules_whole}
 use Rattle.cpu12_parts.specs.Averages.{wav_read, wav_whole}
 use Rattle.cpu12_parts.specs.Laws.{PartsTo, below, state_of, GoesOn, IsSteady, CutsChangeNothing, RevIsWhole, RevwIsWhole, WavIsWhole, RevOverCuts, RevwOverCuts, WavOverCuts}
@@ -34,10 +34,10 @@ wav_over_cuts cuts whole flags r t mem cs ff fc z sp off shown len =
     cuts flags none (r.b - 1) (state_of r t mem) (wav_whole flags r mem) z sp run cs len
 
 -- and for every instruction in parts
-pub over_cuts : (k : Kind) (kept : Temps → Type 0) (W : Whole) → GoesOn k kept → IsSteady k kept → MakesWhole k W → OverCuts k W
-over_cuts k kept W goes steady makes flags d reads writes s t cs whole z sp shown len =
+pub over_cuts : WritesAgree → (k : Kind) (kept : Temps → Type 0) (W : Whole) → GoesOn k kept → IsSteady k kept → MakesWhole k W → OverCuts k W
+over_cuts agree k kept W goes steady makes flags d reads writes s t cs whole z sp shown len =
     let run = makes flags d reads writes s t whole (below 6 s.regs.sp) none shown (none_hidden writes) in
-    cuts_change_nothing k kept goes steady flags none d s t z sp run cs len
+    cuts_change_nothing agree k kept goes steady flags none d s t z sp run cs len
 
 -- REV's, REVW's and WAV's parts make the whole instruction
 pub rev_makes : RevIsWhole → MakesWhole rev whole_rev

@@ -7,8 +7,8 @@ use Rattle.cpu12_isa.specs.Act.{Act, Give, Get}
 use Rattle.cpu12_isa.specs.Memory.{plus, word_of}
 use Rattle.cpu12_isa.specs.Flags.{has, put, opened, carry, overflow, zero_result, hnzc, hnz, hnvc, hnzvc}
 use Rattle.cpu12_isa.specs.Fits.{FitsRegs, Leaves}
-use Rattle.cpu12_isa.proofs.Bits.{fits_put, fits_opened}
-use Rattle.cpu12_isa.proofs.Fitting.{leaves_outcome}
+use Rattle.cpu12_isa.proofs.Algebra.{fits_put, fits_opened}
+use Rattle.cpu12_isa.proofs.Algebra.{leaves_outcome}
 use Rattle.cpu12_parts.specs.declared.temps.Temps.{Temps}
 use Rattle.cpu12_parts.specs.declared.temps.Temps.TheVariants.{Free, Running, OnStack}
 use Rattle.cpu12_parts.specs.declared.temps.PartEnd.TheVariants.{More, Done}

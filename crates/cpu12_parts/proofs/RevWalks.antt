@@ -6,7 +6,7 @@ use Rattle.cpu12_isa.specs.declared.instr.Ccr.{Ccr}
 use Rattle.cpu12_isa.specs.Act.{outcome, read_by}
 use Rattle.cpu12_isa.specs.Memory.{plus, word_of}
 use Rattle.cpu12_isa.specs.Flags.{has, put, opened, carry, overflow, hnzc, hnz}
-use Rattle.cpu12_isa.proofs.Bits.{bit, bit_or_is, bit_and_is, same_ccr, fits_put, fits_opened}
+use Rattle.cpu12_isa.proofs.Algebra.{bit, bit_or_is, bit_and_is, same_ccr, fits_put, fits_opened}
 use Rattle.cpu12_parts.specs.declared.temps.Temps.{Temps}
 use Rattle.cpu12_parts.specs.State.{Outcome}
 use Rattle.cpu12_parts.specs.Parts.{rev_element, revw_element, weighted}

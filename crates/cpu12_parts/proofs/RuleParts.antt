@@ -8,8 +8,8 @@ use Rattle.cpu12_isa.specs.Act.{read_by}
 use Rattle.cpu12_isa.specs.Memory.{plus, from}
 use Rattle.cpu12_isa.specs.Flags.{has, put, opened, overflow}
 use Rattle.cpu12_isa.specs.Agreement.{AllShown}
-use Rattle.cpu12_isa.proofs.Agreements.{shown_append, shown_left, shown_right}
-use Rattle.cpu12_isa.proofs.Bits.{fits_put, fits_opened, bit_or_is, bit_and_is}
+use Rattle.cpu12_isa.proofs.Algebra.{shown_append, shown_left, shown_right}
+use Rattle.cpu12_isa.proofs.Algebra.{fits_put, fits_opened, bit_or_is, bit_and_is}
 use Rattle.cpu12_parts.specs.declared.temps.Temps.{Temps}
 use Rattle.cpu12_parts.specs.declared.temps.PartEnd.TheVariants.{More, Done}
 use Rattle.cpu12_parts.specs.State.{State, Outcome, state_after}

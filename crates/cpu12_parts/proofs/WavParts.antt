@@ -7,8 +7,8 @@ use Rattle.cpu12_isa.specs.Act.{read_by}
 use Rattle.cpu12_isa.specs.Memory.{plus, from, bytes_at}
 use Rattle.cpu12_isa.specs.Flags.{put, opened, zero_result, hnvc, hnzvc}
 use Rattle.cpu12_isa.specs.Agreement.{AllShown}
-use Rattle.cpu12_isa.proofs.Agreements.{shown_left, shown_right}
-use Rattle.cpu12_isa.proofs.Bits.{bit_or_is, bit_and_is, same_ccr, fits_put, fits_opened}
+use Rattle.cpu12_isa.proofs.Algebra.{shown_left, shown_right}
+use Rattle.cpu12_isa.proofs.Algebra.{bit_or_is, bit_and_is, same_ccr, fits_put, fits_opened}
 use Rattle.cpu12_parts.specs.declared.temps.Temps.{Temps}
 use Rattle.cpu12_parts.specs.declared.temps.Temps.TheVariants.{Free, Running}
 use Rattle.cpu12_parts.specs.declared.temps.PartEnd.TheVariants.{More, Done}

@@ -5,6 +5,7 @@ pub mod Cuts
 pub mod Rules
 pub mod Averages
 pub mod Laws
+pub mod Inside
 pub mod Whole
 pub mod Fits
 pub mod Touching

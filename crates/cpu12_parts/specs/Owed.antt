@@ -1,9 +1,8 @@
 -- What an instruction in parts owes, for every kind of it.
 use Rattle.std.specs.Prelude.{◌≡◌, ℕ, suc, ◌-◌, ◌^◌, ◌<◌, Bool, List, length}
 use Rattle.cpu12_isa.specs.Agreement.{AllShown}
-use Rattle.cpu12_parts.specs.declared.temps.Temps.{Temps}
 use Rattle.cpu12_parts.specs.State.{State}
-use Rattle.cpu12_parts.specs.Cuts.{Kind, rev, revw, wav, cut_run, EndsWith}
+use Rattle.cpu12_parts.specs.Cuts.{Kind, cut_run, EndsWith}
 use Rattle.cpu12_parts.specs.Rules.{Rule, Form, rev_form, revw_form, elements_of, rules_read, rules_written, AreReady, rules_whole}
 use Rattle.cpu12_parts.specs.Averages.{wav_read, wav_whole}
 use Rattle.cpu12_parts.specs.Laws.{PartsTo, below, IsLike, IsOff}

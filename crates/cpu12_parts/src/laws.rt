@@ -1,10 +1,12 @@
 // Laws of the parts.
 ghost use Rattle.cpu12_parts.specs.Cuts.{kind_by, rev, revw, wav};
 ghost use Rattle.cpu12_parts.specs.Fits.{PartFits};
+ghost use Rattle.cpu12_parts.specs.Inside.{own_address, second_byte, GoesOnAt, LeavesSums, WritesNothing, PushesRunning, PushesNone};
 ghost use Rattle.cpu12_parts.specs.Owed.{OverCuts};
 ghost use Rattle.cpu12_parts.specs.Laws.{AreKept, Any, GoesOn, WritesBelow, KeepsNothing, IsSteady, CutsChangeNothing, RevIsWhole, RevwIsWhole, WavIsWhole, RevOverCuts, RevwOverCuts, WavOverCuts};
 
 use crate::temps::Resumable;
+use cpu12_isa::laws::writes_agree;
 
 /// The law over all cuts, for every instruction in parts: its parts, cut at any boundaries by
 /// `suspend` and then `resume`, end after as many as the whole instruction has, and in its state but
@@ -12,6 +14,7 @@ use crate::temps::Resumable;
 pub fn over_cuts<R: Resumable>(k: &R)
     ensures { OverCuts (kind_by (R.act k.now) (R.push k.now) (R.pull k.now)) (R.whole k.now) }
 {
+    writes_agree();
     k.goes_on();
     k.is_steady();
     k.makes_whole();
@@ -61,6 +64,7 @@ pub fn wav_is_whole()
 pub fn wav_cuts()
     ensures { CutsChangeNothing wav }
 {
+    writes_agree();
     wav_goes_on();
     wav_steady();
 }
@@ -69,6 +73,7 @@ pub fn wav_cuts()
 pub fn rev_cuts()
     ensures { CutsChangeNothing rev }
 {
+    writes_agree();
     rev_keeps_nothing();
     rev_steady();
 }
@@ -77,6 +82,7 @@ pub fn rev_cuts()
 pub fn revw_cuts()
     ensures { CutsChangeNothing revw }
 {
+    writes_agree();
     revw_keeps_nothing();
     revw_steady();
 }
@@ -131,4 +137,28 @@ pub fn revw_fits()
 /// A part of WAV leaves what fits.
 pub fn wav_fits()
     ensures { PartFits wav }
+{}
+
+/// Between two parts of REV PC stands at it, and I and the sums are as they were.
+pub fn rev_stays()
+    ensures goes_on { GoesOnAt own_address rev }
+    ensures sums { LeavesSums rev }
+{}
+
+/// Between two parts of REVW PC stands at it, and I and the sums are as they were.
+pub fn revw_stays()
+    ensures goes_on { GoesOnAt own_address revw }
+    ensures sums { LeavesSums revw }
+{}
+
+/// Between two parts of WAV PC stands at its second byte, I is as it was, and nothing is written.
+pub fn wav_stays()
+    ensures goes_on { GoesOnAt second_byte wav }
+    ensures writes { WritesNothing wav }
+{}
+
+/// Before an interrupt sums that run are pushed, and where none run nothing is.
+pub fn wav_suspends()
+    ensures running { PushesRunning }
+    ensures none { PushesNone }
 {}

@@ -115,7 +115,7 @@ along {S = S} {A = A} {B = B} open_to f P Good Own gr all s0 from on end done (s
     let t : Taking A B = takes f m qs w in
     let sound = gr.sound in
     let keeps = sound.leaves_open in
-    let g = step_follows gr.step_keeps open_to f.flags t.state s b.simulates (sound.shown s h.0) in
+    let g = step_follows gr.machine.step_keeps open_to f.flags t.state s b.simulates (sound.shown s h.0) in
     let own2 : Own (onto t.told done) g.next.state = subst (λ (v : State). Own (onto t.told done) v) (ap (state_by t.state) g.goes) (keeps.steps (onto t.told done) t.state s h.0 b.simulates b.own) in
     let lt : m < all = omega arith in
     let drop : drop_due f.moment (may_interrupt s) m qs ≡ drop_due at true m qs = subst (λ (u : State). drop_due f.moment (may_interrupt u) m qs ≡ drop_due at true m qs) here (drop_is f.flags all s0 f.moment m qs lt up) in

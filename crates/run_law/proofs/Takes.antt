@@ -7,20 +7,21 @@ use Rattle.cpu12_isa.specs.Flags.{interrupts_masked, has}
 use Rattle.cpu12_isa.specs.Registers.{frame_bytes}
 use Rattle.cpu12_isa.specs.Agreement.{Agree}
 use Rattle.cpu12_isa.specs.Regions.{stack_start, stack_end, is_hidden, LeavesStack}
-use Rattle.cpu12_isa.proofs.Lemmas.{agree_with, read_placed, same_bytes, agree_less, shown_from, push_agrees}
+use Rattle.cpu12_isa.proofs.Algebra.{agree_with, read_placed, same_bytes}
 use Rattle.cpu12_parts.specs.declared.temps.Temps.{Temps}
 use Rattle.cpu12_parts.specs.declared.temps.Temps.TheVariants.{Running}
 use Rattle.cpu12_parts.specs.State.{State}
 use Rattle.cpu12_parts.specs.Sums.{sum_bytes}
 use Rattle.cpu12_parts.specs.Cuts.{suspended, wav}
 use Rattle.cpu12_parts.specs.Laws.{IsOff}
-use Rattle.cpu12_parts.proofs.Lemmas.{pushed_sums, suspends, suspends_not, temps_cases}
+use Rattle.cpu12_parts.specs.Inside.{pushed_sums}
+use Rattle.cpu12_parts.proofs.Algebra.{temps_cases}
 use Rattle.cpu12_emul.specs.Take.{FrameSeen, frame_of, frame_in, may_interrupt}
-use Rattle.cpu12_emul.specs.Simulation.{Same, Parked, Simulates, HasRoom, IsShownStep, FrameIsOnStack}
+use Rattle.cpu12_emul.specs.Simulation.{Same, Parked, Simulates, HasRoom, IsShownStep}
 use Rattle.run_law.specs.Forms.{Form, taken, told}
 use Rattle.run_law.specs.Uninterrupted.{frame_on, expected_frame}
 use Rattle.run_law.specs.Soundness.{below_sums, Begins, AreLeft, Quiet}
-use Rattle.run_law.proofs.Grounds.{Ground}
+use Rattle.run_law.proofs.Grounds.{Machine, Ground}
 
 -- which sums a handler may leave
 left_running : (t u v : Temps) (p q : ℕ) → t ≡ Running p q → AreLeft t u v → IsOff u
@@ -38,12 +39,12 @@ below_off r t (inl e) = ap (below_sums r) (sym e)
 below_off r t (inr e) = ap (below_sums r) (sym e)
 
 -- what an interrupt's push of running sums leaves is hidden
-pushed_agrees : (open_to : ℕ → Bool) (w s : State) (p q : ℕ) → Same open_to w s → LeavesStack open_to → stack_start + 15 ≤ s.regs.sp → s.regs.sp ≤ stack_end
+pushed_agrees : Machine → (open_to : ℕ → Bool) (w s : State) (p q : ℕ) → Same open_to w s → LeavesStack open_to → stack_start + 15 ≤ s.regs.sp → s.regs.sp ≤ stack_end
     → Agree (is_hidden open_to s.regs.sp) (write_all (placed (plus w.regs.sp 65530) (sum_bytes p q)) w.mem) w.mem
-pushed_agrees open_to w s p q l a lo hi =
+pushed_agrees laws open_to w s p q l a lo hi =
     let sp : w.regs.sp ≡ s.regs.sp = ap (λ (r : Regs). r.sp) l.regs in
     let base : plus w.regs.sp 65530 ≡ s.regs.sp - 6 = omega arith in
-    subst (λ (k : ℕ). Agree (is_hidden open_to s.regs.sp) (write_all (placed k (sum_bytes p q)) w.mem) w.mem) (sym base) (push_agrees open_to s.regs.sp 6 (sum_bytes p q) w.mem hi refl (omega arith))
+    subst (λ (k : ℕ). Agree (is_hidden open_to s.regs.sp) (write_all (placed k (sum_bytes p q)) w.mem) w.mem) (sym base) (laws.pushed open_to s.regs.sp 6 (sum_bytes p q) w.mem hi refl (omega arith))
 
 -- the states at a boundary: before the first interrupt, and after
 pub Settled : (ℕ → Bool) → Bool → State → State → Type 0
@@ -70,9 +71,9 @@ record Taken (open_to : ℕ → Bool) (first : Bool) (w s : State) : Type 0 wher
   after : (u : State) → Quiet open_to u (suspended wav w) s → Settled open_to false u s
 
 -- where sums run they are parked
-taken_running : FrameIsOnStack → (open_to : ℕ → Bool) (w s : State) (p q : ℕ) → LeavesStack open_to → HasRoom s → Same open_to w s → s.temps ≡ Running p q → Taken open_to true w s
+taken_running : Machine → (open_to : ℕ → Bool) (w s : State) (p q : ℕ) → LeavesStack open_to → HasRoom s → Same open_to w s → s.temps ≡ Running p q → Taken open_to true w s
 unfolding Settled
-taken_running frames open_to w s p q a k l run =
+taken_running laws open_to w s p q a k l run =
     let lo = k.low in
     let hi = k.high in
     let fits = k.fits in
@@ -80,8 +81,8 @@ taken_running frames open_to w s p q a k l run =
     let size : length w.mem ≡ 65536 = l.mem.size ∙ k.size in
     let now : w.temps ≡ Running p q = l.temps ∙ run in
     let x = pushed_sums w.regs p q w.mem in
-    let is : suspended wav w ≡ x = suspends w p q now in
-    let wrote = pushed_agrees open_to w s p q l a lo hi in
+    let is : suspended wav w ≡ x = laws.running w p q now in
+    let wrote = pushed_agrees laws open_to w s p q l a lo hi in
     let below : Agree (is_hidden open_to s.regs.sp) x.mem s.mem = agree_with (is_hidden open_to s.regs.sp) x.mem w.mem s.mem wrote l.mem in
     record {
       begins = subst (λ (v : State). Begins open_to v s) (sym is) (record {
@@ -89,7 +90,7 @@ taken_running frames open_to w s p q a k l run =
         regs = ap (λ (r : Regs). record r { sp = plus r.sp 65530 }) l.regs ∙ ap (below_sums s.regs) (sym run);
         mem = below;
       });
-      frame = frames w size (omega arith) ∙ ap (frame_in w) now ∙ ap (λ (r : Regs). full_by r p q) l.regs ∙ ap (λ (t : Temps). frame_on true s t) (sym run);
+      frame = laws.frame_is_on_stack w size (omega arith) ∙ ap (frame_in w) now ∙ ap (λ (r : Regs). full_by r p q) l.regs ∙ ap (λ (t : Temps). frame_on true s t) (sym run);
       after = λ u quiet. inr (parked_by u (subst (λ (v : State). Quiet open_to u v s) is quiet), refl);
     }
   where
@@ -104,7 +105,7 @@ taken_running frames open_to w s p q a k l run =
         let sp : w.regs.sp ≡ s.regs.sp = ap (λ (r : Regs). r.sp) l.regs in
         let base : plus w.regs.sp 65530 ≡ s.regs.sp - 6 = omega arith in
         let got : bytes_at u.mem (from (plus w.regs.sp 65530) 6) ≡ bytes_at x.mem (from (plus w.regs.sp 65530) 6) =
-        same_bytes (is_hidden open_to (plus w.regs.sp 65530)) u.mem x.mem quiet.mem (from (plus w.regs.sp 65530) 6) (shown_from open_to (plus w.regs.sp 65530) (plus w.regs.sp 65530) 6 a (omega arith) (omega arith) (omega arith)) in
+        same_bytes (is_hidden open_to (plus w.regs.sp 65530)) u.mem x.mem quiet.mem (from (plus w.regs.sp 65530) 6) (laws.shown open_to (plus w.regs.sp 65530) (plus w.regs.sp 65530) 6 a (omega arith) (omega arith) (omega arith)) in
         let put : bytes_at x.mem (from (plus w.regs.sp 65530) 6) ≡ sum_bytes p q = read_placed (sum_bytes p q) (plus w.regs.sp 65530) w.mem (omega arith) (lit≤ tt) (l.mem.size ∙ k.size) in
         let at : plus w.regs.sp 65530 ≡ plus s.regs.sp 65530 = omega arith in
         record {
@@ -114,8 +115,8 @@ taken_running frames open_to w s p q a k l run =
           temps = left_running s.temps u.temps x.temps p q run quiet.temps;
           regs = quiet.regs ∙ ap (λ (r : Regs). record r { sp = plus r.sp 65530 }) l.regs;
           sums = subst (λ (k : ℕ). bytes_at u.mem (from k 6) ≡ sum_bytes p q) at (got ∙ put);
-          mem = agree_with (is_hidden open_to s.regs.sp) u.mem x.mem s.mem (agree_less open_to (plus w.regs.sp 65530) s.regs.sp u.mem x.mem (omega arith) quiet.mem)
-              (agree_with (is_hidden open_to s.regs.sp) x.mem w.mem s.mem (pushed_agrees open_to w s p q l a lo hi) l.mem);
+          mem = agree_with (is_hidden open_to s.regs.sp) u.mem x.mem s.mem (laws.more open_to (plus w.regs.sp 65530) s.regs.sp u.mem x.mem (omega arith) quiet.mem)
+              (agree_with (is_hidden open_to s.regs.sp) x.mem w.mem s.mem (pushed_agrees laws open_to w s p q l a lo hi) l.mem);
         }
 
 abbrev nine_frame : Regs → ℕ → FrameSeen
@@ -130,16 +131,16 @@ expected_off first s (inl e) = ap (λ (t : Temps). frame_on first s t) e
 expected_off first s (inr e) = ap (λ (t : Temps). frame_on first s t) e
 
 -- where none run the state stays the same
-taken_off : FrameIsOnStack → (open_to : ℕ → Bool) (first : Bool) (w s : State) → HasRoom s → Same open_to w s → IsOff s.temps → Taken open_to first w s
+taken_off : Machine → (open_to : ℕ → Bool) (first : Bool) (w s : State) → HasRoom s → Same open_to w s → IsOff s.temps → Taken open_to first w s
 unfolding Settled
-taken_off frames open_to first w s k l off =
+taken_off laws open_to first w s k l off =
     let fits = k.fits in
     let sp : w.regs.sp ≡ s.regs.sp = ap (λ (r : Regs). r.sp) l.regs in
     let off_w : IsOff w.temps = off_as w.temps s.temps l.temps off in
-    let is : suspended wav w ≡ w = suspends_not w off_w in
+    let is : suspended wav w ≡ w = laws.none w off_w in
     record {
       begins = subst (λ (v : State). Begins open_to v s) (sym is) (record { temps = off_w; regs = l.regs ∙ below_off s.regs s.temps off; mem = l.mem });
-      frame = frames w (l.mem.size ∙ k.size) (omega arith) ∙ frame_off w off_w ∙ ap (λ (r : Regs). nine_frame r (plus r.sp 65527)) l.regs ∙ sym (expected_off first s off);
+      frame = laws.frame_is_on_stack w (l.mem.size ∙ k.size) (omega arith) ∙ frame_off w off_w ∙ ap (λ (r : Regs). nine_frame r (plus r.sp 65527)) l.regs ∙ sym (expected_off first s off);
       after = λ u q. inl (same_by u (subst (λ (v : State). Quiet open_to u v s) is q), inr off);
     }
   where
@@ -153,17 +154,17 @@ taken_off frames open_to first w s k l off =
         }
 
 -- where they are parked they stay so
-taken_parked : FrameIsOnStack → (open_to : ℕ → Bool) (w s : State) → LeavesStack open_to → HasRoom s → Parked open_to w s → Taken open_to false w s
+taken_parked : Machine → (open_to : ℕ → Bool) (w s : State) → LeavesStack open_to → HasRoom s → Parked open_to w s → Taken open_to false w s
 unfolding Settled
-taken_parked frames open_to w s a k l =
+taken_parked laws open_to w s a k l =
     let lo = k.low in
     let hi = k.high in
     let sp : w.regs.sp ≡ plus s.regs.sp 65530 = ap (λ (r : Regs). r.sp) l.regs in
-    let is : suspended wav w ≡ w = suspends_not w l.temps in
+    let is : suspended wav w ≡ w = laws.none w l.temps in
     let low : plus (plus s.regs.sp 65530) 65527 ≡ plus s.regs.sp 65521 = omega arith in
     record {
       begins = subst (λ (v : State). Begins open_to v s) (sym is) (record { temps = l.temps; regs = l.regs ∙ ap (below_sums s.regs) (sym l.running); mem = l.mem });
-      frame = frames w (l.mem.size ∙ k.size) (omega arith) ∙ frame_off w l.temps ∙ ap (λ (r : Regs). nine_frame r (plus r.sp 65527)) l.regs ∙ ap (nine_frame (s.regs)) low
+      frame = laws.frame_is_on_stack w (l.mem.size ∙ k.size) (omega arith) ∙ frame_off w l.temps ∙ ap (λ (r : Regs). nine_frame r (plus r.sp 65527)) l.regs ∙ ap (nine_frame (s.regs)) low
           ∙ ap (λ (t : Temps). frame_on false s t) (sym l.running);
       after = λ u q. inr (stays_by u (subst (λ (v : State). Quiet open_to u v s) is q), refl);
     }
@@ -174,7 +175,7 @@ taken_parked frames open_to w s a k l =
         let hi = k.high in
         let sp : w.regs.sp ≡ plus s.regs.sp 65530 = ap (λ (r : Regs). r.sp) l.regs in
         let got : bytes_at u.mem (from (plus s.regs.sp 65530) 6) ≡ bytes_at w.mem (from (plus s.regs.sp 65530) 6) =
-        same_bytes (is_hidden open_to w.regs.sp) u.mem w.mem q.mem (from (plus s.regs.sp 65530) 6) (shown_from open_to w.regs.sp (plus s.regs.sp 65530) 6 a (omega arith) (omega arith) (omega arith)) in
+        same_bytes (is_hidden open_to w.regs.sp) u.mem w.mem q.mem (from (plus s.regs.sp 65530) 6) (laws.shown open_to w.regs.sp (plus s.regs.sp 65530) 6 a (omega arith) (omega arith) (omega arith)) in
         record {
           product = l.product;
           weight = l.weight;
@@ -182,17 +183,17 @@ taken_parked frames open_to w s a k l =
           temps = left_running s.temps u.temps w.temps l.product l.weight l.running q.temps;
           regs = q.regs ∙ l.regs;
           sums = got ∙ l.sums;
-          mem = agree_with (is_hidden open_to s.regs.sp) u.mem w.mem s.mem (agree_less open_to w.regs.sp s.regs.sp u.mem w.mem (omega arith) q.mem) l.mem;
+          mem = agree_with (is_hidden open_to s.regs.sp) u.mem w.mem s.mem (laws.more open_to w.regs.sp s.regs.sp u.mem w.mem (omega arith) q.mem) l.mem;
         }
 
-taken_any : FrameIsOnStack → (open_to : ℕ → Bool) (first : Bool) (w s : State) → LeavesStack open_to → HasRoom s → Settled open_to first w s → Taken open_to first w s
+taken_any : Machine → (open_to : ℕ → Bool) (first : Bool) (w s : State) → LeavesStack open_to → HasRoom s → Settled open_to first w s → Taken open_to first w s
 unfolding Settled
-taken_any frames open_to first w s a k (inr l) = subst (λ (b : Bool). Taken open_to b w s) (sym l.1) (taken_parked frames open_to w s a k l.0)
-taken_any frames open_to first w s a k (inl l) = elim (temps_cases s.temps) [
-  | inl off ↦ taken_off frames open_to first w s k l.0 off
+taken_any laws open_to first w s a k (inr l) = subst (λ (b : Bool). Taken open_to b w s) (sym l.1) (taken_parked laws open_to w s a k l.0)
+taken_any laws open_to first w s a k (inl l) = elim (temps_cases s.temps) [
+  | inl off ↦ taken_off laws open_to first w s k l.0 off
   | inr r ↦ elim l.1 [
-    | inl f ↦ subst (λ (b : Bool). Taken open_to b w s) (sym f) (taken_running frames open_to w s r.0 r.1 a k l.0 r.2)
-    | inr off ↦ taken_off frames open_to first w s k l.0 off
+    | inl f ↦ subst (λ (b : Bool). Taken open_to b w s) (sym f) (taken_running laws open_to w s r.0 r.1 a k l.0 r.2)
+    | inr off ↦ taken_off laws open_to first w s k l.0 off
   ]
 ]
 
@@ -207,7 +208,7 @@ pub took_one : {S A B : Type 0} (open_to : ℕ → Bool) (f : Form S A B) (P : S
 took_one open_to f P Good Own gr first done a w s good ps may l own =
     let sd = gr.sound in
     let seen : IsShownStep open_to f.flags s = sd.shown s ps in
-    let t = taken_any gr.frame_is_on_stack open_to first w s sd.apart seen.room l in
+    let t = taken_any gr.machine open_to first w s sd.apart seen.room l in
     let keeps = sd.leaves_open in
     let q = sd.quiet done a (suspended wav w) s good ps may t.begins (keeps.pushes done w s ps (settled_near open_to first w s l) own) in
     record { frame = t.frame; after = t.after (taken f a w) q.0; own = q.1 }

@@ -1,5 +1,6 @@
 // The law on runs.
 ghost use Rattle.std.specs.Prelude.{ℕ, Bool, List};
+ghost use Rattle.cpu12_isa.specs.Agreement.{WritesAgree};
 ghost use Rattle.cpu12_parts.specs.State.{State};
 ghost use Rattle.run_law.specs.Forms.{Form};
 ghost use Rattle.run_law.specs.Soundness.{Sound, WritesAreQuiet};
@@ -7,6 +8,8 @@ ghost use Rattle.run_law.specs.Following.{RunFollows, RunsFollow};
 ghost use Rattle.run_law.specs.Moments.{TakenAtFirstOpen};
 
 use cpu12_emul::laws::{frame_is_on_stack, step_keeps, takes_quietly};
+use cpu12_isa::laws::{stack_is_hidden, writes_agree};
+use cpu12_parts::laws::wav_suspends;
 
 /// A form of firmware with its handler, and what it owes so that its runs under interrupts follow
 /// those without. It has ghost members alone: an implementation is the proof that they are sound.
@@ -38,8 +41,9 @@ pub trait SoundForm {
     /// What stands in the open bytes after requests.
     ghost own: { Setting → List (Request × Told) → State → Type 0 };
 
-    /// The form is sound. Its proof may use that listed writes are quiet.
-    ghost sound: { (x : Setting) → WritesAreQuiet → Sound (open_to x) (form x) (holds x) (good x) (own x) };
+    /// The form is sound. Its proof may use that the same writes keep memories agreed, and that listed
+    /// writes are quiet.
+    ghost sound: { (x : Setting) → WritesAgree → WritesAreQuiet → Sound (open_to x) (form x) (holds x) (good x) (own x) };
 }
 
 /// The run of one sample, from any boundary on, follows the run without interrupts.
@@ -48,6 +52,9 @@ pub fn run_follows<F: SoundForm>()
 {
     step_keeps();
     frame_is_on_stack();
+    stack_is_hidden();
+    wav_suspends();
+    writes_agree();
     writes_are_quiet();
 }
 
@@ -60,6 +67,9 @@ pub fn runs_follow<F: SoundForm>()
 {
     step_keeps();
     frame_is_on_stack();
+    stack_is_hidden();
+    wav_suspends();
+    writes_agree();
     writes_are_quiet();
 }
 

@@ -1,0 +1,138 @@
+-- What stands between two parts, and what is pushed there.
+use Rattle.std.proofs.Common.{◌≡◌, ◌==◌, ℕ, ◌+◌, ◌-◌, ◌*◌, ◌%◌, ◌^◌, min, Bool, true, false, List, [], get_or, refl, ap, sym, ◌∙◌, inl, inr}
+use Rattle.std.specs.Prelude.{if◌then◌else◌}
+use Rattle.cpu12_isa.specs.declared.instr.Regs.{Regs}
+use Rattle.cpu12_isa.specs.declared.instr.Ccr.{Ccr}
+use Rattle.cpu12_isa.specs.Act.{Act, outcome}
+use Rattle.cpu12_isa.specs.Flags.{has, put, opened, interrupts_masked, overflow, carry, hnzc, hnz, hnzvc}
+use Rattle.cpu12_isa.specs.Memory.{plus, word_of}
+use Rattle.cpu12_isa.proofs.Algebra.{bit, bit_or_is, bit_and_is}
+use Rattle.cpu12_parts.specs.declared.temps.Temps.{Temps}
+use Rattle.cpu12_parts.specs.declared.temps.Temps.TheVariants.{Free, Running, OnStack}
+use Rattle.cpu12_parts.specs.declared.temps.PartEnd.TheVariants.{More, Done}
+use Rattle.cpu12_parts.specs.State.{State, Outcome}
+use Rattle.cpu12_parts.specs.Cuts.{rev, revw, wav, suspended}
+use Rattle.cpu12_parts.specs.Inside.{own_address, second_byte, GoesOnAt, LeavesSums, WritesNothing, PushesRunning, PushesNone}
+use Rattle.cpu12_parts.specs.Laws.{state_of}
+use Rattle.cpu12_parts.specs.Parts.{leaving, met, rev_element, revw_element, wav_end, wav_from, wav_act}
+
+-- I where the open flags are taken, and where V is set
+masked_opened : (c : Ccr) (f : ℕ) → has (opened c hnzc f) interrupts_masked ≡ has c interrupts_masked
+masked_opened c f = let m : bit (opened c hnzc f).0 4 ≡ bit c.0 4 = simp (bit_or_is, bit_and_is) in m
+
+masked_opened_word : (c : Ccr) (f : ℕ) → has (opened c hnz f) interrupts_masked ≡ has c interrupts_masked
+masked_opened_word c f = let m : bit (opened c hnz f).0 4 ≡ bit c.0 4 = simp (bit_or_is, bit_and_is) in m
+
+masked_opened_sums : (c : Ccr) (f : ℕ) → has (opened c hnzvc f) interrupts_masked ≡ has c interrupts_masked
+masked_opened_sums c f = let m : bit (opened c hnzvc f).0 4 ≡ bit c.0 4 = simp (bit_or_is, bit_and_is) in m
+
+masked_put : (c : Ccr) (b : Bool) → has (put c overflow b) interrupts_masked ≡ has c interrupts_masked
+masked_put c true = let m : bit (put c overflow true).0 4 ≡ bit c.0 4 = simp (bit_or_is) in m
+masked_put c false = let m : bit (put c overflow false).0 4 ≡ bit c.0 4 = simp (bit_and_is) in m
+
+-- a choice between two acts
+choice : (P : Outcome → Type 0) (m : List ℕ) (b : Bool) (x y : Act Outcome) → P (outcome x m) → P (outcome y m)
+    → P (outcome (if b then x else y) m)
+choice P m true x y p q = p
+choice P m false x y p q = q
+
+-- what a part of REV or REVW leaves
+record Leaves (r : Regs) (t : Temps) (o : Outcome) : Type 0 where
+  sums : o.temps ≡ t
+  inside : o.end ≡ More → (has o.regs.ccr interrupts_masked ≡ has r.ccr interrupts_masked) × (o.regs.pc ≡ r.pc)
+
+not_more : {A : Type 0} → Done ≡ More → A
+not_more e = absurd (let f : Done ≡ More = e in cc)
+
+met_leaves : (r : Regs) (t : Temps) (x : ℕ) (c : Ccr) (at : ℕ) (m : List ℕ)
+    → has c interrupts_masked ≡ has r.ccr interrupts_masked
+    → Leaves r t (outcome (met r (record r { x = x; ccr = c }) t at) m)
+met_leaves r t x c at m e =
+    choice (Leaves r t) m (has r.ccr overflow) _ (leaving (record r { x = x; ccr = c; a = min (r.a) (get_or m at 0) }) t More)
+    (record { sums = refl; inside = λ _. (e, refl) }) (record { sums = refl; inside = λ _. (e, refl) })
+
+rev_leaves : (flags : ℕ) (r : Regs) (t : Temps) (e : ℕ) (m : List ℕ) → Leaves r t (outcome (rev_element flags r t e) m)
+rev_leaves flags r t e m =
+    let c = opened r.ccr hnzc flags in
+    let same = masked_opened r.ccr flags in
+    let s : Regs = record r { x = plus r.x 1; ccr = c } in
+    choice (Leaves r t) m (e == 255) (leaving (record s { pc = plus s.pc 2 }) t Done) _
+    (record { sums = refl; inside = not_more })
+    (choice (Leaves r t) m (e == 254) _ (met r s t (plus r.y e))
+    (choice (Leaves r t) m (has r.ccr overflow) (leaving (record s { a = 255; ccr = put c overflow false }) t More)
+    (leaving (record s { ccr = put c overflow true }) t More)
+    (record { sums = refl; inside = λ _. (masked_put c false ∙ same, refl) })
+    (record { sums = refl; inside = λ _. (masked_put c true ∙ same, refl) }))
+    (met_leaves r t (plus r.x 1) c (plus r.y e) m same))
+
+revw_leaves : (flags : ℕ) (r : Regs) (t : Temps) (e : ℕ) (m : List ℕ) → Leaves r t (outcome (revw_element flags r t e) m)
+revw_leaves flags r t e m =
+    let c = opened r.ccr hnz flags in
+    let same = masked_opened_word r.ccr flags in
+    let s : Regs = record r { x = plus r.x 2; ccr = c } in
+    choice (Leaves r t) m (e == 65535) (leaving (record s { pc = plus s.pc 2 }) t Done) _
+    (record { sums = refl; inside = not_more })
+    (choice (Leaves r t) m (e == 65534) _ (met r s t e)
+    (choice (Leaves r t) m (has r.ccr overflow) (leaving (record s { a = 255; ccr = put c overflow false }) t More) _
+    (record { sums = refl; inside = λ _. (masked_put c false ∙ same, refl) })
+    (choice (Leaves r t) m (has r.ccr carry) _ (leaving (record s { ccr = put c overflow true }) t More)
+    (record { sums = refl; inside = λ _. (masked_put c true ∙ same, refl) })
+    (record { sums = refl; inside = λ _. (masked_put c true ∙ same, refl) })))
+    (met_leaves r t (plus r.x 2) c e m same))
+
+pub rev_goes_on : GoesOnAt own_address rev
+rev_goes_on flags s = let l = rev_leaves flags s.regs s.temps (get_or s.mem s.regs.x 0) s.mem in l.inside
+
+pub rev_sums : LeavesSums rev
+rev_sums flags s = let l = rev_leaves flags s.regs s.temps (get_or s.mem s.regs.x 0) s.mem in l.sums
+
+revw_here : (flags : ℕ) (s : State)
+    → Leaves s.regs s.temps (outcome (revw_element flags s.regs s.temps (word_of (get_or s.mem s.regs.x 0) (get_or s.mem (plus s.regs.x 1) 0))) s.mem)
+revw_here flags s = revw_leaves flags s.regs s.temps (word_of (get_or s.mem s.regs.x 0) (get_or s.mem (plus s.regs.x 1) 0)) s.mem
+
+pub revw_goes_on : GoesOnAt own_address revw
+revw_goes_on flags s = let l = revw_here flags s in l.inside
+
+pub revw_sums : LeavesSums revw
+revw_sums flags s = let l = revw_here flags s in l.sums
+
+-- what a part of WAV leaves whose second byte stands at pc
+record Adds (r : Regs) (pc : ℕ) (o : Outcome) : Type 0 where
+  writes : o.writes ≡ []
+  inside : o.end ≡ More → (has o.regs.ccr interrupts_masked ≡ has r.ccr interrupts_masked) × (o.regs.pc ≡ pc)
+
+ended : (r s : Regs) (pc : ℕ) → Adds r pc (record { regs = s; temps = Free; writes = []; end = Done })
+ended r s pc = record { writes = refl; inside = not_more }
+
+adds : (flags : ℕ) (r : Regs) (p w pc : ℕ) (m : List ℕ) → Adds r pc (outcome (wav_from flags r p w pc) m)
+adds flags r p w pc m =
+    let u = get_or m r.x 0 in
+    let v = get_or m r.y 0 in
+    let p2 = (p + u * v) % 2 ^ 32 in
+    let w2 = (w + v) % 2 ^ 16 in
+    let next : Regs = record r { x = plus r.x 1; y = plus r.y 1; b = r.b - 1; pc = pc; ccr = opened r.ccr hnzvc flags } in
+    choice (Adds r pc) m (r.b == 0) (leaving (wav_end flags r p w pc) Free Done) _ (ended r (wav_end flags r p w pc) pc)
+    (choice (Adds r pc) m (r.b == 1) (leaving (wav_end flags r p2 w2 pc) Free Done) (leaving next (Running p2 w2) More)
+    (ended r (wav_end flags r p2 w2 pc) pc)
+    (record { writes = refl; inside = λ _. (masked_opened_sums r.ccr flags, refl) }))
+
+adds_by : (flags : ℕ) (r : Regs) (t : Temps) (m : List ℕ) → Adds r (second_byte t r.pc) (outcome (wav_act flags r t) m)
+adds_by flags r Free m = adds flags r 0 0 (plus r.pc 1) m
+adds_by flags r OnStack m = adds flags r 0 0 (plus r.pc 1) m
+adds_by flags r (Running p w) m = adds flags r p w r.pc m
+
+pub wav_goes_on : GoesOnAt second_byte wav
+wav_goes_on flags s = let a = adds_by flags s.regs s.temps s.mem in a.inside
+
+pub wav_writes : WritesNothing wav
+wav_writes flags s = let a = adds_by flags s.regs s.temps s.mem in a.writes
+
+-- what is pushed
+pub pushes_running : PushesRunning
+pushes_running s p w e = ap (λ (t : Temps). suspended wav (state_of s.regs t s.mem)) e
+
+pub pushes_none : PushesNone
+pushes_none s (inl e) =
+    ap (λ (t : Temps). suspended wav (state_of s.regs t s.mem)) e ∙ ap (λ (t : Temps). state_of s.regs t s.mem) (sym e)
+pushes_none s (inr e) =
+    ap (λ (t : Temps). suspended wav (state_of s.regs t s.mem)) e ∙ ap (λ (t : Temps). state_of s.regs t s.mem) (sym e)
