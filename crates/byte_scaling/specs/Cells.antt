@@ -1,11 +1,12 @@
 -- Bytes of a range, and their cells.
-use Rattle.std.specs.Prelude.{◌≡◌, ℕ, ◌+◌, ◌*◌, ◌/◌, ◌<◌, ◌≤◌, min, Bool, IsTrue, ◌==◌, pos, ◌+ℤ◌, ◌*ℤ◌, ◌≤ℤ◌}
+use Rattle.std.specs.Prelude.{◌≡◌, ℕ, ◌+◌, ◌*◌, ◌/◌, ◌<◌, ◌≤◌, min, Bool, IsTrue, ◌==◌, pos, ◌+ℤ◌, ◌*ℤ◌, ◌≤ℤ◌, ◌<ℤ◌}
 use Rattle.fz_num.specs.declared.dec.Dec.{Dec}
 use Rattle.fz_num.specs.Fractions.{Fraction, over, IsProper, AtMost, IsBelow}
 use Rattle.fz_num.specs.Fracs.{Quotient}
 use Rattle.fz_num.specs.Decimals.{distance}
 use Rattle.fuzzy_meaning.specs.declared.block.Input.{Input}
 use Rattle.fuzzy_meaning.specs.declared.block.Output.{Output}
+use Rattle.fuzzy_meaning.specs.Blocks.{IsWithin}
 
 -- of a range in 256 parts, the one that x lies in; the high end lies in the last
 abbrev pub byte_of : Input → Dec → ℕ
@@ -53,6 +54,10 @@ wide_value_of o q = value_in 256 o q
 -- the byte nearest to x in an output's range, a tie going up
 abbrev pub nearest_byte : Output → Dec → ℕ
 nearest_byte o x = (510 * distance o.lo x + distance o.lo o.hi) / (2 * distance o.lo o.hi)
+
+-- it is a byte, where x lies in the range
+abbrev pub NearestIsByte : Type 0
+NearestIsByte = (o : Output) (x : Dec) → o.lo.0 <ℤ o.hi.0 → IsWithin o.lo o.hi x → nearest_byte o x ≤ 255
 
 -- no place lies in two cells
 abbrev pub CellsAreApart : Type 0

@@ -12,7 +12,7 @@ mod outputs;
 mod weights;
 
 pub use inputs::{OutOfRange, byte_within, cell, cells_are_apart, to_byte};
-pub use outputs::{near, value, value16};
+pub use outputs::{near, nearest_is_byte, value, value16};
 pub use weights::weight_byte;
 
 #[cfg(test)]

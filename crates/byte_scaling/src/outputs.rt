@@ -2,7 +2,7 @@
 ghost use Rattle.std.specs.Prelude.{◌≡◌, pos};
 ghost use Rattle.fz_num.specs.Decimals.{distance};
 ghost use Rattle.fuzzy_meaning.specs.Blocks.{IsValidOutput, IsWithin};
-ghost use Rattle.byte_scaling.specs.Cells.{value_of, wide_value_of, nearest_byte, IsNearest};
+ghost use Rattle.byte_scaling.specs.Cells.{value_of, wide_value_of, nearest_byte, NearestIsByte, IsNearest};
 
 use fuzzy_meaning::Output;
 use fz_num::{Dec, Frac};
@@ -45,3 +45,8 @@ pub fn near(output: &Output, x: Dec) -> u8
     let above = x.above(output.lo);
     ((510 * above + width) / (2 * width)) as u8
 }
+
+/// The byte nearest to a number of the range is a byte.
+pub fn nearest_is_byte()
+    ensures { NearestIsByte }
+{}

@@ -1,5 +1,5 @@
 -- What is known wherever an interrupt may come to a firmware that stands alone.
-use Rattle.std.specs.Prelude.{◌≡◌, ◌≢◌, ℕ, ◌≤◌, ◌⊎◌, min, ◌==◌, ◌&&◌, Bool, false, List, length, slice_index}
+use Rattle.std.specs.Prelude.{◌≡◌, ◌≢◌, ℕ, ◌≤◌, ◌<◌, ◌⊎◌, min, ◌==◌, ◌&&◌, Bool, false, List, length, slice_index}
 use Rattle.cpu12_isa.specs.declared.instr.Instr.{Instr}
 use Rattle.cpu12_isa.specs.declared.instr.Instr.TheVariants.{Rev, Revw}
 use Rattle.cpu12_isa.specs.Act.{read_by}
@@ -15,6 +15,7 @@ use Rattle.cpu12_parts.specs.State.{State}
 use Rattle.cpu12_parts.specs.Rules.{Rule, Form, rev_form, revw_form, rules_read, rules_written, AreApart}
 use Rattle.cpu12_parts.specs.Averages.{wav_read}
 use Rattle.cpu12_parts.specs.Laws.{addresses}
+use Rattle.cpu12_parts.specs.Touching.{Each}
 use Rattle.cpu12_parts.specs.Whole.{IsPlainStep, IsRulesStep, IsAverageStep}
 use Rattle.codegen.specs.declared.layout.Layout.{Layout}
 
@@ -37,23 +38,27 @@ pub record IsInterruptible (image : List ℕ) (s : State) : Type 0 where
   pub same : (at : ℕ) → 0x2000 ≤ at → slice_index s.mem at ≡ slice_index image at
   pub code : AllShown (is_hidden s.regs.sp) (six_from s.regs.pc)
 
--- A plain instruction: what it reads is shown, what it writes is shown before and after it, and what is hidden no more
--- after it is written.
+-- A plain instruction: what it reads is shown, what it writes is shown before and after it, and what is hidden no
+-- more after it is written.
 pub record IsShownPlain (flags : ℕ) (i : Instr) (s t : State) : Type 0 where
   pub step : IsPlainStep flags i s t
   pub reads : AllShown (is_hidden s.regs.sp) (read_by (act_of flags i s.regs) s.mem)
   pub writes : AllShown (is_hidden (min s.regs.sp t.regs.sp)) (addresses (effect flags i s.regs s.mem).writes)
   pub uncovers : Uncovers (is_hidden s.regs.sp) (effect flags i s.regs s.mem).writes (is_hidden t.regs.sp)
 
--- REV or REVW: what it reads and writes is shown, it does not write itself, and between its parts PC is not where the code waits
-pub record IsShownRules (l : Layout) (i : Instr) (f : Form) (flags d : ℕ) (p : Rule) (ps : List Rule) (s t : State) : Type 0 where
+-- REV or REVW: what it reads and writes is shown, it writes below the image alone, and not itself, and between its
+-- parts PC is not where the code waits
+pub record IsShownRules (l : Layout) (i : Instr) (f : Form) (flags d : ℕ) (p : Rule) (ps : List Rule)
+    (s t : State) : Type 0 where
   pub step : IsRulesStep i f flags d p ps s t
   pub reads : AllShown (is_hidden s.regs.sp) (rules_read f s.regs p ps)
   pub writes : AllShown (is_hidden s.regs.sp) (rules_written f p ps)
+  pub below : Each (λ at. at < 0x2000) (rules_written f p ps)
   pub itself : AreApart (rules_written f p ps) (six_from s.regs.pc)
   pub away : s.regs.pc ≢ l.wait
 
--- WAV: it has a pair at least, what it reads is shown, and where it goes on after an interrupt is not where the code waits
+-- WAV: it has a pair at least, what it reads is shown, and where it goes on after an interrupt is not where the code
+-- waits
 pub record IsShownAverage (l : Layout) (flags d : ℕ) (s t : State) : Type 0 where
   pub step : IsAverageStep flags d s t
   pub some : 1 ≤ s.regs.b

@@ -4,30 +4,52 @@ ghost use Rattle.codegen.specs.Evaluation.{EvalAnswers};
 ghost use Rattle.codegen.specs.Firing.{RulesGiveMasses};
 ghost use Rattle.codegen.specs.Uninterrupted.{AnsweredAreUninterrupted, FirmwareIsUninterrupted, UninterruptedAreOne};
 
+use byte_scaling::nearest_is_byte;
+use cpu12_asm::laws::rising_items;
+use cpu12_emul::laws::holds_image;
+use cpu12_isa::laws::stays_fit;
 use cpu12_parts::executions::executions_are_one;
+use rule_layout::{layout_law, mass_law};
 
 /// The rules leave in the slots of the outputs' terms their masses.
 pub fn rules_give_masses()
     ensures { RulesGiveMasses }
-{}
+{
+    layout_law();
+    mass_law();
+}
 
 /// EVAL answers a block over bytes, as bytes or in 16 bits, at the addresses of any layout whose
 /// regions are apart, wherever SP is and whether or not interrupts are masked. It leads from its
 /// first instruction to behind its last, and touches what its layout keeps for it alone.
 pub fn eval_answers()
     ensures { EvalAnswers }
-{}
+{
+    layout_law();
+    nearest_is_byte();
+    stays_fit();
+    rules_give_masses();
+}
 
 /// The firmware of a block answers every list of samples over bytes, whatever the open flags are,
 /// within its bounds; and at each instruction what an interrupt may change is not read.
 pub fn firmware_answers()
     ensures { FirmwareAnswers }
-{}
+{
+    layout_law();
+    nearest_is_byte();
+    stays_fit();
+    rising_items();
+    holds_image();
+    eval_answers();
+}
 
 /// The uninterrupted answers of the firmware of a block exist, and are the block's over bytes.
 pub fn firmware_is_uninterrupted()
     ensures { FirmwareIsUninterrupted }
-{}
+{
+    firmware_answers();
+}
 
 /// The answers of samples that whole instructions answer, on which interrupts may come, are the
 /// uninterrupted ones, and the block's over bytes.

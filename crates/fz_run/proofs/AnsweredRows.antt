@@ -32,28 +32,28 @@ use Rattle.run_law.specs.Uninterrupted.{uninterrupted, counted}
 use Rattle.run_law.specs.Following.{Completes, AllComplete, AllWithin}
 use Rattle.fz_run.specs.Forms.{given, answer_size, answers_at, answers_in, with_writes}
 use Rattle.fz_run.specs.Rows.{requests_of, arrival, first_state, firmware_rows}
+use Rattle.fz_run.specs.Arrival.{ArrivesPlainly}
 use Rattle.fz_run.specs.Facts.{FactsAlone}
 use Rattle.fz_run.specs.Following.{row_of_sample, rows_of_samples, IsLow, FollowsAlone}
-use Rattle.fz_run.specs.Stretches.{Stretch, Went, Kept, Calmly}
+use Rattle.fz_run.proofs.Stretches.{Stretch, Stretches, Kept, SameAbove, AtInstruction}
 use Rattle.fz_run.specs.Answering.{answer_of_row, AnswersItsBlock, AnswersUnder, AnswersUnderPlans}
-use Rattle.fz_run.proofs.Arrivals.{arrives_plainly}
 use Rattle.fz_run.proofs.PortBytes.{write_last}
 use Rattle.fz_run.proofs.PlainSteps.{plain_step}
 use Rattle.fz_run.proofs.StandAlone.{before_at}
-use Rattle.fz_run.proofs.Stretching.{execution_went, before_weaker}
+use Rattle.fz_run.proofs.Stretching.{all_stretches, before_weaker}
 use Rattle.fz_run.proofs.UsedLaws.{Laws}
-use Rattle.fz_run.proofs.WholeSteps.{rev_step, revw_step, average_step}
+use Rattle.fz_run.proofs.WholeSteps.{Inside, rev_step, revw_step, average_step}
 
 -- a firmware at the layout that stands alone, with n answers
 abbrev alone : Firmware → ℕ → Firmware
 alone f n = record f { layout = main_layout; outputs = n }
 
--- it does not wait, and SP is one of two
+-- it does not wait, SP is one of two, and memory is the image's from the stack's end on
 IsStack : ℕ → Type 0
 IsStack sp = (sp + 2 ≡ stack_end) ⊎ (sp ≡ stack_end)
 
-On : State → Type 0
-On u = (is_idle main_layout u ≡ false) × IsStack u.regs.sp
+On : List ℕ → State → Type 0
+On image u = (is_idle main_layout u ≡ false) × IsStack u.regs.sp × SameAbove image u.mem
 
 at_stack : (sp : ℕ) → (sp ≡ 0x1FFE) ⊎ (sp ≡ 0x2000) → IsStack sp
 unfolding IsStack
@@ -64,8 +64,8 @@ off_loop : (v : State) → (v.regs.pc ≡ 0xC008 → ⊥) → is_idle main_layou
 off_loop v h = let t : (v.regs.pc == 0xC008) ≡ false = grind (arith, nat_tests) in rw t refl
 
 -- what each state keeps at which an interrupt may come, in the words of runs
-calmly : (image : List ℕ) (s : State) → IsInterruptible image s → Calmly is_free s
-calmly image s c = record {
+at_instruction : (image : List ℕ) (s : State) → IsInterruptible image s → AtInstruction is_free s
+at_instruction image s c = record {
   temps = c.temps;
   size = c.size;
   bytes = c.bytes;
@@ -84,26 +84,43 @@ calmly image s c = record {
     high (inl e) = omega arith
     high (inr e) = omega arith
 
-step_stretch : Laws → (image : List ℕ) (flags d : ℕ) (s t : State) → flags < 2 ^ 8 → IsInterruptibleStep main_layout image flags d s t → Stretch (Kept is_free flags On) flags d s t
+step_stretch : Laws → (image : List ℕ) (flags d : ℕ) (s t : State) → flags < 2 ^ 8 → IsInterruptibleStep main_layout image flags d s t → Stretch (Kept is_free flags (On image)) flags d s t
 unfolding On
 step_stretch laws image flags d s t hf h = by h.instruction
   where
-    c : Calmly is_free s
-    c = calmly image s h.interruptible
+    c : AtInstruction is_free s
+    c = at_instruction image s h.interruptible
 
     stack : IsStack s.regs.sp
     stack = (let state = h.interruptible in at_stack s.regs.sp state.stack)
 
+    same : SameAbove image s.mem
+    same = (let state = h.interruptible in state.same)
+
+    here : On image s
+    here = (h.busy, stack, same)
+
     stays : (v : State) → (s.regs.pc ≡ 0xC008 → ⊥) → v.regs.pc ≡ s.regs.pc → is_idle main_layout v ≡ false
     stays v ne e = off_loop v (λ z. ne (sym e ∙ z))
 
-    by : IsShownInstruction main_layout flags d s t → Stretch (Kept is_free flags On) flags d s t
-    by (inl p) = subst (λ (k : ℕ). Stretch (Kept is_free flags On) flags k s t) (sym p.1.1) (plain_step is_free flags On p.0 s t c p.1.0.step p.1.0.reads p.1.0.uncovers (h.busy, stack))
-    by (inr (inl p)) = rev_step laws.rev_is_whole is_free flags On d p.0 p.1 s t hf c p.2.step p.2.reads p.2.itself (λ v e g. (stays v p.2.away e, subst IsStack (sym g) stack))
-    by (inr (inr (inl p))) = revw_step laws.revw_is_whole is_free flags On d p.0 p.1 s t hf c p.2.step p.2.reads p.2.itself (λ v e g. (stays v p.2.away e, subst IsStack (sym g) stack))
-    by (inr (inr (inr p))) = average_step laws.wav_is_whole laws.decoded_has_opcode is_free flags On d s t hf c p.step p.reads (h.busy, stack) (λ v e g. (off_loop v (λ z. p.away (sym e ∙ z)), subst IsStack (sym g) stack))
+    within : (s.regs.pc ≡ 0xC008 → ⊥) → Inside (On image) s
+    within away v e g m = (stays v away e, subst IsStack (sym g) stack, λ at le. m at le ∙ same at le)
 
-stretches : Laws → (image : List ℕ) (flags : ℕ) (ds : List ℕ) (s t : State) → flags < 2 ^ 8 → Execution (IsInterruptibleStep main_layout image flags) ds s t → Execution (Stretch (Kept is_free flags On) flags) ds s t
+    second : (plus s.regs.pc 1 ≡ 0xC008 → ⊥) → (v : State) → v.regs.pc ≡ plus s.regs.pc 1 → v.regs.sp ≡ s.regs.sp → v.mem ≡ s.mem → On image v
+    second away v e g m =
+        (off_loop v (λ z. away (sym e ∙ z)), subst IsStack (sym g) stack, λ at le. ap (λ (n : List ℕ). get_or n at 0) m ∙ same at le)
+
+    by : IsShownInstruction main_layout flags d s t → Stretch (Kept is_free flags (On image)) flags d s t
+    by (inl p) =
+        subst (λ (k : ℕ). Stretch (Kept is_free flags (On image)) flags k s t) (sym p.1.1)
+        (plain_step laws.steps.plain_is_step is_free flags (On image) p.0 s t c p.1.0.step p.1.0.reads p.1.0.writes p.1.0.uncovers here)
+    by (inr (inl p)) =
+        rev_step laws.steps is_free flags (On image) d p.0 p.1 s t hf c p.2.step (record { reads = p.2.reads; writes = p.2.writes; below = p.2.below; itself = p.2.itself }) (within p.2.away)
+    by (inr (inr (inl p))) =
+        revw_step laws.steps is_free flags (On image) d p.0 p.1 s t hf c p.2.step (record { reads = p.2.reads; writes = p.2.writes; below = p.2.below; itself = p.2.itself }) (within p.2.away)
+    by (inr (inr (inr p))) = average_step laws.steps is_free flags (On image) d s t hf c p.step p.reads here (second p.away)
+
+stretches : Laws → (image : List ℕ) (flags : ℕ) (ds : List ℕ) (s t : State) → flags < 2 ^ 8 → Execution (IsInterruptibleStep main_layout image flags) ds s t → Execution (Stretch (Kept is_free flags (On image)) flags) ds s t
 stretches laws image flags [] s t hf h = h
 stretches laws image flags (d ∷ ds) s t hf h = (h.0, (step_stretch laws image flags d s h.0 hf h.1.0, stretches laws image flags ds h.0 t hf h.1.1))
 
@@ -137,33 +154,35 @@ within b w image flags before [] s h = tt
 within b w image flags before (bytes ∷ samples) s h = (h.1.0.steps, within b w image flags (λ o. answer w b o bytes (before o)) samples h.0 h.1.1)
 
 went : Laws → (b : Block) (w : Width) (image : List ℕ) (flags : ℕ) (before : ℕ → ℕ) (bytes : List ℕ) (s t : State) → flags < 2 ^ 8 → length bytes ≤ 8 → (a : IsAnswered main_layout b w image flags before bytes s t)
-    → Went (Kept is_free flags On) flags a.ds (given main_layout bytes s) t
+    → Stretches (Kept is_free flags (On image)) flags a.ds (given main_layout bytes s) t
 went laws b w image flags before bytes s t hf l a =
     let start = answers.given main_layout bytes s in
-    subst (λ (u : State). Went (Kept is_free flags On) flags a.ds u t) (sym (same_given bytes s l)) (execution_went (Kept is_free flags On) flags a.ds start t (stretches laws image flags a.ds start t hf a.execution))
+    subst (λ (u : State). Stretches (Kept is_free flags (On image)) flags a.ds u t) (sym (same_given bytes s l)) (all_stretches (Kept is_free flags (On image)) flags a.ds start t (stretches laws image flags a.ds start t hf a.execution))
 
-sampled : Laws → (f : Firmware) (n : ℕ) (b : Block) (w : Width) (image : List ℕ) (flags : ℕ) (before : ℕ → ℕ) (bytes : List ℕ) (s t : State) → flags < 2 ^ 8 → length bytes ≤ 8 → (a : IsAnswered main_layout b w image flags before bytes s t)
-    → Completes (FactsAlone flags) (with_writes flags (alone f n)) 0 (all_steps a.ds) (all_steps a.ds) (given main_layout bytes s)
+sampled : Laws → (f : Firmware) (n : ℕ) (b : Block) (w : Width) (flags : ℕ) (before : ℕ → ℕ) (bytes : List ℕ) (s t : State) → flags < 2 ^ 8 → length bytes ≤ 8 → (a : IsAnswered main_layout b w (image_memory f.image.bytes) flags before bytes s t)
+    → Completes (FactsAlone flags (alone f n)) (with_writes flags (alone f n)) 0 (all_steps a.ds) (all_steps a.ds) (given main_layout bytes s)
 unfolding On IsStack
-sampled laws f n b w image flags before bytes s t hf l a =
+sampled laws f n b w flags before bytes s t hf l a =
+    let image = image_memory f.image.bytes in
     let g = went laws b w image flags before bytes s t hf l a in
-    let busy = before_weaker (Kept is_free flags On) (λ u. is_idle main_layout u ≡ false) flags (λ u k. k.1.0) (all_steps a.ds) (given main_layout bytes s) g.each in
+    let busy = before_weaker (Kept is_free flags (On image)) (λ u. is_idle main_layout u ≡ false) flags (λ u k. k.1.0) (all_steps a.ds) (given main_layout bytes s) g.each in
     record {
       sum = omega arith;
-      holds = before_weaker (Kept is_free flags On) (FactsAlone flags) flags (λ u k. record { facts = k.0; stack = k.1.1 }) (all_steps a.ds) (given main_layout bytes s) g.each;
+      holds = before_weaker (Kept is_free flags (On image)) (FactsAlone flags (alone f n)) flags (λ u k. record { facts = k.0; image = k.1.2; stack = k.1.1 }) (all_steps a.ds) (given main_layout bytes s) g.each;
       on = λ j from l. before_at (λ u. is_idle main_layout u ≡ false) flags (all_steps a.ds) j (given main_layout bytes s) busy l;
       ended = ap (is_idle main_layout) g.goes ∙ a.idle;
     }
 
-all_sampled : Laws → (f : Firmware) (n : ℕ) (b : Block) (w : Width) (image : List ℕ) (flags : ℕ) (before : ℕ → ℕ) (samples : List (List ℕ)) (s : State) → flags < 2 ^ 8 → AreShort samples → (h : AreAnswered main_layout b w image flags before samples s)
-    → AllComplete (FactsAlone flags) (with_writes flags (alone f n)) (numbers b w image flags before samples s h) samples s
+all_sampled : Laws → (f : Firmware) (n : ℕ) (b : Block) (w : Width) (flags : ℕ) (before : ℕ → ℕ) (samples : List (List ℕ)) (s : State) → flags < 2 ^ 8 → AreShort samples → (h : AreAnswered main_layout b w (image_memory f.image.bytes) flags before samples s)
+    → AllComplete (FactsAlone flags (alone f n)) (with_writes flags (alone f n)) (numbers b w (image_memory f.image.bytes) flags before samples s h) samples s
 unfolding numbers
-all_sampled laws f n b w image flags before [] s hf l h = tt
-all_sampled laws f n b w image flags before (bytes ∷ samples) s hf l h =
+all_sampled laws f n b w flags before [] s hf l h = tt
+all_sampled laws f n b w flags before (bytes ∷ samples) s hf l h =
+    let image = image_memory f.image.bytes in
     let g = went laws b w image flags before bytes s h.0 hf l.0 h.1.0 in
     let later : ℕ → ℕ = λ o. answer w b o bytes (before o) in (
-      sampled laws f n b w image flags before bytes s h.0 hf l.0 h.1.0,
-      subst (λ (u : State). AllComplete (FactsAlone flags) (with_writes flags (alone f n)) (numbers b w image flags later samples h.0 h.1.1) samples u) (sym g.goes) (all_sampled laws f n b w image flags later samples h.0 hf l.1 h.1.1),
+      sampled laws f n b w flags before bytes s h.0 hf l.0 h.1.0,
+      subst (λ (u : State). AllComplete (FactsAlone flags (alone f n)) (with_writes flags (alone f n)) (numbers b w image flags later samples h.0 h.1.1) samples u) (sym g.goes) (all_sampled laws f n b w flags later samples h.0 hf l.1 h.1.1),
     )
 
 -- the answers where none stands past the end of memory
@@ -230,8 +249,8 @@ enough_steps : (w : Width) (b : Block) → length b.outputs ≤ 4 → 3 ≤ step
 unfolding step_bound instruction_bound
 enough_steps w b few = omega arith
 
-first_is : (b : Block) (f : Firmware) (n flags : ℕ) (s : State) → length b.outputs ≤ 4 → IsFirmwareOf b (alone f n) → IsArrived main_layout (image_memory f.image.bytes) flags s → first_state (alone f n) flags ≡ s
-first_is b f n flags s few h a =
+first_is : ArrivesPlainly → (b : Block) (f : Firmware) (n flags : ℕ) (s : State) → length b.outputs ≤ 4 → IsFirmwareOf b (alone f n) → IsArrived main_layout (image_memory f.image.bytes) flags s → first_state (alone f n) flags ≡ s
+first_is arrives_plainly b f n flags s few h a =
     let start = reset_with (image_memory f.image.bytes) in
     ap (λ (most : ℕ). arrival flags 0xC008 most start) h.steps ∙ arrives_plainly flags 0xC008 3 (step_bound (width_of f.wide) b) start s refl a.way a.wait (enough_steps (width_of f.wide) b few)
 
@@ -248,12 +267,12 @@ under laws b f n flags samples plan s hf few count h short good a answered =
     let w = width_of f.wide in
     let image = image_memory f.image.bytes in
     let ns = numbers b w image flags (λ o. 0) samples s answered in
-    let first : first_state g flags ≡ s = first_is b f n flags s few h a in
+    let first : first_state g flags ≡ s = first_is laws.arrives_plainly b f n flags s few h a in
     let few_answers = few_bytes f.wide n count in
     let low : IsLow g = record { ready = omega arith; outputs = omega arith } in
     let steps : AllWithin (step_bound w b) ns = within b w image flags (λ o. 0) samples s answered in
     let bounded : AllWithin f.step_bound ns = subst (λ (m : ℕ). AllWithin m ns) (sym h.steps) steps in
-    let complete : AllComplete (FactsAlone flags) (with_writes flags g) ns samples s = all_sampled laws f n b w image flags (λ o. 0) samples s hf short answered in
+    let complete : AllComplete (FactsAlone flags g) (with_writes flags g) ns samples s = all_sampled laws f n b w flags (λ o. 0) samples s hf short answered in
     let runs : FollowsAlone flags g f.step_bound plan ns samples s = laws.runs_follow flags g f.step_bound plan ns samples s low good bounded complete in
     let rows = (firmware_rows g samples plan flags).rows in
     let expected = rows_of_samples flags g plan 1 ns samples s in
@@ -268,7 +287,7 @@ under laws b f n flags samples plan s hf few count h short good a answered =
         steps = subst (λ (rs : List (RowSeen (List ℕ))). All (λ (r : RowSeen (List ℕ)). r.steps ≤ step_bound w b) rs) (sym rows_are) (few_steps flags g plan (step_bound w b) 1 ns samples s steps);
       };
       ns = ns;
-      complete = subst (λ (u : State). AllComplete (FactsAlone flags) (with_writes flags g) ns samples u) (sym first) complete;
+      complete = subst (λ (u : State). AllComplete (FactsAlone flags g) (with_writes flags g) ns samples u) (sym first) complete;
       rows_are = rows_are ∙ ap (λ (u : State). rows_of_samples flags g plan 1 ns samples u) (sym first);
       follows = subst (λ (u : State). FollowsAlone flags g f.step_bound plan ns samples u) (sym first) runs;
     }

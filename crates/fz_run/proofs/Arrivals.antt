@@ -2,6 +2,7 @@
 use Rattle.std.proofs.Common.{◌≡◌, ℕ, zero, suc, ◌-◌, ◌<◌, ◌==◌, true, false, Ok, Err, refl, ap, ◌∙◌, arith}
 use Rattle.std.proofs.lemmas.Bool.Decides.{nat_tests}
 use Rattle.cpu12_parts.specs.State.{State}
+use Rattle.cpu12_emul.specs.Simulation.{PlainIsStep}
 use Rattle.cpu12_emul.specs.Step.{Next, next_of}
 use Rattle.cpu12_parts.specs.declared.temps.Temps.TheVariants.{Free}
 use Rattle.cpu12_emul.specs.declared.ends.Stepped.TheVariants.{Plain}
@@ -35,13 +36,13 @@ unfolding arrival
 arrives_spent flags loop zero s z = refl
 arrives_spent flags loop (suc n) s z = absurd (omega arith)
 
-pub arrives_plainly : ArrivesPlainly
-arrives_plainly flags loop zero most s t free w at le = arrives flags loop most s (ap (λ (u : State). u.regs.pc) w ∙ at) ∙ w
-arrives_plainly flags loop (suc n) most s t free w at le =
+pub arrives_plainly : PlainIsStep → ArrivesPlainly
+arrives_plainly law flags loop zero most s t free w at le = arrives flags loop most s (ap (λ (u : State). u.regs.pc) w ∙ at) ∙ w
+arrives_plainly law flags loop (suc n) most s t free w at le =
     let u = w.0 in
     let i = w.1.1.0 in
     let p = w.1.1.1 in
     let next : Next = record { state = u; kind = Plain } in
     let kept : u.temps ≡ Free = ap (λ (v : State). v.temps) p.after ∙ free in
-    arrives_later flags loop most s next w.1.0 (omega arith) (plain_next flags i s u free p)
-    ∙ arrives_plainly flags loop n (most - 1) u t kept w.1.2 at (omega arith)
+    arrives_later flags loop most s next w.1.0 (omega arith) (plain_next law flags i s u free p)
+    ∙ arrives_plainly law flags loop n (most - 1) u t kept w.1.2 at (omega arith)

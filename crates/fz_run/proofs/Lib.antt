@@ -5,6 +5,7 @@ pub mod Arrivals
 pub mod PlanSlices
 pub mod RowSteps
 pub mod GoodPlans
+pub mod Stretches
 pub mod Stretching
 pub mod PlainSteps
 pub mod PartSteps

@@ -1,131 +1,28 @@
 -- The parts of REV and REVW are steps, before each of which the state keeps the facts.
-use Rattle.std.proofs.Common.{◌≡◌, ◌==◌, ◌||◌, ℕ, zero, suc, ◌+◌, ◌^◌, ◌<◌, ◌≤◌, min, max, ◌*◌, Bool, true, false, Result, Ok, List, [], ◌∷◌, get_or, refl, ap, sym, ◌∙◌, subst, arith, inl, inr}
-use Rattle.std.specs.Prelude.{if◌then◌else◌}
-use Rattle.std.proofs.Math.ListN.{set}
-use Rattle.std.proofs.Math.Nat.{div-lt_iff_lt-mul, mul-le-mul_left}
-use Rattle.std.proofs.lemmas.Bool.{false≢true}
+use Rattle.std.proofs.Common.{◌≡◌, ◌==◌, ◌||◌, ℕ, zero, suc, ◌+◌, ◌^◌, ◌<◌, ◌≤◌, min, nat_le, Bool, true, false, Result, Ok, List, [], ◌∷◌, get_or, refl, ap, sym, ◌∙◌, subst, arith, inl, inr}
+use Rattle.std.proofs.lemmas.Bool.{false≢true, or_parts}
 use Rattle.std.proofs.lemmas.Bool.Decides.{nat_tests}
-use Rattle.cpu12_isa.specs.declared.instr.Regs.{Regs}
-use Rattle.cpu12_isa.specs.declared.instr.Ccr.{Ccr}
 use Rattle.cpu12_isa.specs.declared.instr.Instr.{Instr}
-use Rattle.cpu12_isa.specs.Act.{Act, Give, Get, outcome, read_by, bind, write_all}
-use Rattle.cpu12_isa.specs.Agreement.{AllShown, IsWritten}
+use Rattle.cpu12_isa.specs.Act.{read_by, write_all}
+use Rattle.cpu12_isa.specs.Agreement.{AllShown, IsWritten, WritesStay}
 use Rattle.cpu12_isa.specs.Code.{decode_of, decode_at, six_from}
-use Rattle.cpu12_isa.specs.Fits.{FitsRegs, FitsWrites, AreBytes, Leaves}
-use Rattle.cpu12_isa.specs.Flags.{has, put, opened, interrupts_masked, overflow, carry, hnzc, hnz}
-use Rattle.cpu12_isa.specs.Memory.{plus, bytes_at, word_of}
-use Rattle.cpu12_isa.proofs.Lemmas.{outcome_bind}
-use Rattle.cpu12_isa.proofs.Lemmas.{shown_bind, unwritten, length_writes}
-use Rattle.cpu12_isa.proofs.Lemmas.{bit, bit_or_is, bit_and_is, fits_put, fits_opened}
-use Rattle.cpu12_isa.proofs.Lemmas.{leaves_outcome}
+use Rattle.cpu12_isa.specs.Memory.{bytes_at}
+use Rattle.cpu12_isa.specs.Regions.{stack_start, stack_end, is_hidden}
+use Rattle.cpu12_isa.proofs.Algebra.{shown_append}
 use Rattle.cpu12_parts.specs.declared.temps.Temps.{Temps}
-use Rattle.cpu12_parts.specs.declared.temps.Temps.TheVariants.{Free}
 use Rattle.cpu12_parts.specs.declared.temps.PartEnd.{PartEnd}
-use Rattle.cpu12_parts.specs.declared.temps.PartEnd.TheVariants.{More, Done}
+use Rattle.cpu12_parts.specs.declared.temps.PartEnd.TheVariants.{More}
 use Rattle.cpu12_parts.specs.State.{State, Outcome}
 use Rattle.cpu12_parts.specs.Cuts.{Kind, part_of, after_part}
+use Rattle.cpu12_parts.specs.Fits.{FitsTemps, FitsOutcome}
 use Rattle.cpu12_parts.specs.Laws.{addresses, PartsTo}
-use Rattle.cpu12_parts.specs.Parts.{leaving, met, rev_act, revw_act, weighted}
-use Rattle.cpu12_emul.specs.Step.{Left, kind_of, left_by_part, instruction_act, step_act, applied, Next, next_of}
-use Rattle.cpu12_isa.specs.Regions.{stack_start, stack_end, is_hidden}
-use Rattle.fz_run.specs.Facts.{Facts}
-use Rattle.fz_run.specs.Stretches.{Stretch, Kept, Calmly}
-use Rattle.fz_run.proofs.Stretching.{last_stretch, part_stretch, shown_all}
-
--- what a part of REV or REVW keeps of the registers before it
-pub record Holds (r : Regs) (t : Temps) (o : Outcome) : Type 0 where
-  pub sp : o.regs.sp ≡ r.sp
-  pub temps : o.temps ≡ t
-  pub fits : FitsRegs o.regs
-  pub masked : has o.regs.ccr interrupts_masked ≡ has r.ccr interrupts_masked
-  pub writes : FitsWrites o.writes
-  pub inner : o.end ≡ More → o.regs.pc ≡ r.pc
-
-masked_opened : (c : Ccr) (f : ℕ) → has (opened c hnzc f) interrupts_masked ≡ has c interrupts_masked
-masked_opened c f = let m : bit (opened c hnzc f).0 4 ≡ bit c.0 4 = simp (bit_or_is, bit_and_is) in m
-
-masked_opened_word : (c : Ccr) (f : ℕ) → has (opened c hnz f) interrupts_masked ≡ has c interrupts_masked
-masked_opened_word c f = let m : bit (opened c hnz f).0 4 ≡ bit c.0 4 = simp (bit_or_is, bit_and_is) in m
-
-masked_put : (c : Ccr) (b : Bool) → has (put c overflow b) interrupts_masked ≡ has c interrupts_masked
-masked_put c true = let m : bit (put c overflow true).0 4 ≡ bit c.0 4 = simp (bit_or_is) in m
-masked_put c false = let m : bit (put c overflow false).0 4 ≡ bit c.0 4 = simp (bit_and_is) in m
-
-pub leaves_if : {A : Type 0} (P : A → Type 0) (b : Bool) (x y : Act A) → Leaves P x → Leaves P y → Leaves P (if b then x else y)
-leaves_if P true x y l m = l
-leaves_if P false x y l m = m
-
--- registers that differ in A, X, Y and the flags alone
-abbrev moved : Regs → ℕ → ℕ → ℕ → Ccr → Regs
-moved r a x y c = record r { a = a; x = x; y = y; ccr = c }
-
-moved_fits : (r : Regs) (a x y : ℕ) (c : Ccr) → FitsRegs r → a < 2 ^ 8 → x < 2 ^ 16 → y < 2 ^ 16 → c.0 < 2 ^ 8 → FitsRegs (moved r a x y c)
-moved_fits r a x y c f ha hx hy hc = record { a = ha; b = f.b; x = hx; y = hy; sp = f.sp; pc = f.pc; ccr = hc }
-
-moved_holds : (r : Regs) (t : Temps) (a x y : ℕ) (c : Ccr) (ws : List (ℕ × ℕ)) → FitsRegs r → a < 2 ^ 8 → x < 2 ^ 16 → y < 2 ^ 16 → c.0 < 2 ^ 8 → has c interrupts_masked ≡ has r.ccr interrupts_masked → FitsWrites ws
-    → Holds r t (record { regs = moved r a x y c; temps = t; writes = ws; end = More })
-moved_holds r t a x y c ws f ha hx hy hc m w = record { sp = refl; temps = refl; fits = moved_fits r a x y c f ha hx hy hc; masked = m; writes = w; inner = λ e. refl }
-
-done_holds : (r : Regs) (t : Temps) (x : ℕ) (c : Ccr) → FitsRegs r → x < 2 ^ 16 → c.0 < 2 ^ 8 → has c interrupts_masked ≡ has r.ccr interrupts_masked
-    → Holds r t (record { regs = record r { x = x; pc = plus r.pc 2; ccr = c }; temps = t; writes = []; end = Done })
-done_holds r t x c f hx hc m = record {
-  sp = refl;
-  temps = refl;
-  fits = record { a = f.a; b = f.b; x = hx; y = f.y; sp = f.sp; pc = omega arith; ccr = hc };
-  masked = m;
-  writes = tt;
-  inner = λ e. cc;
-}
-
-met_holds : (r : Regs) (t : Temps) (x : ℕ) (c : Ccr) (at : ℕ) → FitsRegs r → x < 2 ^ 16 → c.0 < 2 ^ 8 → has c interrupts_masked ≡ has r.ccr interrupts_masked → at < 2 ^ 16
-    → Leaves (Holds r t) (met r (record r { x = x; ccr = c }) t at)
-met_holds r t x c at f hx hc m h = λ v hv. leaves_if (Holds r t) (has r.ccr overflow)
-    (Give (record { regs = record r { x = x; ccr = c }; temps = t; writes = (at, max v r.a) ∷ []; end = More }))
-    (leaving (record (record r { x = x; ccr = c }) { a = min r.a v }) t More)
-    (moved_holds r t r.a x r.y c ((at, max v r.a) ∷ []) f f.a hx f.y hc m (h, (let fa = f.a in omega arith), tt))
-    (moved_holds r t (min r.a v) x r.y c [] f (let fa = f.a in omega arith) hx f.y hc m tt)
-
-pub rev_holds : (flags : ℕ) (r : Regs) (t : Temps) → flags < 2 ^ 8 → FitsRegs r → Leaves (Holds r t) (rev_act flags r t)
-rev_holds flags r t hf f = λ e he.
-    (let c = opened r.ccr hnzc flags in
-    let x = plus r.x 1 in
-    let s : Regs = record r { x = x; ccr = c } in
-    let hx : x < 2 ^ 16 = omega arith in
-    let hc : c.0 < 2 ^ 8 = fits_opened r.ccr hnzc flags f.ccr hf in
-    let m = masked_opened r.ccr flags in
-    let low = fits_put c overflow false (omega arith) hc in
-    let high = fits_put c overflow true (omega arith) hc in
-    leaves_if (Holds r t) (e == 255) (leaving (record s { pc = plus s.pc 2 }) t Done) _ (done_holds r t x c f hx hc m)
-    (leaves_if (Holds r t) (e == 254) _ (met r s t (plus r.y e))
-    (leaves_if (Holds r t) (has r.ccr overflow) (leaving (record s { a = 255; ccr = put c overflow false }) t More) (leaving (record s { ccr = put c overflow true }) t More)
-    (moved_holds r t 255 x r.y (put c overflow false) [] f (omega arith) hx f.y low (masked_put c false ∙ m) tt)
-    (moved_holds r t r.a x r.y (put c overflow true) [] f f.a hx f.y high (masked_put c true ∙ m) tt))
-    (met_holds r t x c (plus r.y e) f hx hc m (omega arith))))
-
-weighted_fits : (a w : ℕ) → a < 2 ^ 8 → w < 2 ^ 8 → weighted a w < 2 ^ 8
-weighted_fits a w ha hw =
-    let l : a * (w + 1) ≤ a * 256 = mul-le-mul_left a (omega arith) in
-    (div-lt_iff_lt-mul {k = 2 ^ 8} {x = a * (w + 1)} {y = 2 ^ 8} (omega arith)).1 (omega (arith, l))
-
-pub revw_holds : (flags : ℕ) (r : Regs) (t : Temps) → flags < 2 ^ 8 → FitsRegs r → Leaves (Holds r t) (revw_act flags r t)
-revw_holds flags r t hf f = λ high hh low hl.
-    (let e = word_of high low in
-    let c = opened r.ccr hnz flags in
-    let x = plus r.x 2 in
-    let s : Regs = record r { x = x; ccr = c } in
-    let hx : x < 2 ^ 16 = omega arith in
-    let hc : c.0 < 2 ^ 8 = fits_opened r.ccr hnz flags f.ccr hf in
-    let m = masked_opened_word r.ccr flags in
-    let cleared = fits_put c overflow false (omega arith) hc in
-    let raised = fits_put c overflow true (omega arith) hc in
-    leaves_if (Holds r t) (e == 65535) (leaving (record s { pc = plus s.pc 2 }) t Done) _ (done_holds r t x c f hx hc m)
-    (leaves_if (Holds r t) (e == 65534) _ (met r s t e)
-    (leaves_if (Holds r t) (has r.ccr overflow) (leaving (record s { a = 255; ccr = put c overflow false }) t More) _
-    (moved_holds r t 255 x r.y (put c overflow false) [] f (omega arith) hx f.y cleared (masked_put c false ∙ m) tt)
-    (leaves_if (Holds r t) (has r.ccr carry) (Get r.y (λ w. leaving (record s { a = weighted r.a w; y = plus r.y 1; ccr = put c overflow true }) t More)) (leaving (record s { ccr = put c overflow true }) t More)
-    (λ w hw. moved_holds r t (weighted r.a w) x (plus r.y 1) (put c overflow true) [] f (weighted_fits r.a w f.a hw) hx (omega arith) raised (masked_put c true ∙ m) tt)
-    (moved_holds r t r.a x r.y (put c overflow true) [] f f.a hx f.y raised (masked_put c true ∙ m) tt)))
-    (met_holds r t x c e f hx hc m (omega arith))))
+use Rattle.cpu12_parts.specs.Rules.{NotIn, AreApart}
+use Rattle.cpu12_parts.specs.Touching.{Each}
+use Rattle.cpu12_emul.specs.Simulation.{AreSumsReady, left_of}
+use Rattle.cpu12_emul.specs.Step.{Left, Next, kind_of, applied, next_of}
+use Rattle.fz_run.specs.Facts.{Facts, AreNoneOrRunning}
+use Rattle.fz_run.proofs.Stretches.{Stretch, Kept, SameAbove, AtInstruction, WriteLaws, RuleLaws}
+use Rattle.fz_run.proofs.Stretching.{last_stretch, part_stretch}
 
 -- an address is one of these
 abbrev pub is_among : List ℕ → ℕ → Bool
@@ -150,113 +47,147 @@ unfolding AllAmong
 all_among [] = tt
 all_among (at ∷ ats) = (let e : (at == at) ≡ true = grind (arith, nat_tests) in rw e refl, among_more at ats ats (all_among ats))
 
+not_among : (k : ℕ) (ats : List ℕ) → NotIn k ats → is_among ats k ≡ false
+not_among k [] h = refl
+not_among k (at ∷ ats) h = (let ne = h.0 in let e : (at == k) ≡ false = grind (arith, nat_tests) in let r = not_among k ats h.1 in rw (e, r) refl)
+
+-- what no part writes: what is hidden, from the stack's end on, and the instruction's own bytes
+abbrev pub is_spared : (ℕ → Bool) → List ℕ → ℕ → Bool
+is_spared h own at = h at || (nat_le stack_end at || is_among own at)
+
+pub spared : (h : ℕ → Bool) (own ats : List ℕ) → AllShown h ats → Each (λ at. at < stack_end) ats → AreApart ats own → AllShown (is_spared h own) ats
+spared h own [] a b c = tt
+spared h own (at ∷ ats) a b c = (one (h at) (nat_le stack_end at) (is_among own at) a.0 low (not_among at own c.0), spared h own ats a.1 b.1 c.1)
+  where
+    low : nat_le stack_end at ≡ false
+    low = (let l = b.0 in grind (arith, nat_tests))
+
+    one : (x y z : Bool) → x ≡ false → y ≡ false → z ≡ false → (x || (y || z)) ≡ false
+    one x y z p q r = rw (p, q, r) refl
+
+record Spared (h : ℕ → Bool) (own ats : List ℕ) : Type 0 where
+  shown : AllShown h ats
+  above : AllShown (nat_le stack_end) ats
+  apart : AllShown (is_among own) ats
+
+spares : (h : ℕ → Bool) (own ats : List ℕ) → AllShown (is_spared h own) ats → Spared h own ats
+spares h own [] a = record { shown = tt; above = tt; apart = tt }
+spares h own (at ∷ ats) a =
+    let p = or_parts (h at) (nat_le stack_end at || is_among own at) a.0 in
+    let q = or_parts (nat_le stack_end at) (is_among own at) p.1 in
+    let rest = spares h own ats a.1 in
+    record { shown = (p.0, rest.shown); above = (q.0, rest.above); apart = (q.1, rest.apart) }
+
 not_written : (c : ℕ → Bool) (ws : List (ℕ × ℕ)) (at : ℕ) → AllShown c (addresses ws) → c at ≡ true → IsWritten ws at → ⊥
 not_written c [] at h t w = w
 not_written c (x ∷ ws) at h t (inl e) = false≢true (sym h.0 ∙ ap c (sym e) ∙ t)
 not_written c (x ∷ ws) at h t (inr w) = not_written c ws at h.1 t w
 
-bytes_stay : (cs : List ℕ) (ws : List (ℕ × ℕ)) (m : List ℕ) (ats : List ℕ) → AllShown (is_among cs) (addresses ws) → AllAmong cs ats → bytes_at (write_all ws m) ats ≡ bytes_at m ats
+code_stays : WritesStay → (cs : List ℕ) (ws : List (ℕ × ℕ)) (m : List ℕ) (ats : List ℕ) → AllShown (is_among cs) (addresses ws) → AllAmong cs ats → bytes_at (write_all ws m) ats ≡ bytes_at m ats
 unfolding AllAmong
-bytes_stay cs ws m [] h a = refl
-bytes_stay cs ws m (at ∷ ats) h a = let e = unwritten ws m at (not_written (is_among cs) ws at h a.0) in let f = bytes_stay cs ws m ats h a.1 in cc
+code_stays stay cs ws m [] h a = refl
+code_stays stay cs ws m (at ∷ ats) h a = let e = (stay ws m).1 at (not_written (is_among cs) ws at h a.0) in let f = code_stays stay cs ws m ats h a.1 in cc
 
--- bytes that are written are bytes
-one_written : (l : List ℕ) (i v at : ℕ) → get_or l at 0 < 2 ^ 8 → v < 2 ^ 8 → get_or (set l i v) at 0 < 2 ^ 8
-one_written [] i v at old new = old
-one_written (x ∷ xs) zero v zero old new = new
-one_written (x ∷ xs) zero v (suc at) old new = old
-one_written (x ∷ xs) (suc i) v zero old new = old
-one_written (x ∷ xs) (suc i) v (suc at) old new = one_written xs i v at old new
+above_stays : WritesStay → (ws : List (ℕ × ℕ)) (m : List ℕ) → AllShown (nat_le stack_end) (addresses ws) → SameAbove m (write_all ws m)
+above_stays stay ws m h at le = (stay ws m).1 at (not_written (nat_le stack_end) ws at h (let t : nat_le stack_end at ≡ true = grind (arith, nat_tests) in t))
 
-bytes_written : (ws : List (ℕ × ℕ)) (m : List ℕ) → AreBytes m → FitsWrites ws → AreBytes (write_all ws m)
-bytes_written [] m b f = b
-bytes_written (w ∷ ws) m b f = bytes_written ws (set m w.0 w.1) (λ at. one_written m w.0 w.1 at (b at) f.1) f.2
-
--- an instruction in parts, which keeps these facts
-pub record IsInParts (k : Kind) (i : Instr) : Type 0 where
-  pub does : (flags : ℕ) (r : Regs) (t : Temps) → instruction_act flags r t (Ok i) ≡ bind (k.act flags r t) left_by_part
-  pub holds : (flags : ℕ) (r : Regs) (t : Temps) → flags < 2 ^ 8 → FitsRegs r → Leaves (Holds r t) (k.act flags r t)
-
-abbrev pub left_of : Outcome → Left
-left_of o = record { regs = o.regs; temps = o.temps; writes = o.writes; kind = kind_of o.end }
-
-abbrev pub free_at : Regs → List ℕ → State
-free_at r m = record { regs = r; temps = Free; mem = m }
+pub above_with : (l m n : List ℕ) → SameAbove l m → SameAbove m n → SameAbove l n
+above_with l m n a b at le = b at le ∙ a at le
 
 -- the step of a part, and what the state before it keeps
-record Part (open_to : ℕ → Bool) (flags : ℕ) (k : Kind) (r : Regs) (m : List ℕ) : Type 0 where
-  calmed : Facts open_to flags (free_at r m)
-  goes : next_of flags (free_at r m) ≡ Ok (record { state = after_part k flags (free_at r m); kind = kind_of (part_of k flags (free_at r m)).end })
-  holds : Holds r Free (part_of k flags (free_at r m))
+record Part (open_to : ℕ → Bool) (flags : ℕ) (k : Kind) (s : State) : Type 0 where
+  facts : Facts open_to flags s
+  goes : next_of flags s ≡ Ok (record { state = after_part k flags s; kind = kind_of (part_of k flags s).end })
 
-part_here : (open_to : ℕ → Bool) (flags : ℕ) (k : Kind) (i : Instr) (r : Regs) (m : List ℕ) → IsInParts k i → flags < 2 ^ 8 → Calmly open_to (free_at r m) → decode_at m r.pc ≡ Ok i
-    → AllShown (is_hidden open_to r.sp) (read_by (k.act flags r Free) m) → Part open_to flags k r m
-part_here open_to flags k i r m ip hf c decoded reads =
-    let o : Outcome = part_of k flags (free_at r m) in
-    let act : instruction_act flags r Free (decode_of (bytes_at m (six_from r.pc))) ≡ bind (k.act flags r Free) left_by_part = ap (instruction_act flags r Free) decoded ∙ ip.does flags r Free in
-    let goes : outcome (step_act flags r Free) m ≡ Ok (left_of o) = ap (λ (x : Act (Result Left ℕ)). outcome x m) act ∙ outcome_bind (k.act flags r Free) left_by_part m in
-    let shown : AllShown (is_hidden open_to r.sp) (read_by (bind (k.act flags r Free) left_by_part) m) = shown_bind (is_hidden open_to r.sp) m (k.act flags r Free) left_by_part reads (λ x. tt) in
-    let holds : Holds r Free o = leaves_outcome (Holds r Free) (k.act flags r Free) m c.bytes (ip.holds flags r Free hf c.fits) in
+pub same_least : (a b : ℕ) → b ≡ a → min a b ≡ a
+same_least a b e = omega arith
+
+part_here : (i : Instr) (k : Kind) → RuleLaws i k → (open_to : ℕ → Bool) (flags : ℕ) (s : State) → AtInstruction open_to s → decode_at s.mem s.regs.pc ≡ Ok i
+    → AllShown (is_hidden open_to s.regs.sp) (read_by (k.act flags s.regs s.temps) s.mem) → AllShown (is_hidden open_to s.regs.sp) (addresses (part_of k flags s).writes)
+    → Part open_to flags k s
+part_here i k laws open_to flags s c decoded reads writes =
+    let h = is_hidden open_to s.regs.sp in
+    let o : Outcome = part_of k flags s in
+    let is = laws.is_step flags s (inl c.temps) decoded in
+    let stack : o.regs.sp ≡ s.regs.sp = (let steady = laws.steady in steady.stack flags s) in
     record {
-      calmed = record {
-        unmasked = c.unmasked;
-        sums = tt;
+      facts = record {
         shown = record {
           left = left_of o;
-          goes = goes;
-          reads = shown_all (is_hidden open_to r.sp) m (six_from r.pc) (λ bytes. instruction_act flags r Free (decode_of bytes)) c.code
-              (subst (λ (x : Act (Result Left ℕ)). AllShown (is_hidden open_to r.sp) (read_by x m)) (sym act) shown);
-          covers = λ at h. inl (subst (λ (j : ℕ). is_hidden open_to j at ≡ false) holds.sp h);
+          goes = is.0;
+          reads = subst (AllShown h) (sym is.1) (shown_append h (six_from s.regs.pc) (read_by (k.act flags s.regs s.temps) s.mem) c.code reads);
+          covers = λ at x. inl (subst (λ (j : ℕ). is_hidden open_to j at ≡ false) stack x);
           room = record { size = c.size; fits = c.fits; low = c.low; high = c.high };
-          sums = tt;
+          sums = subst (λ (u : Temps). AreSumsReady open_to s u) (sym c.temps) tt;
         };
+        writes = subst (λ (n : ℕ). AllShown (is_hidden open_to n) (addresses o.writes)) (sym (same_least s.regs.sp o.regs.sp stack)) writes;
+        unmasked = c.unmasked;
+        sums = subst AreNoneOrRunning (sym c.temps) tt;
       };
-      goes = ap (λ (x : Result Left ℕ). applied x m) goes;
-      holds = holds;
+      goes = ap (λ (x : Result Left ℕ). applied x s.mem) is.0;
     }
 
 -- the state after a part that goes on keeps the same
-calm_after : (open_to : ℕ → Bool) (flags : ℕ) (k : Kind) (r : Regs) (m : List ℕ) → Calmly open_to (free_at r m) → Holds r Free (part_of k flags (free_at r m)) → (part_of k flags (free_at r m)).end ≡ More
-    → Calmly open_to (free_at (part_of k flags (free_at r m)).regs (write_all (part_of k flags (free_at r m)).writes m))
-calm_after open_to flags k r m c h more =
-    let o : Outcome = part_of k flags (free_at r m) in
-    let pc : o.regs.pc ≡ r.pc = h.inner more in
+next_part : (i : Instr) (k : Kind) → RuleLaws i k → WriteLaws → (open_to : ℕ → Bool) (flags : ℕ) (s : State) → flags < 2 ^ 8 → AtInstruction open_to s → (part_of k flags s).end ≡ More
+    → AtInstruction open_to (after_part k flags s)
+next_part i k laws writes open_to flags s hf c more =
+    let o : Outcome = part_of k flags s in
+    let fit : FitsOutcome o = laws.fits flags s hf (record { regs = c.fits; temps = subst FitsTemps (sym c.temps) tt; mem = c.bytes }) in
+    let on = laws.goes_on flags s more in
+    let stack : o.regs.sp ≡ s.regs.sp = (let steady = laws.steady in steady.stack flags s) in
     record {
-      temps = refl;
-      size = length_writes o.writes m ∙ c.size;
-      bytes = bytes_written o.writes m c.bytes h.writes;
-      fits = h.fits;
-      low = subst (λ (n : ℕ). stack_start + 15 ≤ n) (sym h.sp) c.low;
-      high = subst (λ (n : ℕ). n ≤ stack_end) (sym h.sp) c.high;
-      unmasked = h.masked ∙ c.unmasked;
-      code = subst (λ (n : ℕ). AllShown (is_hidden open_to n) (six_from o.regs.pc)) (sym h.sp) (subst (λ (n : ℕ). AllShown (is_hidden open_to r.sp) (six_from n)) (sym pc) c.code);
+      temps = laws.sums flags s ∙ c.temps;
+      size = (writes.writes_stay o.writes s.mem).0 ∙ c.size;
+      bytes = writes.bytes_stay o.writes s.mem fit.writes c.bytes;
+      fits = fit.regs;
+      low = subst (λ (n : ℕ). stack_start + 15 ≤ n) (sym stack) c.low;
+      high = subst (λ (n : ℕ). n ≤ stack_end) (sym stack) c.high;
+      unmasked = on.0 ∙ c.unmasked;
+      code = subst (λ (n : ℕ). AllShown (is_hidden open_to n) (six_from o.regs.pc)) (sym stack) (subst (λ (n : ℕ). AllShown (is_hidden open_to s.regs.sp) (six_from n)) (sym on.1) c.code);
     }
 
-pub parts_at : (open_to : ℕ → Bool) (flags : ℕ) (Q : State → Type 0) (k : Kind) (i : Instr) (sp pc d : ℕ) (r : Regs) (m : List ℕ) (t : State) → IsInParts k i → flags < 2 ^ 8 → Calmly open_to (free_at r m) → decode_at m pc ≡ Ok i
-    → r.sp ≡ sp → r.pc ≡ pc → ((v : State) → v.regs.pc ≡ pc → v.regs.sp ≡ sp → Q v) → PartsTo k flags (is_hidden open_to sp) (is_among (six_from pc)) d (free_at r m) t → Stretch (Kept open_to flags Q) flags d (free_at r m) t
-parts_at open_to flags Q k i sp pc zero r m t ip hf c decoded esp epc q h =
-    let s : State = free_at r m in
-    let p = part_here open_to flags k i r m ip hf c (ap (decode_at m) epc ∙ decoded) (subst (λ (n : ℕ). AllShown (is_hidden open_to n) (read_by (k.act flags r Free) m)) (sym esp) h.0.0) in
-    subst (λ (u : State). Stretch (Kept open_to flags Q) flags 0 s u) (sym h.2)
-    (last_stretch (Kept open_to flags Q) flags s (after_part k flags s) (p.calmed, q s epc esp) (p.goes ∙ ap (λ (e : PartEnd). by e) h.1))
-  where
-    by : PartEnd → Result Next ℕ
-    by e = Ok (record { state = after_part k flags (free_at r m); kind = kind_of e })
-parts_at open_to flags Q k i sp pc (suc d) r m t ip hf c decoded esp epc q h =
-    let s : State = free_at r m in
-    let o : Outcome = part_of k flags s in
-    let m2 = write_all o.writes m in
-    let p = part_here open_to flags k i r m ip hf c (ap (decode_at m) epc ∙ decoded) (subst (λ (n : ℕ). AllShown (is_hidden open_to n) (read_by (k.act flags r Free) m)) (sym esp) h.0.0) in
-    let hold = p.holds in
-    let there : after_part k flags s ≡ free_at o.regs m2 = ap (λ (u : Temps). at_temps u) hold.temps in
-    let still : decode_at m2 pc ≡ Ok i = ap decode_of (bytes_stay (six_from pc) o.writes m (six_from pc) h.0.1 (all_among (six_from pc))) ∙ decoded in
-    let rest = parts_at open_to flags Q k i sp pc d o.regs m2 t ip hf (calm_after open_to flags k r m c hold h.1) still (hold.sp ∙ esp) (hold.inner h.1 ∙ epc) q
-    (subst (λ (u : State). PartsTo k flags (is_hidden open_to sp) (is_among (six_from pc)) d u t) there h.2) in
-    part_stretch (Kept open_to flags Q) flags d s (after_part k flags s) t (p.calmed, q s epc esp) (p.goes ∙ ap (λ (e : PartEnd). by e) h.1)
-    (subst (λ (u : State). Stretch (Kept open_to flags Q) flags d u t) (sym there) rest)
-  where
-    by : PartEnd → Result Next ℕ
-    by e = Ok (record { state = after_part k flags (free_at r m); kind = kind_of e })
+-- where an instruction stands that is under way
+pub record Stands (open_to : ℕ → Bool) (i : Instr) (sp pc : ℕ) (first : List ℕ) (s : State) : Type 0 where
+  pub begins : AtInstruction open_to s
+  pub decoded : decode_at s.mem pc ≡ Ok i
+  pub stack : s.regs.sp ≡ sp
+  pub at : s.regs.pc ≡ pc
+  pub above : SameAbove first s.mem
 
-    at_temps : Temps → State
-    at_temps u = (let o = part_of k flags (free_at r m) in record { regs = o.regs; temps = u; mem = write_all o.writes m })
+-- a part of it
+touched : (i : Instr) (k : Kind) → RuleLaws i k → (open_to : ℕ → Bool) (flags sp pc : ℕ) (first : List ℕ) (s : State) → Stands open_to i sp pc first s
+    → Spared (is_hidden open_to sp) (six_from pc) (addresses (part_of k flags s).writes) → AllShown (is_hidden open_to sp) (read_by (k.act flags s.regs s.temps) s.mem) → Part open_to flags k s
+touched i k laws open_to flags sp pc first s at w r =
+    part_here i k laws open_to flags s at.begins (ap (decode_at s.mem) at.at ∙ at.decoded)
+    (subst (λ (n : ℕ). AllShown (is_hidden open_to n) (read_by (k.act flags s.regs s.temps) s.mem)) (sym at.stack) r)
+    (subst (λ (n : ℕ). AllShown (is_hidden open_to n) (addresses (part_of k flags s).writes)) (sym at.stack) w.shown)
+
+kinded : Kind → ℕ → State → PartEnd → Result Next ℕ
+kinded k flags s e = Ok (record { state = after_part k flags s; kind = kind_of e })
+
+pub parts_at : (i : Instr) (k : Kind) → RuleLaws i k → WriteLaws → (open_to : ℕ → Bool) (flags : ℕ) (Q : State → Type 0) (sp pc : ℕ) (first : List ℕ) (d : ℕ) (s t : State) → flags < 2 ^ 8
+    → Stands open_to i sp pc first s → ((v : State) → v.regs.pc ≡ pc → v.regs.sp ≡ sp → SameAbove first v.mem → Q v)
+    → PartsTo k flags (is_hidden open_to sp) (is_spared (is_hidden open_to sp) (six_from pc)) d s t → Stretch (Kept open_to flags Q) flags d s t
+unfolding kinded
+parts_at i k laws writes open_to flags Q sp pc first zero s t hf at q h =
+    let w = spares (is_hidden open_to sp) (six_from pc) (addresses (part_of k flags s).writes) h.0.1 in
+    let p = touched i k laws open_to flags sp pc first s at w h.0.0 in
+    subst (λ (u : State). Stretch (Kept open_to flags Q) flags 0 s u) (sym h.2)
+    (last_stretch (Kept open_to flags Q) flags s (after_part k flags s) (p.facts, q s at.at at.stack at.above) (p.goes ∙ ap (kinded k flags s) h.1))
+parts_at i k laws writes open_to flags Q sp pc first (suc n) s t hf at q h =
+    let o : Outcome = part_of k flags s in
+    let w = spares (is_hidden open_to sp) (six_from pc) (addresses (part_of k flags s).writes) h.0.1 in
+    let p = touched i k laws open_to flags sp pc first s at w h.0.0 in
+    let u = after_part k flags s in
+    let on = laws.goes_on flags s h.1 in
+    let still : decode_at u.mem pc ≡ Ok i =
+    ap decode_of (code_stays writes.writes_stay (six_from pc) o.writes s.mem (six_from pc) w.apart (all_among (six_from pc))) ∙ at.decoded in
+    let next : Stands open_to i sp pc first u = record {
+      begins = next_part i k laws writes open_to flags s hf at.begins h.1;
+      decoded = still;
+      stack = (let steady = laws.steady in steady.stack flags s) ∙ at.stack;
+      at = on.1 ∙ at.at;
+      above = above_with first s.mem u.mem at.above (above_stays writes.writes_stay o.writes s.mem w.above);
+    } in
+    part_stretch (Kept open_to flags Q) flags n s u t (p.facts, q s at.at at.stack at.above) (p.goes ∙ ap (kinded k flags s) h.1)
+    (parts_at i k laws writes open_to flags Q sp pc first n u t hf next q h.2)

@@ -1,8 +1,5 @@
 -- Stretches of steps, put together.
 use Rattle.std.proofs.Common.{◌≡◌, ℕ, zero, suc, ◌+◌, Bool, not, Result, Ok, List, [], ◌∷◌, get_or, refl, ap, ap₂, sym, ◌∙◌, subst, arith}
-use Rattle.cpu12_isa.specs.Act.{Act, read_by, get_all}
-use Rattle.cpu12_isa.specs.Agreement.{AllShown}
-use Rattle.cpu12_isa.specs.Memory.{bytes_at}
 use Rattle.cpu12_parts.specs.State.{State}
 use Rattle.cpu12_emul.specs.declared.ends.Stepped.{Stepped}
 use Rattle.cpu12_emul.specs.declared.ends.Stepped.TheVariants.{Plain, Part, LastPart}
@@ -11,7 +8,7 @@ use Rattle.cpu12_parts.specs.Executions.{Execution, all_steps}
 use Rattle.run_law.specs.Forms.{is_part, one_if}
 use Rattle.run_law.specs.Uninterrupted.{stepped, kind_at, state_by, kind_by, uninterrupted, counted}
 use Rattle.run_law.specs.Soundness.{Before}
-use Rattle.fz_run.specs.Stretches.{Stretch, Went}
+use Rattle.fz_run.proofs.Stretches.{Stretch, Stretches}
 
 uninterrupted_add : (flags m n : ℕ) (s : State) → uninterrupted flags (m + n) s ≡ uninterrupted flags n (uninterrupted flags m s)
 uninterrupted_add flags zero n s = let e : 0 + n ≡ n = omega arith in ap (λ (k : ℕ). uninterrupted flags k s) e
@@ -28,12 +25,12 @@ before_add : (P : State → Type 0) (flags m n : ℕ) (s : State) → Before P f
 before_add P flags zero n s a b = let e : n ≡ 0 + n = omega arith in subst (λ (k : ℕ). Before P flags k s) e b
 before_add P flags (suc m) n s a b = let e : suc (m + n) ≡ suc m + n = omega arith in subst (λ (k : ℕ). Before P flags k s) e (a.0, before_add P flags m n (stepped flags s) a.1 b)
 
-pub execution_went : (P : State → Type 0) (flags : ℕ) (ds : List ℕ) (s t : State) → Execution (Stretch P flags) ds s t → Went P flags ds s t
-execution_went P flags [] s t e = record { goes = e; counts = refl; each = tt }
-execution_went P flags (d ∷ ds) s t w =
+pub all_stretches : (P : State → Type 0) (flags : ℕ) (ds : List ℕ) (s t : State) → Execution (Stretch P flags) ds s t → Stretches P flags ds s t
+all_stretches P flags [] s t e = record { goes = e; counts = refl; each = tt }
+all_stretches P flags (d ∷ ds) s t w =
     let u = w.0 in
     let a = w.1.0 in
-    let r = execution_went P flags ds u t w.1.1 in
+    let r = all_stretches P flags ds u t w.1.1 in
     record {
       goes = uninterrupted_add flags (suc d) (all_steps ds) s ∙ ap (uninterrupted flags (all_steps ds)) a.goes ∙ r.goes;
       counts = (let c = counted_add flags (suc d) (all_steps ds) s in let c2 = ap (counted flags (all_steps ds)) a.goes in omega (arith, c, c2, a.counts, r.counts));
@@ -70,8 +67,3 @@ part_stretch P flags d s u t p e r =
       counts = ap₂ (λ (k : Stepped) (n : ℕ). one_if (not (is_part k)) + n) kind (ap (counted flags (suc d)) at ∙ r.counts);
       each = (p, subst (λ (v : State). Before P flags (suc d) v) (sym at) r.each);
     }
-
--- bytes that are read one after the other
-pub shown_all : {B : Type 0} (h : ℕ → Bool) (m : List ℕ) (ats : List ℕ) (next : List ℕ → Act B) → AllShown h ats → AllShown h (read_by (next (bytes_at m ats)) m) → AllShown h (read_by (get_all ats next) m)
-shown_all h m [] next s g = g
-shown_all h m (at ∷ ats) next s g = (s.0, shown_all h m ats (λ vs. next (get_or m at 0 ∷ vs)) s.1 g)

@@ -35,7 +35,7 @@ pub record AnswerBlock (b : Block) (f : Firmware) (flags : ℕ) (samples : List 
 pub record AnswersUnder (b : Block) (f : Firmware) (flags : ℕ) (samples : List (List ℕ)) (plan : List Request) (rows : List (RowSeen (List ℕ))) : Type 0 where
   pub answers : AnswerBlock b f flags samples rows
   pub ns : List ℕ
-  pub complete : AllComplete (FactsAlone flags) (with_writes flags f) ns samples (first_state f flags)
+  pub complete : AllComplete (FactsAlone flags f) (with_writes flags f) ns samples (first_state f flags)
   pub rows_are : rows ≡ rows_of_samples flags f plan 1 ns samples (first_state f flags)
   pub follows : FollowsAlone flags f f.step_bound plan ns samples (first_state f flags)
 

@@ -58,5 +58,5 @@ pub record FollowsAlone (flags : ℕ) (f : Firmware) (most : ℕ) (plan : List R
 -- So does each run under a good plan, where the states of the run without interrupts keep the facts.
 abbrev pub RunsFollowAlone : Type 0
 RunsFollowAlone = (flags : ℕ) (f : Firmware) (most : ℕ) (plan : List Request) (ns : List ℕ) (samples : List (List ℕ)) (s : State)
-    → IsLow f → IsGood plan → AllWithin most ns → AllComplete (FactsAlone flags) (with_writes flags f) ns samples s
+    → IsLow f → IsGood plan → AllWithin most ns → AllComplete (FactsAlone flags f) (with_writes flags f) ns samples s
     → FollowsAlone flags f most plan ns samples s

@@ -6,7 +6,6 @@ pub mod Positions
 pub mod Sessions
 pub mod Outlooks
 pub mod Facts
-pub mod Stretches
 pub mod Following
 pub mod SoundAlone
 pub mod Answering

@@ -5,10 +5,9 @@ use Rattle.std.proofs.lemmas.Bool.{and_parts, ltb-true}
 use Rattle.std.proofs.lemmas.Bool.Decides.{nat_tests}
 use Rattle.cpu12_isa.specs.declared.instr.Regs.{Regs}
 use Rattle.cpu12_isa.specs.declared.instr.Write.{Write}
-use Rattle.cpu12_isa.specs.Agreement.{Agree}
+use Rattle.cpu12_isa.specs.Agreement.{Agree, WritesAgree}
 use Rattle.cpu12_isa.specs.Memory.{plus, placed, word_of}
 use Rattle.cpu12_isa.specs.Regions.{free_start, stack_start, is_free, is_hidden, LeavesStack}
-use Rattle.cpu12_isa.proofs.Lemmas.{same_writes}
 use Rattle.cpu12_emul.specs.Simulation.{AreOpen}
 use Rattle.run_law.specs.Soundness.{Sound, WritesAreQuiet}
 use Rattle.interrupt_plan.specs.Plans.{IsGoodRequest}
@@ -45,11 +44,17 @@ same_answers true (suc k) at sp m n l a =
     let next : plus at 2 + 2 * k ≤ free_start = omega arith in
     ap₂ (λ (x : ℕ) (xs : List ℕ). x ∷ xs) (same_answer true at sp m n (omega arith) a) (same_answers true k (plus at 2) sp m n next a)
 
-pub sound : (flags : ℕ) (f : Firmware) → IsLow f → WritesAreQuiet → Sound is_free (with_writes flags f) (FactsAlone flags) IsGoodRequest Nothing
-sound flags f low quiet = record {
+pub sound : (flags : ℕ) (f : Firmware) → IsLow f → WritesAgree → WritesAreQuiet → Sound is_free (with_writes flags f) (FactsAlone flags f) IsGoodRequest Nothing
+sound flags f low agree quiet = record {
   apart = leaves_stack;
   shown = λ s p. (let facts = p.facts in facts.shown);
-  gives = λ x w s l. record { regs = l.regs; temps = l.temps; mem = same_writes (is_hidden is_free s.regs.sp) (placed f.layout.inputs x ++ (f.layout.ready, 1) ∷ []) w.mem s.mem l.mem.size (λ at h. inl (l.mem.bytes at h)) };
+  gives = λ x w s l.
+      (let hidden = is_hidden is_free s.regs.sp in
+      record {
+        regs = l.regs;
+        temps = l.temps;
+        mem = agree (placed f.layout.inputs x ++ (f.layout.ready, 1) ∷ []) w.mem s.mem hidden hidden l.mem (λ at h. inl h);
+      });
   leaves = λ x w s l. l;
   answers = λ w s l. same_answers f.wide f.outputs f.layout.outputs s.regs.sp w.mem s.mem low.outputs l.mem;
   ends = λ m w s l. ap₂ (λ (p v : ℕ). (p == f.layout.wait) && (v == 0)) (ap (λ (r : Regs). r.pc) l.regs) (l.mem.bytes f.layout.ready (low_shown s.regs.sp f.layout.ready low.ready));

@@ -26,11 +26,11 @@ impl SoundForm for StandAlone {
 
     ghost open_to = { λ _. is_free };
 
-    ghost holds = { λ x. FactsAlone x.flags };
+    ghost holds = { λ x. FactsAlone x.flags x.firmware };
 
     ghost good = { λ _. IsGoodRequest };
 
     ghost own = { λ _. Nothing };
 
-    ghost sound = { λ x quiet. sound x.flags x.firmware x.low quiet };
+    ghost sound = { λ x agree quiet. sound x.flags x.firmware x.low agree quiet };
 }

@@ -5,8 +5,11 @@ ghost use Rattle.fz_run.specs.Following.{RunsFollowAlone};
 
 use crate::alone::StandAlone;
 use codegen::laws::{answered_are_uninterrupted, firmware_answers};
-use cpu12_isa::laws::decoded_has_opcode;
-use cpu12_parts::laws::{rev_is_whole, revw_is_whole, wav_is_whole};
+use cpu12_emul::laws::{plain_is_step, rev_is_step, revw_is_step, sums_are_step, wav_is_step};
+use cpu12_isa::laws::{bytes_stay, decoded_has_opcode, writes_stay};
+use cpu12_parts::laws::{rev_fits, rev_is_whole, rev_stays, rev_steady};
+use cpu12_parts::laws::{revw_fits, revw_is_whole, revw_stays, revw_steady};
+use cpu12_parts::laws::{wav_fits, wav_is_whole, wav_stays, wav_steady};
 use run_law::laws::runs_follow;
 
 /// The run of a firmware that stands alone follows the run without interrupts under every good plan,
@@ -30,9 +33,26 @@ pub fn answers_under_plans()
     ensures { AnswersUnderPlans }
 {
     decoded_has_opcode();
+    writes_stay();
+    bytes_stay();
+    plain_is_step();
+    rev_is_step();
+    rev_fits();
+    rev_stays();
+    rev_steady();
     rev_is_whole();
+    revw_is_step();
+    revw_fits();
+    revw_stays();
+    revw_steady();
     revw_is_whole();
+    wav_is_step();
+    sums_are_step();
+    wav_fits();
+    wav_stays();
+    wav_steady();
     wav_is_whole();
+    arrives_plainly();
     firmware_answers();
     answered_are_uninterrupted();
     runs_follow_alone();
@@ -41,4 +61,6 @@ pub fn answers_under_plans()
 /// Plain instructions from reset to LOOP are the way by which a run gets there.
 pub fn arrives_plainly()
     ensures { ArrivesPlainly }
-{}
+{
+    plain_is_step();
+}

@@ -1,7 +1,8 @@
 -- The slots of the outputs' terms hold their masses after the rules.
-use Rattle.std.proofs.Common.{◌≡◌, ⊎_elim, ℕ, ◌+◌, ◌*◌, ◌<◌, ◌≤◌, min, max, true, false, List, [], ◌∷◌, length, get_or, set, refl, sym, ap, ◌∙◌, subst, arith, length-set, get_or-set_same, get_or-set_other}
+use Rattle.std.proofs.Common.{◌≡◌, ⊎_elim, ℕ, ◌<◌, ◌≤◌, min, max, true, false, List, [], ◌∷◌, length, get_or, set, refl, sym, ap, ◌∙◌, subst, arith}
+use Rattle.std.proofs.Common.{length-set, get_or-set_same, get_or-set_other}
 use Rattle.std.specs.Prelude.{◌==◌, if◌then◌else◌}
-use Rattle.std.proofs.lemmas.Bool.{cases_lt, cases_eq}
+use Rattle.std.proofs.lemmas.Bool.{cases_eq}
 use Rattle.std.proofs.lemmas.Bool.Decides.{nat_tests}
 use Rattle.rule_layout.specs.declared.flat.Conjunction.{Conjunction}
 use Rattle.cpu12_parts.specs.Parts.{weighted}
@@ -45,7 +46,8 @@ raised_at t ss (e ∷ es) l k h =
     rw a (omega arith))
     (cases_eq e k)
 
-least_same : (l : ℕ) (ss ls : List ℕ) (t : ℕ) (es : List ℕ) → ((e : ℕ) → e < l → get_or ss e 0 ≡ get_or ls e 0) → Below l es → least_of ss t es ≡ least_of ls t es
+least_same : (l : ℕ) (ss ls : List ℕ) (t : ℕ) (es : List ℕ) → ((e : ℕ) → e < l → get_or ss e 0 ≡ get_or ls e 0) → Below l es
+    → least_of ss t es ≡ least_of ls t es
 least_same l ss ls t [] g h = refl
 least_same l ss ls t (e ∷ es) g h = ap (λ v. least_of ss (min t v) es) (g e h.0) ∙ least_same l ss ls (min t (get_or ls e 0)) es g h.1
 
@@ -58,7 +60,8 @@ hit_none l n k t (e ∷ es) lt h =
     rw a (omega arith)
 
 -- each slot becomes the greatest
-pub fired_at : (l : ℕ) (ls ss : List ℕ) (cs : List Conjunction) (ws : List ℕ) (k : ℕ) → length ws ≡ length cs → ((e : ℕ) → e < l → get_or ss e 0 ≡ get_or ls e 0) → AllSplit l (length ss) cs → get_or (fired ss cs ws) k 0 ≡ max (get_or ss k 0) (degree ls cs ws k)
+pub fired_at : (l : ℕ) (ls ss : List ℕ) (cs : List Conjunction) (ws : List ℕ) (k : ℕ) → length ws ≡ length cs
+    → ((e : ℕ) → e < l → get_or ss e 0 ≡ get_or ls e 0) → AllSplit l (length ss) cs → get_or (fired ss cs ws) k 0 ≡ max (get_or ss k 0) (degree ls cs ws k)
 fired_at l ls ss [] ws k el g h = omega arith
 fired_at l ls ss (c ∷ cs) [] k el g h = absurd (omega arith)
 fired_at l ls ss (c ∷ cs) (w ∷ ws) k el g h =
@@ -67,35 +70,10 @@ fired_at l ls ss (c ∷ cs) (w ∷ ws) k el g h =
     let ss' = raised_to t ss c.conclusions in
     let len = length-raised_to t ss c.conclusions in
     let one : (j : ℕ) → get_or ss' j 0 ≡ max (get_or ss j 0) (hit j t c.conclusions) = λ j. raised_at t ss c.conclusions l j h.1 in
-    let g' : (e : ℕ) → e < l → get_or ss' e 0 ≡ get_or ls e 0 = λ e lt. one e ∙ ap (max (get_or ss e 0)) (hit_none l (length ss) e t c.conclusions lt h.1) ∙ (let z : max (get_or ss e 0) 0 ≡ get_or ss e 0 = omega arith in z) ∙ g e lt in
+    let g' : (e : ℕ) → e < l → get_or ss' e 0 ≡ get_or ls e 0 =
+    λ e lt. one e ∙ ap (max (get_or ss e 0)) (hit_none l (length ss) e t c.conclusions lt h.1)
+    ∙ (let z : max (get_or ss e 0) 0 ≡ get_or ss e 0 = omega arith in z) ∙ g e lt in
     let r = fired_at l ls ss' cs ws k (omega arith) g' (subst (λ n. AllSplit l n cs) (sym len) h.2) in
     let o = one k in
     let eh : hit k t c.conclusions ≡ hit k (weighted (least_of ls 255 c.literals) w) c.conclusions = ap (λ u. hit k u c.conclusions) et in
     r ∙ omega (arith, o, eh)
-
--- the greatest of two strengths
-test_max : (e k t u : ℕ) → (if e == k then max t u else 0) ≡ max (if e == k then t else 0) (if e == k then u else 0)
-test_max e k t u = grind (arith, nat_tests)
-
-pub hit_max : (k t u : ℕ) (es : List ℕ) → hit k (max t u) es ≡ max (hit k t es) (hit k u es)
-hit_max k t u [] = omega arith
-hit_max k t u (e ∷ es) = let r = hit_max k t u es in let q = test_max e k t u in omega (arith, r, q)
-
-test_zero : (e k : ℕ) → ◌≡◌ {A = ℕ} (if e == k then 0 else 0) 0
-test_zero e k = grind (arith, nat_tests)
-
-pub hit_zero : (k : ℕ) (es : List ℕ) → hit k 0 es ≡ 0
-hit_zero k [] = refl
-hit_zero k (e ∷ es) = let r = hit_zero k es in let q = test_zero e k in omega (arith, r, q)
-
-times_mono : (a b c : ℕ) → a ≤ b → a * c ≤ b * c
-times_mono a b c h = grind arith
-
-weighted_mono : (w a b : ℕ) → a ≤ b → weighted a w ≤ weighted b w
-weighted_mono w a b h = let p = times_mono a b (w + 1) h in omega (arith, p)
-
-pub weighted_max : (w a b : ℕ) → weighted (max a b) w ≡ max (weighted a w) (weighted b w)
-weighted_max w a b = ⊎_elim
-    (λ l. let e : max a b ≡ b = omega arith in let m = weighted_mono w a b (omega arith) in ap (λ v. weighted v w) e ∙ omega (arith, m))
-    (λ l. let e : max a b ≡ a = omega arith in let m = weighted_mono w b a l in ap (λ v. weighted v w) e ∙ omega (arith, m))
-    (cases_lt a b)

@@ -1,10 +1,11 @@
 -- WAV over an output's singletons and masses.
-use Rattle.std.proofs.Common.{◌≡◌, ℕ, ◌+◌, ◌*◌, ◌^◌, ◌<◌, ◌≤◌, true, List, [], ◌∷◌, length, refl, ap, ap₂, ◌∙◌, arith, inl, inr, zero, suc, ◌-◌, ◌/◌, ◌%◌, Ok, ◌++◌, sym, subst}
+use Rattle.std.proofs.Common.{◌≡◌, ℕ, ◌+◌, ◌*◌, ◌^◌, ◌<◌, ◌≤◌, true, List, [], ◌∷◌, length, refl, ap, ap₂, ◌∙◌, arith, inl, inr, zero, suc, ◌-◌, ◌/◌, ◌%◌, Ok}
+use Rattle.std.proofs.Common.{◌++◌, sym, subst}
 use Rattle.cpu12_isa.specs.declared.instr.Regs.{Regs}
 use Rattle.cpu12_isa.specs.Fits.{FitsRegs, AreBytes}
 use Rattle.cpu12_isa.specs.Flags.{opened}
 use Rattle.cpu12_isa.specs.Memory.{plus, from, bytes_at}
-use Rattle.cpu12_isa.proofs.Bits.{fits_put, fits_opened}
+use Rattle.cpu12_isa.proofs.Algebra.{fits_put, fits_opened}
 use Rattle.cpu12_parts.specs.Parts.{wav_end}
 use Rattle.cpu12_parts.specs.Averages.{dot, total, wav_whole}
 use Rattle.codegen.proofs.steps.Memory.{HasBytes, same_bytes}
@@ -76,7 +77,9 @@ pub record Averaged (c : Ctx) (k : ℕ) (s : State) (pc : ℕ) (us vs : List ℕ
   pub mem_is : t.mem ≡ s.mem
   pub sp_is : t.regs.sp ≡ s.regs.sp
 
-pub wav_run : (c : Ctx) (s : State) (p sx sy : ℕ) (us vs : List ℕ) → Live c s → s.regs.pc ≡ p → Here c p Wav → s.regs.x ≡ sx → s.regs.y ≡ sy → s.regs.b ≡ length us → length vs ≡ length us → 1 ≤ length us → length us ≤ 15 → HasBytes c.image sx us → HasBytes s.mem sy vs → c.layout.singletons ≤ sx → sx + length us ≤ c.layout.singletons + 60 → c.layout.slots ≤ sy → sy + length us ≤ c.layout.slots + 300
+pub wav_run : (c : Ctx) (s : State) (p sx sy : ℕ) (us vs : List ℕ) → Live c s → s.regs.pc ≡ p → Here c p Wav → s.regs.x ≡ sx → s.regs.y ≡ sy
+    → s.regs.b ≡ length us → length vs ≡ length us → 1 ≤ length us → length us ≤ 15 → HasBytes c.image sx us → HasBytes s.mem sy vs → c.layout.singletons ≤ sx
+    → sx + length us ≤ c.layout.singletons + 60 → c.layout.slots ≤ sy → sy + length us ≤ c.layout.slots + 300
     → Averaged c (length us - 1) s (p + 2) us vs
 wav_run c s p sx sy us vs l ep h ex ey eb ev some few hu hv lo hi slo low =
     let a1 = c.apart.singletons in
@@ -95,8 +98,10 @@ wav_run c s p sx sy us vs l ep h ex ey eb ev some few hu hv lo hi slo low =
     let eW : W ≡ total vs = ap (λ b. total b % 2 ^ 16) bv ∙ omega arith in
     let t : State = wav_whole c.flags s.regs s.mem in
     let d : decode_at s.mem s.regs.pc ≡ Ok Wav = ap (decode_at s.mem) ep ∙ decode_same c.image s.mem p h.low h.high l.same ∙ h.decoded in
-    let r1 : Each (Reads c.layout) (from s.regs.x s.regs.b) = each_from (Reads c.layout) s.regs.x s.regs.b (omega arith) (λ k from to. inr (inr (inr (inl (omega arith, omega arith))))) in
-    let r2 : Each (Reads c.layout) (from s.regs.y s.regs.b) = each_from (Reads c.layout) s.regs.y s.regs.b (omega arith) (λ k from to. inr (inl (omega arith, omega arith))) in
+    let r1 : Each (Reads c.layout) (from s.regs.x s.regs.b) =
+    each_from (Reads c.layout) s.regs.x s.regs.b (omega arith) (λ k from to. inr (inr (inr (inl (omega arith, omega arith))))) in
+    let r2 : Each (Reads c.layout) (from s.regs.y s.regs.b) =
+    each_from (Reads c.layout) s.regs.y s.regs.b (omega arith) (λ k from to. inr (inl (omega arith, omega arith))) in
     let mask = masked_put (opened s.regs.ccr 43 c.flags) 2 true (omega arith) ∙ masked_open_hnvc s.regs.ccr c.flags in
     record {
       t = t;

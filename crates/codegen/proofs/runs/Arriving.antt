@@ -1,10 +1,10 @@
 -- From reset to where the code waits.
-use Rattle.std.proofs.Common.{◌≡◌, inr, ℕ, ◌+◌, ◌-◌, ◌*◌, ◌/◌, ◌%◌, ◌^◌, ◌<◌, ◌≤◌, Ok, List, [], ◌∷◌, ◌++◌, map, length, set, get_or, refl, sym, ap, ap₂, ◌∙◌, subst, arith, length-set, get_or-set_same}
+use Rattle.std.proofs.Common.{◌≡◌, inr, ℕ, ◌+◌, ◌-◌, ◌*◌, ◌/◌, ◌%◌, ◌^◌, ◌<◌, ◌≤◌, Ok, List, [], ◌∷◌, ◌++◌, map, length, set, get_or, refl, sym, ap, ap₂, ◌∙◌}
+use Rattle.std.proofs.Common.{subst, arith, length-set, get_or-set_same}
 use Rattle.fuzzy_meaning.specs.declared.block.Block.{Block}
 use Rattle.cpu12_isa.specs.declared.instr.Instr.TheVariants.{LdsImmediate, ClrExtended, Andcc}
 use Rattle.cpu12_isa.specs.Code.{decode_at}
 use Rattle.cpu12_isa.specs.Fits.{FitsRegs, AreBytes}
-use Rattle.cpu12_isa.proofs.Fitting.{stays_fit}
 use Rattle.cpu12_asm.specs.declared.items.Item.TheVariants.{Op}
 use Rattle.cpu12_asm.specs.Items.{given_by, IsRising}
 use Rattle.cpu12_parts.specs.State.{State}
@@ -24,13 +24,15 @@ use Rattle.codegen.proofs.steps.Memory.{HasBytes, SameHigh, high_set, bytes_set_
 use Rattle.codegen.proofs.runs.Stepping.{Ctx, Live, interruptible_of}
 use Rattle.codegen.proofs.steps.Decoding.{decode_same, decode_here}
 use Rattle.codegen.proofs.runs.Framing.{Home, answer_room, waits}
-use Rattle.codegen.proofs.runs.Standing.{HasGiven, none_below}
+use Rattle.codegen.proofs.runs.Standing.{Rises, HasGiven, none_below}
 use Rattle.codegen.proofs.runs.Founding.{IsFramed, Stood, FrameBytes}
 
 -- memory below the code is 0
-pub zero_below : (image : List ℕ) (l : Layout) (b : Block) (w : Width) → HasGiven image (given_by (firmware_items l b w)) → IsRising (firmware_items l b w) → (q : ℕ) → q < l.code → q < 65536 → get_or image q 0 ≡ 0
+pub zero_below : Rises → (image : List ℕ) (l : Layout) (b : Block) (w : Width) → HasGiven image (given_by (firmware_items l b w))
+    → IsRising (firmware_items l b w) → (q : ℕ) → q < l.code → q < 65536 → get_or image q 0 ≡ 0
 unfolding firmware_items
-zero_below image l b w h rise q lt small = h.bytes q small ∙ ap byte_or_zero (none_below l.code q (map Op (whole_code l b w) ++ (bytes_at l.tables (table_bytes b) ++ (bytes_at l.singletons (singleton_bytes b) ++ (bytes_at l.weights (weight_bytes b) ++ (bytes_at l.rules (rule_bytes l.slots b) ++ vector_items l))))) rise.1 lt)
+zero_below rises image l b w h rise q lt small =
+    h.bytes q small ∙ ap byte_or_zero (none_below rises l.code q (map Op (whole_code l b w) ++ (bytes_at l.tables (table_bytes b) ++ (bytes_at l.singletons (singleton_bytes b) ++ (bytes_at l.weights (weight_bytes b) ++ (bytes_at l.rules (rule_bytes l.slots b) ++ vector_items l))))) rise.1 lt)
 
 -- answers that are 0, where memory is
 none_stand : (w : Width) (m : List ℕ) (p : ℕ) → ((q : ℕ) → p ≤ q → q < p + length (bytes_of w 0) → get_or m q 0 ≡ 0) → HasBytes m p (bytes_of w 0)
@@ -43,7 +45,9 @@ pub record Arrived (c : Ctx) (b : Block) (w : Width) : Type 0 where
   pub arrived : IsArrived c.layout c.image c.flags t
   pub home : Home c b w (λ o. 0) t
 
-pub arrive : (c : Ctx) (b : Block) (w : Width) → IsFramed c.layout → IsApart c.layout → length b.outputs ≤ 4 → Stood c.image c.layout b w → FrameBytes c.image c.layout b w → HasGiven c.image (given_by (firmware_items c.layout b w)) → AreBytes c.image → ((q : ℕ) → q < c.layout.code → get_or c.image q 0 ≡ 0) → Arrived c b w
+pub arrive : (c : Ctx) (b : Block) (w : Width) → IsFramed c.layout → IsApart c.layout → length b.outputs ≤ 4 → Stood c.image c.layout b w
+    → FrameBytes c.image c.layout b w → HasGiven c.image (given_by (firmware_items c.layout b w)) → AreBytes c.image
+    → ((q : ℕ) → q < c.layout.code → get_or c.image q 0 ≡ 0) → Arrived c b w
 arrive c b width f a few h fb g bytes zero_low =
     let l = c.layout in
     let lo = f.low in
@@ -64,18 +68,23 @@ arrive c b width f a few h fb g bytes zero_low =
     let p3 : s3.regs.pc ≡ l.code + 8 = omega arith in
     let m = set c.image l.ready 0 in
     let same : SameHigh c.image m = high_set c.image c.image l.ready 0 (omega arith) (λ at le. refl) in
-    let d0 : decode_at c.image s0.regs.pc ≡ Ok (LdsImmediate 0x2000) = ap (decode_at c.image) p0 ∙ decode_here c.image l.code (LdsImmediate 0x2000) tt (omega arith) (fb.start.0, (fb.start.1.0, (fb.start.1.1.0, tt))) in
+    let d0 : decode_at c.image s0.regs.pc ≡ Ok (LdsImmediate 0x2000) =
+    ap (decode_at c.image) p0 ∙ decode_here c.image l.code (LdsImmediate 0x2000) tt (omega arith) (fb.start.0, (fb.start.1.0, (fb.start.1.1.0, tt))) in
     let at1 : l.code + 1 + 1 + 1 ≡ l.code + 3 = omega arith in
-    let b1 : HasBytes c.image (l.code + 3) (121 ∷ l.ready / 2 ^ 8 ∷ l.ready % 2 ^ 8 ∷ 16 ∷ 239 ∷ []) = subst (λ p. HasBytes c.image p (121 ∷ l.ready / 2 ^ 8 ∷ l.ready % 2 ^ 8 ∷ 16 ∷ 239 ∷ [])) at1 fb.start.1.1.1 in
-    let d1 : decode_at c.image s1.regs.pc ≡ Ok (ClrExtended l.ready) = ap (decode_at c.image) p1 ∙ decode_here c.image (l.code + 3) (ClrExtended l.ready) tt (omega arith) (b1.0, (b1.1.0, (b1.1.1.0, tt))) in
+    let b1 : HasBytes c.image (l.code + 3) (121 ∷ l.ready / 2 ^ 8 ∷ l.ready % 2 ^ 8 ∷ 16 ∷ 239 ∷ []) =
+    subst (λ p. HasBytes c.image p (121 ∷ l.ready / 2 ^ 8 ∷ l.ready % 2 ^ 8 ∷ 16 ∷ 239 ∷ [])) at1 fb.start.1.1.1 in
+    let d1 : decode_at c.image s1.regs.pc ≡ Ok (ClrExtended l.ready) =
+    ap (decode_at c.image) p1 ∙ decode_here c.image (l.code + 3) (ClrExtended l.ready) tt (omega arith) (b1.0, (b1.1.0, (b1.1.1.0, tt))) in
     let at2 : l.code + 3 + 1 + 1 + 1 ≡ l.code + 6 = omega arith in
     let b2 : HasBytes c.image (l.code + 6) (16 ∷ 239 ∷ []) = subst (λ p. HasBytes c.image p (16 ∷ 239 ∷ [])) at2 b1.1.1.1 in
-    let d2 : decode_at m s2.regs.pc ≡ Ok (Andcc 0xEF) = ap (decode_at m) p2 ∙ decode_same c.image m (l.code + 6) (omega arith) (omega arith) same ∙ decode_here c.image (l.code + 6) (Andcc 0xEF) tt (omega arith) (b2.0, (b2.1.0, tt)) in
+    let d2 : decode_at m s2.regs.pc ≡ Ok (Andcc 0xEF) =
+    ap (decode_at m) p2 ∙ decode_same c.image m (l.code + 6) (omega arith) (omega arith) same
+    ∙ decode_here c.image (l.code + 6) (Andcc 0xEF) tt (omega arith) (b2.0, (b2.1.0, tt)) in
     let f0 : FitsRegs s0.regs = record { a = omega arith; b = omega arith; x = omega arith; y = omega arith; sp = omega arith; pc = omega arith; ccr = omega arith } in
-    let f1 = (stays_fit c.flags (LdsImmediate 0x2000) s0.regs c.image c.fits (omega arith) f0 bytes).0 in
-    let f2 = (stays_fit c.flags (ClrExtended l.ready) s1.regs c.image c.fits (omega arith) f1 bytes).0 in
+    let f1 = (c.stays_fit c.flags (LdsImmediate 0x2000) s0.regs c.image c.fits (omega arith) f0 bytes).0 in
+    let f2 = (c.stays_fit c.flags (ClrExtended l.ready) s1.regs c.image c.fits (omega arith) f1 bytes).0 in
     let bm : AreBytes m = bytes_after_set c.image l.ready 0 bytes (omega arith) (omega arith) in
-    let f3 = (stays_fit c.flags (Andcc 0xEF) s2.regs m c.fits (omega arith) f2 bm).0 in
+    let f3 = (c.stays_fit c.flags (Andcc 0xEF) s2.regs m c.fits (omega arith) f2 bm).0 in
     let live : Live c s3 = record {
       temps = refl;
       size = length-set c.image l.ready 0 ∙ g.size;

@@ -1,12 +1,13 @@
 -- EVAL called in a firmware that stands alone, from what it owns.
-use Rattle.std.proofs.Common.{◌≡◌, inl, inr, ℕ, ◌+◌, ◌*◌, ◌^◌, ◌<◌, ◌≤◌, max, min, nat_lt, nat_le, ◌&&◌, false, List, [], ◌∷◌, ◌++◌, length, get_or, set, refl, sym, ap, ap₂, ◌∙◌, subst, arith}
+use Rattle.std.proofs.Common.{◌≡◌, inl, inr, ℕ, ◌+◌, ◌*◌, ◌^◌, ◌<◌, ◌≤◌, max, min, nat_lt, nat_le, ◌&&◌, false, List, [], ◌∷◌, ◌++◌, length, get_or, set, refl}
+use Rattle.std.proofs.Common.{sym, ap, ap₂, ◌∙◌, subst, arith}
 use Rattle.std.proofs.lemmas.Bool.{or_parts}
 use Rattle.std.proofs.lemmas.Bool.Decides.{nat_tests}
 use Rattle.fuzzy_meaning.specs.declared.block.Block.{Block}
 use Rattle.codegen.specs.Bounds.{instruction_bound, step_bound}
 use Rattle.fuzzy_meaning.specs.Blocks.{IsValid}
 use Rattle.rule_layout.specs.Layouts.{IsWithinLimits}
-use Rattle.rule_layout.proofs.LayoutLemmas.{few_slots}
+use Rattle.codegen.proofs.phases.RuleFacts.{BlockFacts}
 use Rattle.cpu12_isa.specs.Memory.{plus}
 use Rattle.cpu12_isa.specs.declared.instr.Instr.{Instr}
 use Rattle.cpu12_isa.specs.declared.instr.Instr.TheVariants.{Rts, Rev, Revw}
@@ -49,7 +50,8 @@ less_hidden at h =
     let t : (nat_le 0x1FE0 at && nat_lt at 0x1FFE) ≡ false = grind (arith, nat_tests, q.1) in
     rw (q.0, t)
 
-pub rts_run : (c : Ctx) (s : State) (p ret : ℕ) → Live c s → s.regs.pc ≡ p → Here c p Rts → s.regs.sp ≡ 0x1FFE → get_or s.mem 0x1FFE 0 * 2 ^ 8 + get_or s.mem 0x1FFF 0 ≡ ret → Next c s (after_plain c.flags Rts s) ret
+pub rts_run : (c : Ctx) (s : State) (p ret : ℕ) → Live c s → s.regs.pc ≡ p → Here c p Rts → s.regs.sp ≡ 0x1FFE
+    → get_or s.mem 0x1FFE 0 * 2 ^ 8 + get_or s.mem 0x1FFF 0 ≡ ret → Next c s (after_plain c.flags Rts s) ret
 rts_run c s p ret l ep h es er =
     let e1 : plus s.regs.sp 1 ≡ 0x1FFF = omega arith in
     let e2 : plus s.regs.sp 2 ≡ 0x2000 = omega arith in
@@ -100,7 +102,8 @@ raised_high f m mem t (e ∷ es) b h =
 
 all_high : (f : Form) (m mem : List ℕ) (p : Rule) (ps : List Rule) → Below 0x1800 (rules_target f (p ∷ ps)) → High m mem → High m (all_concluded f mem p ps)
 all_high f m mem p [] b h = raised_high f m mem (strength f mem p) p.conclusions (below_front 0x1800 (named f p.conclusions) (rules_target f []) b) h
-all_high f m mem p (q ∷ qs) b h = all_high f m (concluded f mem p) q qs (below_back 0x1800 (named f p.conclusions) (rules_target f (q ∷ qs)) b) (raised_high f m mem (strength f mem p) p.conclusions (below_front 0x1800 (named f p.conclusions) (rules_target f (q ∷ qs)) b) h)
+all_high f m mem p (q ∷ qs) b h =
+    all_high f m (concluded f mem p) q qs (below_back 0x1800 (named f p.conclusions) (rules_target f (q ∷ qs)) b) (raised_high f m mem (strength f mem p) p.conclusions (below_front 0x1800 (named f p.conclusions) (rules_target f (q ∷ qs)) b) h)
 
 -- what the caller adds
 record Alone (image : List ℕ) (s : State) : Type 0 where
@@ -114,19 +117,28 @@ record Carried (l : Layout) (image : List ℕ) (flags d : ℕ) (s t : State) : T
   temps : t.temps ≡ Free
   same : SameHigh image t.mem
 
-over_rules : (l : Layout) (i : Instr) (f : Form) (flags d : ℕ) (p : Rule) (ps : List Rule) (s t : State) → IsApart l → l.wait < l.eval → s.regs.sp ≤ 0x2000 → Each (IsIn (code_region l)) (six_from s.regs.pc) → IsRulesOver (Reads l) (Writes l) i f flags d p ps s t → IsShownRules l i f flags d p ps s t
+below_image : (ats : List ℕ) → Below 0x1800 ats → Each (λ at. at < 0x2000) ats
+below_image [] b = tt
+below_image (at ∷ ats) b = ((let l = b.0 in omega arith), below_image ats b.1)
+
+over_rules : (l : Layout) (i : Instr) (f : Form) (flags d : ℕ) (p : Rule) (ps : List Rule) (s t : State) → IsApart l → l.wait < l.eval → s.regs.sp ≤ 0x2000
+    → Each (IsIn (code_region l)) (six_from s.regs.pc) → IsRulesOver (Reads l) (Writes l) i f flags d p ps s t → IsShownRules l i f flags d p ps s t
 over_rules l i f flags d p ps s t a w sp code h = record {
   step = h.step;
   reads = all_read l s.regs.sp _ a sp h.reads;
   writes = all_written l s.regs.sp _ a h.writes;
+  below = below_image (rules_written f p ps) (written_below l (rules_written f p ps) a h.writes);
   itself = apart_by (rules_written f p ps) (six_from s.regs.pc) (written_below l (rules_written f p ps) a h.writes) (code_above l (six_from s.regs.pc) a code);
   away = (let from = code.0.0 in λ e. omega arith);
 }
 
-rules_same : (l : Layout) (image : List ℕ) (i : Instr) (f : Form) (flags d : ℕ) (p : Rule) (ps : List Rule) (s t : State) → IsApart l → IsRulesOver (Reads l) (Writes l) i f flags d p ps s t → SameHigh image s.mem → SameHigh image t.mem
-rules_same l image i f flags d p ps s t a h same = subst (λ (u : State). SameHigh image u.mem) (sym h.step.after) (all_high f image s.mem p ps (written_below l (rules_written f p ps) a h.writes) (record { same = same })).same
+rules_same : (l : Layout) (image : List ℕ) (i : Instr) (f : Form) (flags d : ℕ) (p : Rule) (ps : List Rule) (s t : State) → IsApart l
+    → IsRulesOver (Reads l) (Writes l) i f flags d p ps s t → SameHigh image s.mem → SameHigh image t.mem
+rules_same l image i f flags d p ps s t a h same =
+    subst (λ (u : State). SameHigh image u.mem) (sym h.step.after) (all_high f image s.mem p ps (written_below l (rules_written f p ps) a h.writes) (record { same = same })).same
 
-over : (l : Layout) (image : List ℕ) (flags d : ℕ) (s t : State) → IsApart l → l.wait < l.eval → Alone image s → t.regs.sp ≡ s.regs.sp → Each (IsIn (code_region l)) (six_from s.regs.pc) → IsInstructionOver (Reads l) (Writes l) flags d s t → Carried l image flags d s t
+over : (l : Layout) (image : List ℕ) (flags d : ℕ) (s t : State) → IsApart l → l.wait < l.eval → Alone image s → t.regs.sp ≡ s.regs.sp
+    → Each (IsIn (code_region l)) (six_from s.regs.pc) → IsInstructionOver (Reads l) (Writes l) flags d s t → Carried l image flags d s t
 over l image flags d s t a w h sp code (inl p) =
     let i = p.0 in
     let o = p.1.0 in
@@ -162,7 +174,8 @@ over l image flags d s t a w h sp code (inr (inr (inr o))) =
       same = subst (λ (u : State). SameHigh image u.mem) (sym o.step.after) h.same;
     }
 
-interruptible_step : (l : Layout) (image : List ℕ) (flags d : ℕ) (s t : State) → IsApart l → l.wait < l.eval → Alone image s → IsEvalStep l flags d s t → IsInterruptibleStep l image flags d s t × Alone image t
+interruptible_step : (l : Layout) (image : List ℕ) (flags d : ℕ) (s t : State) → IsApart l → l.wait < l.eval → Alone image s → IsEvalStep l flags d s t
+    → IsInterruptibleStep l image flags d s t × Alone image t
 interruptible_step l image flags d s t a w h e =
     let k = over l image flags d s t a w h e.stack e.code e.instruction in
     let from = e.code.0.0 in
@@ -175,7 +188,8 @@ interruptible_step l image flags d s t a w h e =
       record { temps = k.temps; stack = e.stack ∙ h.stack; unmasked = e.mask ∙ h.unmasked; same = k.same },
     )
 
-interruptible_execution : (l : Layout) (image : List ℕ) (flags : ℕ) (ds : List ℕ) (s t : State) → IsApart l → l.wait < l.eval → Alone image s → Execution (IsEvalStep l flags) ds s t → Execution (IsInterruptibleStep l image flags) ds s t × Alone image t
+interruptible_execution : (l : Layout) (image : List ℕ) (flags : ℕ) (ds : List ℕ) (s t : State) → IsApart l → l.wait < l.eval → Alone image s
+    → Execution (IsEvalStep l flags) ds s t → Execution (IsInterruptibleStep l image flags) ds s t × Alone image t
 interruptible_execution l image flags [] s t a w h e = (e, subst (Alone image) e h)
 interruptible_execution l image flags (d ∷ ds) s t a w h e =
     let one = interruptible_step l image flags d s e.0 a w h e.1.0 in
@@ -191,7 +205,8 @@ pub record HasRoutine (l : Layout) (b : Block) (w : Width) (image : List ℕ) : 
 found : (l : Layout) (b : Block) (w : Width) (image mem : List ℕ) → IsApart l → HasEval l b w image → SameHigh image mem → HasEval l b w mem
 found l b w image mem a h same =
     let low = a.eval in
-    let at : (p : ℕ) (bs : List ℕ) → 0x2000 ≤ p → HasBytes image p bs → HasBytes mem p bs = λ p bs le hb. same_bytes image mem p bs (λ k lo hi. same k (omega arith)) hb in
+    let at : (p : ℕ) (bs : List ℕ) → 0x2000 ≤ p → HasBytes image p bs → HasBytes mem p bs =
+    λ p bs le hb. same_bytes image mem p bs (λ k lo hi. same k (omega arith)) hb in
     record {
       code = at l.eval (eval_bytes l b w) low h.code;
       tables = at l.tables (table_bytes b) a.tables h.tables;
@@ -221,24 +236,27 @@ pub record Back (c : Ctx) (b : Block) (w : Width) (back : ℕ) (bytes : List ℕ
   pub instructions : length ds + 5 ≤ instruction_bound w b
   pub steps : all_steps ds + 5 ≤ step_bound w b
 
-returned : (c : Ctx) (b : Block) (w : Width) (back : ℕ) (bytes : List ℕ) (before : ℕ → ℕ) (s : State) → IsApart c.layout → IsValid b → HasRoutine c.layout b w c.image → IsCalled c.layout b w c.image back bytes before s
-    → (t : State) → (g : IsEvaluated c.layout b w c.flags bytes before s t) → Execution (IsInterruptibleStep c.layout c.image c.flags) g.ds s t → Alone c.image t → Back c b w back bytes before s
-returned c b w back bytes before s a v h k t g e alone =
+returned : (c : Ctx) (b : Block) (w : Width) (back : ℕ) (bytes : List ℕ) (before : ℕ → ℕ) (s : State) → IsApart c.layout → IsValid b → BlockFacts b
+    → HasRoutine c.layout b w c.image → IsCalled c.layout b w c.image back bytes before s
+    → (t : State) → (g : IsEvaluated c.layout b w c.flags bytes before s t) → Execution (IsInterruptibleStep c.layout c.image c.flags) g.ds s t
+    → Alone c.image t → Back c b w back bytes before s
+returned c b w back bytes before s a v facts h k t g e alone =
     let l = c.layout in
     let p = l.eval + length (code_bytes (eval_code l b w)) in
-    let size = answer_size l b w v in
+    let size = answer_size l b w v facts in
     let lc = length-code (eval_code l b w) in
     let high = a.eval_end in
     let low = a.eval in
     let above = h.above in
     let room = places_few w (length b.outputs) v.few_outputs in
-    let slots = few_slots b v in
+    let slots = facts.few_slots in
     let apart1 = a.slots in
     let apart2 = a.outputs in
     let live : Live c t = record { temps = alone.temps; size = g.between.size; bytes = g.between.bytes; fits = g.between.fits; stack = inl alone.stack; unmasked = alone.unmasked; same = alone.same } in
     let here : Here c p Rts = record { low = omega arith; high = omega arith; off = λ e. omega arith; fits = tt; decoded = decode_here c.image p Rts tt (omega arith) h.back } in
     let far : (at : ℕ) → 0x1800 ≤ at → get_or t.mem at 0 ≡ get_or s.mem at 0 = λ at le. g.elsewhere at (inr (omega arith)) (inr (omega arith)) in
-    let er : get_or t.mem 0x1FFE 0 * 2 ^ 8 + get_or t.mem 0x1FFF 0 ≡ back = ap₂ (λ x y. x * 2 ^ 8 + y) (far 0x1FFE (omega arith)) (far 0x1FFF (omega arith)) ∙ k.back_is in
+    let er : get_or t.mem 0x1FFE 0 * 2 ^ 8 + get_or t.mem 0x1FFF 0 ≡ back =
+    ap₂ (λ x y. x * 2 ^ 8 + y) (far 0x1FFE (omega arith)) (far 0x1FFF (omega arith)) ∙ k.back_is in
     let n = rts_run c t p back live g.pc here alone.stack er in
     let u = after_plain c.flags Rts t in
     let W = IsInterruptibleStep l c.image c.flags in
@@ -255,12 +273,14 @@ returned c b w back bytes before s a v h k t g e alone =
       steps = omega (arith, g.steps, steps_append g.ds (0 ∷ []));
     }
 
-pub called : EvalAnswers → (c : Ctx) (b : Block) (w : Width) (back : ℕ) (bytes : List ℕ) (before : ℕ → ℕ) (s : State) → IsApart c.layout → IsValid b → IsWithinLimits b → HasRoutine c.layout b w c.image → AreInputBytes b bytes → IsCalled c.layout b w c.image back bytes before s → Back c b w back bytes before s
-called go c b w back bytes before s a v limits h i k =
+pub called : EvalAnswers → (c : Ctx) (b : Block) (w : Width) (back : ℕ) (bytes : List ℕ) (before : ℕ → ℕ) (s : State) → IsApart c.layout → IsValid b
+    → BlockFacts b → IsWithinLimits b → HasRoutine c.layout b w c.image → AreInputBytes b bytes → IsCalled c.layout b w c.image back bytes before s
+    → Back c b w back bytes before s
+called go c b w back bytes before s a v facts limits h i k =
     let l = c.layout in
     let state = k.interruptible in
     let at : IsAtEval l b w bytes before s = record { between = record { off = inl state.temps; size = state.size; bytes = state.bytes; fits = state.fits }; pc = k.pc; eval = found l b w c.image s.mem a h.eval state.same; inputs = k.inputs; outputs = k.outputs } in
     let alone : Alone c.image s = record { temps = state.temps; stack = k.sp; unmasked = state.unmasked; same = state.same } in
     let r = go l b w c.flags bytes before s a v limits c.fits i at in
     let e = interruptible_execution l c.image c.flags r.1.ds s r.0 a h.above alone r.1.execution in
-    returned c b w back bytes before s a v h k r.0 r.1 e.0 e.1
+    returned c b w back bytes before s a v facts h k r.0 r.1 e.0 e.1

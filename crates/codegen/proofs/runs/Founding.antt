@@ -16,7 +16,7 @@ use Rattle.codegen.proofs.runs.Stepping.{Ctx, Stands, stands_of}
 use Rattle.codegen.proofs.runs.Framing.{HasFrame}
 use Rattle.codegen.proofs.steps.Decoding.{code_bytes, decode_here}
 use Rattle.codegen.proofs.runs.Calling.{HasRoutine}
-use Rattle.codegen.proofs.runs.Standing.{HasGiven, bytes_stand, code_stands}
+use Rattle.codegen.proofs.runs.Standing.{Rises, HasGiven, bytes_stand, code_stands}
 
 bytes_append : (a b : List Instr) → code_bytes (a ++ b) ≡ code_bytes a ++ code_bytes b
 bytes_append a b = flat_map-append encode_of a b
@@ -38,9 +38,10 @@ pub record Stood (image : List ℕ) (l : Layout) (b : Block) (w : Width) : Type 
   pub rules : HasBytes image l.rules (rule_bytes l.slots b)
   pub start : HasBytes image 0xFFFE (bytes_of_word l.code)
 
-pub stood : (image : List ℕ) (l : Layout) (b : Block) (w : Width) → HasGiven image (given_by (firmware_items l b w)) → IsRising (firmware_items l b w) → Stood image l b w
+pub stood : Rises → (image : List ℕ) (l : Layout) (b : Block) (w : Width) → HasGiven image (given_by (firmware_items l b w)) → IsRising (firmware_items l b w)
+    → Stood image l b w
 unfolding firmware_items
-stood image l b w h rise =
+stood rises image l b w h rise =
     let items = firmware_items l b w in
     let A = code_at l.code (whole_code l b w) in
     let T = bytes_at l.tables (table_bytes b) in
@@ -53,14 +54,15 @@ stood image l b w h rise =
     let e3 : items ≡ ((A ++ T) ++ S) ++ (W ++ (R ++ (V ++ E))) = e2 ∙ sym (append_assoc (A ++ T) S (W ++ (R ++ (V ++ E)))) in
     let e4 : items ≡ (((A ++ T) ++ S) ++ W) ++ (R ++ (V ++ E)) = e3 ∙ sym (append_assoc ((A ++ T) ++ S) W (R ++ (V ++ E))) in
     let e5 : items ≡ ((((A ++ T) ++ S) ++ W) ++ R) ++ (V ++ E) = e4 ∙ sym (append_assoc (((A ++ T) ++ S) ++ W) R (V ++ E)) in
-    let e6 : items ≡ (((((A ++ T) ++ S) ++ W) ++ R) ++ V) ++ (E ++ []) = e5 ∙ sym (append_assoc ((((A ++ T) ++ S) ++ W) ++ R) V E) ∙ ap (λ x. (((((A ++ T) ++ S) ++ W) ++ R) ++ V) ++ x) (sym (append-nil E)) in
+    let e6 : items ≡ (((((A ++ T) ++ S) ++ W) ++ R) ++ V) ++ (E ++ []) =
+    e5 ∙ sym (append_assoc ((((A ++ T) ++ S) ++ W) ++ R) V E) ∙ ap (λ x. (((((A ++ T) ++ S) ++ W) ++ R) ++ V) ++ x) (sym (append-nil E)) in
     record {
-      code = code_stands image items [] (T ++ (S ++ (W ++ (R ++ (V ++ E))))) l.code (whole_code l b w) h rise refl;
-      tables = bytes_stand image items A (S ++ (W ++ (R ++ (V ++ E)))) l.tables (table_bytes b) h rise refl;
-      singletons = bytes_stand image items (A ++ T) (W ++ (R ++ (V ++ E))) l.singletons (singleton_bytes b) h rise e2;
-      weights = bytes_stand image items ((A ++ T) ++ S) (R ++ (V ++ E)) l.weights (weight_bytes b) h rise e3;
-      rules = bytes_stand image items (((A ++ T) ++ S) ++ W) (V ++ E) l.rules (rule_bytes l.slots b) h rise e4;
-      start = bytes_stand image items (((((A ++ T) ++ S) ++ W) ++ R) ++ V) [] 0xFFFE (bytes_of_word l.code) h rise e6;
+      code = code_stands rises image items [] (T ++ (S ++ (W ++ (R ++ (V ++ E))))) l.code (whole_code l b w) h rise refl;
+      tables = bytes_stand rises image items A (S ++ (W ++ (R ++ (V ++ E)))) l.tables (table_bytes b) h rise refl;
+      singletons = bytes_stand rises image items (A ++ T) (W ++ (R ++ (V ++ E))) l.singletons (singleton_bytes b) h rise e2;
+      weights = bytes_stand rises image items ((A ++ T) ++ S) (R ++ (V ++ E)) l.weights (weight_bytes b) h rise e3;
+      rules = bytes_stand rises image items (((A ++ T) ++ S) ++ W) (V ++ E) l.rules (rule_bytes l.slots b) h rise e4;
+      start = bytes_stand rises image items (((((A ++ T) ++ S) ++ W) ++ R) ++ V) [] 0xFFFE (bytes_of_word l.code) h rise e6;
     }
 
 -- the frame in three pieces

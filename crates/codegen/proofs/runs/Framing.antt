@@ -1,5 +1,6 @@
 -- A sample, from where the code waits back to there.
-use Rattle.std.proofs.Common.{◌≡◌, ◌⊎◌, inl, inr, ℕ, ◌+◌, ◌-◌, ◌*◌, ◌/◌, ◌%◌, ◌^◌, ◌<◌, ◌≤◌, min, Bool, true, false, ◌&&◌, nat_lt, nat_le, Ok, List, [], ◌∷◌, ◌++◌, length, set, All, get_or, refl, sym, ap, ap₂, ◌∙◌, subst, arith, length-set, get_or-set_same, get_or-set_other}
+use Rattle.std.proofs.Common.{◌≡◌, ◌⊎◌, inl, inr, ℕ, ◌+◌, ◌-◌, ◌*◌, ◌/◌, ◌%◌, ◌^◌, ◌<◌, ◌≤◌, min, Bool, true, false, ◌&&◌, nat_lt, nat_le, Ok, List, [], ◌∷◌}
+use Rattle.std.proofs.Common.{◌++◌, length, set, All, get_or, refl, sym, ap, ap₂, ◌∙◌, subst, arith, length-set, get_or-set_same, get_or-set_other}
 use Rattle.std.specs.Prelude.{◌==◌}
 use Rattle.std.proofs.lemmas.Bool.{cases_eq, or_parts}
 use Rattle.std.proofs.lemmas.Bool.Decides.{nat_tests}
@@ -20,16 +21,17 @@ use Rattle.codegen.specs.Widths.{places, bytes_of, answer}
 use Rattle.codegen.specs.Firing.{AreInputBytes}
 use Rattle.codegen.specs.Images.{IsApart}
 use Rattle.codegen.specs.Bounds.{instruction_bound, step_bound}
-use Rattle.codegen.specs.Evaluation.{HasAnswers}
+use Rattle.codegen.specs.Evaluation.{HasAnswers, EvalAnswers}
 use Rattle.codegen.specs.Answers.{put, given}
 use Rattle.cpu12_parts.specs.Executions.{Execution, all_steps}
 use Rattle.cpu12_isa.specs.Regions.{is_free}
 use Rattle.codegen.specs.Interruptible.{is_hidden, is_idle, IsInterruptibleStep}
 use Rattle.codegen.proofs.steps.Flags.{masked_tested, zero_tested}
 use Rattle.codegen.proofs.steps.Memory.{HasBytes, length-put, has_put, bytes_put_out, bytes_set_out, bytes_after_set, bytes_after_put, high_set, high_put}
-use Rattle.codegen.proofs.runs.Stepping.{Ctx, Here, Live, Stands, Next, next, plain_next, Goes, goes_one, goes_on, interruptible_of, low_shown, high_shown, not_at, clr, beq_on}
+use Rattle.codegen.proofs.runs.Stepping.{Ctx, Here, Live, Stands, Next, next, plain_next, Goes, goes_one, goes_on, interruptible_of, low_shown, high_shown}
+use Rattle.codegen.proofs.runs.Stepping.{not_at, clr, beq_on}
 use Rattle.codegen.proofs.steps.Executions.{execution_on, length_append, steps_append}
-use Rattle.codegen.proofs.phases.Law.{eval_answers}
+use Rattle.codegen.proofs.phases.RuleFacts.{BlockFacts}
 use Rattle.codegen.proofs.runs.Calling.{HasRoutine, IsCalled, Back, called}
 
 -- the code around EVAL
@@ -67,7 +69,8 @@ waits l s e h =
     rw (a, b)
 
 -- JSR from an empty stack
-jsr_uncovers : (sp a b at : ℕ) → sp ≡ 0x2000 → is_hidden (plus sp 65534) at ≡ false → (is_hidden sp at ≡ false) ⊎ IsWritten ((plus sp 65534, a) ∷ (plus sp 65535, b) ∷ []) at
+jsr_uncovers : (sp a b at : ℕ) → sp ≡ 0x2000 → is_hidden (plus sp 65534) at ≡ false
+    → (is_hidden sp at ≡ false) ⊎ IsWritten ((plus sp 65534, a) ∷ (plus sp 65535, b) ∷ []) at
 jsr_uncovers sp a b at e h =
     let low : plus sp 65534 ≡ 0x1FFE = omega arith in
     let next : plus sp 65535 ≡ 0x1FFF = omega arith in
@@ -80,7 +83,8 @@ jsr_uncovers sp a b at e h =
       ]
     ]
 
-jsr_run : (c : Ctx) (s : State) (p to : ℕ) → Live c s → s.regs.pc ≡ p → Here c p (JsrExtended to) → s.regs.sp ≡ 0x2000 → Next c s (after_plain c.flags (JsrExtended to) s) to
+jsr_run : (c : Ctx) (s : State) (p to : ℕ) → Live c s → s.regs.pc ≡ p → Here c p (JsrExtended to) → s.regs.sp ≡ 0x2000
+    → Next c s (after_plain c.flags (JsrExtended to) s) to
 jsr_run c s p to l ep h es =
     let low : plus s.regs.sp 65534 ≡ 0x1FFE = omega arith in
     let over : plus s.regs.sp 65535 ≡ 0x1FFF = omega arith in
@@ -101,14 +105,16 @@ record Called (c : Ctx) (s : State) : Type 0 where
   sp_is : t.regs.sp ≡ 0x1FFE
   mem_is : t.mem ≡ set (set s.mem 0x1FFE ((c.layout.wait + 8) / 2 ^ 8)) 0x1FFF ((c.layout.wait + 8) % 2 ^ 8)
 
-call_run : (c : Ctx) (s : State) → HasFrame c → c.layout.ready < 0x1800 → Live c s → s.regs.pc ≡ c.layout.wait → s.regs.sp ≡ 0x2000 → get_or s.mem c.layout.ready 0 ≡ 1 → Called c s
+call_run : (c : Ctx) (s : State) → HasFrame c → c.layout.ready < 0x1800 → Live c s → s.regs.pc ≡ c.layout.wait → s.regs.sp ≡ 0x2000
+    → get_or s.mem c.layout.ready 0 ≡ 1 → Called c s
 call_run c s f low l ep es er =
     let p = c.layout.wait in
     let hi = f.high in
     let s1 = after_plain c.flags (LdaaExtended c.layout.ready) s in
     let s2 = after_plain c.flags (Beq 0xFB) s1 in
     let s3 = after_plain c.flags (JsrExtended c.layout.eval) s2 in
-    let n1 = plain_next c s p (p + 3) (LdaaExtended c.layout.ready) l (not_ready c.layout s er) ep f.low (omega arith) f.load refl (omega arith) (low_shown s.regs.sp c.layout.ready low, tt) tt (λ at g. inl g) tt l.stack (masked_tested s.regs.ccr _ _) (omega arith) in
+    let n1 =
+    plain_next c s p (p + 3) (LdaaExtended c.layout.ready) l (not_ready c.layout s er) ep f.low (omega arith) f.load refl (omega arith) (low_shown s.regs.sp c.layout.ready low, tt) tt (λ at g. inl g) tt l.stack (masked_tested s.regs.ccr _ _) (omega arith) in
     let nz : (get_or s.mem c.layout.ready 0 == 0) ≡ false = grind (arith, nat_tests) in
     let z : has s1.regs.ccr 2 ≡ false = zero_tested s.regs.ccr _ (get_or s.mem c.layout.ready 0 == 0) ∙ nz in
     let n2 = beq_on c s1 (p + 3) 0xFB n1.live n1.pc_is f.rest.0 (omega arith) z in
@@ -122,7 +128,8 @@ call_run c s f low l ep es er =
       live = n3.live;
       pc_is = refl;
       sp_is = e0;
-      mem_is = ap₂ (λ a b. set (set s.mem a (plus s2.regs.pc 3 / 2 ^ 8)) b (plus s2.regs.pc 3 % 2 ^ 8)) e0 e1 ∙ ap (λ r. set (set s.mem 0x1FFE (r / 2 ^ 8)) 0x1FFF (r % 2 ^ 8)) er;
+      mem_is = ap₂ (λ a b. set (set s.mem a (plus s2.regs.pc 3 / 2 ^ 8)) b (plus s2.regs.pc 3 % 2 ^ 8)) e0 e1
+          ∙ ap (λ r. set (set s.mem 0x1FFE (r / 2 ^ 8)) 0x1FFF (r % 2 ^ 8)) er;
     }
 
 -- back to where the code waits
@@ -144,7 +151,8 @@ leave_run c s f low l ep =
     record { t = s2; goes = goes_on c 1 0 1 0 s s1 s2 (goes_one c s s1 _ n1) (goes_one c s1 s2 _ n2); live = n2.live; pc_is = n2.pc_is ∙ omega arith; sp_is = refl; mem_is = refl }
 
 -- the state with a sample's bytes and READY
-pub given_live : (c : Ctx) (bytes : List ℕ) (s : State) → Live c s → All (λ v. v < 2 ^ 8) bytes → c.layout.inputs + length bytes ≤ 0x1800 → c.layout.ready < 0x1800 → Live c (given c.layout bytes s)
+pub given_live : (c : Ctx) (bytes : List ℕ) (s : State) → Live c s → All (λ v. v < 2 ^ 8) bytes → c.layout.inputs + length bytes ≤ 0x1800
+    → c.layout.ready < 0x1800 → Live c (given c.layout bytes s)
 given_live c bytes s l fit le low =
     let m = put s.mem c.layout.inputs bytes in
     let lm : length m ≡ 65536 = length-put s.mem c.layout.inputs bytes ∙ l.size in
@@ -172,21 +180,26 @@ pub record Sampled (c : Ctx) (b : Block) (w : Width) (bytes : List ℕ) (before 
 pub record Samples (c : Ctx) (b : Block) (w : Width) : Type 0 where
   pub apart : IsApart c.layout
   pub valid : IsValid b
+  pub facts : BlockFacts b
   pub limits : IsWithinLimits b
+  pub eval_answers : EvalAnswers
   pub routine : HasRoutine c.layout b w c.image
   pub frame : HasFrame c
 
-pushed_word : (m : List ℕ) (r : ℕ) → length m ≡ 65536 → get_or (set (set m 0x1FFE (r / 2 ^ 8)) 0x1FFF (r % 2 ^ 8)) 0x1FFE 0 * 2 ^ 8 + get_or (set (set m 0x1FFE (r / 2 ^ 8)) 0x1FFF (r % 2 ^ 8)) 0x1FFF 0 ≡ r
+pushed_word : (m : List ℕ) (r : ℕ) → length m ≡ 65536
+    → get_or (set (set m 0x1FFE (r / 2 ^ 8)) 0x1FFF (r % 2 ^ 8)) 0x1FFE 0 * 2 ^ 8 + get_or (set (set m 0x1FFE (r / 2 ^ 8)) 0x1FFF (r % 2 ^ 8)) 0x1FFF 0 ≡ r
 pushed_word m r lm =
     let hi = r / 2 ^ 8 in
     let lo = r % 2 ^ 8 in
     let ls = length-set m 0x1FFE hi in
-    let a : get_or (set (set m 0x1FFE hi) 0x1FFF lo) 0x1FFE 0 ≡ hi = get_or-set_other (set m 0x1FFE hi) 0x1FFF 0x1FFE lo 0 (omega arith) ∙ get_or-set_same m 0x1FFE hi 0 (omega arith) in
+    let a : get_or (set (set m 0x1FFE hi) 0x1FFF lo) 0x1FFE 0 ≡ hi =
+    get_or-set_other (set m 0x1FFE hi) 0x1FFF 0x1FFE lo 0 (omega arith) ∙ get_or-set_same m 0x1FFE hi 0 (omega arith) in
     let b : get_or (set (set m 0x1FFE hi) 0x1FFF lo) 0x1FFF 0 ≡ lo = get_or-set_same (set m 0x1FFE hi) 0x1FFF lo 0 (omega arith) in
     ap₂ (λ x y. x * 2 ^ 8 + y) a b ∙ omega arith
 
 -- from EVAL's return on
-left : (c : Ctx) (b : Block) (w : Width) (bytes : List ℕ) (before : ℕ → ℕ) (s0 : State) → Samples c b w → (r : Called c s0) (e : Back c b w (c.layout.wait + 8) bytes before r.t) → Left c e.t → Sampled c b w bytes before s0
+left : (c : Ctx) (b : Block) (w : Width) (bytes : List ℕ) (before : ℕ → ℕ) (s0 : State) → Samples c b w
+    → (r : Called c s0) (e : Back c b w (c.layout.wait + 8) bytes before r.t) → Left c e.t → Sampled c b w bytes before s0
 left c b w bytes before s0 h r e f =
     let W = IsInterruptibleStep c.layout c.image c.flags in
     let u = e.t in
@@ -214,7 +227,8 @@ left c b w bytes before s0 h r e f =
     }
 
 -- from where EVAL is called on
-evaluated : (c : Ctx) (b : Block) (w : Width) (bytes : List ℕ) (before : ℕ → ℕ) (s0 : State) → Samples c b w → AreInputBytes b bytes → Live c s0 → HasBytes s0.mem c.layout.inputs bytes → HasAnswers c.layout b w before s0.mem → Called c s0 → Sampled c b w bytes before s0
+evaluated : (c : Ctx) (b : Block) (w : Width) (bytes : List ℕ) (before : ℕ → ℕ) (s0 : State) → Samples c b w → AreInputBytes b bytes → Live c s0
+    → HasBytes s0.mem c.layout.inputs bytes → HasAnswers c.layout b w before s0.mem → Called c s0 → Sampled c b w bytes before s0
 evaluated c b w bytes before s0 h i l0 hi ho r =
     let few = h.valid.few_inputs in
     let outs = h.valid.few_outputs in
@@ -227,18 +241,21 @@ evaluated c b w bytes before s0 h i l0 hi ho r =
     let high = h.apart.eval_end in
     let ret = c.layout.wait + 8 in
     let m1 = set s0.mem 0x1FFE (ret / 2 ^ 8) in
-    let keep : HasBytes r.t.mem c.layout.inputs bytes = subst (λ x. HasBytes x c.layout.inputs bytes) (sym r.mem_is) (bytes_set_out m1 0x1FFF (ret % 2 ^ 8) c.layout.inputs bytes (inl (omega arith)) (bytes_set_out s0.mem 0x1FFE (ret / 2 ^ 8) c.layout.inputs bytes (inl (omega arith)) hi)) in
+    let keep : HasBytes r.t.mem c.layout.inputs bytes =
+    subst (λ x. HasBytes x c.layout.inputs bytes) (sym r.mem_is) (bytes_set_out m1 0x1FFF (ret % 2 ^ 8) c.layout.inputs bytes (inl (omega arith)) (bytes_set_out s0.mem 0x1FFE (ret / 2 ^ 8) c.layout.inputs bytes (inl (omega arith)) hi)) in
     let kept : HasAnswers c.layout b w before r.t.mem = λ o lo le.
     (let at = c.layout.outputs + places w * (o - 1) in
     let vs = bytes_of w (before o) in
     let room = answer_room w o (before o) lo (omega arith) in
     subst (λ (m : List ℕ). HasBytes m at vs) (sym r.mem_is) (bytes_set_out m1 0x1FFF (ret % 2 ^ 8) at vs (inl (omega arith)) (bytes_set_out s0.mem 0x1FFE (ret / 2 ^ 8) at vs (inl (omega arith)) (ho o lo le)))) in
-    let pushed : get_or r.t.mem 0x1FFE 0 * 2 ^ 8 + get_or r.t.mem 0x1FFF 0 ≡ ret = ap (λ (x : List ℕ). get_or x 0x1FFE 0 * 2 ^ 8 + get_or x 0x1FFF 0) r.mem_is ∙ pushed_word s0.mem ret l0.size in
+    let pushed : get_or r.t.mem 0x1FFE 0 * 2 ^ 8 + get_or r.t.mem 0x1FFF 0 ≡ ret =
+    ap (λ (x : List ℕ). get_or x 0x1FFE 0 * 2 ^ 8 + get_or x 0x1FFF 0) r.mem_is ∙ pushed_word s0.mem ret l0.size in
     let k : IsCalled c.layout b w c.image ret bytes before r.t = record { interruptible = interruptible_of c r.t r.live (omega (arith, r.pc_is)) (omega (arith, r.pc_is)); pc = r.pc_is; sp = r.sp_is; back_is = pushed; inputs = keep; outputs = kept } in
-    let e = called eval_answers c b w ret bytes before r.t h.apart h.valid h.limits h.routine i k in
+    let e = called h.eval_answers c b w ret bytes before r.t h.apart h.valid h.facts h.limits h.routine i k in
     left c b w bytes before s0 h r e (leave_run c e.t h.frame (omega arith) e.live e.pc_is)
 
-pub sample_run : (c : Ctx) (b : Block) (w : Width) (bytes : List ℕ) (before : ℕ → ℕ) (s : State) → Samples c b w → AreInputBytes b bytes → Home c b w before s → Sampled c b w bytes before (given c.layout bytes s)
+pub sample_run : (c : Ctx) (b : Block) (w : Width) (bytes : List ℕ) (before : ℕ → ℕ) (s : State) → Samples c b w → AreInputBytes b bytes → Home c b w before s
+    → Sampled c b w bytes before (given c.layout bytes s)
 sample_run c b w bytes before s h i home =
     let few = h.valid.few_inputs in
     let outs = h.valid.few_outputs in
@@ -253,7 +270,8 @@ sample_run c b w bytes before s h i home =
     let ls = home.live.size in
     let lm : length m ≡ 65536 = length-put s.mem c.layout.inputs bytes ∙ home.live.size in
     let er : get_or s0.mem c.layout.ready 0 ≡ 1 = get_or-set_same m c.layout.ready 1 0 (omega arith) in
-    let hi : HasBytes s0.mem c.layout.inputs bytes = bytes_set_out m c.layout.ready 1 c.layout.inputs bytes (inr (omega arith)) (has_put s.mem c.layout.inputs bytes (omega arith)) in
+    let hi : HasBytes s0.mem c.layout.inputs bytes =
+    bytes_set_out m c.layout.ready 1 c.layout.inputs bytes (inr (omega arith)) (has_put s.mem c.layout.inputs bytes (omega arith)) in
     let ho : HasAnswers c.layout b w before s0.mem = λ o lo le.
     (let at = c.layout.outputs + places w * (o - 1) in
     let vs = bytes_of w (before o) in

@@ -1,5 +1,6 @@
 -- What a firmware gives are bytes.
-use Rattle.std.proofs.Common.{◌≡◌, ℕ, zero, suc, ◌+◌, ◌-◌, ◌*◌, ◌/◌, ◌<◌, ◌≤◌, inl, inr, Bool, true, false, cond, List, [], ◌∷◌, ◌++◌, map, flat_map, length, All, get_or, Option, Some, None, refl, sym, subst, arith, div-lt_iff_lt-mul, nat_cmp}
+use Rattle.std.proofs.Common.{◌≡◌, ℕ, zero, suc, ◌+◌, ◌-◌, ◌*◌, ◌/◌, ◌<◌, ◌≤◌, inl, inr, Bool, true, false, cond, List, [], ◌∷◌, ◌++◌, map, flat_map, length}
+use Rattle.std.proofs.Common.{All, get_or, Option, Some, None, refl, sym, subst, arith, div-lt_iff_lt-mul, nat_cmp}
 use Rattle.std.specs.Prelude.{◌==◌, if◌then◌else◌}
 use Rattle.std.specs.BTreeMap.{is_at}
 use Rattle.std.proofs.lemmas.Bool.{cases_lt}
@@ -11,18 +12,17 @@ use Rattle.fuzzy_meaning.specs.declared.block.Input.{Input}
 use Rattle.fuzzy_meaning.specs.declared.block.Output.{Output}
 use Rattle.fuzzy_meaning.specs.declared.block.Trapezoid.{Trapezoid}
 use Rattle.fuzzy_meaning.specs.Blocks.{IsValid, IsValidOutput, IsWithin}
-use Rattle.byte_scaling.specs.Cells.{byte_of, nearest_byte}
-use Rattle.byte_scaling.proofs.CellLemmas.{nearest_byte-le}
+use Rattle.byte_scaling.specs.Cells.{byte_of, nearest_byte, NearestIsByte}
 use Rattle.point_slope.specs.Tables.{slope_of, left_point, left_slope, right_point, right_slope, row_of, rows_of}
 use Rattle.rule_layout.specs.declared.flat.Conjunction.{Conjunction}
 use Rattle.rule_layout.specs.declared.flat.Form.{Form}
 use Rattle.rule_layout.specs.Lists.{marked, at_address, list_bytes, list_words}
 use Rattle.rule_layout.specs.Slots.{slots_of}
 use Rattle.rule_layout.specs.Layouts.{conjunctions_of, weights_of, form_of, IsBelow}
-use Rattle.rule_layout.proofs.LayoutLemmas.{few_slots, numbers_in_range}
-use Rattle.rule_layout.proofs.ListLemmas.{marked_below}
 use Rattle.cpu12_isa.specs.declared.instr.Instr.{Instr}
-use Rattle.cpu12_isa.specs.declared.instr.Instr.TheVariants.{LdaaImmediate, LdaaExtended, LdabImmediate, LdxImmediate, LdyImmediate, LdsImmediate, StaaExtended, StabExtended, ClrExtended, Coma, CpxImmediate, Beq, Bra, JsrExtended, Rts, Andcc, Orcc, TransferXD, TransferYD, Ediv, Fdiv, Mem, Rev, Revw, Wav}
+use Rattle.cpu12_isa.specs.declared.instr.Instr.TheVariants.{LdaaImmediate, LdaaExtended, LdabImmediate, LdxImmediate, LdyImmediate, LdsImmediate, StaaExtended}
+use Rattle.cpu12_isa.specs.declared.instr.Instr.TheVariants.{StabExtended, ClrExtended, Coma, CpxImmediate, Beq, Bra, JsrExtended, Rts, Andcc, Orcc, TransferXD}
+use Rattle.cpu12_isa.specs.declared.instr.Instr.TheVariants.{TransferYD, Ediv, Fdiv, Mem, Rev, Revw, Wav}
 use Rattle.cpu12_isa.specs.Code.{encode_of, FitsOperands}
 use Rattle.cpu12_isa.specs.Fits.{AreBytes}
 use Rattle.cpu12_asm.specs.declared.items.Item.{Item}
@@ -36,7 +36,7 @@ use Rattle.codegen.specs.Data.{table_bytes, singleton_bytes, singleton_bytes_of,
 use Rattle.codegen.specs.Images.{firmware_items, IsApart}
 use Rattle.codegen.specs.Layouts.{main_layout}
 use Rattle.codegen.proofs.phases.RuleMemory.{Below, below_all, below_append}
-use Rattle.codegen.proofs.phases.RuleFacts.{weights_below, rev_is_plain}
+use Rattle.codegen.proofs.phases.RuleFacts.{BlockFacts, weights_below, rev_is_plain}
 use Rattle.codegen.proofs.steps.Decoding.{IsUsed, UsedCode, used_append}
 use Rattle.codegen.proofs.phases.Used.{used_answer}
 use Rattle.rule_layout.specs.declared.flat.Form.TheVariants as form
@@ -116,7 +116,8 @@ right_slope_small : (i : Input) (c : Dec) (d : Option Dec) → right_slope i c d
 right_slope_small i c None = omega arith
 right_slope_small i c (Some d) = slope_small (byte_of i d - byte_of i c)
 
-rows_fit : (x : Input) (ts : List Trapezoid) (rest : List (List ℕ)) → Below 256 (flat_map (λ row. row) rest) → Below 256 (flat_map (λ row. row) (map (row_of x) ts ++ rest))
+rows_fit : (x : Input) (ts : List Trapezoid) (rest : List (List ℕ)) → Below 256 (flat_map (λ row. row) rest)
+    → Below 256 (flat_map (λ row. row) (map (row_of x) ts ++ rest))
 rows_fit x [] rest h = h
 rows_fit x (t ∷ ts) rest h = (left_small x t.a, (right_small x t.d, (left_slope_small x t.a t.b, (right_slope_small x t.c t.d, rows_fit x ts rest h))))
 
@@ -125,13 +126,13 @@ tables_fit [] = tt
 tables_fit (x ∷ xs) = rows_fit x x.terms (flat_map rows_of xs) (tables_fit xs)
 
 -- singletons
-own_fit : (o : Output) (us : List Dec) → IsValidOutput o → All (IsWithin o.lo o.hi) us → Below 256 (map (nearest_byte o) us)
-own_fit o [] v h = tt
-own_fit o (u ∷ us) v h = (let q = nearest_byte-le o u v.range (h 0 u (omega arith)) in omega arith, own_fit o us v (λ k d lt. h (suc k) d (omega arith)))
+own_fit : NearestIsByte → (o : Output) (us : List Dec) → IsValidOutput o → All (IsWithin o.lo o.hi) us → Below 256 (map (nearest_byte o) us)
+own_fit near o [] v h = tt
+own_fit near o (u ∷ us) v h = (let q = near o u v.range (h 0 u (omega arith)) in omega arith, own_fit near o us v (λ k d lt. h (suc k) d (omega arith)))
 
-singletons_fit : (os : List Output) → All IsValidOutput os → Below 256 (flat_map singleton_bytes_of os)
-singletons_fit [] v = tt
-singletons_fit (o ∷ os) v = let w = v 0 o (omega arith) in below_append 256 (singleton_bytes_of o) (flat_map singleton_bytes_of os) (own_fit o o.singletons w w.singletons) (singletons_fit os (λ k d lt. v (suc k) d (omega arith)))
+singletons_fit : NearestIsByte → (os : List Output) → All IsValidOutput os → Below 256 (flat_map singleton_bytes_of os)
+singletons_fit near [] v = tt
+singletons_fit near (o ∷ os) v = let w = v 0 o (omega arith) in below_append 256 (singleton_bytes_of o) (flat_map singleton_bytes_of os) (own_fit near o o.singletons w w.singletons) (singletons_fit near os (λ k d lt. v (suc k) d (omega arith)))
 
 -- weights and the rule list
 weights_fit : (f : Form) (ws : List ℕ) → Below 256 ws → Below 256 (weight_bytes_by f ws)
@@ -142,11 +143,16 @@ words_fit : (ws : List ℕ) → Below 65536 ws → Below 256 (flat_map bytes_of_
 words_fit [] h = tt
 words_fit (w ∷ ws) h = (let q = h.0 in omega arith, (omega arith, words_fit ws h.1))
 
+below_more : (n m : ℕ) (ks : List ℕ) → n ≤ m → Below n ks → Below m ks
+below_more n m [] le h = tt
+below_more n m (k ∷ ks) le h = (let q = h.0 in omega arith, below_more n m ks le h.1)
+
 added_below : (base n m : ℕ) (ks : List ℕ) → base + n ≤ m → Below n ks → Below m (map (λ k. base + k) ks)
 added_below base n m [] le h = tt
 added_below base n m (k ∷ ks) le h = (let q = h.0 in omega arith, added_below base n m ks le h.1)
 
-marked_fits : (s e m : ℕ) (c : Conjunction) (cs : List Conjunction) → s < m → e < m → Below m c.literals → Below m c.conclusions → Below m (marked s e cs) → Below m (marked s e (c ∷ cs))
+marked_fits : (s e m : ℕ) (c : Conjunction) (cs : List Conjunction) → s < m → e < m → Below m c.literals → Below m c.conclusions → Below m (marked s e cs)
+    → Below m (marked s e (c ∷ cs))
 marked_fits s e m c [] hs he a b r = below_append m c.literals _ a (hs, below_append m c.conclusions _ b (he, tt))
 marked_fits s e m c (d ∷ cs) hs he a b r = below_append m c.literals _ a (hs, below_append m c.conclusions _ b (hs, r))
 
@@ -156,29 +162,41 @@ list_words_fit base n (c ∷ cs) le h =
     let k = h 0 c (omega arith) in
     marked_fits 65534 65535 65536 (at_address base c) (map (at_address base) cs) (omega arith) (omega arith) (added_below base n 65536 c.literals (omega arith) (below_all n c.literals k.literals)) (added_below base n 65536 c.conclusions (omega arith) (below_all n c.conclusions k.conclusions)) (list_words_fit base n cs le (λ j d lt. h (suc j) d (omega arith)))
 
-rules_fit : (base n : ℕ) (f : Form) (cs : List Conjunction) → (f ≡ form.Rev → n ≤ 254) → base + n ≤ 65534 → All (IsBelow n) cs → Below 256 (rule_bytes_by base f cs)
-rules_fit base n form.Rev cs small le h = below_all 256 (list_bytes cs) (marked_below 0xFE 0xFF n 256 cs h (let q = small refl in omega arith) (omega arith) (omega arith))
+list_bytes_fit : (n : ℕ) (cs : List Conjunction) → n ≤ 254 → All (IsBelow n) cs → Below 256 (list_bytes cs)
+list_bytes_fit n [] le h = tt
+list_bytes_fit n (c ∷ cs) le h =
+    let k = h 0 c (omega arith) in
+    marked_fits 254 255 256 c cs (omega arith) (omega arith)
+    (below_more n 256 c.literals (omega arith) (below_all n c.literals k.literals))
+    (below_more n 256 c.conclusions (omega arith) (below_all n c.conclusions k.conclusions))
+    (list_bytes_fit n cs le (λ j d lt. h (suc j) d (omega arith)))
+
+rules_fit : (base n : ℕ) (f : Form) (cs : List Conjunction) → (f ≡ form.Rev → n ≤ 254) → base + n ≤ 65534 → All (IsBelow n) cs
+    → Below 256 (rule_bytes_by base f cs)
+rules_fit base n form.Rev cs small le h = list_bytes_fit n cs (let q = small refl in q) h
 rules_fit base n form.Revw cs small le h = words_fit (list_words base cs) (list_words_fit base n cs le h)
 
 -- a firmware's items give bytes
-items_fit : (b : Block) (w : Width) → IsValid b → IsApart main_layout → ItemsFit (firmware_items main_layout b w)
+items_fit : NearestIsByte → (b : Block) (w : Width) → IsValid b → BlockFacts b → IsApart main_layout → ItemsFit (firmware_items main_layout b w)
 unfolding firmware_items
-items_fit b w v a =
-    let frame : ItemsFit (map Op (frame_code main_layout)) = ((omega arith, (omega arith, (omega arith, tt))), ((omega arith, (omega arith, (omega arith, tt))), ((omega arith, (omega arith, tt)), ((omega arith, (omega arith, (omega arith, tt))), ((omega arith, (omega arith, tt)), ((omega arith, (omega arith, (omega arith, tt))), ((omega arith, (omega arith, (omega arith, tt))), ((omega arith, (omega arith, tt)), ((omega arith, tt), tt))))))))) in
-    let few = few_slots b v in
-    let small : form_of b ≡ form.Rev → length (slots_of b) ≤ 254 = λ e. (rev_is_plain b v e).0 in
-    let used : UsedCode (eval_code main_layout b w ++ Rts ∷ []) = used_append (eval_code main_layout b w) (Rts ∷ []) (used_answer main_layout b w a v) (tt, tt, tt) in
+items_fit near b w v facts a =
+    let frame : ItemsFit (map Op (frame_code main_layout)) =
+    ((omega arith, (omega arith, (omega arith, tt))), ((omega arith, (omega arith, (omega arith, tt))), ((omega arith, (omega arith, tt)), ((omega arith, (omega arith, (omega arith, tt))), ((omega arith, (omega arith, tt)), ((omega arith, (omega arith, (omega arith, tt))), ((omega arith, (omega arith, (omega arith, tt))), ((omega arith, (omega arith, tt)), ((omega arith, tt), tt))))))))) in
+    let few = facts.few_slots in
+    let small : form_of b ≡ form.Rev → length (slots_of b) ≤ 254 = λ e. (rev_is_plain b facts e).0 in
+    let used : UsedCode (eval_code main_layout b w ++ Rts ∷ []) =
+    used_append (eval_code main_layout b w) (Rts ∷ []) (used_answer near main_layout b w a v facts) (tt, tt, tt) in
     let code : ItemsFit (map Op (whole_code main_layout b w)) = fit_append (map Op (frame_code main_layout)) (map Op (eval_code main_layout b w ++ Rts ∷ [])) frame (fit_code (eval_code main_layout b w ++ Rts ∷ []) used) in (
       tt,
       fit_append (map Op (whole_code main_layout b w)) _ code (
         tt,
         fit_append (map Byte (table_bytes b)) _ (fit_bytes (table_bytes b) (tables_fit b.inputs)) (
           tt,
-          fit_append (map Byte (singleton_bytes b)) _ (fit_bytes (singleton_bytes b) (singletons_fit b.outputs v.outputs)) (
+          fit_append (map Byte (singleton_bytes b)) _ (fit_bytes (singleton_bytes b) (singletons_fit near b.outputs v.outputs)) (
             tt,
-            fit_append (map Byte (weight_bytes b)) _ (fit_bytes (weight_bytes b) (weights_fit (form_of b) (weights_of b) (weights_below b v))) (
+            fit_append (map Byte (weight_bytes b)) _ (fit_bytes (weight_bytes b) (weights_fit (form_of b) (weights_of b) (weights_below b facts))) (
               tt,
-              fit_append (map Byte (rule_bytes main_layout.slots b)) _ (fit_bytes (rule_bytes main_layout.slots b) (rules_fit main_layout.slots (length (slots_of b)) (form_of b) (conjunctions_of b) small (omega arith) (numbers_in_range b v)))
+              fit_append (map Byte (rule_bytes main_layout.slots b)) _ (fit_bytes (rule_bytes main_layout.slots b) (rules_fit main_layout.slots (length (slots_of b)) (form_of b) (conjunctions_of b) small (omega arith) (facts.in_range)))
                   (tt, ((omega arith, tt), ((omega arith, tt), (tt, ((omega arith, tt), ((omega arith, tt), tt)))))),
             ),
           ),
@@ -208,8 +226,9 @@ found_fits (p ∷ ps) q h = chosen (is_at (nat_cmp q) p.0) (found_fits ps q h.1)
     chosen false k = k
 
 -- a memory that has what a firmware gives is one of bytes
-pub memory_fits : (b : Block) (w : Width) (mem : List ℕ) → IsValid b → IsApart main_layout → length mem ≡ 65536 → ((at : ℕ) → at < 65536 → get_or mem at 0 ≡ byte_or_zero (byte_at (given_by (firmware_items main_layout b w)) at)) → AreBytes mem
-memory_fits b w mem v a size h at = elim (cases_lt at 65536) [
-  | inl lt ↦ (let e = h at lt in let f = found_fits (given_by (firmware_items main_layout b w)) at (given_fit 0 (firmware_items main_layout b w) (items_fit b w v a)) in omega arith)
+pub memory_fits : NearestIsByte → (b : Block) (w : Width) (mem : List ℕ) → IsValid b → BlockFacts b → IsApart main_layout → length mem ≡ 65536
+    → ((at : ℕ) → at < 65536 → get_or mem at 0 ≡ byte_or_zero (byte_at (given_by (firmware_items main_layout b w)) at)) → AreBytes mem
+memory_fits near b w mem v facts a size h at = elim (cases_lt at 65536) [
+  | inl lt ↦ (let e = h at lt in let f = found_fits (given_by (firmware_items main_layout b w)) at (given_fit 0 (firmware_items main_layout b w) (items_fit near b w v facts a)) in omega arith)
   | inr le ↦ (let e : get_or mem at 0 ≡ 0 = get_or_past mem at 0 (omega arith) in omega arith)
 ]

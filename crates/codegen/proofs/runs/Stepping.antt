@@ -1,23 +1,22 @@
 -- One instruction of the code around EVAL, and where it leads.
-use Rattle.std.proofs.Common.{◌≡◌, ◌≢◌, ◌⊎◌, inl, inr, ⊎_elim, ℕ, ◌+◌, ◌^◌, ◌<◌, ◌≤◌, min, nat_lt, nat_le, ◌&&◌, true, false, Ok, List, [], ◌∷◌, ◌++◌, length, refl, sym, ap, ◌∙◌, subst, arith}
+use Rattle.std.proofs.Common.{◌≡◌, ◌≢◌, ◌⊎◌, inl, inr, ⊎_elim, ℕ, ◌+◌, ◌^◌, ◌<◌, ◌≤◌, min, nat_lt, nat_le, ◌&&◌, true, false, Ok, List, [], ◌∷◌, length}
+use Rattle.std.proofs.Common.{refl, sym, ap, ◌∙◌, arith}
 use Rattle.std.specs.Prelude.{◌==◌, if◌then◌else◌}
 use Rattle.std.proofs.lemmas.Bool.Decides.{nat_tests}
 use Rattle.cpu12_isa.specs.declared.instr.Instr.{Instr}
 use Rattle.cpu12_isa.specs.Act.{read_by}
 use Rattle.cpu12_isa.specs.Agreement.{AllShown, Uncovers}
 use Rattle.cpu12_isa.specs.Code.{encode_of, decode_at, six_from, FitsOperands}
-use Rattle.cpu12_isa.specs.Fits.{FitsRegs, AreBytes}
+use Rattle.cpu12_isa.specs.Fits.{FitsRegs, AreBytes, StaysFit}
 use Rattle.cpu12_isa.specs.Flags.{has}
 use Rattle.cpu12_isa.specs.Meaning.{act_of, effect, is_plain}
 use Rattle.cpu12_isa.specs.Memory.{plus}
-use Rattle.cpu12_isa.proofs.Fitting.{stays_fit}
-use Rattle.cpu12_isa.proofs.Agreements.{length_writes}
+use Rattle.cpu12_isa.proofs.Algebra.{length_writes}
 use Rattle.cpu12_parts.specs.declared.temps.Temps.TheVariants.{Free}
 use Rattle.cpu12_parts.specs.State.{State}
 use Rattle.cpu12_parts.specs.Laws.{addresses}
 use Rattle.cpu12_parts.specs.Whole.{after_plain}
 use Rattle.codegen.specs.declared.layout.Layout.{Layout}
-use Rattle.cpu12_parts.specs.Executions.{Execution, all_steps}
 use Rattle.cpu12_isa.specs.Regions.{is_free}
 use Rattle.codegen.specs.Interruptible.{is_hidden, is_idle, IsInterruptible, IsInterruptibleStep}
 use Rattle.codegen.proofs.steps.Memory.{SameHigh, WriteBelow, below_more, high_writes, bytes_writes, HasBytes, bytes_front, bytes_back}
@@ -28,6 +27,7 @@ use Rattle.codegen.proofs.steps.Executions.{Bounded, bounded_one, bounded_on}
 
 -- what a run is under: the layout, the image's memory and the open flags
 pub record Ctx : Type 0 where
+  pub stays_fit : StaysFit
   pub layout : Layout
   pub image : List ℕ
   pub flags : ℕ
@@ -101,7 +101,8 @@ pub record Next (c : Ctx) (s t : State) (q : ℕ) : Type 0 where
   pub pc_is : t.regs.pc ≡ q
 
 -- a plain instruction that stands in the image and leaves the stack as the code has it
-pub plain_next : (c : Ctx) (s : State) (p q : ℕ) (i : Instr) → Live c s → is_idle c.layout s ≡ false → s.regs.pc ≡ p → 0x2000 ≤ p → p + 6 < 65536 → decode_at c.image p ≡ Ok i → is_plain i ≡ true → FitsOperands i
+pub plain_next : (c : Ctx) (s : State) (p q : ℕ) (i : Instr) → Live c s → is_idle c.layout s ≡ false → s.regs.pc ≡ p → 0x2000 ≤ p → p + 6 < 65536
+    → decode_at c.image p ≡ Ok i → is_plain i ≡ true → FitsOperands i
     → AllShown (is_hidden s.regs.sp) (read_by (act_of c.flags i s.regs) s.mem)
     → AllShown (is_hidden (min s.regs.sp (effect c.flags i s.regs s.mem).regs.sp)) (addresses (effect c.flags i s.regs s.mem).writes)
     → Uncovers (is_hidden s.regs.sp) (effect c.flags i s.regs s.mem).writes (is_hidden (effect c.flags i s.regs s.mem).regs.sp)
@@ -112,7 +113,7 @@ pub plain_next : (c : Ctx) (s : State) (p q : ℕ) (i : Instr) → Live c s → 
     → Next c s (after_plain c.flags i s) q
 plain_next c s p q i l busy ep lo hi de pl fo reads writes uncovers below stack mask pc =
     let e = effect c.flags i s.regs s.mem in
-    let fit = stays_fit c.flags i s.regs s.mem c.fits fo l.fits l.bytes in
+    let fit = c.stays_fit c.flags i s.regs s.mem c.fits fo l.fits l.bytes in
     let d : decode_at s.mem s.regs.pc ≡ Ok i = ap (decode_at s.mem) ep ∙ decode_same c.image s.mem p lo hi l.same ∙ de in
     record {
       step = record {
@@ -157,14 +158,19 @@ goes_on c = bounded_on (IsInterruptibleStep c.layout c.image c.flags)
 pub goes_one : (c : Ctx) (s t : State) (q : ℕ) → Next c s t q → Goes c 1 0 s t
 goes_one c s t q h = bounded_one (IsInterruptibleStep c.layout c.image c.flags) 0 s t h.step
 
-pub clr : (c : Ctx) (s : State) (p at : ℕ) → Live c s → s.regs.pc ≡ p → Here c p (ClrExtended at) → at < 0x1800 → Next c s (after_plain c.flags (ClrExtended at) s) (p + 3)
-clr c s p at l ep h lt = next c s p (p + 3) (ClrExtended at) l ep h refl (omega arith) tt (lt, tt) refl (masked_four s.regs.ccr false true false false) (omega (arith, h.high))
+pub clr : (c : Ctx) (s : State) (p at : ℕ) → Live c s → s.regs.pc ≡ p → Here c p (ClrExtended at) → at < 0x1800
+    → Next c s (after_plain c.flags (ClrExtended at) s) (p + 3)
+clr c s p at l ep h lt =
+    next c s p (p + 3) (ClrExtended at) l ep h refl (omega arith) tt (lt, tt) refl (masked_four s.regs.ccr false true false false) (omega (arith, h.high))
 
-pub beq_on : (c : Ctx) (s : State) (p to : ℕ) → Live c s → s.regs.pc ≡ p → Here c p (Beq to) → to < 2 ^ 8 → has s.regs.ccr 2 ≡ false → Next c s (after_plain c.flags (Beq to) s) (p + 2)
-beq_on c s p to l ep h lt z = next c s p (p + 2) (Beq to) l ep h refl lt tt tt refl refl (ap (λ b. if b then plus (plus s.regs.pc 2) (if nat_lt to 128 then to else to + 65280) else plus s.regs.pc 2) z ∙ omega (arith, h.high))
+pub beq_on : (c : Ctx) (s : State) (p to : ℕ) → Live c s → s.regs.pc ≡ p → Here c p (Beq to) → to < 2 ^ 8 → has s.regs.ccr 2 ≡ false
+    → Next c s (after_plain c.flags (Beq to) s) (p + 2)
+beq_on c s p to l ep h lt z =
+    next c s p (p + 2) (Beq to) l ep h refl lt tt tt refl refl (ap (λ b. if b then plus (plus s.regs.pc 2) (if nat_lt to 128 then to else to + 65280) else plus s.regs.pc 2) z ∙ omega (arith, h.high))
 
 -- code that stands in the image above where it waits
-pub stands_of : (c : Ctx) (p : ℕ) (is : List Instr) → UsedCode is → HasBytes c.image p (code_bytes is) → 0x2000 ≤ p → c.layout.wait < p → p + sizes is + 6 < 65536 → Stands c p is
+pub stands_of : (c : Ctx) (p : ℕ) (is : List Instr) → UsedCode is → HasBytes c.image p (code_bytes is) → 0x2000 ≤ p → c.layout.wait < p
+    → p + sizes is + 6 < 65536 → Stands c p is
 stands_of c p [] u h lo w hi = tt
 stands_of c p (i ∷ is) u h lo w hi = (
   record {

@@ -1,5 +1,6 @@
 -- The uninterrupted answers of a firmware.
-use Rattle.std.proofs.Common.{◌≡◌, ◌≢◌, inl, inr, ℕ, zero, suc, ◌+◌, ◌-◌, ◌*◌, ◌<◌, false, true, List, [], ◌∷◌, length, get_or, refl, sym, ap, ap₂, ◌∙◌, subst, arith}
+use Rattle.std.proofs.Common.{◌≡◌, ◌≢◌, inl, inr, ℕ, zero, suc, ◌+◌, ◌-◌, ◌*◌, ◌<◌, false, true, List, [], ◌∷◌, length, get_or, refl, sym, ap, ap₂, ◌∙◌, subst}
+use Rattle.std.proofs.Common.{arith}
 use Rattle.std.proofs.lemmas.Bool.Decides.{nat_tests}
 use Rattle.fuzzy_meaning.specs.declared.block.Block.{Block}
 use Rattle.cpu12_isa.specs.Memory.{word_of}
@@ -15,15 +16,16 @@ use Rattle.codegen.specs.declared.firmware.Firmware.{Firmware}
 use Rattle.codegen.specs.Widths.{width_of, places, bytes_of, answer}
 use Rattle.codegen.specs.Evaluation.{HasBytes}
 use Rattle.codegen.specs.Interruptible.{is_idle, IsShownInstruction, IsInterruptibleStep}
-use Rattle.codegen.specs.Answers.{given, AreAnswered}
-use Rattle.codegen.specs.Uninterrupted.{Answer, value_at, values_from, values_in, is_waiting, AreAnswersTo, UninterruptedAreOne, AreAnswersOf, answers_by, AnsweredAreUninterrupted, FirmwareIsUninterrupted}
-use Rattle.codegen.proofs.runs.Law.{firmware_answers}
+use Rattle.codegen.specs.Answers.{given, AreAnswered, FirmwareAnswers}
+use Rattle.codegen.specs.Uninterrupted.{Answer, value_at, values_from, values_in, is_waiting, AreAnswersTo, UninterruptedAreOne, AreAnswersOf, answers_by}
+use Rattle.codegen.specs.Uninterrupted.{AnsweredAreUninterrupted, FirmwareIsUninterrupted}
 
 -- They have one value.
 answer_is : (a b : Answer) → a.values ≡ b.values → a.instructions ≡ b.instructions → a ≡ b
 answer_is a b v n = ap₂ (λ (x : List ℕ) (k : ℕ). let r : Answer = record { values = x; instructions = k } in r) v n
 
-answers_are_one : ExecutionsAreOne → (f : Firmware) (flags : ℕ) (samples : List (List ℕ)) (xs ys : List Answer) (s : State) → AreAnswersTo f flags samples xs s → AreAnswersTo f flags samples ys s → xs ≡ ys
+answers_are_one : ExecutionsAreOne → (f : Firmware) (flags : ℕ) (samples : List (List ℕ)) (xs ys : List Answer) (s : State) → AreAnswersTo f flags samples xs s
+    → AreAnswersTo f flags samples ys s → xs ≡ ys
 answers_are_one one f flags [] [] [] s a b = refl
 answers_are_one one f flags [] [] (y ∷ ys) s a b = absurd b
 answers_are_one one f flags [] (x ∷ xs) ys s a b = absurd a
@@ -49,9 +51,11 @@ whole l flags d s t (inr (inl p)) = inr (inl (p.0, p.1, p.2.step))
 whole l flags d s t (inr (inr (inl p))) = inr (inr (inl (p.0, p.1, p.2.step)))
 whole l flags d s t (inr (inr (inr p))) = inr (inr (inr p.step))
 
-uninterrupted : (l : Layout) (image : List ℕ) (flags : ℕ) (ds : List ℕ) (s t : State) → Execution (IsInterruptibleStep l image flags) ds s t → Execution (IsStepBefore (is_idle l) flags) ds s t
+uninterrupted : (l : Layout) (image : List ℕ) (flags : ℕ) (ds : List ℕ) (s t : State) → Execution (IsInterruptibleStep l image flags) ds s t
+    → Execution (IsStepBefore (is_idle l) flags) ds s t
 uninterrupted l image flags [] s t e = e
-uninterrupted l image flags (d ∷ ds) s t e = (e.0, (record { on = e.1.0.busy; step = whole l flags d s e.0 e.1.0.instruction }, uninterrupted l image flags ds e.0 t e.1.1))
+uninterrupted l image flags (d ∷ ds) s t e =
+    (e.0, (record { on = e.1.0.busy; step = whole l flags d s e.0 e.1.0.instruction }, uninterrupted l image flags ds e.0 t e.1.1))
 
 -- so is the way to the first arrival
 waits : (l : Layout) (s : State) → s.regs.pc ≡ l.wait → is_waiting l s ≡ true
@@ -86,7 +90,8 @@ value_from w m at (suc n) (suc k) v lt h =
     value_from w m (at + places w) n k v (omega arith) (subst (λ p. HasBytes m p (bytes_of w v)) e h)
 
 -- the answers of samples that are answered
-seen : (b : Block) (f : Firmware) (image : List ℕ) (flags : ℕ) (before : ℕ → ℕ) (samples : List (List ℕ)) (s : State) → f.outputs ≡ length b.outputs → (h : AreAnswered f.layout b (width_of f.wide) image flags before samples s)
+seen : (b : Block) (f : Firmware) (image : List ℕ) (flags : ℕ) (before : ℕ → ℕ) (samples : List (List ℕ)) (s : State) → f.outputs ≡ length b.outputs
+    → (h : AreAnswered f.layout b (width_of f.wide) image flags before samples s)
     → AreAnswersTo f flags samples (answers_by b f image flags before samples s h) s × AreAnswersOf (width_of f.wide) b before samples (answers_by b f image flags before samples s h)
 seen b f image flags before [] s e h = (tt, tt)
 seen b f image flags before (bytes ∷ samples) s e h =
@@ -113,7 +118,7 @@ answered_are_uninterrupted b f flags samples s e a h =
     let arrived : IsUntil (is_waiting l) flags (plain_parts 3) (reset_with image) s = record { execution = arrival l flags 3 (reset_with image) s a.way; stopped = waits l s a.wait } in
     (record { first = s; ds = plain_parts 3; arrived = arrived; each = both.0 }, both.1)
 
-pub firmware_is_uninterrupted : FirmwareIsUninterrupted
-firmware_is_uninterrupted b f v limits h flags samples fits all =
+pub firmware_is_uninterrupted : FirmwareAnswers → FirmwareIsUninterrupted
+firmware_is_uninterrupted firmware_answers b f v limits h flags samples fits all =
     let r = firmware_answers b f v limits h flags samples fits all in
     (answers_by b f (image_memory f.image.bytes) flags (λ o. 0) samples r.0 r.1.1, answered_are_uninterrupted b f flags samples r.0 h.outputs r.1.0 r.1.1)

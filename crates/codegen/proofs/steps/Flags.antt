@@ -2,7 +2,7 @@
 use Rattle.std.proofs.Common.{◌≡◌, ℕ, zero, suc, ◌<◌, Bool, true, false, bit_and, bit_or, ◌∙◌, arith}
 use Rattle.cpu12_isa.specs.declared.instr.Ccr.{Ccr}
 use Rattle.cpu12_isa.specs.Flags.{has, put, opened}
-use Rattle.cpu12_isa.proofs.Bits.{bit_or_is, bit_and_is}
+use Rattle.cpu12_isa.proofs.Algebra.{bit_or_is, bit_and_is}
 
 -- another flag leaves I
 pub masked_put : (c : Ccr) (k : ℕ) (b : Bool) → k < 4 → has (put c k b) 4 ≡ has c 4
@@ -67,7 +67,8 @@ unmasked n = bit_and_is n 239 4
 
 -- four flags put one after another
 pub masked_four : (c : Ccr) (n z v k : Bool) → has (put (put (put (put c 3 n) 2 z) 1 v) 0 k) 4 ≡ has c 4
-masked_four c n z v k = masked_put (put (put (put c 3 n) 2 z) 1 v) 0 k (omega arith) ∙ masked_put (put (put c 3 n) 2 z) 1 v (omega arith) ∙ masked_put (put c 3 n) 2 z (omega arith) ∙ masked_put c 3 n (omega arith)
+masked_four c n z v k =
+    masked_put (put (put (put c 3 n) 2 z) 1 v) 0 k (omega arith) ∙ masked_put (put (put c 3 n) 2 z) 1 v (omega arith) ∙ masked_put (put c 3 n) 2 z (omega arith) ∙ masked_put c 3 n (omega arith)
 
 pub zero_four : (c : Ccr) (n z v k : Bool) → has (put (put (put (put c 3 n) 2 z) 1 v) 0 k) 2 ≡ z
 zero_four c n z v k = zero_kept (put (put (put c 3 n) 2 z) 1 v) 0 k (omega arith) ∙ zero_kept (put (put c 3 n) 2 z) 1 v (omega arith) ∙ zero_put (put c 3 n) z

@@ -3,12 +3,11 @@ use Rattle.std.proofs.Common.{◌≡◌, inl, inr, ℕ, ◌+◌, ◌^◌, ◌<�
 use Rattle.cpu12_isa.specs.declared.instr.Instr.{Instr}
 use Rattle.cpu12_isa.specs.Act.{read_by}
 use Rattle.cpu12_isa.specs.Code.{encode_of, decode_at, six_from, FitsOperands}
-use Rattle.cpu12_isa.specs.Fits.{FitsRegs, AreBytes}
+use Rattle.cpu12_isa.specs.Fits.{FitsRegs, AreBytes, StaysFit}
 use Rattle.cpu12_isa.specs.Flags.{has}
 use Rattle.cpu12_isa.specs.Meaning.{act_of, effect, is_plain}
 use Rattle.cpu12_isa.specs.Memory.{plus}
-use Rattle.cpu12_isa.proofs.Fitting.{stays_fit}
-use Rattle.cpu12_isa.proofs.Agreements.{length_writes}
+use Rattle.cpu12_isa.proofs.Algebra.{length_writes}
 use Rattle.cpu12_parts.specs.State.{State}
 use Rattle.cpu12_parts.specs.Laws.{addresses, IsOff}
 use Rattle.cpu12_parts.specs.Whole.{after_plain}
@@ -16,13 +15,13 @@ use Rattle.codegen.specs.declared.layout.Layout.{Layout}
 use Rattle.codegen.specs.Images.{IsApart}
 use Rattle.cpu12_parts.specs.Touching.{IsIn, Each, IsBetween}
 use Rattle.codegen.specs.Evaluation.{Writes, Reads, code_region, IsEvalStep}
-use Rattle.cpu12_parts.specs.Executions.{Execution, all_steps}
 use Rattle.codegen.proofs.steps.Memory.{SameHigh, WriteBelow, high_writes, bytes_writes}
 use Rattle.codegen.proofs.steps.Decoding.{sizes, decode_same}
 use Rattle.codegen.proofs.steps.Executions.{Bounded, bounded_none, bounded_one, bounded_on, bounded_more}
 
 -- what a run is under: the layout, memory where EVAL begins and the open flags, and SP and I as they stay
 pub record Ctx : Type 0 where
+  pub stays_fit : StaysFit
   pub layout : Layout
   pub apart : IsApart layout
   pub image : List ℕ
@@ -103,7 +102,7 @@ pub next : (c : Ctx) (s : State) (p q : ℕ) (i : Instr) → Live c s → s.regs
     → Next c s (after_plain c.flags i s) q
 next c s p q i l ep h pl fo reads writes esp mask pc =
     let e = effect c.flags i s.regs s.mem in
-    let fit = stays_fit c.flags i s.regs s.mem c.fits fo l.fits l.bytes in
+    let fit = c.stays_fit c.flags i s.regs s.mem c.fits fo l.fits l.bytes in
     let d : decode_at s.mem s.regs.pc ≡ Ok i = ap (decode_at s.mem) ep ∙ decode_same c.image s.mem p h.low h.high l.same ∙ h.decoded in
     record {
       step = record {
@@ -156,8 +155,10 @@ pub record Reaches (c : Ctx) (n k : ℕ) (s : State) (pc : ℕ) (mem : List ℕ)
 pub reaches_none : (c : Ctx) (s : State) (pc : ℕ) (mem : List ℕ) → Live c s → s.regs.pc ≡ pc → s.mem ≡ mem → Reaches c 0 0 s pc mem
 reaches_none c s pc mem l ep em = record { t = s; goes = goes_none c s; live = l; pc_is = ep; mem_is = em; sp_is = refl }
 
-pub reaches_after : (c : Ctx) (n k m j : ℕ) (s t : State) (pc : ℕ) (mem : List ℕ) → Goes c n k s t → t.regs.sp ≡ s.regs.sp → Reaches c m j t pc mem → Reaches c (n + m) (k + j) s pc mem
+pub reaches_after : (c : Ctx) (n k m j : ℕ) (s t : State) (pc : ℕ) (mem : List ℕ) → Goes c n k s t → t.regs.sp ≡ s.regs.sp → Reaches c m j t pc mem
+    → Reaches c (n + m) (k + j) s pc mem
 reaches_after c n k m j s t pc mem g es r = record { t = r.t; goes = goes_on c n k m j s t r.t g r.goes; live = r.live; pc_is = r.pc_is; mem_is = r.mem_is; sp_is = r.sp_is ∙ es }
 
-pub reaches_at : (c : Ctx) (n k m j : ℕ) (s : State) (pc pc' : ℕ) (mem mem' : List ℕ) → n ≤ m → k ≤ j → pc ≡ pc' → mem ≡ mem' → Reaches c n k s pc mem → Reaches c m j s pc' mem'
+pub reaches_at : (c : Ctx) (n k m j : ℕ) (s : State) (pc pc' : ℕ) (mem mem' : List ℕ) → n ≤ m → k ≤ j → pc ≡ pc' → mem ≡ mem' → Reaches c n k s pc mem
+    → Reaches c m j s pc' mem'
 reaches_at c n k m j s pc pc' mem mem' a b ep em r = record { t = r.t; goes = goes_most c n k m j s r.t a b r.goes; live = r.live; pc_is = r.pc_is ∙ ep; mem_is = r.mem_is ∙ em; sp_is = r.sp_is }

@@ -1,4 +1,4 @@
-use Rattle.std.proofs.Common.{◌≡◌, true, false, Bool, List, length, refl, sym, ap, ◌∙◌, subst, arith, rules}
+use Rattle.std.proofs.Common.{◌≡◌, true, false, Bool, List, refl, sym, ap, ◌∙◌, subst, arith, rules}
 use Rattle.cpu12_asm.specs.declared.items.Item.{Item}
 use Rattle.cpu12_asm.specs.Bytes.{Holds}
 use Rattle.cpu12_asm.specs.Items.{given_by}
