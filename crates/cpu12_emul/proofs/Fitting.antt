@@ -59,12 +59,16 @@ pulls_fit r Free m f ft b = record { regs = record { a = f.a; b = f.b; x = f.x; 
 pulls_fit r OnStack m f ft b = record { regs = record { a = f.a; b = f.b; x = f.x; y = f.y; sp = omega arith; pc = f.pc; ccr = f.ccr }; temps = sums_fit (bytes_at m (from r.sp 6)) (bytes_at_fit m (from r.sp 6) b); writes = tt }
 pulls_fit r (Running p w) m f ft b = record { regs = f; temps = ft; writes = tt }
 
-instruction_fits : InstructionsFit → (flags : ℕ) (r : Regs) (t : Temps) (m : List ℕ) (d : Result Instr ℕ) → flags < 2 ^ 8 → FitsRegs r → FitsTemps t → AreBytes m → ((i : Instr) → d ≡ Ok i → FitsOperands i)
+instruction_fits : InstructionsFit → (flags : ℕ) (r : Regs) (t : Temps) (m : List ℕ) (d : Result Instr ℕ) → flags < 2 ^ 8 → FitsRegs r → FitsTemps t
+    → AreBytes m → ((i : Instr) → d ≡ Ok i → FitsOperands i)
     → LeavesFit (outcome (instruction_act flags r t d) m)
 instruction_fits laws flags r t m (Err byte) ff f ft b o = tt
-instruction_fits laws flags r t m (Ok Rev) ff f ft b o = part_left (rev_act flags r t) m (laws.rev_fits flags (state_of r t m) ff (record { regs = f; temps = ft; mem = b }))
-instruction_fits laws flags r t m (Ok Revw) ff f ft b o = part_left (revw_act flags r t) m (laws.revw_fits flags (state_of r t m) ff (record { regs = f; temps = ft; mem = b }))
-instruction_fits laws flags r t m (Ok Wav) ff f ft b o = part_left (wav_act flags r t) m (laws.wav_fits flags (state_of r t m) ff (record { regs = f; temps = ft; mem = b }))
+instruction_fits laws flags r t m (Ok Rev) ff f ft b o =
+    part_left (rev_act flags r t) m (laws.rev_fits flags (state_of r t m) ff (record { regs = f; temps = ft; mem = b }))
+instruction_fits laws flags r t m (Ok Revw) ff f ft b o =
+    part_left (revw_act flags r t) m (laws.revw_fits flags (state_of r t m) ff (record { regs = f; temps = ft; mem = b }))
+instruction_fits laws flags r t m (Ok Wav) ff f ft b o =
+    part_left (wav_act flags r t) m (laws.wav_fits flags (state_of r t m) ff (record { regs = f; temps = ft; mem = b }))
 instruction_fits laws flags r t m (Ok Wavr) ff f ft b o =
     let q : Outcome = outcome (wav_pull r t) m in
     let p = pulls_fit r t m f ft b in
@@ -78,7 +82,8 @@ off_fits : InstructionsFit → (flags : ℕ) (s : State) → IsOff s.temps → f
 off_fits laws flags s off ff f = subst LeavesFit (sym (step_by_bytes flags s.regs s.temps s.mem off))
     (instruction_fits laws flags s.regs s.temps s.mem (decode_at s.mem s.regs.pc) ff f.regs f.temps f.mem (λ i e. laws.decoded_fits s.mem s.regs.pc i f.mem e))
 
-act_fits : InstructionsFit → (flags : ℕ) (r : Regs) (t : Temps) (m : List ℕ) → flags < 2 ^ 8 → FitsState (state_of r t m) → LeavesFit (outcome (step_act flags r t) m)
+act_fits : InstructionsFit → (flags : ℕ) (r : Regs) (t : Temps) (m : List ℕ) → flags < 2 ^ 8 → FitsState (state_of r t m)
+    → LeavesFit (outcome (step_act flags r t) m)
 act_fits laws flags r Free m ff f = off_fits laws flags (state_of r Free m) (inl refl) ff f
 act_fits laws flags r OnStack m ff f = off_fits laws flags (state_of r OnStack m) (inr refl) ff f
 act_fits laws flags r (Running p w) m ff f = part_left (wav_act flags r (Running p w)) m (laws.wav_fits flags (state_of r (Running p w) m) ff f)
@@ -91,4 +96,5 @@ applied_fits laws (Ok left) m next l b e =
     subst (λ (n : Next). FitsState n.state) same (record { regs = l.regs; temps = l.temps; mem = laws.bytes_stay left.writes m l.writes b })
 
 pub step_fits : InstructionsFit → StepFits
-step_fits laws flags s next ff f e = applied_fits laws (outcome (step_act flags s.regs s.temps) s.mem) s.mem next (act_fits laws flags s.regs s.temps s.mem ff f) f.mem e
+step_fits laws flags s next ff f e =
+    applied_fits laws (outcome (step_act flags s.regs s.temps) s.mem) s.mem next (act_fits laws flags s.regs s.temps s.mem ff f) f.mem e

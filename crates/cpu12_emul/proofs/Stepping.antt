@@ -1,5 +1,6 @@
 -- Steps keep the simulation.
-use Rattle.std.proofs.Common.{◌≡◌, ℕ, ◌+◌, ◌*◌, ◌/◌, ◌%◌, ◌^◌, ◌<◌, Bool, true, false, Result, Ok, List, [], ◌∷◌, ◌++◌, get_or, refl, ap, sym, ◌∙◌, subst, arith, inl, inr}
+use Rattle.std.proofs.Common.{◌≡◌, ℕ, ◌+◌, ◌*◌, ◌/◌, ◌%◌, ◌^◌, ◌<◌, Bool, true, false, Result, Ok, List, [], ◌∷◌, ◌++◌, get_or, refl, ap, sym, ◌∙◌, subst}
+use Rattle.std.proofs.Common.{arith, inl, inr}
 use Rattle.cpu12_isa.specs.declared.instr.Regs.{Regs}
 use Rattle.cpu12_isa.specs.declared.instr.Instr.{Instr}
 use Rattle.cpu12_isa.specs.declared.instr.Instr.TheVariants.{Rev, Revw, Wav, Wavr}
@@ -19,7 +20,8 @@ use Rattle.cpu12_parts.specs.Cuts.{Kind, rev, revw, wav}
 use Rattle.cpu12_parts.specs.Laws.{IsOff}
 use Rattle.cpu12_emul.specs.Step.{Left, Next, step_act, instruction_act, left_by_part, left_by_plain, applied, next_of}
 use Rattle.cpu12_isa.specs.Regions.{is_hidden}
-use Rattle.cpu12_emul.specs.Simulation.{Same, Parked, AreSumsReady, HasRoom, IsShownStep, StepsAlike, StepAgrees, WavrGoesOn, StepKeeps, PlainIsStep, PartIsStep, SumsAreStep, left_of}
+use Rattle.cpu12_emul.specs.Simulation.{Same, Parked, AreSumsReady, HasRoom, IsShownStep, StepsAlike, StepAgrees, WavrGoesOn, StepKeeps, PlainIsStep}
+use Rattle.cpu12_emul.specs.Simulation.{PartIsStep, SumsAreStep, left_of}
 
 pub step_agrees : WritesAgree → StepAgrees
 step_agrees agree flags r t m n l hidden later a shown is u = (
@@ -36,13 +38,15 @@ reads_all : {A : Type 0} (ats : List ℕ) (next : List ℕ → Act A) (m : List 
 reads_all [] next m = refl
 reads_all (at ∷ ats) next m = ap (λ (l : List ℕ). at ∷ l) (reads_all ats (λ vs. next (get_or m at 0 ∷ vs)) m)
 
-pub step_by_bytes : (flags : ℕ) (r : Regs) (t : Temps) (m : List ℕ) → IsOff t → outcome (step_act flags r t) m ≡ outcome (instruction_act flags r t (decode_at m r.pc)) m
+pub step_by_bytes : (flags : ℕ) (r : Regs) (t : Temps) (m : List ℕ) → IsOff t
+    → outcome (step_act flags r t) m ≡ outcome (instruction_act flags r t (decode_at m r.pc)) m
 step_by_bytes flags r t m off = elim off [
   | inl e ↦ subst (λ (u : Temps). outcome (step_act flags r u) m ≡ outcome (instruction_act flags r u (decode_at m r.pc)) m) (sym e) refl
   | inr e ↦ subst (λ (u : Temps). outcome (step_act flags r u) m ≡ outcome (instruction_act flags r u (decode_at m r.pc)) m) (sym e) refl
 ]
 
-pub reads_by_bytes : (flags : ℕ) (r : Regs) (t : Temps) (m : List ℕ) → IsOff t → read_by (step_act flags r t) m ≡ six_from r.pc ++ read_by (instruction_act flags r t (decode_at m r.pc)) m
+pub reads_by_bytes : (flags : ℕ) (r : Regs) (t : Temps) (m : List ℕ) → IsOff t
+    → read_by (step_act flags r t) m ≡ six_from r.pc ++ read_by (instruction_act flags r t (decode_at m r.pc)) m
 reads_by_bytes flags r t m off = elim off [
   | inl e ↦ subst (λ (u : Temps). read_by (step_act flags r u) m ≡ six_from r.pc ++ read_by (instruction_act flags r u (decode_at m r.pc)) m) (sym e) refl
   | inr e ↦ subst (λ (u : Temps). read_by (step_act flags r u) m ≡ six_from r.pc ++ read_by (instruction_act flags r u (decode_at m r.pc)) m) (sym e) refl
@@ -62,7 +66,8 @@ plain_act_is flags r t Wavr p = absurd (let e : false ≡ true = p in cc)
 plain_act_is flags r t i p = refl
 
 -- the step of the instruction that is decoded
-pub next_of-decoded : (flags : ℕ) (s : State) (i : Instr) (next : Result Next ℕ) → IsOff s.temps → decode_at s.mem s.regs.pc ≡ Ok i → applied (outcome (instruction_act flags s.regs s.temps (Ok i)) s.mem) s.mem ≡ next → next_of flags s ≡ next
+pub next_of-decoded : (flags : ℕ) (s : State) (i : Instr) (next : Result Next ℕ) → IsOff s.temps → decode_at s.mem s.regs.pc ≡ Ok i
+    → applied (outcome (instruction_act flags s.regs s.temps (Ok i)) s.mem) s.mem ≡ next → next_of flags s ≡ next
 next_of-decoded flags s i next off d e =
     ap (λ (o : Result Left ℕ). applied o s.mem) (step_by_bytes flags s.regs s.temps s.mem off ∙ ap (λ (k : Result Instr ℕ). outcome (instruction_act flags s.regs s.temps k) s.mem) d) ∙ e
 
@@ -70,7 +75,8 @@ pub plain_is_step : PlainIsStep
 plain_is_step flags i s off d p =
     let act : instruction_act flags s.regs s.temps (decode_at s.mem s.regs.pc) ≡ bind (act_of flags i s.regs) (left_by_plain s.temps) =
     ap (instruction_act flags s.regs s.temps) d ∙ plain_act_is flags s.regs s.temps i p in (
-      step_by_bytes flags s.regs s.temps s.mem off ∙ ap (λ (a : Act (Result Left ℕ)). outcome a s.mem) act ∙ outcome_bind (act_of flags i s.regs) (left_by_plain s.temps) s.mem,
+      step_by_bytes flags s.regs s.temps s.mem off ∙ ap (λ (a : Act (Result Left ℕ)). outcome a s.mem) act
+          ∙ outcome_bind (act_of flags i s.regs) (left_by_plain s.temps) s.mem,
       reads_by_bytes flags s.regs s.temps s.mem off ∙ ap (λ (a : Act (Result Left ℕ)). six_from s.regs.pc ++ read_by a s.mem) act
           ∙ ap (λ (l : List ℕ). six_from s.regs.pc ++ l) (read_by_bind (act_of flags i s.regs) (left_by_plain s.temps) s.mem ∙ nothing_behind (read_by (act_of flags i s.regs) s.mem)),
     )
@@ -80,10 +86,12 @@ plain_is_step flags i s off d p =
     nothing_behind (x ∷ xs) = ap (λ (l : List ℕ). x ∷ l) (nothing_behind xs)
 
 -- a part by its act
-part_step : (i : Instr) (k : Kind) → ((flags : ℕ) (r : Regs) (t : Temps) → instruction_act flags r t (Ok i) ≡ bind (k.act flags r t) left_by_part) → PartIsStep i k
+part_step : (i : Instr) (k : Kind) → ((flags : ℕ) (r : Regs) (t : Temps) → instruction_act flags r t (Ok i) ≡ bind (k.act flags r t) left_by_part)
+    → PartIsStep i k
 part_step i k is flags s off d =
     let act : instruction_act flags s.regs s.temps (decode_at s.mem s.regs.pc) ≡ bind (k.act flags s.regs s.temps) left_by_part = ap (instruction_act flags s.regs s.temps) d ∙ is flags s.regs s.temps in (
-      step_by_bytes flags s.regs s.temps s.mem off ∙ ap (λ (a : Act (Result Left ℕ)). outcome a s.mem) act ∙ outcome_bind (k.act flags s.regs s.temps) left_by_part s.mem,
+      step_by_bytes flags s.regs s.temps s.mem off ∙ ap (λ (a : Act (Result Left ℕ)). outcome a s.mem) act
+          ∙ outcome_bind (k.act flags s.regs s.temps) left_by_part s.mem,
       reads_by_bytes flags s.regs s.temps s.mem off ∙ ap (λ (a : Act (Result Left ℕ)). six_from s.regs.pc ++ read_by a s.mem) act
           ∙ ap (λ (l : List ℕ). six_from s.regs.pc ++ l) (read_by_bind (k.act flags s.regs s.temps) left_by_part s.mem ∙ nothing_behind (read_by (k.act flags s.regs s.temps) s.mem)),
     )
@@ -120,7 +128,8 @@ sums_again p w f g =
     cc
 
 -- what wavr pulls
-pulled_sums : (r : Regs) (t : Temps) (p w : ℕ) (m : List ℕ) → IsOff t → r.sp < 2 ^ 16 → p < 2 ^ 32 → w < 2 ^ 16 → bytes_at m (from (plus r.sp 65530) 6) ≡ sum_bytes p w
+pulled_sums : (r : Regs) (t : Temps) (p w : ℕ) (m : List ℕ) → IsOff t → r.sp < 2 ^ 16 → p < 2 ^ 32 → w < 2 ^ 16
+    → bytes_at m (from (plus r.sp 65530) 6) ≡ sum_bytes p w
     → outcome (wav_pull (record r { sp = plus r.sp 65530 }) t) m ≡ record { regs = r; temps = Running p w; writes = []; end = More }
 pulled_sums r t p w m off s f g e =
     let sp : plus (plus r.sp 65530) 6 ≡ r.sp = omega arith in
@@ -137,7 +146,8 @@ pub wavr_goes_on : WavrGoesOn
 wavr_goes_on flags r t p w m off s f g code e =
     let r' : Regs = record r { sp = plus r.sp 65530 } in
     let rest = bytes_at m (plus r.pc 1 ∷ plus r.pc 2 ∷ plus r.pc 3 ∷ plus r.pc 4 ∷ plus r.pc 5 ∷ []) in
-    let decoded : decode_at m r.pc ≡ Ok Wavr = ap (λ (k : ℕ). decode_of (k ∷ bytes_at m (plus r.pc 1 ∷ plus r.pc 2 ∷ plus r.pc 3 ∷ plus r.pc 4 ∷ plus r.pc 5 ∷ []))) code in
+    let decoded : decode_at m r.pc ≡ Ok Wavr =
+    ap (λ (k : ℕ). decode_of (k ∷ bytes_at m (plus r.pc 1 ∷ plus r.pc 2 ∷ plus r.pc 3 ∷ plus r.pc 4 ∷ plus r.pc 5 ∷ []))) code in
     step_by_bytes flags r' t m off
     ∙ ap (λ (i : Result Instr ℕ). outcome (instruction_act flags r' t i) m) decoded
     ∙ outcome_bind (wav_pull r' t) (λ o. bind (wav_act flags o.regs o.temps) left_by_part) m
@@ -165,7 +175,8 @@ step_same agrees open_to flags s t l k =
     (ap (λ (r : Regs). outcome (step_act flags r s.temps) s.mem) l.regs ∙ ap (λ (u : Temps). outcome (step_act flags t.regs u) s.mem) l.temps ∙ both.0)
     both.1
 
-step_parked : StepAgrees → WavrGoesOn → (open_to : ℕ → Bool) (flags : ℕ) (s t : State) → Parked open_to s t → IsShownStep open_to flags t → StepsAlike open_to flags s t
+step_parked : StepAgrees → WavrGoesOn → (open_to : ℕ → Bool) (flags : ℕ) (s t : State) → Parked open_to s t → IsShownStep open_to flags t
+    → StepsAlike open_to flags s t
 step_parked agrees goes_on open_to flags s t l k =
     let good : AreSumsReady open_to t (Running l.product l.weight) = subst (λ (u : Temps). AreSumsReady open_to t u) l.running k.sums in
     let room : HasRoom t = k.room in

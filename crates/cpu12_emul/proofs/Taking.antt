@@ -1,5 +1,6 @@
 -- Interrupts keep the simulation.
-use Rattle.std.proofs.Common.{◌≡◌, ℕ, ◌+◌, ◌-◌, ◌%◌, ◌^◌, ◌<◌, Bool, true, false, ◌&&◌, nat_lt, nat_le, List, [], ◌∷◌, ◌++◌, length, refl, ap, ap₂, sym, ◌∙◌, subst, arith, inl, inr, lit≤}
+use Rattle.std.proofs.Common.{◌≡◌, ℕ, ◌+◌, ◌-◌, ◌%◌, ◌^◌, ◌<◌, Bool, true, false, ◌&&◌, nat_lt, nat_le, List, [], ◌∷◌, ◌++◌, length, refl, ap, ap₂, sym, ◌∙◌}
+use Rattle.std.proofs.Common.{subst, arith, inl, inr, lit≤}
 use Rattle.std.proofs.lemmas.Bool.{or_parts, false≢true}
 use Rattle.cpu12_isa.specs.declared.instr.Regs.{Regs}
 use Rattle.cpu12_isa.specs.declared.instr.Write.{Write}
@@ -50,7 +51,8 @@ takes_quietly laws open_to ws s leaves good z f a b =
     let still : bytes_at (written ws (pushed s)).mem (from (plus s.regs.sp 65527) 9) ≡ bytes_at (pushed s).mem (from (plus s.regs.sp 65527) 9) =
     bytes_unwritten (pairs_of ws) (pushed s).mem 9 (plus s.regs.sp 65527) (omega arith) (λ k l w.
     (let o = open_writes open_to ws ((plus s.regs.sp 65527 + k) % 2 ^ 16) good w in elim (leaves ((plus s.regs.sp 65527 + k) % 2 ^ 16) o) [ inl q ↦ omega arith | inr q ↦ omega arith ])) in
-    let back : bytes_at (pushed s).mem (from (plus s.regs.sp 65527) 9) ≡ frame_bytes s.regs = read_placed (frame_bytes s.regs) (plus s.regs.sp 65527) s.mem (omega arith) (lit≤ tt) z in
+    let back : bytes_at (pushed s).mem (from (plus s.regs.sp 65527) 9) ≡ frame_bytes s.regs =
+    read_placed (frame_bytes s.regs) (plus s.regs.sp 65527) s.mem (omega arith) (lit≤ tt) z in
     record {
       regs = ap (pulled (pushed s).regs) (still ∙ back) ∙ laws.frame_comes_back s.regs f;
       temps = refl;
@@ -61,7 +63,8 @@ fits_at : (r : Regs) (k : ℕ) → FitsRegs r → k < 2 ^ 16 → FitsRegs (recor
 fits_at r k f h = record { a = f.a; b = f.b; x = f.x; y = f.y; sp = h; pc = f.pc; ccr = f.ccr }
 
 -- an interrupt where the sums run parks them
-parks : Pushes → (open_to : ℕ → Bool) (ws : List Write) (s t : State) (p w : ℕ) → LeavesStack open_to → AreOpen open_to ws → HasRoom t → Same open_to s t → s.temps ≡ Running p w → Parked open_to (taken ws s) t
+parks : Pushes → (open_to : ℕ → Bool) (ws : List Write) (s t : State) (p w : ℕ) → LeavesStack open_to → AreOpen open_to ws → HasRoom t → Same open_to s t
+    → s.temps ≡ Running p w → Parked open_to (taken ws s) t
 parks laws open_to ws s t p w leaves good room l run =
     let x = pushed_sums s.regs p w s.mem in
     let fits = room.fits in
@@ -73,10 +76,12 @@ parks laws open_to ws s t p w leaves good room l run =
     let wrote : Agree (is_hidden open_to t.regs.sp) (write_all (placed (plus s.regs.sp 65530) (sum_bytes p w)) s.mem) s.mem =
     subst (λ (k : ℕ). Agree (is_hidden open_to t.regs.sp) (write_all (placed k (sum_bytes p w)) s.mem) s.mem) (sym base) (laws.pushed open_to t.regs.sp 6 (sum_bytes p w) s.mem hi refl (omega arith)) in
     let fits_s : FitsRegs s.regs = subst (λ (r : Regs). FitsRegs r) (sym l.regs) fits in
-    let u = takes_quietly laws open_to ws x leaves good (length_writes (placed (plus s.regs.sp 65530) (sum_bytes p w)) s.mem ∙ size) (fits_at s.regs (plus s.regs.sp 65530) fits_s (omega arith)) (omega arith) (omega arith) in
+    let u =
+    takes_quietly laws open_to ws x leaves good (length_writes (placed (plus s.regs.sp 65530) (sum_bytes p w)) s.mem ∙ size) (fits_at s.regs (plus s.regs.sp 65530) fits_s (omega arith)) (omega arith) (omega arith) in
     let got : bytes_at (framed ws x).mem (from (plus s.regs.sp 65530) 6) ≡ bytes_at x.mem (from (plus s.regs.sp 65530) 6) =
     same_bytes (is_hidden open_to (plus s.regs.sp 65530)) (framed ws x).mem x.mem u.mem (from (plus s.regs.sp 65530) 6) (laws.shown open_to (plus s.regs.sp 65530) (plus s.regs.sp 65530) 6 leaves (omega arith) (omega arith) (omega arith)) in
-    let there : bytes_at x.mem (from (plus s.regs.sp 65530) 6) ≡ sum_bytes p w = read_placed (sum_bytes p w) (plus s.regs.sp 65530) s.mem (omega arith) (lit≤ tt) size in
+    let there : bytes_at x.mem (from (plus s.regs.sp 65530) 6) ≡ sum_bytes p w =
+    read_placed (sum_bytes p w) (plus s.regs.sp 65530) s.mem (omega arith) (lit≤ tt) size in
     let at : plus s.regs.sp 65530 ≡ plus t.regs.sp 65530 = omega arith in
     let parked : Parked open_to (framed ws x) t = record {
       product = p;
@@ -91,7 +96,8 @@ parks laws open_to ws s t p w leaves good room l run =
     subst (λ (v : State). Parked open_to (framed ws v) t) (sym (laws.running s p w run)) parked
 
 -- a further one leaves them
-stays_parked : Pushes → (open_to : ℕ → Bool) (ws : List Write) (s t : State) → LeavesStack open_to → AreOpen open_to ws → HasRoom t → Parked open_to s t → Parked open_to (taken ws s) t
+stays_parked : Pushes → (open_to : ℕ → Bool) (ws : List Write) (s t : State) → LeavesStack open_to → AreOpen open_to ws → HasRoom t → Parked open_to s t
+    → Parked open_to (taken ws s) t
 stays_parked laws open_to ws s t leaves good room l =
     let fits = room.fits in
     let lo = room.low in
@@ -114,7 +120,8 @@ stays_parked laws open_to ws s t leaves good room l =
     subst (λ (v : State). Parked open_to (framed ws v) t) (sym (laws.none s l.temps)) parked
 
 -- where no sums run the state stays the same
-stays_same : Pushes → (open_to : ℕ → Bool) (ws : List Write) (s t : State) → LeavesStack open_to → AreOpen open_to ws → HasRoom t → Same open_to s t → IsOff s.temps → Same open_to (taken ws s) t
+stays_same : Pushes → (open_to : ℕ → Bool) (ws : List Write) (s t : State) → LeavesStack open_to → AreOpen open_to ws → HasRoom t → Same open_to s t
+    → IsOff s.temps → Same open_to (taken ws s) t
 stays_same laws open_to ws s t leaves good room l off =
     let lo = room.low in
     let hi = room.high in
@@ -156,7 +163,8 @@ fifteen_there r p w m size =
 frame_from : State → ℕ → FrameSeen
 frame_from v n = record { pc = v.regs.pc; sp = plus v.regs.sp 65527; bytes = bytes_at (pushed v).mem (from (plus v.regs.sp 65527) n) }
 
-plain_frame : PushesNone → (s : State) → IsOff s.temps → length s.mem ≡ 65536 → frame_of s ≡ record { pc = s.regs.pc; sp = plus s.regs.sp 65527; bytes = frame_bytes s.regs }
+plain_frame : PushesNone → (s : State) → IsOff s.temps → length s.mem ≡ 65536
+    → frame_of s ≡ record { pc = s.regs.pc; sp = plus s.regs.sp 65527; bytes = frame_bytes s.regs }
 unfolding frame_from
 plain_frame none s off size =
     ap (λ (v : State). frame_from v (frame_size s.temps)) (none s off)

@@ -3,7 +3,8 @@ ghost use Rattle.cpu12_isa.specs.declared.instr.Instr.TheVariants.{Rev, Revw, Wa
 ghost use Rattle.cpu12_parts.specs.Cuts.{rev, revw, wav};
 ghost use Rattle.cpu12_emul.specs.Fits.{StepFits};
 ghost use Rattle.cpu12_emul.specs.Image.{HoldsImage};
-ghost use Rattle.cpu12_emul.specs.Simulation.{StepAgrees, WavrGoesOn, StepKeeps, TakesQuietly, TakeKeeps, FrameIsOnStack, PlainIsStep, PartIsStep, SumsAreStep};
+ghost use Rattle.cpu12_emul.specs.Simulation.{StepAgrees, WavrGoesOn, StepKeeps, TakesQuietly, TakeKeeps};
+ghost use Rattle.cpu12_emul.specs.Simulation.{FrameIsOnStack, PlainIsStep, PartIsStep, SumsAreStep};
 
 use cpu12_isa::laws::{
     bytes_stay, decoded_fits, frame_comes_back, stack_is_hidden, stays_fit, writes_agree,

@@ -26,5 +26,6 @@ ShowsFromSp = (open_to : ℕ → Bool) (sp at n : ℕ) → LeavesStack open_to �
 
 -- Bytes that are put on the stack right below SP are hidden.
 abbrev pub HidesPushed : Type 0
-HidesPushed = (open_to : ℕ → Bool) (sp k : ℕ) (bytes m : List ℕ) → sp ≤ stack_end → length bytes ≡ k → stack_start + k ≤ sp
+HidesPushed = (open_to : ℕ → Bool) (sp k : ℕ) (bytes m : List ℕ) → sp ≤ stack_end → length bytes ≡ k
+    → stack_start + k ≤ sp
     → Agree (is_hidden open_to sp) (write_all (placed (sp - k) bytes) m) m

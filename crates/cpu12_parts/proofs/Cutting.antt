@@ -20,7 +20,8 @@ like_with s t u a b = record {
 }
 
 -- the outcomes of a part in like states
-pub same_part : (k : Kind) (flags : ℕ) (s t : State) → IsLike s t → AllShown (below 6 t.regs.sp) (read_by (k.act flags t.regs t.temps) t.mem) → part_of k flags s ≡ part_of k flags t
+pub same_part : (k : Kind) (flags : ℕ) (s t : State) → IsLike s t → AllShown (below 6 t.regs.sp) (read_by (k.act flags t.regs t.temps) t.mem)
+    → part_of k flags s ≡ part_of k flags t
 same_part k flags s t l shown =
     ap (λ (r : Regs). outcome (k.act flags r s.temps) s.mem) l.regs
     ∙ ap (λ (u : Temps). outcome (k.act flags t.regs u) s.mem) l.temps
@@ -40,11 +41,13 @@ like_part agree k kept steady flags s t l shown =
           (subst (λ (o : Outcome). Agree (below 6 t.regs.sp) (write_all o.writes s.mem) (write_all (part_of k flags t).writes t.mem)) (sym e) after);
     }
 
-like_cut : (k : Kind) (kept : Temps → Type 0) → GoesOn k kept → (c : Bool) (s t : State) → length s.mem ≡ 65536 → s.regs.sp < 2 ^ 16 → kept s.temps → IsLike s t → IsLike (cut k c s) t
+like_cut : (k : Kind) (kept : Temps → Type 0) → GoesOn k kept → (c : Bool) (s t : State) → length s.mem ≡ 65536 → s.regs.sp < 2 ^ 16 → kept s.temps → IsLike s t
+    → IsLike (cut k c s) t
 like_cut k kept goes false s t z f h l = l
 like_cut k kept goes true s t z f h l = like_with (resumed k (suspended k s)) s t (goes s z f h) l
 
-cuts : WritesAgree → (k : Kind) (kept : Temps → Type 0) → GoesOn k kept → IsSteady k kept → (flags : ℕ) (unwritten : ℕ → Bool) (sp d : ℕ) (w s t : State) → length s.mem ≡ 65536 → sp < 2 ^ 16 → s.regs.sp ≡ sp
+cuts : WritesAgree → (k : Kind) (kept : Temps → Type 0) → GoesOn k kept → IsSteady k kept → (flags : ℕ) (unwritten : ℕ → Bool) (sp d : ℕ) (w s t : State)
+    → length s.mem ≡ 65536 → sp < 2 ^ 16 → s.regs.sp ≡ sp
     → IsLike w s → PartsTo k flags (below 6 sp) unwritten d s t → (cs : List Bool) → length cs ≡ d → EndsWith k flags cs w × IsLike (cut_run k flags cs w) t
 cuts agree k kept goes steady flags g sp zero w s t z f e l p [] len =
     let shown = subst (λ (n : ℕ). AllShown (below 6 n) (read_by (k.act flags s.regs s.temps) s.mem)) (sym e) p.0.0 in (
@@ -61,12 +64,15 @@ cuts agree k kept goes steady flags g sp (suc d) w s t z f e l p (c ∷ cs) len 
     let size : length (after_part k flags s).mem ≡ 65536 = length_writes (part_of k flags s).writes s.mem ∙ z in
     let stack : (after_part k flags s).regs.sp ≡ sp = steady.stack flags s ∙ e in
     let low : (after_part k flags w).regs.sp < 2 ^ 16 = subst (λ (n : ℕ). n < 2 ^ 16) (sym (ap (λ (r : Regs). r.sp) next.regs ∙ stack)) f in
-    let cut_next : IsLike (cut k c (after_part k flags w)) (after_part k flags s) = like_cut k kept goes c (after_part k flags w) (after_part k flags s) (next.mem.size ∙ size) low (steady.temps flags w more) next in
-    let rest = cuts agree k kept goes steady flags g sp d (cut k c (after_part k flags w)) (after_part k flags s) t size f stack cut_next p.2 cs (omega arith) in
+    let cut_next : IsLike (cut k c (after_part k flags w)) (after_part k flags s) =
+    like_cut k kept goes c (after_part k flags w) (after_part k flags s) (next.mem.size ∙ size) low (steady.temps flags w more) next in
+    let rest =
+    cuts agree k kept goes steady flags g sp d (cut k c (after_part k flags w)) (after_part k flags s) t size f stack cut_next p.2 cs (omega arith) in
     ((more, rest.0), rest.1)
 
 pub cuts_change_nothing : WritesAgree → (k : Kind) (kept : Temps → Type 0) → GoesOn k kept → IsSteady k kept → CutsChangeNothing k
-cuts_change_nothing agree k kept goes steady flags g d s t z f p cs len = cuts agree k kept goes steady flags g s.regs.sp d s s t z f refl (like_self s) p cs len
+cuts_change_nothing agree k kept goes steady flags g d s t z f p cs len =
+    cuts agree k kept goes steady flags g s.regs.sp d s s t z f refl (like_self s) p cs len
 
 -- what keeps nothing goes on
 pub goes_on_nothing : (k : Kind) → KeepsNothing k → GoesOn k Any

@@ -7,7 +7,8 @@ use Rattle.cpu12_parts.specs.Cuts.{Kind, rev, revw, wav}
 use Rattle.cpu12_parts.specs.Owed.{Whole, WholeAverage, whole_rev, whole_revw, MakesWhole, OverCuts}
 use Rattle.cpu12_parts.specs.Rules.{rev_form, revw_form, rules_read, rules_written, rules_whole}
 use Rattle.cpu12_parts.specs.Averages.{wav_read, wav_whole}
-use Rattle.cpu12_parts.specs.Laws.{PartsTo, below, state_of, GoesOn, IsSteady, CutsChangeNothing, RevIsWhole, RevwIsWhole, WavIsWhole, RevOverCuts, RevwOverCuts, WavOverCuts}
+use Rattle.cpu12_parts.specs.Laws.{PartsTo, below, state_of, GoesOn, IsSteady, CutsChangeNothing, RevIsWhole, RevwIsWhole, WavIsWhole, RevOverCuts}
+use Rattle.cpu12_parts.specs.Laws.{RevwOverCuts, WavOverCuts}
 use Rattle.cpu12_parts.proofs.Cutting.{cuts_change_nothing}
 
 none : ℕ → Bool

@@ -36,12 +36,15 @@ weighted_fits a w f g = (div-lt_iff_lt-mul {k = 2 ^ 8} {x = a * (w + 1)} {y = 2 
         omega (arith, a)
 
 -- registers with flags, A, X and Y changed
-regs_fit : (r : Regs) (a x y pc : ℕ) (c : Ccr) → FitsRegs r → a < 2 ^ 8 → x < 2 ^ 16 → y < 2 ^ 16 → pc < 2 ^ 16 → c.0 < 2 ^ 8 → FitsRegs (record r { a = a; x = x; y = y; pc = pc; ccr = c })
+regs_fit : (r : Regs) (a x y pc : ℕ) (c : Ccr) → FitsRegs r → a < 2 ^ 8 → x < 2 ^ 16 → y < 2 ^ 16 → pc < 2 ^ 16 → c.0 < 2 ^ 8
+    → FitsRegs (record r { a = a; x = x; y = y; pc = pc; ccr = c })
 regs_fit r a x y pc c f fa fx fy fp fc = record { a = fa; b = f.b; x = fx; y = fy; sp = f.sp; pc = fp; ccr = fc }
 
 -- an element that names a byte
-met_fits : (s : Regs) (t : Temps) (x : ℕ) (c : Ccr) (at : ℕ) → FitsRegs s → FitsTemps t → x < 2 ^ 16 → c.0 < 2 ^ 8 → at < 2 ^ 16 → Leaves FitsOutcome (met s (record s { x = x; ccr = c }) t at)
-met_fits s t x c at f ft fx fc fa v h = leaves_if (has s.ccr overflow) (Give (record { regs = record s { x = x; ccr = c }; temps = t; writes = (at, max v s.a) ∷ []; end = More })) (leaving (record s { x = x; ccr = c; a = min s.a v }) t More)
+met_fits : (s : Regs) (t : Temps) (x : ℕ) (c : Ccr) (at : ℕ) → FitsRegs s → FitsTemps t → x < 2 ^ 16 → c.0 < 2 ^ 8 → at < 2 ^ 16
+    → Leaves FitsOutcome (met s (record s { x = x; ccr = c }) t at)
+met_fits s t x c at f ft fx fc fa v h =
+    leaves_if (has s.ccr overflow) (Give (record { regs = record s { x = x; ccr = c }; temps = t; writes = (at, max v s.a) ∷ []; end = More })) (leaving (record s { x = x; ccr = c; a = min s.a v }) t More)
     (record { regs = regs_fit s s.a x s.y s.pc c f f.a fx f.y f.pc fc; temps = ft; writes = (fa, max_fits v s.a h f.a, tt) })
     (record { regs = regs_fit s (min s.a v) x s.y s.pc c f (min_fits s.a v f.a) fx f.y f.pc fc; temps = ft; writes = tt })
 
@@ -67,7 +70,8 @@ rev_fits flags s ff f = leaves_outcome FitsOutcome (rev_act flags s.regs s.temps
 revw_leaves : (flags : ℕ) (s : Regs) (t : Temps) (e : ℕ) → flags < 2 ^ 8 → e < 2 ^ 16 → FitsRegs s → FitsTemps t → Leaves FitsOutcome (revw_element flags s t e)
 revw_leaves flags s t e ff fe f ft =
     let fc : (opened s.ccr hnz flags).0 < 2 ^ 8 = fits_opened s.ccr hnz flags f.ccr ff in
-    let weigh : Act Outcome = Get s.y (λ w. leaving (record s { x = plus s.x 2; a = weighted s.a w; y = plus s.y 1; ccr = put (opened s.ccr hnz flags) overflow true }) t More) in
+    let weigh : Act Outcome =
+    Get s.y (λ w. leaving (record s { x = plus s.x 2; a = weighted s.a w; y = plus s.y 1; ccr = put (opened s.ccr hnz flags) overflow true }) t More) in
     let begin : Act Outcome = leaving (record s { x = plus s.x 2; ccr = put (opened s.ccr hnz flags) overflow true }) t More in
     let turn : Act Outcome = leaving (record s { x = plus s.x 2; a = 255; ccr = put (opened s.ccr hnz flags) overflow false }) t More in
     let name : Act Outcome = met s (record s { x = plus s.x 2; ccr = opened s.ccr hnz flags }) t e in
@@ -85,9 +89,11 @@ revw_leaves flags s t e ff fe f ft =
     (met_fits s t (plus s.x 2) (opened s.ccr hnz flags) e f ft (omega arith) fc fe))
 
 pub revw_fits : PartFits revw
-revw_fits flags s ff f = leaves_outcome FitsOutcome (revw_act flags s.regs s.temps) s.mem f.mem (λ high h low l. revw_leaves flags s.regs s.temps (word_of high low) ff (omega arith) f.regs f.temps)
+revw_fits flags s ff f =
+    leaves_outcome FitsOutcome (revw_act flags s.regs s.temps) s.mem f.mem (λ high h low l. revw_leaves flags s.regs s.temps (word_of high low) ff (omega arith) f.regs f.temps)
 
-end_fits : (flags : ℕ) (r : Regs) (p w pc : ℕ) → flags < 2 ^ 8 → FitsRegs r → p < 2 ^ 32 → w < 2 ^ 16 → FitsOutcome (record { regs = wav_end flags r p w pc; temps = Free; writes = []; end = Done })
+end_fits : (flags : ℕ) (r : Regs) (p w pc : ℕ) → flags < 2 ^ 8 → FitsRegs r → p < 2 ^ 32 → w < 2 ^ 16
+    → FitsOutcome (record { regs = wav_end flags r p w pc; temps = Free; writes = []; end = Done })
 end_fits flags r p w pc ff f fp fw = record {
   regs = record {
     a = omega arith;
@@ -102,7 +108,8 @@ end_fits flags r p w pc ff f fp fw = record {
   writes = tt;
 }
 
-wav_leaves : (flags : ℕ) (r : Regs) (p w pc : ℕ) → flags < 2 ^ 8 → FitsRegs r → p < 2 ^ 32 → w < 2 ^ 16 → pc < 2 ^ 16 → Leaves FitsOutcome (wav_from flags r p w pc)
+wav_leaves : (flags : ℕ) (r : Regs) (p w pc : ℕ) → flags < 2 ^ 8 → FitsRegs r → p < 2 ^ 32 → w < 2 ^ 16 → pc < 2 ^ 16
+    → Leaves FitsOutcome (wav_from flags r p w pc)
 wav_leaves flags r p w pc ff f fp fw fpc =
     let goes : ℕ → ℕ → Act Outcome = λ u v. (
     if r.b == 1 then leaving (wav_end flags r ((p + u * v) % 2 ^ 32) ((w + v) % 2 ^ 16) pc) Free Done

@@ -20,14 +20,17 @@ regs_at r a x y c = record r { a = a; x = x; y = y; ccr = c }
 
 -- REV's part by the element at X
 rev_by : (flags : ℕ) (r : Regs) (t : Temps) (a x y e : ℕ) (c : Ccr) (mem : List ℕ) (o : Outcome) (ats : List ℕ) → get_or mem x 0 ≡ e
-    → outcome (rev_element flags (regs_at r a x y c) t e) mem ≡ o → read_by (rev_element flags (regs_at r a x y c) t e) mem ≡ ats → Does rev flags (at_rules r t a x y c mem) o (x ∷ ats)
+    → outcome (rev_element flags (regs_at r a x y c) t e) mem ≡ o → read_by (rev_element flags (regs_at r a x y c) t e) mem ≡ ats
+    → Does rev flags (at_rules r t a x y c mem) o (x ∷ ats)
 rev_by flags r t a x y e c mem o ats is does reads = record {
   is = ap (λ (k : ℕ). outcome (rev_element flags (regs_at r a x y c) t k) mem) is ∙ does;
   reads = ap (λ (k : ℕ). x ∷ read_by (rev_element flags (regs_at r a x y c) t k) mem) is ∙ ap (λ (xs : List ℕ). x ∷ xs) reads;
 }
 
-revw_by : (flags : ℕ) (r : Regs) (t : Temps) (a x y e : ℕ) (c : Ccr) (mem : List ℕ) (o : Outcome) (ats : List ℕ) → word_of (get_or mem x 0) (get_or mem (plus x 1) 0) ≡ e
-    → outcome (revw_element flags (regs_at r a x y c) t e) mem ≡ o → read_by (revw_element flags (regs_at r a x y c) t e) mem ≡ ats → Does revw flags (at_rules r t a x y c mem) o (x ∷ plus x 1 ∷ ats)
+revw_by : (flags : ℕ) (r : Regs) (t : Temps) (a x y e : ℕ) (c : Ccr) (mem : List ℕ) (o : Outcome) (ats : List ℕ)
+    → word_of (get_or mem x 0) (get_or mem (plus x 1) 0) ≡ e
+    → outcome (revw_element flags (regs_at r a x y c) t e) mem ≡ o → read_by (revw_element flags (regs_at r a x y c) t e) mem ≡ ats
+    → Does revw flags (at_rules r t a x y c mem) o (x ∷ plus x 1 ∷ ats)
 revw_by flags r t a x y e c mem o ats is does reads = record {
   is = ap (λ (k : ℕ). outcome (revw_element flags (regs_at r a x y c) t k) mem) is ∙ does;
   reads = ap (λ (k : ℕ). x ∷ plus x 1 ∷ read_by (revw_element flags (regs_at r a x y c) t k) mem) is ∙ ap (λ (xs : List ℕ). x ∷ plus x 1 ∷ xs) reads;
@@ -46,31 +49,37 @@ rev_raise flags r t a x y e c mem is l v =
     let h5 = ne_eqb e 255 (λ q. omega arith) in let h4 = ne_eqb e 254 (λ q. omega arith) in
     rev_by flags r t a x y e c mem (gives r t a (plus x 1) y (opened c hnzc flags) ((plus y e, max (get_or mem (plus y e) 0) a) ∷ [])) (plus y e ∷ []) is (rw (h5, h4, v)) (rw (h5, h4, v))
 
-revw_least : (flags : ℕ) (r : Regs) (t : Temps) (a x y e : ℕ) (c : Ccr) (mem : List ℕ) → word_of (get_or mem x 0) (get_or mem (plus x 1) 0) ≡ e → e < 65534 → has c overflow ≡ false
+revw_least : (flags : ℕ) (r : Regs) (t : Temps) (a x y e : ℕ) (c : Ccr) (mem : List ℕ) → word_of (get_or mem x 0) (get_or mem (plus x 1) 0) ≡ e → e < 65534
+    → has c overflow ≡ false
     → Does revw flags (at_rules r t a x y c mem) (gives r t (min a (get_or mem e 0)) (plus x 2) y (opened c hnz flags) []) (x ∷ plus x 1 ∷ e ∷ [])
 revw_least flags r t a x y e c mem is l v =
     let h5 = ne_eqb e 65535 (λ q. omega arith) in let h4 = ne_eqb e 65534 (λ q. omega arith) in
     revw_by flags r t a x y e c mem (gives r t (min a (get_or mem e 0)) (plus x 2) y (opened c hnz flags) []) (e ∷ []) is (rw (h5, h4, v)) (rw (h5, h4, v))
 
-revw_raise : (flags : ℕ) (r : Regs) (t : Temps) (a x y e : ℕ) (c : Ccr) (mem : List ℕ) → word_of (get_or mem x 0) (get_or mem (plus x 1) 0) ≡ e → e < 65534 → has c overflow ≡ true
+revw_raise : (flags : ℕ) (r : Regs) (t : Temps) (a x y e : ℕ) (c : Ccr) (mem : List ℕ) → word_of (get_or mem x 0) (get_or mem (plus x 1) 0) ≡ e → e < 65534
+    → has c overflow ≡ true
     → Does revw flags (at_rules r t a x y c mem) (gives r t a (plus x 2) y (opened c hnz flags) ((e, max (get_or mem e 0) a) ∷ [])) (x ∷ plus x 1 ∷ e ∷ [])
 revw_raise flags r t a x y e c mem is l v =
     let h5 = ne_eqb e 65535 (λ q. omega arith) in let h4 = ne_eqb e 65534 (λ q. omega arith) in
     revw_by flags r t a x y e c mem (gives r t a (plus x 2) y (opened c hnz flags) ((e, max (get_or mem e 0) a) ∷ [])) (e ∷ []) is (rw (h5, h4, v)) (rw (h5, h4, v))
 
 -- the flags
-rev_again : (c : Ccr) (flags : ℕ) → c.0 < 2 ^ 8 → flags < 2 ^ 8 → put (opened (opened c hnzc flags) hnzc flags) overflow true ≡ put (opened c hnzc flags) overflow true
+rev_again : (c : Ccr) (flags : ℕ) → c.0 < 2 ^ 8 → flags < 2 ^ 8
+    → put (opened (opened c hnzc flags) hnzc flags) overflow true ≡ put (opened c hnzc flags) overflow true
 rev_again c flags f g = same_ccr (put (opened (opened c hnzc flags) hnzc flags) overflow true) (put (opened c hnzc flags) overflow true)
     (fits_put (opened (opened c hnzc flags) hnzc flags) overflow true (omega arith) (fits_opened (opened c hnzc flags) hnzc flags (fits_opened c hnzc flags f g) g))
     (fits_put (opened c hnzc flags) overflow true (omega arith) (fits_opened c hnzc flags f g))
     (simp (bit_or_is, bit_and_is))
 
-rev_put_again : (c : Ccr) (flags : ℕ) (b : Bool) → c.0 < 2 ^ 8 → flags < 2 ^ 8 → put (opened (put (opened c hnzc flags) overflow b) hnzc flags) overflow true ≡ put (opened c hnzc flags) overflow true
-rev_put_again c flags true f g = same_ccr (put (opened (put (opened c hnzc flags) overflow true) hnzc flags) overflow true) (put (opened c hnzc flags) overflow true)
+rev_put_again : (c : Ccr) (flags : ℕ) (b : Bool) → c.0 < 2 ^ 8 → flags < 2 ^ 8
+    → put (opened (put (opened c hnzc flags) overflow b) hnzc flags) overflow true ≡ put (opened c hnzc flags) overflow true
+rev_put_again c flags true f g =
+    same_ccr (put (opened (put (opened c hnzc flags) overflow true) hnzc flags) overflow true) (put (opened c hnzc flags) overflow true)
     (fits_put (opened (put (opened c hnzc flags) overflow true) hnzc flags) overflow true (omega arith) (fits_opened (put (opened c hnzc flags) overflow true) hnzc flags (fits_put (opened c hnzc flags) overflow true (omega arith) (fits_opened c hnzc flags f g)) g))
     (fits_put (opened c hnzc flags) overflow true (omega arith) (fits_opened c hnzc flags f g))
     (simp (bit_or_is, bit_and_is))
-rev_put_again c flags false f g = same_ccr (put (opened (put (opened c hnzc flags) overflow false) hnzc flags) overflow true) (put (opened c hnzc flags) overflow true)
+rev_put_again c flags false f g =
+    same_ccr (put (opened (put (opened c hnzc flags) overflow false) hnzc flags) overflow true) (put (opened c hnzc flags) overflow true)
     (fits_put (opened (put (opened c hnzc flags) overflow false) hnzc flags) overflow true (omega arith) (fits_opened (put (opened c hnzc flags) overflow false) hnzc flags (fits_put (opened c hnzc flags) overflow false (omega arith) (fits_opened c hnzc flags f g)) g))
     (fits_put (opened c hnzc flags) overflow true (omega arith) (fits_opened c hnzc flags f g))
     (simp (bit_or_is, bit_and_is))
@@ -81,18 +90,22 @@ rev_set c flags f g v =
     same_ccr (opened c hnzc flags) (put (opened c hnzc flags) overflow true) (fits_opened c hnzc flags f g) (fits_put (opened c hnzc flags) overflow true (omega arith) (fits_opened c hnzc flags f g))
     (simp (bit_or_is, bit_and_is) (rw b refl))
 
-revw_again : (c : Ccr) (flags : ℕ) → c.0 < 2 ^ 8 → flags < 2 ^ 8 → put (opened (opened c hnz flags) hnz flags) overflow true ≡ put (opened c hnz flags) overflow true
+revw_again : (c : Ccr) (flags : ℕ) → c.0 < 2 ^ 8 → flags < 2 ^ 8
+    → put (opened (opened c hnz flags) hnz flags) overflow true ≡ put (opened c hnz flags) overflow true
 revw_again c flags f g = same_ccr (put (opened (opened c hnz flags) hnz flags) overflow true) (put (opened c hnz flags) overflow true)
     (fits_put (opened (opened c hnz flags) hnz flags) overflow true (omega arith) (fits_opened (opened c hnz flags) hnz flags (fits_opened c hnz flags f g) g))
     (fits_put (opened c hnz flags) overflow true (omega arith) (fits_opened c hnz flags f g))
     (simp (bit_or_is, bit_and_is))
 
-revw_put_again : (c : Ccr) (flags : ℕ) (b : Bool) → c.0 < 2 ^ 8 → flags < 2 ^ 8 → put (opened (put (opened c hnz flags) overflow b) hnz flags) overflow true ≡ put (opened c hnz flags) overflow true
-revw_put_again c flags true f g = same_ccr (put (opened (put (opened c hnz flags) overflow true) hnz flags) overflow true) (put (opened c hnz flags) overflow true)
+revw_put_again : (c : Ccr) (flags : ℕ) (b : Bool) → c.0 < 2 ^ 8 → flags < 2 ^ 8
+    → put (opened (put (opened c hnz flags) overflow b) hnz flags) overflow true ≡ put (opened c hnz flags) overflow true
+revw_put_again c flags true f g =
+    same_ccr (put (opened (put (opened c hnz flags) overflow true) hnz flags) overflow true) (put (opened c hnz flags) overflow true)
     (fits_put (opened (put (opened c hnz flags) overflow true) hnz flags) overflow true (omega arith) (fits_opened (put (opened c hnz flags) overflow true) hnz flags (fits_put (opened c hnz flags) overflow true (omega arith) (fits_opened c hnz flags f g)) g))
     (fits_put (opened c hnz flags) overflow true (omega arith) (fits_opened c hnz flags f g))
     (simp (bit_or_is, bit_and_is))
-revw_put_again c flags false f g = same_ccr (put (opened (put (opened c hnz flags) overflow false) hnz flags) overflow true) (put (opened c hnz flags) overflow true)
+revw_put_again c flags false f g =
+    same_ccr (put (opened (put (opened c hnz flags) overflow false) hnz flags) overflow true) (put (opened c hnz flags) overflow true)
     (fits_put (opened (put (opened c hnz flags) overflow false) hnz flags) overflow true (omega arith) (fits_opened (put (opened c hnz flags) overflow false) hnz flags (fits_put (opened c hnz flags) overflow false (omega arith) (fits_opened c hnz flags f g)) g))
     (fits_put (opened c hnz flags) overflow true (omega arith) (fits_opened c hnz flags f g))
     (simp (bit_or_is, bit_and_is))
@@ -144,7 +157,9 @@ revw_walks flags r t = record {
 }
 
 pub rev_is_whole : RevIsWhole
-rev_is_whole flags r t mem p ps d h g ff fc ready len shown kept = rules_are_whole rev flags (rev_form r.y) r t (rev_walks flags r t) mem p ps d h g ff fc ready len shown kept
+rev_is_whole flags r t mem p ps d h g ff fc ready len shown kept =
+    rules_are_whole rev flags (rev_form r.y) r t (rev_walks flags r t) mem p ps d h g ff fc ready len shown kept
 
 pub revw_is_whole : RevwIsWhole
-revw_is_whole flags r t mem p ps d h g ff fc ready len shown kept = rules_are_whole revw flags revw_form r t (revw_walks flags r t) mem p ps d h g ff fc ready len shown kept
+revw_is_whole flags r t mem p ps d h g ff fc ready len shown kept =
+    rules_are_whole revw flags revw_form r t (revw_walks flags r t) mem p ps d h g ff fc ready len shown kept

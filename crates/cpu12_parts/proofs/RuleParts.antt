@@ -1,5 +1,6 @@
 -- The parts of REV and of REVW make the whole instruction: one proof for both, over what one part does.
-use Rattle.std.proofs.Common.{◌≡◌, ℕ, suc, ◌^◌, ◌<◌, min, max, Bool, true, false, List, [], ◌∷◌, ◌++◌, length, get_or, refl, ap, sym, ◌∙◌, subst, arith, get_or-set_other}
+use Rattle.std.proofs.Common.{◌≡◌, ℕ, suc, ◌^◌, ◌<◌, min, max, Bool, true, false, List, [], ◌∷◌, ◌++◌, length, get_or, refl, ap, sym, ◌∙◌, subst, arith}
+use Rattle.std.proofs.Common.{get_or-set_other}
 use Rattle.std.proofs.lemmas.Bool.{false≢true}
 use Rattle.std.proofs.Math.ListN.{set}
 use Rattle.cpu12_isa.specs.declared.instr.Regs.{Regs}
@@ -15,7 +16,9 @@ use Rattle.cpu12_parts.specs.declared.temps.PartEnd.TheVariants.{More, Done}
 use Rattle.cpu12_parts.specs.State.{State, Outcome, state_after}
 use Rattle.cpu12_parts.specs.Parts.{weighted}
 use Rattle.cpu12_parts.specs.Cuts.{Kind, part_of}
-use Rattle.cpu12_parts.specs.Rules.{Rule, Form, elements_of, Listed, behind, AreNames, AreRules, AreWeights, behind_weights, least, strength, raised, concluded, all_concluded, last_strength, element_bytes, weight_bytes, named, rules_named, rules_target, rules_read, rules_written, NotIn, AreApart, AreReady, rules_whole}
+use Rattle.cpu12_parts.specs.Rules.{Rule, Form, elements_of, Listed, behind, AreNames, AreRules, AreWeights, behind_weights, least, strength, raised, concluded}
+use Rattle.cpu12_parts.specs.Rules.{all_concluded, last_strength, element_bytes, weight_bytes, named, rules_named, rules_target, rules_read, rules_written}
+use Rattle.cpu12_parts.specs.Rules.{NotIn, AreApart, AreReady, rules_whole}
 use Rattle.cpu12_parts.specs.Laws.{PartsTo, addresses, state_of}
 
 -- a state within the instruction
@@ -61,7 +64,8 @@ pub record Walks (k : Kind) (flags : ℕ) (f : Form) (r : Regs) (t : Temps) : Ty
   pub ends_set : (c : Ccr) → c.0 < 2 ^ 8 → flags < 2 ^ 8 → has c overflow ≡ true → opened c f.mask flags ≡ last_flags f flags c
 
 -- one part before the rest
-on_part : (k : Kind) (flags : ℕ) (h g : ℕ → Bool) (d : ℕ) (s : State) (o : Outcome) (ats : List ℕ) (end : State) → Does k flags s o ats → o.end ≡ More → AllShown h ats → AllShown g (addresses o.writes)
+on_part : (k : Kind) (flags : ℕ) (h g : ℕ → Bool) (d : ℕ) (s : State) (o : Outcome) (ats : List ℕ) (end : State) → Does k flags s o ats → o.end ≡ More
+    → AllShown h ats → AllShown g (addresses o.writes)
     → PartsTo k flags h g d (state_after o s.mem) end → PartsTo k flags h g (suc d) s end
 on_part k flags h g d s o ats end does more shown kept rest = (
   (subst (λ (xs : List ℕ). AllShown h xs) (sym does.reads) shown, subst (λ (p : Outcome). AllShown g (addresses p.writes)) (sym does.is) kept),
@@ -75,14 +79,16 @@ record Kept (f : Form) (flags : ℕ) (c0 c : Ccr) : Type 0 where
   ends : last_flags f flags c ≡ last_flags f flags c0
   weighing : f.weighs c ≡ f.weighs c0
 
-kept_opened : (k : Kind) (flags : ℕ) (f : Form) (r : Regs) (t : Temps) (c0 c : Ccr) → Walks k flags f r t → flags < 2 ^ 8 → Kept f flags c0 c → Kept f flags c0 (opened c f.mask flags)
+kept_opened : (k : Kind) (flags : ℕ) (f : Form) (r : Regs) (t : Temps) (c0 c : Ccr) → Walks k flags f r t → flags < 2 ^ 8 → Kept f flags c0 c
+    → Kept f flags c0 (opened c f.mask flags)
 kept_opened k flags f r t c0 c w ff m = record {
   fits = fits_opened c f.mask flags m.fits ff;
   ends = w.ends_opened c m.fits ff ∙ m.ends;
   weighing = w.weighs_opened c ∙ m.weighing;
 }
 
-kept_put : (k : Kind) (flags : ℕ) (f : Form) (r : Regs) (t : Temps) (c0 c : Ccr) (b : Bool) → Walks k flags f r t → flags < 2 ^ 8 → Kept f flags c0 c → Kept f flags c0 (put (opened c f.mask flags) overflow b)
+kept_put : (k : Kind) (flags : ℕ) (f : Form) (r : Regs) (t : Temps) (c0 c : Ccr) (b : Bool) → Walks k flags f r t → flags < 2 ^ 8 → Kept f flags c0 c
+    → Kept f flags c0 (put (opened c f.mask flags) overflow b)
 kept_put k flags f r t c0 c b w ff m = record {
   fits = fits_put (opened c f.mask flags) overflow b (omega arith) (fits_opened c f.mask flags m.fits ff);
   ends = w.ends_put c b m.fits ff ∙ m.ends;
@@ -99,7 +105,8 @@ listed_tail : (f : Form) (mem : List ℕ) (x : ℕ) (es rest : List ℕ) → Lis
 listed_tail f mem x [] rest l = l
 listed_tail f mem x (e ∷ es) rest l = listed_tail f mem (plus x f.size) es rest l.1
 
-shown_tail : (h : ℕ → Bool) (f : Form) (x : ℕ) (es rest : List ℕ) → AllShown h (element_bytes f x (es ++ rest)) → AllShown h (element_bytes f (behind f x es) rest)
+shown_tail : (h : ℕ → Bool) (f : Form) (x : ℕ) (es rest : List ℕ) → AllShown h (element_bytes f x (es ++ rest))
+    → AllShown h (element_bytes f (behind f x es) rest)
 shown_tail h f x [] rest s = s
 shown_tail h f x (e ∷ es) rest s = shown_tail h f (plus x f.size) es rest (shown_right h (from x f.size) (element_bytes f (plus x f.size) (es ++ rest)) s)
 
@@ -136,26 +143,30 @@ behind_append f x [] fs = refl
 behind_append f x (e ∷ es) fs = behind_append f (plus x f.size) es fs
 
 -- what is written elsewhere leaves the list and the weights
-listed_set : (k : Kind) (flags : ℕ) (f : Form) (r : Regs) (t : Temps) → Walks k flags f r t → (mem : List ℕ) (i v x : ℕ) (es : List ℕ) → NotIn i (element_bytes f x es) → Listed f mem x es → Listed f (set mem i v) x es
+listed_set : (k : Kind) (flags : ℕ) (f : Form) (r : Regs) (t : Temps) → Walks k flags f r t → (mem : List ℕ) (i v x : ℕ) (es : List ℕ)
+    → NotIn i (element_bytes f x es) → Listed f mem x es → Listed f (set mem i v) x es
 listed_set k flags f r t w mem i v x [] n l = tt
 listed_set k flags f r t w mem i v x (e ∷ es) n l = (
   w.element_stays mem i v x (not_left i (from x f.size) (element_bytes f (plus x f.size) es) n) ∙ l.0,
   listed_set k flags f r t w mem i v (plus x f.size) es (not_right i (from x f.size) (element_bytes f (plus x f.size) es) n) l.1,
 )
 
-listed_raised : (k : Kind) (flags : ℕ) (f : Form) (r : Regs) (t : Temps) → Walks k flags f r t → (es : List ℕ) (a x : ℕ) (mem fs : List ℕ) → AreApart (named f es) (element_bytes f x fs) → Listed f mem x fs
+listed_raised : (k : Kind) (flags : ℕ) (f : Form) (r : Regs) (t : Temps) → Walks k flags f r t → (es : List ℕ) (a x : ℕ) (mem fs : List ℕ)
+    → AreApart (named f es) (element_bytes f x fs) → Listed f mem x fs
     → Listed f (raised f a mem es) x fs
 listed_raised k flags f r t w [] a x mem fs ap l = l
 listed_raised k flags f r t w (e ∷ es) a x mem fs ap l =
     listed_raised k flags f r t w es a x (set mem (f.place e) (max (get_or mem (f.place e) 0) a)) fs ap.1 (listed_set k flags f r t w mem (f.place e) (max (get_or mem (f.place e) 0) a) x fs ap.0 l)
 
-weights_set : (on : Bool) (mem : List ℕ) (i v y : ℕ) (ps : List Rule) → NotIn i (weight_bytes on y ps) → AreWeights on mem y ps → AreWeights on (set mem i v) y ps
+weights_set : (on : Bool) (mem : List ℕ) (i v y : ℕ) (ps : List Rule) → NotIn i (weight_bytes on y ps) → AreWeights on mem y ps
+    → AreWeights on (set mem i v) y ps
 weights_set true mem i v y [] n l = tt
 weights_set true mem i v y (p ∷ ps) n l = (get_or-set_other mem i y v 0 n.0 ∙ l.0, weights_set true mem i v (plus y 1) ps n.1 l.1)
 weights_set false mem i v y [] n l = tt
 weights_set false mem i v y (p ∷ ps) n l = (l.0, weights_set false mem i v y ps tt l.1)
 
-weights_raised : (f : Form) (on : Bool) (es : List ℕ) (a y : ℕ) (mem : List ℕ) (ps : List Rule) → AreApart (named f es) (weight_bytes on y ps) → AreWeights on mem y ps → AreWeights on (raised f a mem es) y ps
+weights_raised : (f : Form) (on : Bool) (es : List ℕ) (a y : ℕ) (mem : List ℕ) (ps : List Rule) → AreApart (named f es) (weight_bytes on y ps)
+    → AreWeights on mem y ps → AreWeights on (raised f a mem es) y ps
 weights_raised f on [] a y mem ps ap l = l
 weights_raised f on (e ∷ es) a y mem ps ap l =
     weights_raised f on es a y (set mem (f.place e) (max (get_or mem (f.place e) 0) a)) ps ap.1 (weights_set on mem (f.place e) (max (get_or mem (f.place e) 0) a) y ps ap.0 l)
@@ -171,7 +182,8 @@ more [] d = d
 more (e ∷ es) d = suc (more es d)
 
 -- the antecedents
-antecedents : (k : Kind) (flags : ℕ) (f : Form) (r : Regs) (t : Temps) → Walks k flags f r t → flags < 2 ^ 8 → (h g : ℕ → Bool) (d y : ℕ) (c0 : Ccr) (end : State) → (f.weighs c0 ≡ false → y ≡ r.y)
+antecedents : (k : Kind) (flags : ℕ) (f : Form) (r : Regs) (t : Temps) → Walks k flags f r t → flags < 2 ^ 8
+    → (h g : ℕ → Bool) (d y : ℕ) (c0 : Ccr) (end : State) → (f.weighs c0 ≡ false → y ≡ r.y)
     → (es rest : List ℕ) (a x : ℕ) (c : Ccr) (mem : List ℕ) → AreNames f es → Listed f mem x (es ++ rest) → has c overflow ≡ false → Kept f flags c0 c
     → AllShown h (element_bytes f x (es ++ rest)) → AllShown h (named f es)
     → ((c2 : Ccr) → Kept f flags c0 c2 → has c2 overflow ≡ false → PartsTo k flags h g d (at_rules r t (least f mem a es) (behind f x es) y c2 mem) end)
@@ -185,7 +197,8 @@ antecedents k flags f r t w ff h g d y c0 end at_y (e ∷ es) rest a x c mem ns 
     (kept_opened k flags f r t c0 c w ff m) (shown_right h (from x f.size) (element_bytes f (plus x f.size) (es ++ rest)) sl) sn.1 go)
 
 -- the conclusions
-conclusions : (k : Kind) (flags : ℕ) (f : Form) (r : Regs) (t : Temps) → Walks k flags f r t → flags < 2 ^ 8 → (h g : ℕ → Bool) (d y : ℕ) (c0 : Ccr) (end : State) → (f.weighs c0 ≡ false → y ≡ r.y)
+conclusions : (k : Kind) (flags : ℕ) (f : Form) (r : Regs) (t : Temps) → Walks k flags f r t → flags < 2 ^ 8
+    → (h g : ℕ → Bool) (d y : ℕ) (c0 : Ccr) (end : State) → (f.weighs c0 ≡ false → y ≡ r.y)
     → (es rest : List ℕ) (a x : ℕ) (c : Ccr) (mem : List ℕ) → AreNames f es → Listed f mem x (es ++ rest) → has c overflow ≡ true → Kept f flags c0 c
     → AreApart (named f es) (element_bytes f x (es ++ rest)) → AllShown h (element_bytes f x (es ++ rest)) → AllShown h (named f es) → AllShown g (named f es)
     → ((c2 : Ccr) → Kept f flags c0 c2 → has c2 overflow ≡ true → PartsTo k flags h g d (at_rules r t a (behind f x es) y c2 (raised f a mem es)) end)
@@ -211,11 +224,13 @@ weight_here : (on : Bool) (mem : List ℕ) (y : ℕ) (p : Rule) (ps : List Rule)
 weight_here true mem y p ps a = a.1
 weight_here false mem y p ps a = a.1
 
-weight_shown : (h : ℕ → Bool) (on : Bool) (y : ℕ) (p : Rule) (ps : List Rule) → AllShown h (weight_bytes on y (p ∷ ps)) → AllShown h (weight_bytes on (next_weight on y) ps)
+weight_shown : (h : ℕ → Bool) (on : Bool) (y : ℕ) (p : Rule) (ps : List Rule) → AllShown h (weight_bytes on y (p ∷ ps))
+    → AllShown h (weight_bytes on (next_weight on y) ps)
 weight_shown h true y p ps s = s.1
 weight_shown h false y p ps s = tt
 
-weight_apart : (is : List ℕ) (on : Bool) (y : ℕ) (p : Rule) (ps : List Rule) → AreApart is (weight_bytes on y (p ∷ ps)) → AreApart is (weight_bytes on (next_weight on y) ps)
+weight_apart : (is : List ℕ) (on : Bool) (y : ℕ) (p : Rule) (ps : List Rule) → AreApart is (weight_bytes on y (p ∷ ps))
+    → AreApart is (weight_bytes on (next_weight on y) ps)
 weight_apart [] on y p ps a = tt
 weight_apart (i ∷ is) true y p ps a = (a.0.1, weight_apart is true y p ps a.1)
 weight_apart (i ∷ is) false y p ps a = (tt, weight_apart is false y p ps a.1)
@@ -229,8 +244,10 @@ next_at true y y0 h e = absurd (false≢true (sym e))
 next_at false y y0 h e = h refl
 
 -- the separator between antecedents and conclusions, where the weight is applied
-separator : (k : Kind) (flags : ℕ) (f : Form) (r : Regs) (t : Temps) → Walks k flags f r t → (h g : ℕ → Bool) (d : ℕ) (on : Bool) (a x y : ℕ) (c : Ccr) (mem : List ℕ) (p : Rule) (ps : List Rule) (end : State)
-    → f.element mem x ≡ f.separator → has c overflow ≡ false → f.weighs c ≡ on → AreWeights on mem y (p ∷ ps) → AllShown h (from x f.size) → AllShown h (weight_bytes on y (p ∷ ps))
+separator : (k : Kind) (flags : ℕ) (f : Form) (r : Regs) (t : Temps) → Walks k flags f r t
+    → (h g : ℕ → Bool) (d : ℕ) (on : Bool) (a x y : ℕ) (c : Ccr) (mem : List ℕ) (p : Rule) (ps : List Rule) (end : State)
+    → f.element mem x ≡ f.separator → has c overflow ≡ false → f.weighs c ≡ on → AreWeights on mem y (p ∷ ps) → AllShown h (from x f.size)
+    → AllShown h (weight_bytes on y (p ∷ ps))
     → PartsTo k flags h g d (at_rules r t (weighted a p.weight) (plus x f.size) (next_weight on y) (put (opened c f.mask flags) overflow true) mem) end
     → PartsTo k flags h g (suc d) (at_rules r t a x y c mem) end
 separator k flags f r t w h g d true a x y c mem p ps end e v o ws sx sw rest =
@@ -254,11 +271,14 @@ abbrev rule_elements : Form → Rule → List ℕ → List ℕ
 rule_elements f p rest = p.antecedents ++ (f.separator ∷ (p.conclusions ++ rest))
 
 -- a rule: its antecedents, the separator, its conclusions
-one_rule : (k : Kind) (flags : ℕ) (f : Form) (r : Regs) (t : Temps) → Walks k flags f r t → flags < 2 ^ 8 → (h g : ℕ → Bool) (d : ℕ) (on : Bool) (c0 : Ccr) (end : State)
+one_rule : (k : Kind) (flags : ℕ) (f : Form) (r : Regs) (t : Temps) → Walks k flags f r t → flags < 2 ^ 8
+    → (h g : ℕ → Bool) (d : ℕ) (on : Bool) (c0 : Ccr) (end : State)
     → (p : Rule) (ps : List Rule) (rest : List ℕ) (x y : ℕ) (c : Ccr) (mem : List ℕ) → f.weighs c0 ≡ on → (on ≡ false → y ≡ r.y)
-    → AreNames f p.antecedents → AreNames f p.conclusions → Listed f mem x (rule_elements f p rest) → AreWeights on mem y (p ∷ ps) → has c overflow ≡ false → Kept f flags c0 c
+    → AreNames f p.antecedents → AreNames f p.conclusions → Listed f mem x (rule_elements f p rest) → AreWeights on mem y (p ∷ ps) → has c overflow ≡ false
+    → Kept f flags c0 c
     → AreApart (named f p.conclusions) (element_bytes f x (rule_elements f p rest))
-    → AllShown h (element_bytes f x (rule_elements f p rest)) → AllShown h (named f p.antecedents) → AllShown h (named f p.conclusions) → AllShown h (weight_bytes on y (p ∷ ps)) → AllShown g (named f p.conclusions)
+    → AllShown h (element_bytes f x (rule_elements f p rest)) → AllShown h (named f p.antecedents) → AllShown h (named f p.conclusions)
+    → AllShown h (weight_bytes on y (p ∷ ps)) → AllShown g (named f p.conclusions)
     → ((c2 : Ccr) → Kept f flags c0 c2 → has c2 overflow ≡ true → PartsTo k flags h g d (at_rules r t (strength f mem p) (end_of f x p) (next_weight on y) c2 (concluded f mem p)) end)
     → PartsTo k flags h g (more p.antecedents (suc (more p.conclusions d))) (at_rules r t 255 x y c mem) end
 one_rule k flags f r t w ff h g d on c0 end p ps rest x y c mem o at_y na nc l ws v m aw sl sa sc sw sg go =
@@ -292,30 +312,37 @@ rules_end f on r t x y c mem p ps = state_of (record r {
 }) t (all_concluded f mem p ps)
 
 behind_rule : (f : Form) (x : ℕ) (p : Rule) (rest : List ℕ) → behind f x (rule_elements f p rest) ≡ behind f (end_of f x p) rest
-behind_rule f x p rest = behind_append f x p.antecedents (f.separator ∷ (p.conclusions ++ rest)) ∙ behind_append f (plus (turn_of f x p) f.size) p.conclusions rest
+behind_rule f x p rest =
+    behind_append f x p.antecedents (f.separator ∷ (p.conclusions ++ rest)) ∙ behind_append f (plus (turn_of f x p) f.size) p.conclusions rest
 
 -- what stands behind a rule
-listed_behind : (k : Kind) (flags : ℕ) (f : Form) (r : Regs) (t : Temps) → Walks k flags f r t → (p : Rule) (rest : List ℕ) (x : ℕ) (mem : List ℕ) → AreApart (named f p.conclusions) (element_bytes f x (rule_elements f p rest)) → Listed f mem x (rule_elements f p rest)
+listed_behind : (k : Kind) (flags : ℕ) (f : Form) (r : Regs) (t : Temps) → Walks k flags f r t → (p : Rule) (rest : List ℕ) (x : ℕ) (mem : List ℕ)
+    → AreApart (named f p.conclusions) (element_bytes f x (rule_elements f p rest)) → Listed f mem x (rule_elements f p rest)
     → Listed f (concluded f mem p) (end_of f x p) rest
 listed_behind k flags f r t w p rest x mem aw l =
     let l2 = listed_raised k flags f r t w p.conclusions (strength f mem p) x mem (rule_elements f p rest) aw l in
     listed_tail f (concluded f mem p) (plus (turn_of f x p) f.size) p.conclusions rest (listed_tail f (concluded f mem p) x p.antecedents (f.separator ∷ (p.conclusions ++ rest)) l2).1
 
-shown_behind : (h : ℕ → Bool) (f : Form) (p : Rule) (rest : List ℕ) (x : ℕ) → AllShown h (element_bytes f x (rule_elements f p rest)) → AllShown h (element_bytes f (end_of f x p) rest)
+shown_behind : (h : ℕ → Bool) (f : Form) (p : Rule) (rest : List ℕ) (x : ℕ) → AllShown h (element_bytes f x (rule_elements f p rest))
+    → AllShown h (element_bytes f (end_of f x p) rest)
 shown_behind h f p rest x s =
     let s1 = shown_tail h f x p.antecedents (f.separator ∷ (p.conclusions ++ rest)) s in
     shown_tail h f (plus (turn_of f x p) f.size) p.conclusions rest (shown_right h (from (turn_of f x p) f.size) (element_bytes f (plus (turn_of f x p) f.size) (p.conclusions ++ rest)) s1)
 
-apart_behind_rule : (f : Form) (is : List ℕ) (p : Rule) (rest : List ℕ) (x : ℕ) → AreApart is (element_bytes f x (rule_elements f p rest)) → AreApart is (element_bytes f (end_of f x p) rest)
+apart_behind_rule : (f : Form) (is : List ℕ) (p : Rule) (rest : List ℕ) (x : ℕ) → AreApart is (element_bytes f x (rule_elements f p rest))
+    → AreApart is (element_bytes f (end_of f x p) rest)
 apart_behind_rule f is p rest x a =
     let a1 = apart_tail f x is p.antecedents (f.separator ∷ (p.conclusions ++ rest)) a in
     apart_tail f (plus (turn_of f x p) f.size) is p.conclusions rest (apart_behind is (from (turn_of f x p) f.size) (element_bytes f (plus (turn_of f x p) f.size) (p.conclusions ++ rest)) a1)
 
-rules_parts : (k : Kind) (flags : ℕ) (f : Form) (r : Regs) (t : Temps) → Walks k flags f r t → flags < 2 ^ 8 → (h g : ℕ → Bool) (on : Bool) (c0 : Ccr) → f.weighs c0 ≡ on
-    → (ps : List Rule) (p : Rule) (x y : ℕ) (c : Ccr) (mem : List ℕ) → (on ≡ false → y ≡ r.y) → AreRules f (p ∷ ps) → Listed f mem x (elements_of f p ps) → AreWeights on mem y (p ∷ ps)
+rules_parts : (k : Kind) (flags : ℕ) (f : Form) (r : Regs) (t : Temps) → Walks k flags f r t → flags < 2 ^ 8 → (h g : ℕ → Bool) (on : Bool) (c0 : Ccr)
+    → f.weighs c0 ≡ on
+    → (ps : List Rule) (p : Rule) (x y : ℕ) (c : Ccr) (mem : List ℕ) → (on ≡ false → y ≡ r.y) → AreRules f (p ∷ ps) → Listed f mem x (elements_of f p ps)
+    → AreWeights on mem y (p ∷ ps)
     → has c overflow ≡ false → Kept f flags c0 c
     → AreApart (rules_target f (p ∷ ps)) (element_bytes f x (elements_of f p ps)) → AreApart (rules_target f (p ∷ ps)) (weight_bytes on y (p ∷ ps))
-    → AllShown h (element_bytes f x (elements_of f p ps)) → AllShown h (rules_named f (p ∷ ps)) → AllShown h (weight_bytes on y (p ∷ ps)) → AllShown g (rules_target f (p ∷ ps))
+    → AllShown h (element_bytes f x (elements_of f p ps)) → AllShown h (rules_named f (p ∷ ps)) → AllShown h (weight_bytes on y (p ∷ ps))
+    → AllShown g (rules_target f (p ∷ ps))
     → PartsTo k flags h g (count p ps) (at_rules r t 255 x y c mem) (rules_end f on r t x y (last_flags f flags c0) mem p ps)
 rules_parts k flags f r t w ff h g on c0 o [] p x y c mem at_y rs l ws v m al aw sl sn sw sg =
     let a0 = apart_left (named f p.conclusions) [] (element_bytes f x (elements_of f p [])) al in
@@ -373,7 +400,8 @@ rules_parts k flags f r t w ff h g on c0 o (q ∷ qs) p x y c mem at_y rs l ws v
     same_end : (b : Bool) (s : Regs) (u : Temps) (X Y : ℕ) (C : Ccr) (mm : List ℕ) (p1 q1 : Rule) (qs1 : List Rule)
         → rules_end f b s u (plus (end_of f X p1) f.size) (next_weight b Y) C (concluded f mm p1) q1 qs1 ≡ rules_end f b s u X Y C mm p1 (q1 ∷ qs1)
     same_end b s u X Y C mm p1 q1 qs1 =
-        let there : ℕ → ℕ → State = λ m n. state_of (record s { a = last_strength f mm p1 (q1 ∷ qs1); x = m; y = n; ccr = C; pc = plus s.pc 2 }) u (all_concluded f mm p1 (q1 ∷ qs1)) in
+        let there : ℕ → ℕ → State =
+        λ m n. state_of (record s { a = last_strength f mm p1 (q1 ∷ qs1); x = m; y = n; ccr = C; pc = plus s.pc 2 }) u (all_concluded f mm p1 (q1 ∷ qs1)) in
         ap (λ (m : ℕ). there m (behind_weights b (next_weight b Y) (q1 ∷ qs1))) (sym (behind_rule f X p1 (f.separator ∷ elements_of f q1 qs1)))
         ∙ ap (there (behind f X (elements_of f p1 (q1 ∷ qs1)))) (weight_behind b Y p1 (q1 ∷ qs1))
 
@@ -383,13 +411,15 @@ more_length [] rest d e = e
 more_length (x ∷ es) rest d e = ap suc (more_length es rest d e)
 
 count_length : (f : Form) (p : Rule) (ps : List Rule) → length (elements_of f p ps) ≡ suc (count p ps)
-count_length f p [] = more_length p.antecedents (f.separator ∷ (p.conclusions ++ (f.stop ∷ []))) (suc (more p.conclusions 0)) (ap suc (more_length p.conclusions (f.stop ∷ []) 0 refl))
+count_length f p [] =
+    more_length p.antecedents (f.separator ∷ (p.conclusions ++ (f.stop ∷ []))) (suc (more p.conclusions 0)) (ap suc (more_length p.conclusions (f.stop ∷ []) 0 refl))
 count_length f p (q ∷ qs) =
     more_length p.antecedents (f.separator ∷ (p.conclusions ++ (f.separator ∷ elements_of f q qs))) (suc (more p.conclusions (suc (count q qs))))
     (ap suc (more_length p.conclusions (f.separator ∷ elements_of f q qs) (suc (count q qs)) (ap suc (count_length f q qs))))
 
 -- the whole list
-pub rules_are_whole : (k : Kind) (flags : ℕ) (f : Form) (r : Regs) (t : Temps) → Walks k flags f r t → (mem : List ℕ) (p : Rule) (ps : List Rule) (d : ℕ) (h g : ℕ → Bool) → flags < 2 ^ 8 → r.ccr.0 < 2 ^ 8
+pub rules_are_whole : (k : Kind) (flags : ℕ) (f : Form) (r : Regs) (t : Temps) → Walks k flags f r t
+    → (mem : List ℕ) (p : Rule) (ps : List Rule) (d : ℕ) (h g : ℕ → Bool) → flags < 2 ^ 8 → r.ccr.0 < 2 ^ 8
     → AreReady f r mem p ps → length (elements_of f p ps) ≡ suc d → AllShown h (rules_read f r p ps) → AllShown g (rules_written f p ps)
     → PartsTo k flags h g d (state_of r t mem) (rules_whole f flags r t mem p ps)
 rules_are_whole k flags f r t w mem p ps d h g ff fc ready len shown kept =

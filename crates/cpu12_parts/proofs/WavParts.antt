@@ -1,5 +1,6 @@
 -- WAV's parts make the whole instruction.
-use Rattle.std.proofs.Common.{◌≡◌, ℕ, zero, suc, ◌+◌, ◌-◌, ◌*◌, ◌/◌, ◌%◌, ◌^◌, ◌<◌, Bool, true, List, [], ◌∷◌, get_or, refl, ap, sym, ◌∙◌, subst, arith, inl, inr, add-zero, zero-add}
+use Rattle.std.proofs.Common.{◌≡◌, ℕ, zero, suc, ◌+◌, ◌-◌, ◌*◌, ◌/◌, ◌%◌, ◌^◌, ◌<◌, Bool, true, List, [], ◌∷◌, get_or, refl, ap, sym, ◌∙◌, subst, arith, inl}
+use Rattle.std.proofs.Common.{inr, add-zero, zero-add}
 use Rattle.std.proofs.lemmas.Bool.{cases_eq, ne_eqb}
 use Rattle.cpu12_isa.specs.declared.instr.Regs.{Regs}
 use Rattle.cpu12_isa.specs.declared.instr.Ccr.{Ccr}
@@ -50,7 +51,8 @@ inner_reads : (flags : ℕ) (r : Regs) (p w : ℕ) (mem : List ℕ) → (r.b ≡
 inner_reads flags r p w mem h0 h1 = let e0 = ne_eqb r.b 0 h0 in let e1 = ne_eqb r.b 1 h1 in rw (e0, e1)
 
 -- the flags of a part before the last do not show at the end
-ends_again : (c : Ccr) (flags : ℕ) → c.0 < 2 ^ 8 → flags < 2 ^ 8 → put (opened (opened c hnzvc flags) hnvc flags) zero_result true ≡ put (opened c hnvc flags) zero_result true
+ends_again : (c : Ccr) (flags : ℕ) → c.0 < 2 ^ 8 → flags < 2 ^ 8
+    → put (opened (opened c hnzvc flags) hnvc flags) zero_result true ≡ put (opened c hnvc flags) zero_result true
 ends_again c flags f g = same_ccr (put (opened (opened c hnzvc flags) hnvc flags) zero_result true) (put (opened c hnvc flags) zero_result true)
     (fits_put (opened (opened c hnzvc flags) hnvc flags) zero_result true (omega arith) (fits_opened (opened c hnzvc flags) hnvc flags (fits_opened c hnzvc flags f g) g))
     (fits_put (opened c hnvc flags) zero_result true (omega arith) (fits_opened c hnvc flags f g))
@@ -83,7 +85,8 @@ one_more flags r p w mem h c f =
     let ep : ((p + u * v) % 2 ^ 32 + dot us vs) % 2 ^ 32 ≡ (p + (u * v + dot us vs)) % 2 ^ 32 = omega arith in
     let ew : ((w + v) % 2 ^ 16 + total vs) % 2 ^ 16 ≡ (w + (v + total vs)) % 2 ^ 16 = omega arith in
     let there : ℕ → ℕ → State = λ P Q. state_of (wav_end flags r P Q r.pc) Free mem in
-    let back : end_state flags r p w mem ≡ there ((p + (u * v + dot us vs)) % 2 ^ 32) ((w + (v + total vs)) % 2 ^ 16) = rw (bytes_more mem r.x r.b h, bytes_more mem r.y r.b h) in
+    let back : end_state flags r p w mem ≡ there ((p + (u * v + dot us vs)) % 2 ^ 32) ((w + (v + total vs)) % 2 ^ 16) =
+    rw (bytes_more mem r.x r.b h, bytes_more mem r.y r.b h) in
     let make : Regs → State = λ g. state_of g Free mem in
     ap make (end_again flags r (((p + u * v) % 2 ^ 32 + dot us vs) % 2 ^ 32) (((w + v) % 2 ^ 16 + total vs) % 2 ^ 16) c f)
     ∙ ap (λ (P : ℕ). there P (((w + v) % 2 ^ 16 + total vs) % 2 ^ 16)) ep
@@ -118,7 +121,8 @@ sums_parts flags h g (suc d) r p w mem pf wf c f e xs ys =
     let part = inner_part flags r p w mem h0 h1 in
     let P : ℕ = (p + get_or mem r.x 0 * get_or mem r.y 0) % 2 ^ 32 in
     let W : ℕ = (w + get_or mem r.y 0) % 2 ^ 16 in
-    let next : after_part wav flags (at_sums r p w mem) ≡ at_sums (next_regs flags r) ((p + get_or mem r.x 0 * get_or mem r.y 0) % 2 ^ 32) ((w + get_or mem r.y 0) % 2 ^ 16) mem = ap (λ (o : Outcome). state_after o mem) part in
+    let next : after_part wav flags (at_sums r p w mem) ≡ at_sums (next_regs flags r) ((p + get_or mem r.x 0 * get_or mem r.y 0) % 2 ^ 32) ((w + get_or mem r.y 0) % 2 ^ 16) mem =
+    ap (λ (o : Outcome). state_after o mem) part in
     let rest = sums_parts flags h g d (next_regs flags r) P W mem (omega arith) (omega arith) (fits_opened r.ccr hnzvc flags c f) f (omega arith) xs.1 ys.1 in (
       (subst (λ (ats : List ℕ). AllShown h ats) (sym (inner_reads flags r p w mem h0 h1)) (xs.0, (ys.0, tt)), subst (λ (o : Outcome). AllShown g (addresses o.writes)) (sym part) tt),
       ap (λ (o : Outcome). o.end) part,
@@ -127,7 +131,8 @@ sums_parts flags h g (suc d) r p w mem pf wf c f e xs ys =
     )
 
 -- no pair
-no_parts : (flags : ℕ) (h g : ℕ → Bool) (r : Regs) (p w : ℕ) (mem : List ℕ) → p < 2 ^ 32 → w < 2 ^ 16 → r.b ≡ 0 → PartsTo wav flags h g 0 (at_sums r p w mem) (end_state flags r p w mem)
+no_parts : (flags : ℕ) (h g : ℕ → Bool) (r : Regs) (p w : ℕ) (mem : List ℕ) → p < 2 ^ 32 → w < 2 ^ 16 → r.b ≡ 0
+    → PartsTo wav flags h g 0 (at_sums r p w mem) (end_state flags r p w mem)
 no_parts flags h g r p w mem pf wf e =
     let part = empty_part flags r p w mem e in (
       (subst (λ (ats : List ℕ). AllShown h ats) (sym (empty_reads flags r p w mem e)) tt, subst (λ (o : Outcome). AllShown g (addresses o.writes)) (sym part) tt),

@@ -3,12 +3,13 @@ use Rattle.std.specs.Prelude.{◌≡◌, ℕ, suc, ◌-◌, ◌^◌, ◌<◌, Bo
 use Rattle.cpu12_isa.specs.Agreement.{AllShown}
 use Rattle.cpu12_parts.specs.State.{State}
 use Rattle.cpu12_parts.specs.Cuts.{Kind, cut_run, EndsWith}
-use Rattle.cpu12_parts.specs.Rules.{Rule, Form, rev_form, revw_form, elements_of, rules_read, rules_written, AreReady, rules_whole}
+use Rattle.cpu12_parts.specs.Rules.{Rule, Form, rev_form, revw_form, elements_of, rules_read, rules_written, AreReady}
+use Rattle.cpu12_parts.specs.Rules.{rules_whole}
 use Rattle.cpu12_parts.specs.Averages.{wav_read, wav_whole}
 use Rattle.cpu12_parts.specs.Laws.{PartsTo, below, IsLike, IsOff}
 
--- A whole instruction: with a byte for the open flags it leads from one state to another by so many parts more than one,
--- and reads and writes at these addresses.
+-- A whole instruction: with a byte for the open flags it leads from one state to another by so many parts more than
+-- one, and reads and writes at these addresses.
 abbrev pub Whole : Type 1
 Whole = ℕ → ℕ → List ℕ → List ℕ → State → State → Type 0
 
@@ -42,10 +43,11 @@ pub record WholeAverage (flags d : ℕ) (reads writes : List ℕ) (s t : State) 
 -- The parts make the whole instruction, and each of them touches only what it does.
 abbrev pub MakesWhole : Kind → Whole → Type 0
 MakesWhole k W = (flags d : ℕ) (reads writes : List ℕ) (s t : State) → W flags d reads writes s t
-    → (unread unwritten : ℕ → Bool) → AllShown unread reads → AllShown unwritten writes → PartsTo k flags unread unwritten d s t
+    → (unread unwritten : ℕ → Bool) → AllShown unread reads → AllShown unwritten writes
+    → PartsTo k flags unread unwritten d s t
 
--- Over all cuts by suspend and then resume the parts come to the whole instruction's state but for the six bytes below SP,
--- where none of these is read.
+-- Over all cuts by suspend and then resume the parts come to the whole instruction's state but for the six bytes
+-- below SP, where none of these is read.
 abbrev pub OverCuts : Kind → Whole → Type 0
 OverCuts k W = (flags d : ℕ) (reads writes : List ℕ) (s t : State) (cs : List Bool) → W flags d reads writes s t
     → length s.mem ≡ 65536 → s.regs.sp < 2 ^ 16 → AllShown (below 6 s.regs.sp) reads → length cs ≡ d

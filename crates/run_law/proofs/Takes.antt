@@ -39,7 +39,8 @@ below_off r t (inl e) = ap (below_sums r) (sym e)
 below_off r t (inr e) = ap (below_sums r) (sym e)
 
 -- what an interrupt's push of running sums leaves is hidden
-pushed_agrees : Machine → (open_to : ℕ → Bool) (w s : State) (p q : ℕ) → Same open_to w s → LeavesStack open_to → stack_start + 15 ≤ s.regs.sp → s.regs.sp ≤ stack_end
+pushed_agrees : Machine → (open_to : ℕ → Bool) (w s : State) (p q : ℕ) → Same open_to w s → LeavesStack open_to → stack_start + 15 ≤ s.regs.sp
+    → s.regs.sp ≤ stack_end
     → Agree (is_hidden open_to s.regs.sp) (write_all (placed (plus w.regs.sp 65530) (sum_bytes p q)) w.mem) w.mem
 pushed_agrees laws open_to w s p q l a lo hi =
     let sp : w.regs.sp ≡ s.regs.sp = ap (λ (r : Regs). r.sp) l.regs in
@@ -71,7 +72,8 @@ record Taken (open_to : ℕ → Bool) (first : Bool) (w s : State) : Type 0 wher
   after : (u : State) → Quiet open_to u (suspended wav w) s → Settled open_to false u s
 
 -- where sums run they are parked
-taken_running : Machine → (open_to : ℕ → Bool) (w s : State) (p q : ℕ) → LeavesStack open_to → HasRoom s → Same open_to w s → s.temps ≡ Running p q → Taken open_to true w s
+taken_running : Machine → (open_to : ℕ → Bool) (w s : State) (p q : ℕ) → LeavesStack open_to → HasRoom s → Same open_to w s → s.temps ≡ Running p q
+    → Taken open_to true w s
 unfolding Settled
 taken_running laws open_to w s p q a k l run =
     let lo = k.low in
@@ -90,7 +92,8 @@ taken_running laws open_to w s p q a k l run =
         regs = ap (λ (r : Regs). record r { sp = plus r.sp 65530 }) l.regs ∙ ap (below_sums s.regs) (sym run);
         mem = below;
       });
-      frame = laws.frame_is_on_stack w size (omega arith) ∙ ap (frame_in w) now ∙ ap (λ (r : Regs). full_by r p q) l.regs ∙ ap (λ (t : Temps). frame_on true s t) (sym run);
+      frame = laws.frame_is_on_stack w size (omega arith) ∙ ap (frame_in w) now ∙ ap (λ (r : Regs). full_by r p q) l.regs
+          ∙ ap (λ (t : Temps). frame_on true s t) (sym run);
       after = λ u quiet. inr (parked_by u (subst (λ (v : State). Quiet open_to u v s) is quiet), refl);
     }
   where
@@ -106,7 +109,8 @@ taken_running laws open_to w s p q a k l run =
         let base : plus w.regs.sp 65530 ≡ s.regs.sp - 6 = omega arith in
         let got : bytes_at u.mem (from (plus w.regs.sp 65530) 6) ≡ bytes_at x.mem (from (plus w.regs.sp 65530) 6) =
         same_bytes (is_hidden open_to (plus w.regs.sp 65530)) u.mem x.mem quiet.mem (from (plus w.regs.sp 65530) 6) (laws.shown open_to (plus w.regs.sp 65530) (plus w.regs.sp 65530) 6 a (omega arith) (omega arith) (omega arith)) in
-        let put : bytes_at x.mem (from (plus w.regs.sp 65530) 6) ≡ sum_bytes p q = read_placed (sum_bytes p q) (plus w.regs.sp 65530) w.mem (omega arith) (lit≤ tt) (l.mem.size ∙ k.size) in
+        let put : bytes_at x.mem (from (plus w.regs.sp 65530) 6) ≡ sum_bytes p q =
+        read_placed (sum_bytes p q) (plus w.regs.sp 65530) w.mem (omega arith) (lit≤ tt) (l.mem.size ∙ k.size) in
         let at : plus w.regs.sp 65530 ≡ plus s.regs.sp 65530 = omega arith in
         record {
           product = p;
@@ -140,7 +144,8 @@ taken_off laws open_to first w s k l off =
     let is : suspended wav w ≡ w = laws.none w off_w in
     record {
       begins = subst (λ (v : State). Begins open_to v s) (sym is) (record { temps = off_w; regs = l.regs ∙ below_off s.regs s.temps off; mem = l.mem });
-      frame = laws.frame_is_on_stack w (l.mem.size ∙ k.size) (omega arith) ∙ frame_off w off_w ∙ ap (λ (r : Regs). nine_frame r (plus r.sp 65527)) l.regs ∙ sym (expected_off first s off);
+      frame = laws.frame_is_on_stack w (l.mem.size ∙ k.size) (omega arith) ∙ frame_off w off_w ∙ ap (λ (r : Regs). nine_frame r (plus r.sp 65527)) l.regs
+          ∙ sym (expected_off first s off);
       after = λ u q. inl (same_by u (subst (λ (v : State). Quiet open_to u v s) is q), inr off);
     }
   where
@@ -164,7 +169,8 @@ taken_parked laws open_to w s a k l =
     let low : plus (plus s.regs.sp 65530) 65527 ≡ plus s.regs.sp 65521 = omega arith in
     record {
       begins = subst (λ (v : State). Begins open_to v s) (sym is) (record { temps = l.temps; regs = l.regs ∙ ap (below_sums s.regs) (sym l.running); mem = l.mem });
-      frame = laws.frame_is_on_stack w (l.mem.size ∙ k.size) (omega arith) ∙ frame_off w l.temps ∙ ap (λ (r : Regs). nine_frame r (plus r.sp 65527)) l.regs ∙ ap (nine_frame (s.regs)) low
+      frame = laws.frame_is_on_stack w (l.mem.size ∙ k.size) (omega arith) ∙ frame_off w l.temps ∙ ap (λ (r : Regs). nine_frame r (plus r.sp 65527)) l.regs
+          ∙ ap (nine_frame (s.regs)) low
           ∙ ap (λ (t : Temps). frame_on false s t) (sym l.running);
       after = λ u q. inr (stays_by u (subst (λ (v : State). Quiet open_to u v s) is q), refl);
     }
@@ -203,8 +209,10 @@ pub record Took {S A B : Type 0} (open_to : ℕ → Bool) (f : Form S A B) (Own 
   pub after : Settled open_to false (taken f a w) s
   pub own : Own (told f a w ∷ done) (taken f a w)
 
-pub took_one : {S A B : Type 0} (open_to : ℕ → Bool) (f : Form S A B) (P : State → Type 0) (Good : A → Type 0) (Own : List (A × B) → State → Type 0) → Ground open_to f P Good Own
-    → (first : Bool) (done : List (A × B)) (a : A) (w s : State) → Good a → P s → may_interrupt s ≡ true → Settled open_to first w s → Own done w → Took open_to f Own first done a w s
+pub took_one : {S A B : Type 0} (open_to : ℕ → Bool) (f : Form S A B) (P : State → Type 0) (Good : A → Type 0) (Own : List (A × B) → State → Type 0)
+    → Ground open_to f P Good Own
+    → (first : Bool) (done : List (A × B)) (a : A) (w s : State) → Good a → P s → may_interrupt s ≡ true → Settled open_to first w s → Own done w
+    → Took open_to f Own first done a w s
 took_one open_to f P Good Own gr first done a w s good ps may l own =
     let sd = gr.sound in
     let seen : IsShownStep open_to f.flags s = sd.shown s ps in
