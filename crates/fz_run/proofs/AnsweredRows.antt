@@ -1,5 +1,6 @@
 -- Where whole instructions answer all samples, so do the rows under every good plan.
-use Rattle.std.proofs.Common.{◌≡◌, ◌==◌, ℕ, zero, suc, ◌+◌, ◌*◌, ◌^◌, ◌<◌, ◌≤◌, Bool, true, false, List, [], ◌∷◌, length, map, get_or, refl, ap, ap₂, sym, ◌∙◌, subst, arith, inl, inr, ◌⊎◌}
+use Rattle.std.proofs.Common.{◌≡◌, ◌==◌, ℕ, zero, suc, ◌+◌, ◌*◌, ◌^◌, ◌<◌, ◌≤◌, Bool, true, false, List, [], ◌∷◌, length, map, get_or, refl, ap, ap₂, sym, ◌∙◌}
+use Rattle.std.proofs.Common.{subst, arith, inl, inr, ◌⊎◌}
 use Rattle.std.specs.Prelude.{All}
 use Rattle.std.proofs.Math.ListN.{set}
 use Rattle.std.proofs.lemmas.Bool.Decides.{nat_tests}
@@ -84,7 +85,8 @@ at_instruction image s c = record {
     high (inl e) = omega arith
     high (inr e) = omega arith
 
-step_stretch : Laws → (image : List ℕ) (flags d : ℕ) (s t : State) → flags < 2 ^ 8 → IsInterruptibleStep main_layout image flags d s t → Stretch (Kept is_free flags (On image)) flags d s t
+step_stretch : Laws → (image : List ℕ) (flags d : ℕ) (s t : State) → flags < 2 ^ 8 → IsInterruptibleStep main_layout image flags d s t
+    → Stretch (Kept is_free flags (On image)) flags d s t
 unfolding On
 step_stretch laws image flags d s t hf h = by h.instruction
   where
@@ -120,7 +122,8 @@ step_stretch laws image flags d s t hf h = by h.instruction
         revw_step laws.steps is_free flags (On image) d p.0 p.1 s t hf c p.2.step (record { reads = p.2.reads; writes = p.2.writes; below = p.2.below; itself = p.2.itself }) (within p.2.away)
     by (inr (inr (inr p))) = average_step laws.steps is_free flags (On image) d s t hf c p.step p.reads here (second p.away)
 
-stretches : Laws → (image : List ℕ) (flags : ℕ) (ds : List ℕ) (s t : State) → flags < 2 ^ 8 → Execution (IsInterruptibleStep main_layout image flags) ds s t → Execution (Stretch (Kept is_free flags (On image)) flags) ds s t
+stretches : Laws → (image : List ℕ) (flags : ℕ) (ds : List ℕ) (s t : State) → flags < 2 ^ 8 → Execution (IsInterruptibleStep main_layout image flags) ds s t
+    → Execution (Stretch (Kept is_free flags (On image)) flags) ds s t
 stretches laws image flags [] s t hf h = h
 stretches laws image flags (d ∷ ds) s t hf h = (h.0, (step_stretch laws image flags d s h.0 hf h.1.0, stretches laws image flags ds h.0 t hf h.1.1))
 
@@ -144,7 +147,8 @@ same_given bytes s l =
     by m = record { regs = s.regs; temps = s.temps; mem = m }
 
 -- the numbers of steps of the samples
-numbers : (b : Block) (w : Width) (image : List ℕ) (flags : ℕ) (before : ℕ → ℕ) (samples : List (List ℕ)) (s : State) → AreAnswered main_layout b w image flags before samples s → List ℕ
+numbers : (b : Block) (w : Width) (image : List ℕ) (flags : ℕ) (before : ℕ → ℕ) (samples : List (List ℕ)) (s : State)
+    → AreAnswered main_layout b w image flags before samples s → List ℕ
 numbers b w image flags before [] s h = []
 numbers b w image flags before (bytes ∷ samples) s h = all_steps h.1.0.ds ∷ numbers b w image flags (λ o. answer w b o bytes (before o)) samples h.0 h.1.1
 
@@ -153,19 +157,22 @@ unfolding numbers
 within b w image flags before [] s h = tt
 within b w image flags before (bytes ∷ samples) s h = (h.1.0.steps, within b w image flags (λ o. answer w b o bytes (before o)) samples h.0 h.1.1)
 
-went : Laws → (b : Block) (w : Width) (image : List ℕ) (flags : ℕ) (before : ℕ → ℕ) (bytes : List ℕ) (s t : State) → flags < 2 ^ 8 → length bytes ≤ 8 → (a : IsAnswered main_layout b w image flags before bytes s t)
+went : Laws → (b : Block) (w : Width) (image : List ℕ) (flags : ℕ) (before : ℕ → ℕ) (bytes : List ℕ) (s t : State) → flags < 2 ^ 8 → length bytes ≤ 8
+    → (a : IsAnswered main_layout b w image flags before bytes s t)
     → Stretches (Kept is_free flags (On image)) flags a.ds (given main_layout bytes s) t
 went laws b w image flags before bytes s t hf l a =
     let start = answers.given main_layout bytes s in
     subst (λ (u : State). Stretches (Kept is_free flags (On image)) flags a.ds u t) (sym (same_given bytes s l)) (all_stretches (Kept is_free flags (On image)) flags a.ds start t (stretches laws image flags a.ds start t hf a.execution))
 
-sampled : Laws → (f : Firmware) (n : ℕ) (b : Block) (w : Width) (flags : ℕ) (before : ℕ → ℕ) (bytes : List ℕ) (s t : State) → flags < 2 ^ 8 → length bytes ≤ 8 → (a : IsAnswered main_layout b w (image_memory f.image.bytes) flags before bytes s t)
+sampled : Laws → (f : Firmware) (n : ℕ) (b : Block) (w : Width) (flags : ℕ) (before : ℕ → ℕ) (bytes : List ℕ) (s t : State) → flags < 2 ^ 8 → length bytes ≤ 8
+    → (a : IsAnswered main_layout b w (image_memory f.image.bytes) flags before bytes s t)
     → Completes (FactsAlone flags (alone f n)) (with_writes flags (alone f n)) 0 (all_steps a.ds) (all_steps a.ds) (given main_layout bytes s)
 unfolding On IsStack
 sampled laws f n b w flags before bytes s t hf l a =
     let image = image_memory f.image.bytes in
     let g = went laws b w image flags before bytes s t hf l a in
-    let busy = before_weaker (Kept is_free flags (On image)) (λ u. is_idle main_layout u ≡ false) flags (λ u k. k.1.0) (all_steps a.ds) (given main_layout bytes s) g.each in
+    let busy =
+    before_weaker (Kept is_free flags (On image)) (λ u. is_idle main_layout u ≡ false) flags (λ u k. k.1.0) (all_steps a.ds) (given main_layout bytes s) g.each in
     record {
       sum = omega arith;
       holds = before_weaker (Kept is_free flags (On image)) (FactsAlone flags (alone f n)) flags (λ u k. record { facts = k.0; image = k.1.2; stack = k.1.1 }) (all_steps a.ds) (given main_layout bytes s) g.each;
@@ -173,7 +180,8 @@ sampled laws f n b w flags before bytes s t hf l a =
       ended = ap (is_idle main_layout) g.goes ∙ a.idle;
     }
 
-all_sampled : Laws → (f : Firmware) (n : ℕ) (b : Block) (w : Width) (flags : ℕ) (before : ℕ → ℕ) (samples : List (List ℕ)) (s : State) → flags < 2 ^ 8 → AreShort samples → (h : AreAnswered main_layout b w (image_memory f.image.bytes) flags before samples s)
+all_sampled : Laws → (f : Firmware) (n : ℕ) (b : Block) (w : Width) (flags : ℕ) (before : ℕ → ℕ) (samples : List (List ℕ)) (s : State) → flags < 2 ^ 8
+    → AreShort samples → (h : AreAnswered main_layout b w (image_memory f.image.bytes) flags before samples s)
     → AllComplete (FactsAlone flags (alone f n)) (with_writes flags (alone f n)) (numbers b w (image_memory f.image.bytes) flags before samples s h) samples s
 unfolding numbers
 all_sampled laws f n b w flags before [] s hf l h = tt
@@ -207,10 +215,13 @@ same_values : (f : Firmware) (n : ℕ) (s : State) → n ≤ 4 → answers_in (a
 same_values f n s few = let l = few_bytes f.wide n few in same_answers f.wide s.mem 0x1010 n (omega arith)
 
 -- the rows as answers
-answer_is : (xs ys : List ℕ) (i j : ℕ) → xs ≡ ys → i ≡ j → ◌≡◌ {A = Answer} (record { values = xs; instructions = i }) (record { values = ys; instructions = j })
+answer_is : (xs ys : List ℕ) (i j : ℕ) → xs ≡ ys → i ≡ j
+    → ◌≡◌ {A = Answer} (record { values = xs; instructions = i }) (record { values = ys; instructions = j })
 answer_is xs ys i j v n = ap₂ (λ (x : List ℕ) (k : ℕ). let r : Answer = record { values = x; instructions = k } in r) v n
 
-all_answers : Laws → (f : Firmware) (n : ℕ) (b : Block) (image : List ℕ) (flags : ℕ) (before : ℕ → ℕ) (plan : List Request) (k : ℕ) (samples : List (List ℕ)) (s : State) → flags < 2 ^ 8 → AreShort samples → n ≤ 4
+all_answers : Laws
+    → (f : Firmware) (n : ℕ) (b : Block) (image : List ℕ) (flags : ℕ) (before : ℕ → ℕ) (plan : List Request) (k : ℕ) (samples : List (List ℕ)) (s : State)
+    → flags < 2 ^ 8 → AreShort samples → n ≤ 4
     → (h : AreAnswered main_layout b (width_of f.wide) image flags before samples s)
     → map answer_of_row (rows_of_samples flags (alone f n) plan k (numbers b (width_of f.wide) image flags before samples s h) samples s) ≡ answers_by b (alone f n) image flags before samples s h
 unfolding numbers
@@ -221,9 +232,11 @@ all_answers laws f n b image flags before plan k (bytes ∷ samples) s hf l few 
     let g = went laws b w image flags before bytes s h.0 hf l.0 h.1.0 in
     let later : ℕ → ℕ = λ o. answer w b o bytes (before o) in
     let end = uninterrupted flags (all_steps h.1.0.ds) start in
-    let here = answer_is (answers_in (alone f n) end) (values_in (alone f n) h.0) (counted flags (all_steps h.1.0.ds) start) (length h.1.0.ds) (ap (answers_in (alone f n)) g.goes ∙ same_values f n h.0 few) g.counts in
+    let here =
+    answer_is (answers_in (alone f n) end) (values_in (alone f n) h.0) (counted flags (all_steps h.1.0.ds) start) (length h.1.0.ds) (ap (answers_in (alone f n)) g.goes ∙ same_values f n h.0 few) g.counts in
     let rest = all_answers laws f n b image flags later plan (suc k) samples h.0 hf l.1 few h.1.1 in
-    let moved = subst (λ (u : State). map answer_of_row (rows_of_samples flags (alone f n) plan (suc k) (numbers b w image flags later samples h.0 h.1.1) samples u) ≡ answers_by b (alone f n) image flags later samples h.0 h.1.1) (sym g.goes) rest in
+    let moved =
+    subst (λ (u : State). map answer_of_row (rows_of_samples flags (alone f n) plan (suc k) (numbers b w image flags later samples h.0 h.1.1) samples u) ≡ answers_by b (alone f n) image flags later samples h.0 h.1.1) (sym g.goes) rest in
     ap₂ (λ (x : Answer) (xs : List Answer). x ∷ xs) here moved
 
 all_samples : (f : Firmware) (b : Block) (w : Width) (image : List ℕ) (flags : ℕ) (before : ℕ → ℕ) (plan : List Request) (k : ℕ) (samples : List (List ℕ)) (s u : State) → (h : AreAnswered main_layout b w image flags before samples s)
@@ -235,7 +248,8 @@ all_samples f b w image flags before plan k (bytes ∷ samples) s u h =
     ap (λ (xs : List (List ℕ)). bytes ∷ xs) (all_samples f b w image flags (λ o. answer w b o bytes (before o)) plan (suc k) samples h.0 (uninterrupted flags (all_steps h.1.0.ds) start) h.1.1)
 
 -- no row has more steps than the bound
-few_steps : (flags : ℕ) (f : Firmware) (plan : List Request) (most k : ℕ) (ns : List ℕ) (samples : List (List ℕ)) (s : State) → AllWithin most ns → All (λ (r : RowSeen (List ℕ)). r.steps ≤ most) (rows_of_samples flags f plan k ns samples s)
+few_steps : (flags : ℕ) (f : Firmware) (plan : List Request) (most k : ℕ) (ns : List ℕ) (samples : List (List ℕ)) (s : State) → AllWithin most ns
+    → All (λ (r : RowSeen (List ℕ)). r.steps ≤ most) (rows_of_samples flags f plan k ns samples s)
 few_steps flags f plan most k [] samples s h = λ j r lt. absurd (omega arith)
 few_steps flags f plan most k (n ∷ ns) [] s h = λ j r lt. absurd (omega arith)
 few_steps flags f plan most k (n ∷ ns) (bytes ∷ rest) s h =
@@ -249,18 +263,23 @@ enough_steps : (w : Width) (b : Block) → length b.outputs ≤ 4 → 3 ≤ step
 unfolding step_bound instruction_bound
 enough_steps w b few = omega arith
 
-first_is : ArrivesPlainly → (b : Block) (f : Firmware) (n flags : ℕ) (s : State) → length b.outputs ≤ 4 → IsFirmwareOf b (alone f n) → IsArrived main_layout (image_memory f.image.bytes) flags s → first_state (alone f n) flags ≡ s
+first_is : ArrivesPlainly → (b : Block) (f : Firmware) (n flags : ℕ) (s : State) → length b.outputs ≤ 4 → IsFirmwareOf b (alone f n)
+    → IsArrived main_layout (image_memory f.image.bytes) flags s → first_state (alone f n) flags ≡ s
 first_is arrives_plainly b f n flags s few h a =
     let start = reset_with (image_memory f.image.bytes) in
-    ap (λ (most : ℕ). arrival flags 0xC008 most start) h.steps ∙ arrives_plainly flags 0xC008 3 (step_bound (width_of f.wide) b) start s refl a.way a.wait (enough_steps (width_of f.wide) b few)
+    ap (λ (most : ℕ). arrival flags 0xC008 most start) h.steps
+    ∙ arrives_plainly flags 0xC008 3 (step_bound (width_of f.wide) b) start s refl a.way a.wait (enough_steps (width_of f.wide) b few)
 
 all_short : (b : Block) (samples : List (List ℕ)) → length b.inputs ≤ 8 → All (AreInputBytes b) samples → AreShort samples
 all_short b [] few all = tt
-all_short b (bytes ∷ samples) few all = (let i = all 0 bytes (omega arith) in omega (arith, i.count), all_short b samples few (λ k d lt. all (suc k) d (omega arith)))
+all_short b (bytes ∷ samples) few all =
+    (let i = all 0 bytes (omega arith) in omega (arith, i.count), all_short b samples few (λ k d lt. all (suc k) d (omega arith)))
 
 -- the rows of a firmware that waits first in s
-under : Laws → (b : Block) (f : Firmware) (n flags : ℕ) (samples : List (List ℕ)) (plan : List Request) (s : State) → flags < 2 ^ 8 → length b.outputs ≤ 4 → n ≤ 4 → IsFirmwareOf b (alone f n) → AreShort samples → IsGood plan
-    → IsArrived main_layout (image_memory f.image.bytes) flags s → AreAnswered main_layout b (width_of f.wide) (image_memory f.image.bytes) flags (λ o. 0) samples s
+under : Laws → (b : Block) (f : Firmware) (n flags : ℕ) (samples : List (List ℕ)) (plan : List Request) (s : State) → flags < 2 ^ 8 → length b.outputs ≤ 4
+    → n ≤ 4 → IsFirmwareOf b (alone f n) → AreShort samples → IsGood plan
+    → IsArrived main_layout (image_memory f.image.bytes) flags s
+    → AreAnswered main_layout b (width_of f.wide) (image_memory f.image.bytes) flags (λ o. 0) samples s
     → AnswersUnder b (alone f n) flags samples plan (firmware_rows (alone f n) samples plan flags).rows
 under laws b f n flags samples plan s hf few count h short good a answered =
     let g = alone f n in
@@ -276,7 +295,8 @@ under laws b f n flags samples plan s hf few count h short good a answered =
     let runs : FollowsAlone flags g f.step_bound plan ns samples s = laws.runs_follow flags g f.step_bound plan ns samples s low good bounded complete in
     let rows = (firmware_rows g samples plan flags).rows in
     let expected = rows_of_samples flags g plan 1 ns samples s in
-    let rows_are : rows ≡ expected = ap (λ (u : State). (rows_from (with_writes flags g) f.step_bound (λ k. requests_of k plan) 1 samples u).rows) first ∙ runs.rows_are in
+    let rows_are : rows ≡ expected =
+    ap (λ (u : State). (rows_from (with_writes flags g) f.step_bound (λ k. requests_of k plan) 1 samples u).rows) first ∙ runs.rows_are in
     let same = ap (map answer_of_row) rows_are ∙ all_answers laws f n b image flags (λ o. 0) plan 1 samples s hf short count answered in
     let both = laws.answered_are_uninterrupted b g flags samples s h.outputs a answered in
     record {
@@ -305,7 +325,8 @@ answers_under_plans laws f flags samples plan hf good b v limits h all =
     by l k = record f { layout = l; outputs = k }
 
 -- and so do rows that are those of the run
-pub answers_its_block : AnswersUnderPlans → (f : Firmware) (flags : ℕ) (samples : List (List ℕ)) (plan : List Request) (rows : List (RowSeen (List ℕ))) → flags < 2 ^ 8 → IsGood plan → rows ≡ (firmware_rows f samples plan flags).rows
+pub answers_its_block : AnswersUnderPlans → (f : Firmware) (flags : ℕ) (samples : List (List ℕ)) (plan : List Request) (rows : List (RowSeen (List ℕ)))
+    → flags < 2 ^ 8 → IsGood plan → rows ≡ (firmware_rows f samples plan flags).rows
     → AnswersItsBlock f flags samples plan rows
 answers_its_block law f flags samples plan rows hf good e =
     subst (λ (rs : List (RowSeen (List ℕ))). AnswersItsBlock f flags samples plan rs) (sym e) (law f flags samples plan hf good)

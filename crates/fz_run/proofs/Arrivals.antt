@@ -21,7 +21,8 @@ unfolding arrival
 arrives flags loop zero s e = refl
 arrives flags loop (suc n) s e = let t = there s.regs.pc loop e in rw t refl
 
-pub arrives_later : (flags loop n : ℕ) (s : State) (next : Next) → (s.regs.pc ≡ loop → ⊥) → 0 < n → next_of flags s ≡ Ok next → arrival flags loop n s ≡ arrival flags loop (n - 1) next.state
+pub arrives_later : (flags loop n : ℕ) (s : State) (next : Next) → (s.regs.pc ≡ loop → ⊥) → 0 < n → next_of flags s ≡ Ok next
+    → arrival flags loop n s ≡ arrival flags loop (n - 1) next.state
 unfolding arrival
 arrives_later flags loop zero s next e l o = absurd (omega arith)
 arrives_later flags loop (suc n) s next e l o = let t = elsewhere s.regs.pc loop e in let m : suc n - 1 ≡ n = omega arith in rw (t, o, m) refl

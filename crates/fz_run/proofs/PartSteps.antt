@@ -1,5 +1,6 @@
 -- The parts of REV and REVW are steps, before each of which the state keeps the facts.
-use Rattle.std.proofs.Common.{◌≡◌, ◌==◌, ◌||◌, ℕ, zero, suc, ◌+◌, ◌^◌, ◌<◌, ◌≤◌, min, nat_le, Bool, true, false, Result, Ok, List, [], ◌∷◌, get_or, refl, ap, sym, ◌∙◌, subst, arith, inl, inr}
+use Rattle.std.proofs.Common.{◌≡◌, ◌==◌, ◌||◌, ℕ, zero, suc, ◌+◌, ◌^◌, ◌<◌, ◌≤◌, min, nat_le, Bool, true, false, Result, Ok, List, [], ◌∷◌, refl, ap}
+use Rattle.std.proofs.Common.{sym, ◌∙◌, subst, arith, inl, inr}
 use Rattle.std.proofs.lemmas.Bool.{false≢true, or_parts}
 use Rattle.std.proofs.lemmas.Bool.Decides.{nat_tests}
 use Rattle.cpu12_isa.specs.declared.instr.Instr.{Instr}
@@ -83,7 +84,8 @@ not_written c [] at h t w = w
 not_written c (x ∷ ws) at h t (inl e) = false≢true (sym h.0 ∙ ap c (sym e) ∙ t)
 not_written c (x ∷ ws) at h t (inr w) = not_written c ws at h.1 t w
 
-code_stays : WritesStay → (cs : List ℕ) (ws : List (ℕ × ℕ)) (m : List ℕ) (ats : List ℕ) → AllShown (is_among cs) (addresses ws) → AllAmong cs ats → bytes_at (write_all ws m) ats ≡ bytes_at m ats
+code_stays : WritesStay → (cs : List ℕ) (ws : List (ℕ × ℕ)) (m : List ℕ) (ats : List ℕ) → AllShown (is_among cs) (addresses ws) → AllAmong cs ats
+    → bytes_at (write_all ws m) ats ≡ bytes_at m ats
 unfolding AllAmong
 code_stays stay cs ws m [] h a = refl
 code_stays stay cs ws m (at ∷ ats) h a = let e = (stay ws m).1 at (not_written (is_among cs) ws at h a.0) in let f = code_stays stay cs ws m ats h a.1 in cc
@@ -103,7 +105,8 @@ pub same_least : (a b : ℕ) → b ≡ a → min a b ≡ a
 same_least a b e = omega arith
 
 part_here : (i : Instr) (k : Kind) → RuleLaws i k → (open_to : ℕ → Bool) (flags : ℕ) (s : State) → AtInstruction open_to s → decode_at s.mem s.regs.pc ≡ Ok i
-    → AllShown (is_hidden open_to s.regs.sp) (read_by (k.act flags s.regs s.temps) s.mem) → AllShown (is_hidden open_to s.regs.sp) (addresses (part_of k flags s).writes)
+    → AllShown (is_hidden open_to s.regs.sp) (read_by (k.act flags s.regs s.temps) s.mem)
+    → AllShown (is_hidden open_to s.regs.sp) (addresses (part_of k flags s).writes)
     → Part open_to flags k s
 part_here i k laws open_to flags s c decoded reads writes =
     let h = is_hidden open_to s.regs.sp in
@@ -128,7 +131,8 @@ part_here i k laws open_to flags s c decoded reads writes =
     }
 
 -- the state after a part that goes on keeps the same
-next_part : (i : Instr) (k : Kind) → RuleLaws i k → WriteLaws → (open_to : ℕ → Bool) (flags : ℕ) (s : State) → flags < 2 ^ 8 → AtInstruction open_to s → (part_of k flags s).end ≡ More
+next_part : (i : Instr) (k : Kind) → RuleLaws i k → WriteLaws → (open_to : ℕ → Bool) (flags : ℕ) (s : State) → flags < 2 ^ 8 → AtInstruction open_to s
+    → (part_of k flags s).end ≡ More
     → AtInstruction open_to (after_part k flags s)
 next_part i k laws writes open_to flags s hf c more =
     let o : Outcome = part_of k flags s in
@@ -156,7 +160,8 @@ pub record Stands (open_to : ℕ → Bool) (i : Instr) (sp pc : ℕ) (first : Li
 
 -- a part of it
 touched : (i : Instr) (k : Kind) → RuleLaws i k → (open_to : ℕ → Bool) (flags sp pc : ℕ) (first : List ℕ) (s : State) → Stands open_to i sp pc first s
-    → Spared (is_hidden open_to sp) (six_from pc) (addresses (part_of k flags s).writes) → AllShown (is_hidden open_to sp) (read_by (k.act flags s.regs s.temps) s.mem) → Part open_to flags k s
+    → Spared (is_hidden open_to sp) (six_from pc) (addresses (part_of k flags s).writes)
+    → AllShown (is_hidden open_to sp) (read_by (k.act flags s.regs s.temps) s.mem) → Part open_to flags k s
 touched i k laws open_to flags sp pc first s at w r =
     part_here i k laws open_to flags s at.begins (ap (decode_at s.mem) at.at ∙ at.decoded)
     (subst (λ (n : ℕ). AllShown (is_hidden open_to n) (read_by (k.act flags s.regs s.temps) s.mem)) (sym at.stack) r)
@@ -165,7 +170,8 @@ touched i k laws open_to flags sp pc first s at w r =
 kinded : Kind → ℕ → State → PartEnd → Result Next ℕ
 kinded k flags s e = Ok (record { state = after_part k flags s; kind = kind_of e })
 
-pub parts_at : (i : Instr) (k : Kind) → RuleLaws i k → WriteLaws → (open_to : ℕ → Bool) (flags : ℕ) (Q : State → Type 0) (sp pc : ℕ) (first : List ℕ) (d : ℕ) (s t : State) → flags < 2 ^ 8
+pub parts_at : (i : Instr) (k : Kind) → RuleLaws i k → WriteLaws
+    → (open_to : ℕ → Bool) (flags : ℕ) (Q : State → Type 0) (sp pc : ℕ) (first : List ℕ) (d : ℕ) (s t : State) → flags < 2 ^ 8
     → Stands open_to i sp pc first s → ((v : State) → v.regs.pc ≡ pc → v.regs.sp ≡ sp → SameAbove first v.mem → Q v)
     → PartsTo k flags (is_hidden open_to sp) (is_spared (is_hidden open_to sp) (six_from pc)) d s t → Stretch (Kept open_to flags Q) flags d s t
 unfolding kinded

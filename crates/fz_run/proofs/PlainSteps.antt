@@ -1,5 +1,5 @@
 -- A plain instruction is one step, before which the state keeps the facts.
-use Rattle.std.proofs.Common.{◌≡◌, ℕ, Bool, Result, Ok, List, refl, ap, sym, ◌∙◌, subst, inl, min}
+use Rattle.std.proofs.Common.{◌≡◌, ℕ, Bool, Result, Ok, ap, sym, ◌∙◌, subst, inl, min}
 use Rattle.cpu12_isa.specs.declared.instr.Instr.{Instr}
 use Rattle.cpu12_isa.specs.Act.{read_by}
 use Rattle.cpu12_isa.specs.Agreement.{AllShown, Uncovers}
@@ -11,7 +11,7 @@ use Rattle.cpu12_parts.specs.declared.temps.Temps.{Temps}
 use Rattle.cpu12_parts.specs.declared.temps.Temps.TheVariants.{Free}
 use Rattle.cpu12_parts.specs.Laws.{addresses}
 use Rattle.cpu12_parts.specs.State.{State}
-use Rattle.cpu12_parts.specs.Whole.{IsPlainStep, after_plain}
+use Rattle.cpu12_parts.specs.Whole.{IsPlainStep}
 use Rattle.cpu12_emul.specs.declared.ends.Stepped.TheVariants.{Plain}
 use Rattle.cpu12_emul.specs.Simulation.{AreSumsReady, PlainIsStep}
 use Rattle.cpu12_emul.specs.Step.{Left, Next, applied, next_of}
@@ -28,7 +28,8 @@ plain_next law flags i s t free p =
     by : State → Result Next ℕ
     by u = Ok (record { state = u; kind = Plain })
 
-pub plain_step : PlainIsStep → (open_to : ℕ → Bool) (flags : ℕ) (Q : State → Type 0) (i : Instr) (s t : State) → AtInstruction open_to s → IsPlainStep flags i s t
+pub plain_step : PlainIsStep → (open_to : ℕ → Bool) (flags : ℕ) (Q : State → Type 0) (i : Instr) (s t : State) → AtInstruction open_to s
+    → IsPlainStep flags i s t
     → AllShown (is_hidden open_to s.regs.sp) (read_by (act_of flags i s.regs) s.mem)
     → AllShown (is_hidden open_to (min s.regs.sp t.regs.sp)) (addresses (effect flags i s.regs s.mem).writes)
     → Uncovers (is_hidden open_to s.regs.sp) (effect flags i s.regs s.mem).writes (is_hidden open_to t.regs.sp) → Q s

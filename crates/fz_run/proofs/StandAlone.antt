@@ -27,7 +27,8 @@ at_once : (flags : ℕ) (s : State) (k m : ℕ) → ((j : ℕ) → suc j ≤ m +
 at_once flags s zero m h = refl
 at_once flags s (suc k) m h = let e = h m (omega arith) in rw e refl
 
-taken_is : (flags : ℕ) (f : Firmware) (n : ℕ) (s : State) → Before (FactsAlone flags f) flags n s → taken_at flags (λ (r : Request). r.moment) n s ≡ (λ r. r.moment)
+taken_is : (flags : ℕ) (f : Firmware) (n : ℕ) (s : State) → Before (FactsAlone flags f) flags n s
+    → taken_at flags (λ (r : Request). r.moment) n s ≡ (λ r. r.moment)
 taken_is flags f n s b = λ i. λ r. at r (within r.moment) i
   where
     within : (a : ℕ) → (n - a ≡ 0) ⊎ (n - a + a ≡ n)
@@ -37,7 +38,8 @@ taken_is flags f n s b = λ i. λ r. at r (within r.moment) i
     at r (inl e) = ap (λ (k : ℕ). first_open flags s k r.moment) e
     at r (inr e) = at_once flags s (n - r.moment) r.moment (λ j l. ap not (let p = before_at (FactsAlone flags f) flags n j s b (omega arith) in let facts = p.facts in facts.unmasked))
 
-same_rows : (flags : ℕ) (f : Firmware) (plan : List Request) (k : ℕ) (ns : List ℕ) (samples : List (List ℕ)) (s : State) → AllComplete (FactsAlone flags f) (with_writes flags f) ns samples s
+same_rows : (flags : ℕ) (f : Firmware) (plan : List Request) (k : ℕ) (ns : List ℕ) (samples : List (List ℕ)) (s : State)
+    → AllComplete (FactsAlone flags f) (with_writes flags f) ns samples s
     → expected_rows (with_writes flags f) (λ j. requests_of j plan) k ns samples s ≡ rows_of_samples flags f plan k ns samples s
 same_rows flags f plan k [] samples s h = refl
 same_rows flags f plan k (n ∷ ns) [] s h = refl
@@ -56,7 +58,8 @@ same_rows flags f plan k (n ∷ ns) (bytes ∷ rest) s h =
       frames = frames_of flags moment (given f.layout bytes s) (requests_of k plan) n;
     }
 
-pub runs_follow_alone : ((flags : ℕ) (f : Firmware) → IsLow f → RunsFollow is_free (with_writes flags f) (FactsAlone flags f) IsGoodRequest Nothing) → RunsFollowAlone
+pub runs_follow_alone : ((flags : ℕ) (f : Firmware) → IsLow f → RunsFollow is_free (with_writes flags f) (FactsAlone flags f) IsGoodRequest Nothing)
+    → RunsFollowAlone
 runs_follow_alone law flags f most plan ns samples s low good le h =
     let g = goes_good plan good in
     let r = law flags f low (λ j. requests_of j plan) (λ j. (requests_good j 0 0 plan g, requests_ascend j 0 0 plan g 0 (λ e. omega arith) (λ e. omega arith))) [] 1 most ns samples s s le h

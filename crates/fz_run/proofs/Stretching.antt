@@ -1,5 +1,5 @@
 -- Stretches of steps, put together.
-use Rattle.std.proofs.Common.{◌≡◌, ℕ, zero, suc, ◌+◌, Bool, not, Result, Ok, List, [], ◌∷◌, get_or, refl, ap, ap₂, sym, ◌∙◌, subst, arith}
+use Rattle.std.proofs.Common.{◌≡◌, ℕ, zero, suc, ◌+◌, not, Result, Ok, List, [], ◌∷◌, refl, ap, ap₂, sym, ◌∙◌, subst, arith}
 use Rattle.cpu12_parts.specs.State.{State}
 use Rattle.cpu12_emul.specs.declared.ends.Stepped.{Stepped}
 use Rattle.cpu12_emul.specs.declared.ends.Stepped.TheVariants.{Plain, Part, LastPart}
@@ -58,7 +58,8 @@ last_stretch P flags s t p e = record {
 }
 
 -- a part before the rest
-pub part_stretch : (P : State → Type 0) (flags d : ℕ) (s u t : State) → P s → next_of flags s ≡ Ok (record { state = u; kind = Part }) → Stretch P flags d u t → Stretch P flags (suc d) s t
+pub part_stretch : (P : State → Type 0) (flags d : ℕ) (s u t : State) → P s → next_of flags s ≡ Ok (record { state = u; kind = Part }) → Stretch P flags d u t
+    → Stretch P flags (suc d) s t
 part_stretch P flags d s u t p e r =
     let at : stepped flags s ≡ u = ap (state_by s) e in
     let kind : kind_at flags s ≡ Part = ap kind_by e in

@@ -1,5 +1,6 @@
 -- The parts of WAV are steps, before each of which the state keeps the facts.
-use Rattle.std.proofs.Common.{◌≡◌, ℕ, zero, suc, ◌+◌, ◌^◌, ◌<◌, ◌≤◌, min, Bool, false, Result, Ok, List, [], length, get_or, refl, ap, ap₂, sym, ◌∙◌, subst, inl}
+use Rattle.std.proofs.Common.{◌≡◌, ℕ, zero, suc, ◌+◌, ◌^◌, ◌<◌, ◌≤◌, min, Bool, false, Result, Ok, List, length, get_or, refl, ap, ap₂, sym, ◌∙◌, subst}
+use Rattle.std.proofs.Common.{inl}
 use Rattle.cpu12_isa.specs.declared.instr.Instr.TheVariants.{Wav}
 use Rattle.cpu12_isa.specs.Act.{read_by, write_all}
 use Rattle.cpu12_isa.specs.Agreement.{AllShown}
@@ -19,11 +20,10 @@ use Rattle.cpu12_parts.specs.Fits.{FitsTemps, FitsState, FitsOutcome}
 use Rattle.cpu12_parts.specs.Inside.{second_byte}
 use Rattle.cpu12_parts.specs.Laws.{addresses, AreKept, PartsTo}
 use Rattle.cpu12_emul.specs.Simulation.{AreSumsReady, left_of, HasRoom}
-use Rattle.cpu12_emul.specs.Step.{Left, Next, kind_of, step_act, applied, next_of}
+use Rattle.cpu12_emul.specs.Step.{Left, Next, kind_of, step_act, applied}
 use Rattle.cpu12_isa.specs.Act.{outcome}
 use Rattle.fz_run.specs.Facts.{Facts, AreNoneOrRunning}
-use Rattle.fz_run.proofs.Stretches.{Stretch, Kept, SameAbove, AtInstruction, SumLaws}
-use Rattle.fz_run.proofs.PartSteps.{same_least}
+use Rattle.fz_run.proofs.Stretches.{Stretch, Kept, AtInstruction, SumLaws}
 use Rattle.fz_run.proofs.Stretching.{last_stretch, part_stretch}
 
 -- a state within WAV
@@ -44,7 +44,8 @@ pub record Summing (open_to : ℕ → Bool) (s : State) : Type 0 where
 
 -- the facts, where the step is a part of WAV
 part_facts : SumLaws → (open_to : ℕ → Bool) (flags : ℕ) (s : State) → outcome (step_act flags s.regs s.temps) s.mem ≡ Ok (left_of (part_of wav flags s))
-    → AllShown (is_hidden open_to s.regs.sp) (read_by (step_act flags s.regs s.temps) s.mem) → HasRoom s → AreSumsReady open_to s s.temps → has s.regs.ccr interrupts_masked ≡ false
+    → AllShown (is_hidden open_to s.regs.sp) (read_by (step_act flags s.regs s.temps) s.mem) → HasRoom s → AreSumsReady open_to s s.temps
+    → has s.regs.ccr interrupts_masked ≡ false
     → AreNoneOrRunning s.temps → Facts open_to flags s
 part_facts laws open_to flags s goes reads room ready unmasked sums =
     let o : Outcome = part_of wav flags s in
@@ -81,7 +82,8 @@ mem_stays : SumLaws → (flags : ℕ) (s : State) → (after_part wav flags s).m
 mem_stays laws flags s = ap (λ (ws : List (ℕ × ℕ)). write_all ws s.mem) (laws.writes flags s)
 
 -- the state after a part that goes on
-next_sums : SumLaws → (open_to : ℕ → Bool) (flags pc : ℕ) (s : State) → flags < 2 ^ 8 → HasRoom s → FitsState s → has s.regs.ccr interrupts_masked ≡ false → second_byte s.temps s.regs.pc ≡ pc
+next_sums : SumLaws → (open_to : ℕ → Bool) (flags pc : ℕ) (s : State) → flags < 2 ^ 8 → HasRoom s → FitsState s → has s.regs.ccr interrupts_masked ≡ false
+    → second_byte s.temps s.regs.pc ≡ pc
     → get_or s.mem pc 0 ≡ 60 → is_hidden open_to s.regs.sp pc ≡ false → (part_of wav flags s).end ≡ More → Summing open_to (after_part wav flags s)
 next_sums laws open_to flags pc s hf room fit unmasked at code shown more =
     let o : Outcome = part_of wav flags s in
@@ -111,10 +113,12 @@ next_sums laws open_to flags pc s hf room fit unmasked at code shown more =
 room_of : (open_to : ℕ → Bool) (s : State) → Summing open_to s → HasRoom s
 room_of open_to s c = record { size = c.size; fits = c.fits; low = c.low; high = c.high }
 
-sum_goes : SumLaws → (open_to : ℕ → Bool) (flags : ℕ) (s : State) → Summing open_to s → outcome (step_act flags s.regs s.temps) s.mem ≡ Ok (left_of (part_of wav flags s))
+sum_goes : SumLaws → (open_to : ℕ → Bool) (flags : ℕ) (s : State) → Summing open_to s
+    → outcome (step_act flags s.regs s.temps) s.mem ≡ Ok (left_of (part_of wav flags s))
 sum_goes laws open_to flags s c = (laws.sums_are_step flags s c.product c.weight c.running).0
 
-sum_facts : SumLaws → (open_to : ℕ → Bool) (flags sp : ℕ) (s : State) → Summing open_to s → s.regs.sp ≡ sp → AllShown (is_hidden open_to sp) (read_by (wav.act flags s.regs s.temps) s.mem) → Facts open_to flags s
+sum_facts : SumLaws → (open_to : ℕ → Bool) (flags sp : ℕ) (s : State) → Summing open_to s → s.regs.sp ≡ sp
+    → AllShown (is_hidden open_to sp) (read_by (wav.act flags s.regs s.temps) s.mem) → Facts open_to flags s
 sum_facts laws open_to flags sp s c esp reads =
     part_facts laws open_to flags s (sum_goes laws open_to flags s c)
     (subst (AllShown (is_hidden open_to s.regs.sp)) (sym (laws.sums_are_step flags s c.product c.weight c.running).1)
@@ -127,8 +131,10 @@ sum_facts laws open_to flags sp s c esp reads =
 kinded : ℕ → State → PartEnd → Result Next ℕ
 kinded flags s e = Ok (record { state = after_part wav flags s; kind = kind_of e })
 
-pub sums_at : SumLaws → (open_to : ℕ → Bool) (flags : ℕ) (Q : State → Type 0) (sp pc : ℕ) (none : ℕ → Bool) (first : List ℕ) (d : ℕ) (s t : State) → flags < 2 ^ 8 → Summing open_to s → s.regs.sp ≡ sp → s.regs.pc ≡ pc
-    → s.mem ≡ first → ((v : State) → v.regs.pc ≡ pc → v.regs.sp ≡ sp → v.mem ≡ first → Q v) → PartsTo wav flags (is_hidden open_to sp) none d s t → Stretch (Kept open_to flags Q) flags d s t
+pub sums_at : SumLaws → (open_to : ℕ → Bool) (flags : ℕ) (Q : State → Type 0) (sp pc : ℕ) (none : ℕ → Bool) (first : List ℕ) (d : ℕ) (s t : State)
+    → flags < 2 ^ 8 → Summing open_to s → s.regs.sp ≡ sp → s.regs.pc ≡ pc
+    → s.mem ≡ first → ((v : State) → v.regs.pc ≡ pc → v.regs.sp ≡ sp → v.mem ≡ first → Q v) → PartsTo wav flags (is_hidden open_to sp) none d s t
+    → Stretch (Kept open_to flags Q) flags d s t
 unfolding kinded
 sums_at laws open_to flags Q sp pc none first zero s t hf c esp epc em q h =
     subst (λ (u : State). Stretch (Kept open_to flags Q) flags 0 s u) (sym h.2)
@@ -146,8 +152,10 @@ sums_at laws open_to flags Q sp pc none first (suc n) s t hf c esp epc em q h =
     (sums_at laws open_to flags Q sp pc none first n u t hf next stack (on.1 ∙ own ∙ epc) (mem_stays laws flags s ∙ em) q h.2)
 
 -- WAV from its first part
-pub average_at : SumLaws → DecodedHasOpcode → (open_to : ℕ → Bool) (flags : ℕ) (Q : State → Type 0) (d : ℕ) (none : ℕ → Bool) (s t : State) → flags < 2 ^ 8 → AtInstruction open_to s → decode_at s.mem s.regs.pc ≡ Ok Wav
-    → Q s → ((v : State) → v.regs.pc ≡ plus s.regs.pc 1 → v.regs.sp ≡ s.regs.sp → v.mem ≡ s.mem → Q v) → PartsTo wav flags (is_hidden open_to s.regs.sp) none d s t → Stretch (Kept open_to flags Q) flags d s t
+pub average_at : SumLaws → DecodedHasOpcode → (open_to : ℕ → Bool) (flags : ℕ) (Q : State → Type 0) (d : ℕ) (none : ℕ → Bool) (s t : State) → flags < 2 ^ 8
+    → AtInstruction open_to s → decode_at s.mem s.regs.pc ≡ Ok Wav
+    → Q s → ((v : State) → v.regs.pc ≡ plus s.regs.pc 1 → v.regs.sp ≡ s.regs.sp → v.mem ≡ s.mem → Q v)
+    → PartsTo wav flags (is_hidden open_to s.regs.sp) none d s t → Stretch (Kept open_to flags Q) flags d s t
 unfolding kinded
 average_at laws opcode open_to flags Q d none s t hf c decoded qs q h = by d h
   where

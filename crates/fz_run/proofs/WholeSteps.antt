@@ -1,5 +1,5 @@
 -- Whole instructions are stretches of steps.
-use Rattle.std.proofs.Common.{◌≡◌, ℕ, ◌-◌, ◌^◌, ◌<◌, Bool, false, List, refl, ap, sym, ◌∙◌, subst}
+use Rattle.std.proofs.Common.{◌≡◌, ℕ, ◌-◌, ◌^◌, ◌<◌, Bool, false, List, refl, sym, subst}
 use Rattle.cpu12_isa.specs.declared.instr.Instr.{Instr}
 use Rattle.cpu12_isa.specs.declared.instr.Instr.TheVariants.{Rev, Revw}
 use Rattle.cpu12_isa.specs.Agreement.{AllShown}
@@ -9,7 +9,7 @@ use Rattle.cpu12_isa.specs.Regions.{stack_end, is_hidden}
 use Rattle.cpu12_parts.specs.State.{State}
 use Rattle.cpu12_parts.specs.Cuts.{Kind, rev, revw, wav}
 use Rattle.cpu12_parts.specs.Rules.{Rule, Form, rev_form, revw_form, rules_read, rules_written, rules_whole, AreApart}
-use Rattle.cpu12_parts.specs.Averages.{wav_read, wav_whole}
+use Rattle.cpu12_parts.specs.Averages.{wav_read}
 use Rattle.cpu12_parts.specs.Laws.{PartsTo}
 use Rattle.cpu12_parts.specs.Touching.{Each}
 use Rattle.cpu12_parts.specs.Whole.{IsRulesStep, IsAverageStep}
@@ -28,7 +28,8 @@ pub record Touches (open_to : ℕ → Bool) (f : Form) (p : Rule) (ps : List Rul
 abbrev pub Inside : (State → Type 0) → State → Type 0
 Inside Q s = (v : State) → v.regs.pc ≡ s.regs.pc → v.regs.sp ≡ s.regs.sp → SameAbove s.mem v.mem → Q v
 
-rules_step : (i : Instr) (k : Kind) (f : Form) → RuleLaws i k → WriteLaws → (open_to : ℕ → Bool) (flags : ℕ) (Q : State → Type 0) (d : ℕ) (p : Rule) (ps : List Rule) (s t : State) → flags < 2 ^ 8
+rules_step : (i : Instr) (k : Kind) (f : Form) → RuleLaws i k → WriteLaws
+    → (open_to : ℕ → Bool) (flags : ℕ) (Q : State → Type 0) (d : ℕ) (p : Rule) (ps : List Rule) (s t : State) → flags < 2 ^ 8
     → AtInstruction open_to s → IsRulesStep i f flags d p ps s t → Inside Q s
     → PartsTo k flags (is_hidden open_to s.regs.sp) (is_spared (is_hidden open_to s.regs.sp) (six_from s.regs.pc)) d s (rules_whole f flags s.regs s.temps s.mem p ps)
     → Stretch (Kept open_to flags Q) flags d s t
@@ -37,8 +38,10 @@ rules_step i k f laws writes open_to flags Q d p ps s t hf c h q parts =
     (parts_at i k laws writes open_to flags Q s.regs.sp s.regs.pc s.mem d s (rules_whole f flags s.regs s.temps s.mem p ps) hf
     (record { begins = c; decoded = h.decoded; stack = refl; at = refl; above = λ at le. refl }) q parts)
 
-pub rev_step : StepLaws → (open_to : ℕ → Bool) (flags : ℕ) (Q : State → Type 0) (d : ℕ) (p : Rule) (ps : List Rule) (s t : State) → flags < 2 ^ 8 → AtInstruction open_to s
-    → IsRulesStep Rev (rev_form s.regs.y) flags d p ps s t → Touches open_to (rev_form s.regs.y) p ps s → Inside Q s → Stretch (Kept open_to flags Q) flags d s t
+pub rev_step : StepLaws → (open_to : ℕ → Bool) (flags : ℕ) (Q : State → Type 0) (d : ℕ) (p : Rule) (ps : List Rule) (s t : State) → flags < 2 ^ 8
+    → AtInstruction open_to s
+    → IsRulesStep Rev (rev_form s.regs.y) flags d p ps s t → Touches open_to (rev_form s.regs.y) p ps s → Inside Q s
+    → Stretch (Kept open_to flags Q) flags d s t
 rev_step laws open_to flags Q d p ps s t hf c h o q =
     let hidden = is_hidden open_to s.regs.sp in
     let own = six_from s.regs.pc in
@@ -47,7 +50,8 @@ rev_step laws open_to flags Q d p ps s t hf c h o q =
     (laws.rev_is_whole flags s.regs s.temps s.mem p ps d hidden (is_spared hidden own) hf fits.ccr h.ready h.parts o.reads
     (spared hidden own (rules_written (rev_form s.regs.y) p ps) o.writes o.below o.itself))
 
-pub revw_step : StepLaws → (open_to : ℕ → Bool) (flags : ℕ) (Q : State → Type 0) (d : ℕ) (p : Rule) (ps : List Rule) (s t : State) → flags < 2 ^ 8 → AtInstruction open_to s
+pub revw_step : StepLaws → (open_to : ℕ → Bool) (flags : ℕ) (Q : State → Type 0) (d : ℕ) (p : Rule) (ps : List Rule) (s t : State) → flags < 2 ^ 8
+    → AtInstruction open_to s
     → IsRulesStep Revw revw_form flags d p ps s t → Touches open_to revw_form p ps s → Inside Q s → Stretch (Kept open_to flags Q) flags d s t
 revw_step laws open_to flags Q d p ps s t hf c h o q =
     let hidden = is_hidden open_to s.regs.sp in
@@ -57,8 +61,10 @@ revw_step laws open_to flags Q d p ps s t hf c h o q =
     (laws.revw_is_whole flags s.regs s.temps s.mem p ps d hidden (is_spared hidden own) hf fits.ccr h.ready h.parts o.reads
     (spared hidden own (rules_written revw_form p ps) o.writes o.below o.itself))
 
-pub average_step : StepLaws → (open_to : ℕ → Bool) (flags : ℕ) (Q : State → Type 0) (d : ℕ) (s t : State) → flags < 2 ^ 8 → AtInstruction open_to s → IsAverageStep flags d s t
-    → AllShown (is_hidden open_to s.regs.sp) (wav_read s.regs) → Q s → ((v : State) → v.regs.pc ≡ plus s.regs.pc 1 → v.regs.sp ≡ s.regs.sp → v.mem ≡ s.mem → Q v)
+pub average_step : StepLaws → (open_to : ℕ → Bool) (flags : ℕ) (Q : State → Type 0) (d : ℕ) (s t : State) → flags < 2 ^ 8 → AtInstruction open_to s
+    → IsAverageStep flags d s t
+    → AllShown (is_hidden open_to s.regs.sp) (wav_read s.regs) → Q s
+    → ((v : State) → v.regs.pc ≡ plus s.regs.pc 1 → v.regs.sp ≡ s.regs.sp → v.mem ≡ s.mem → Q v)
     → Stretch (Kept open_to flags Q) flags d s t
 average_step laws open_to flags Q d s t hf c h reads qs q =
     let none : ℕ → Bool = λ k. false in

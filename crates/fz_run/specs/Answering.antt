@@ -22,17 +22,21 @@ use Rattle.fz_run.specs.Following.{rows_of_samples, FollowsAlone}
 abbrev pub answer_of_row : RowSeen (List ℕ) → Answer
 answer_of_row row = record { values = row.answers; instructions = row.instrs }
 
--- Rows are a block's answers: each is of its sample; its answers and instructions are those without interrupts, which are the
--- block's over bytes, each after the one before, within the bound; and no row has more steps than the bound says.
-pub record AnswerBlock (b : Block) (f : Firmware) (flags : ℕ) (samples : List (List ℕ)) (rows : List (RowSeen (List ℕ))) : Type 0 where
+-- Rows are a block's answers: each is of its sample; its answers and instructions are those without interrupts, which
+-- are the block's over bytes, each after the one before, within the bound; and no row has more steps than the bound
+-- says.
+pub record AnswerBlock (b : Block) (f : Firmware) (flags : ℕ) (samples : List (List ℕ)) (rows : List (RowSeen
+    (List ℕ))) : Type 0 where
   pub samples_are : map (λ r. r.sample) rows ≡ samples
   pub uninterrupted : AreUninterrupted f flags samples (map answer_of_row rows)
   pub answers : AreAnswersOf (width_of f.wide) b (λ o. 0) samples (map answer_of_row rows)
   pub steps : All (λ r. r.steps ≤ step_bound (width_of f.wide) b) rows
 
--- What a block's firmware gives under a plan: rows that are the block's answers; the run without interrupts from the first
--- arrival answers all samples, and its states keep the facts; the rows are read off it; and the run under the plan follows it.
-pub record AnswersUnder (b : Block) (f : Firmware) (flags : ℕ) (samples : List (List ℕ)) (plan : List Request) (rows : List (RowSeen (List ℕ))) : Type 0 where
+-- What a block's firmware gives under a plan: rows that are the block's answers; the run without interrupts from the
+-- first arrival answers all samples, and its states keep the facts; the rows are read off it; and the run under the
+-- plan follows it.
+pub record AnswersUnder (b : Block) (f : Firmware) (flags : ℕ) (samples : List (List ℕ)) (plan : List Request)
+    (rows : List (RowSeen (List ℕ))) : Type 0 where
   pub answers : AnswerBlock b f flags samples rows
   pub ns : List ℕ
   pub complete : AllComplete (FactsAlone flags f) (with_writes flags f) ns samples (first_state f flags)
@@ -47,5 +51,6 @@ AnswersItsBlock f flags samples plan rows =
 
 -- The firmware of a block answers every list of samples so under every good plan.
 abbrev pub AnswersUnderPlans : Type 0
-AnswersUnderPlans = (f : Firmware) (flags : ℕ) (samples : List (List ℕ)) (plan : List Request) → flags < 2 ^ 8 → IsGood plan
+AnswersUnderPlans = (f : Firmware) (flags : ℕ) (samples : List (List ℕ)) (plan : List Request) → flags < 2 ^ 8
+    → IsGood plan
     → AnswersItsBlock f flags samples plan (firmware_rows f samples plan flags).rows

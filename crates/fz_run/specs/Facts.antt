@@ -17,16 +17,17 @@ AreNoneOrRunning Free = Unit {0}
 AreNoneOrRunning OnStack = ⊥
 AreNoneOrRunning (Running p w) = Unit {0}
 
--- What a step reads is not hidden, and what it uncovers of the stack it writes; what it writes is not open to handlers, nor
--- below the lower of SP before it and SP after it on the stack; I is 0; and the sums are none or running.
+-- What a step reads is not hidden, and what it uncovers of the stack it writes; what it writes is not open to
+-- handlers, nor below the lower of SP before it and SP after it on the stack; I is 0; and the sums are none or
+-- running.
 pub record Facts (open_to : ℕ → Bool) (flags : ℕ) (s : State) : Type 0 where
   pub shown : IsShownStep open_to flags s
   pub writes : AllShown (is_hidden open_to (min s.regs.sp shown.left.regs.sp)) (addresses shown.left.writes)
   pub unmasked : has s.regs.ccr interrupts_masked ≡ false
   pub sums : AreNoneOrRunning s.temps
 
--- The same of a firmware that stands alone. The bytes from $2000 on, and so all from $C000 on, are the image's, and 0 where it
--- has none; and SP is at the stack's end, or two bytes lower while a call is open.
+-- The same of a firmware that stands alone. The bytes from $2000 on, and so all from $C000 on, are the image's, and 0
+-- where it has none; and SP is at the stack's end, or two bytes lower while a call is open.
 pub record FactsAlone (flags : ℕ) (f : Firmware) (s : State) : Type 0 where
   pub facts : Facts is_free flags s
   pub image : (at : ℕ) → stack_end ≤ at → slice_index s.mem at ≡ slice_index (image_memory f.image.bytes) at

@@ -3,7 +3,7 @@ use Rattle.std.specs.Prelude.{◌≡◌, ℕ, suc, ◌+◌, ◌*◌, ◌<◌, �
 use Rattle.cpu12_isa.specs.Regions.{free_start, is_free}
 use Rattle.cpu12_parts.specs.State.{State}
 use Rattle.cpu12_emul.specs.Simulation.{Same}
-use Rattle.run_law.specs.Forms.{RowSeen, rows_from}
+use Rattle.run_law.specs.Forms.{RowSeen, Rows, rows_from}
 use Rattle.run_law.specs.Uninterrupted.{uninterrupted, counted, resumed_of, frames_of}
 use Rattle.run_law.specs.Following.{AllComplete, AllWithin, RowsSimulate, last_uninterrupted}
 use Rattle.interrupt_plan.specs.declared.Request.{Request}
@@ -30,7 +30,8 @@ rows_of_samples flags f plan k [] samples s = []
 rows_of_samples flags f plan k (n ∷ ns) [] s = []
 rows_of_samples flags f plan k (n ∷ ns) (bytes ∷ rest) s =
     let first = given f.layout bytes s in
-    row_of_sample flags f (requests_of k plan) n bytes first ∷ rows_of_samples flags f plan (suc k) ns rest (uninterrupted flags n first)
+    let row = row_of_sample flags f (requests_of k plan) n bytes first in
+    row ∷ rows_of_samples flags f plan (suc k) ns rest (uninterrupted flags n first)
 
 -- the bytes that are read from outside stand below those that plans may write
 pub record IsLow (f : Firmware) : Type 0 where
@@ -47,16 +48,27 @@ pub record Alone : Type 0 where
 abbrev pub Nothing : List (Request × Unit {0}) → State → Type 0
 Nothing done s = Unit {0}
 
--- A run of samples under a plan follows the run without interrupts from s: it comes to the end of each, its rows are those
--- that are read off that run, each of its states simulates that run's, and so does the last.
-pub record FollowsAlone (flags : ℕ) (f : Firmware) (most : ℕ) (plan : List Request) (ns : List ℕ) (samples : List (List ℕ)) (s : State) : Type 0 where
-  pub arrived : (rows_from (with_writes flags f) most (λ k. requests_of k plan) 1 samples s).arrived ≡ true
-  pub rows_are : (rows_from (with_writes flags f) most (λ k. requests_of k plan) 1 samples s).rows ≡ rows_of_samples flags f plan 1 ns samples s
-  pub simulates : RowsSimulate is_free (with_writes flags f) ns samples (rows_from (with_writes flags f) most (λ k. requests_of k plan) 1 samples s).states s
-  pub last : Same is_free (rows_from (with_writes flags f) most (λ k. requests_of k plan) 1 samples s).state (last_uninterrupted (with_writes flags f) ns samples s)
+-- the run of samples under a plan from s, and the last state of the run without interrupts
+abbrev pub rows_under : ℕ → Firmware → ℕ → List Request → List (List ℕ) → State → Rows (List ℕ) Request (Unit {0})
+rows_under flags f most plan samples s =
+    rows_from (with_writes flags f) most (λ k. requests_of k plan) 1 samples s
+
+abbrev pub last_of : ℕ → Firmware → List ℕ → List (List ℕ) → State → State
+last_of flags f ns samples s = last_uninterrupted (with_writes flags f) ns samples s
+
+-- A run of samples under a plan follows the run without interrupts from s: it comes to the end of each, its rows are
+-- those that are read off that run, each of its states simulates that run's, and so does the last.
+pub record FollowsAlone (flags : ℕ) (f : Firmware) (most : ℕ) (plan : List Request) (ns : List ℕ)
+    (samples : List (List ℕ)) (s : State) : Type 0 where
+  pub arrived : (rows_under flags f most plan samples s).arrived ≡ true
+  pub rows_are : (rows_under flags f most plan samples s).rows ≡ rows_of_samples flags f plan 1 ns samples s
+  pub simulates :
+      RowsSimulate is_free (with_writes flags f) ns samples (rows_under flags f most plan samples s).states s
+  pub last : Same is_free (rows_under flags f most plan samples s).state (last_of flags f ns samples s)
 
 -- So does each run under a good plan, where the states of the run without interrupts keep the facts.
 abbrev pub RunsFollowAlone : Type 0
-RunsFollowAlone = (flags : ℕ) (f : Firmware) (most : ℕ) (plan : List Request) (ns : List ℕ) (samples : List (List ℕ)) (s : State)
-    → IsLow f → IsGood plan → AllWithin most ns → AllComplete (FactsAlone flags f) (with_writes flags f) ns samples s
+RunsFollowAlone = (flags : ℕ) (f : Firmware) (most : ℕ) (plan : List Request) (ns : List ℕ) (samples : List (List ℕ))
+    → (s : State) → IsLow f → IsGood plan → AllWithin most ns
+    → AllComplete (FactsAlone flags f) (with_writes flags f) ns samples s
     → FollowsAlone flags f most plan ns samples s

@@ -7,9 +7,10 @@ use crate::alone::StandAlone;
 use codegen::laws::{answered_are_uninterrupted, firmware_answers};
 use cpu12_emul::laws::{plain_is_step, rev_is_step, revw_is_step, sums_are_step, wav_is_step};
 use cpu12_isa::laws::{bytes_stay, decoded_has_opcode, writes_stay};
-use cpu12_parts::laws::{rev_fits, rev_is_whole, rev_stays, rev_steady};
-use cpu12_parts::laws::{revw_fits, revw_is_whole, revw_stays, revw_steady};
-use cpu12_parts::laws::{wav_fits, wav_is_whole, wav_stays, wav_steady};
+use cpu12_parts::laws::{
+    rev_fits, rev_is_whole, rev_stays, rev_steady, revw_fits, revw_is_whole, revw_stays,
+    revw_steady, wav_fits, wav_is_whole, wav_stays, wav_steady,
+};
 use run_law::laws::runs_follow;
 
 /// The run of a firmware that stands alone follows the run without interrupts under every good plan,
