@@ -34,8 +34,8 @@ use Rattle.run_law.specs.Following.{Completes, AllComplete, AllWithin}
 use Rattle.fz_run.specs.Forms.{given, answer_size, answers_at, answers_in, with_writes}
 use Rattle.fz_run.specs.Rows.{requests_of, arrival, first_state, firmware_rows}
 use Rattle.fz_run.specs.Arrival.{ArrivesPlainly}
-use Rattle.fz_run.specs.Facts.{FactsAlone}
-use Rattle.fz_run.specs.Following.{row_of_sample, rows_of_samples, IsLow, FollowsAlone}
+use Rattle.fz_run.specs.Facts.{FactsAlone, WaitsAlone}
+use Rattle.fz_run.specs.Following.{row_of_sample, rows_of_samples, IsLow, FollowsAlone, AllWait}
 use Rattle.fz_run.proofs.Stretches.{Stretch, Stretches, Kept, SameAbove, AtInstruction}
 use Rattle.fz_run.specs.Answering.{answer_of_row, AnswersItsBlock, AnswersUnder, AnswersUnderPlans}
 use Rattle.fz_run.proofs.PortBytes.{write_last}
@@ -193,6 +193,26 @@ all_sampled laws f n b w flags before (bytes ∷ samples) s hf l h =
       subst (λ (u : State). AllComplete (FactsAlone flags (alone f n)) (with_writes flags (alone f n)) (numbers b w image flags later samples h.0 h.1.1) samples u) (sym g.goes) (all_sampled laws f n b w flags later samples h.0 hf l.1 h.1.1),
     )
 
+-- where it waits
+waits_alone : (f : Firmware) (s : State) → IsInterruptible (image_memory f.image.bytes) s → WaitsAlone f s
+unfolding IsStack
+waits_alone f s c = record { image = c.same; stack = at_stack s.regs.sp c.stack; unmasked = c.unmasked; sums = c.temps }
+
+all_wait : Laws → (f : Firmware) (n : ℕ) (b : Block) (w : Width) (flags : ℕ) (before : ℕ → ℕ) (samples : List (List ℕ)) (s : State) → flags < 2 ^ 8
+    → AreShort samples → IsInterruptible (image_memory f.image.bytes) s → (h : AreAnswered main_layout b w (image_memory f.image.bytes) flags before samples s)
+    → AllWait flags (alone f n) (numbers b w (image_memory f.image.bytes) flags before samples s h) samples s
+unfolding numbers
+all_wait laws f n b w flags before [] s hf l c h = waits_alone (alone f n) s c
+all_wait laws f n b w flags before (bytes ∷ samples) s hf l c h =
+    let image = image_memory f.image.bytes in
+    let g = went laws b w image flags before bytes s h.0 hf l.0 h.1.0 in
+    let later : ℕ → ℕ = λ o. answer w b o bytes (before o) in
+    let one = h.1.0 in (
+      waits_alone (alone f n) s c,
+      subst (λ (u : State). AllWait flags (alone f n) (numbers b w image flags later samples h.0 h.1.1) samples u) (sym g.goes)
+          (all_wait laws f n b w flags later samples h.0 hf l.1 one.interruptible h.1.1),
+    )
+
 -- the answers where none stands past the end of memory
 same_answers : (wide : Bool) (m : List ℕ) (at n : ℕ) → at + answer_size wide * n ≤ 65535 → answers_at wide n at m ≡ values_from (width_of wide) m at n
 same_answers wide m at zero l = refl
@@ -308,6 +328,7 @@ under laws b f n flags samples plan s hf few count h short good a answered =
       };
       ns = ns;
       complete = subst (λ (u : State). AllComplete (FactsAlone flags g) (with_writes flags g) ns samples u) (sym first) complete;
+      waits = subst (λ (u : State). AllWait flags g ns samples u) (sym first) (all_wait laws f n b w flags (λ o. 0) samples s hf short a.interruptible answered);
       rows_are = rows_are ∙ ap (λ (u : State). rows_of_samples flags g plan 1 ns samples u) (sym first);
       follows = subst (λ (u : State). FollowsAlone flags g f.step_bound plan ns samples u) (sym first) runs;
     }

@@ -16,7 +16,7 @@ use Rattle.run_law.specs.Following.{AllComplete}
 use Rattle.fz_run.specs.Forms.{with_writes}
 use Rattle.fz_run.specs.Rows.{first_state, firmware_rows}
 use Rattle.fz_run.specs.Facts.{FactsAlone}
-use Rattle.fz_run.specs.Following.{rows_of_samples, FollowsAlone}
+use Rattle.fz_run.specs.Following.{rows_of_samples, AllWait, FollowsAlone}
 
 -- a row's answers and its number of instructions
 abbrev pub answer_of_row : RowSeen (List ℕ) → Answer
@@ -33,13 +33,14 @@ pub record AnswerBlock (b : Block) (f : Firmware) (flags : ℕ) (samples : List 
   pub steps : All (λ r. r.steps ≤ step_bound (width_of f.wide) b) rows
 
 -- What a block's firmware gives under a plan: rows that are the block's answers; the run without interrupts from the
--- first arrival answers all samples, and its states keep the facts; the rows are read off it; and the run under the
+-- first arrival answers all samples, and its states keep the facts, those in which it waits too; the rows are read off it; and the run under the
 -- plan follows it.
 pub record AnswersUnder (b : Block) (f : Firmware) (flags : ℕ) (samples : List (List ℕ)) (plan : List Request)
     (rows : List (RowSeen (List ℕ))) : Type 0 where
   pub answers : AnswerBlock b f flags samples rows
   pub ns : List ℕ
   pub complete : AllComplete (FactsAlone flags f) (with_writes flags f) ns samples (first_state f flags)
+  pub waits : AllWait flags f ns samples (first_state f flags)
   pub rows_are : rows ≡ rows_of_samples flags f plan 1 ns samples (first_state f flags)
   pub follows : FollowsAlone flags f f.step_bound plan ns samples (first_state f flags)
 

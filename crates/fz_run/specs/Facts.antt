@@ -26,9 +26,23 @@ pub record Facts (open_to : ℕ → Bool) (flags : ℕ) (s : State) : Type 0 whe
   pub unmasked : has s.regs.ccr interrupts_masked ≡ false
   pub sums : AreNoneOrRunning s.temps
 
--- The same of a firmware that stands alone. The bytes from $2000 on, and so all from $C000 on, are the image's, and 0
--- where it has none; and SP is at the stack's end, or two bytes lower while a call is open.
+-- the bytes from $2000 on, and so all from $C000 on, are the image's, and 0 where it has none
+abbrev pub HasImage : Firmware → State → Type 0
+HasImage f s = (at : ℕ) → stack_end ≤ at → slice_index s.mem at ≡ slice_index (image_memory f.image.bytes) at
+
+-- SP is at the stack's end, or two bytes lower while a call is open
+abbrev pub IsStackOfOneCall : ℕ → Type 0
+IsStackOfOneCall sp = (sp + 2 ≡ stack_end) ⊎ (sp ≡ stack_end)
+
+-- the facts of a firmware that stands alone
 pub record FactsAlone (flags : ℕ) (f : Firmware) (s : State) : Type 0 where
   pub facts : Facts is_free flags s
-  pub image : (at : ℕ) → stack_end ≤ at → slice_index s.mem at ≡ slice_index (image_memory f.image.bytes) at
-  pub stack : (s.regs.sp + 2 ≡ stack_end) ⊎ (s.regs.sp ≡ stack_end)
+  pub image : HasImage f s
+  pub stack : IsStackOfOneCall s.regs.sp
+
+-- what a state keeps of them in which it waits for a sample, and from which no step is done
+pub record WaitsAlone (f : Firmware) (s : State) : Type 0 where
+  pub image : HasImage f s
+  pub stack : IsStackOfOneCall s.regs.sp
+  pub unmasked : has s.regs.ccr interrupts_masked ≡ false
+  pub sums : s.temps ≡ Free

@@ -11,7 +11,7 @@ use Rattle.interrupt_plan.specs.Plans.{IsGood}
 use Rattle.codegen.specs.declared.firmware.Firmware.{Firmware}
 use Rattle.fz_run.specs.Forms.{given, answer_size, answers_in, with_writes}
 use Rattle.fz_run.specs.Rows.{requests_of}
-use Rattle.fz_run.specs.Facts.{FactsAlone}
+use Rattle.fz_run.specs.Facts.{FactsAlone, WaitsAlone}
 
 -- what the row of a sample is to be that is answered in n steps without interrupts: each request is taken at its moment
 abbrev pub row_of_sample : ℕ → Firmware → List Request → ℕ → List ℕ → State → RowSeen (List ℕ)
@@ -32,6 +32,13 @@ rows_of_samples flags f plan k (n ∷ ns) (bytes ∷ rest) s =
     let first = given f.layout bytes s in
     let row = row_of_sample flags f (requests_of k plan) n bytes first in
     row ∷ rows_of_samples flags f plan (suc k) ns rest (uninterrupted flags n first)
+
+-- before the first sample and after each, the state in which the firmware waits keeps this
+abbrev pub AllWait : ℕ → Firmware → List ℕ → List (List ℕ) → State → Type 0
+AllWait flags f [] samples s = WaitsAlone f s
+AllWait flags f (n ∷ ns) [] s = WaitsAlone f s
+AllWait flags f (n ∷ ns) (bytes ∷ rest) s =
+    WaitsAlone f s × AllWait flags f ns rest (uninterrupted flags n (given f.layout bytes s))
 
 -- the bytes that are read from outside stand below those that plans may write
 pub record IsLow (f : Firmware) : Type 0 where
