@@ -7,3 +7,4 @@ pub mod Naming
 pub mod Valuing
 pub mod Overlapping
 pub mod Steps
+pub mod Differing
