@@ -8,3 +8,5 @@ pub mod Valuing
 pub mod Overlapping
 pub mod Steps
 pub mod Differing
+pub mod Known
+pub mod Labelling

@@ -10,3 +10,5 @@ pub mod Values
 pub mod Faults
 pub mod Sources
 pub mod Giving
+pub mod Labels
+pub mod Laws

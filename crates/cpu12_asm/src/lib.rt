@@ -13,6 +13,7 @@ mod expressions;
 mod faults;
 mod image;
 mod items;
+mod laws;
 mod lines;
 mod operands;
 mod sources;
@@ -23,4 +24,5 @@ mod values;
 
 pub use image::{ByteMap, Image};
 pub use items::{AsmFault, Item, assemble_items};
+pub use laws::{labels_are_places, sources_have_one_fault};
 pub use sources::assemble;

@@ -1,4 +1,3 @@
-use Rattle.std.proofs.Common.{arith}
 use Rattle.cpu12_asm.proofs.Naming.{value_in-set}
 use Rattle.cpu12_asm.proofs.values.set_value.Goals as goal
 
