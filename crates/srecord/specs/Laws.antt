@@ -1,5 +1,5 @@
 -- What holds of every text of records.
-use Rattle.std.specs.Prelude.{◌≡◌, ℕ, ◌≤◌, List, length}
+use Rattle.std.specs.Prelude.{◌≡◌, ◌⊎◌, ℕ, ◌≤◌, List, length}
 use Rattle.cpu12_asm.specs.Bytes.{IsAscending, byte_at}
 use Rattle.cpu12_asm.specs.declared.image.Image.{Image}
 use Rattle.srecord.specs.declared.fault.SrecFault.{SrecFault}
@@ -24,3 +24,7 @@ FaultsAreOne = (text : List ℕ) (f g : SrecFault) → HasFault text f → HasFa
 abbrev pub ImagesHaveFewRecords : Type 0
 ImagesHaveFewRecords = (bytes : List (ℕ × ℕ)) (pieces : List Piece) → IsAscending bytes → AreCut bytes pieces
     → length pieces ≤ 32768
+
+-- a text gives an image, or it has a fault
+abbrev pub EachTextIsJudged : Type 0
+EachTextIsJudged = (text : List ℕ) → ((image : Image) × GivesImage text image) ⊎ ((fault : SrecFault) × HasFault text fault)

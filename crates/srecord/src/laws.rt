@@ -1,5 +1,5 @@
 //! Laws of the definitions.
-ghost use Rattle.srecord.specs.Laws.{FaultsAreOne, ImagesAreOne, ImagesHaveFewRecords, ImagesHaveNoFault};
+ghost use Rattle.srecord.specs.Laws.{EachTextIsJudged, FaultsAreOne, ImagesAreOne, ImagesHaveFewRecords, ImagesHaveNoFault};
 
 /// A text gives at most one image, and then it has no fault.
 pub fn images_are_one()
@@ -15,4 +15,9 @@ pub fn faults_are_one()
 /// An image has at most 32768 records of bytes, so their count always fits its record.
 pub fn images_have_few_records()
     ensures { ImagesHaveFewRecords }
+{}
+
+/// A text gives an image, or it has a fault.
+pub fn each_text_is_judged()
+    ensures { EachTextIsJudged }
 {}
