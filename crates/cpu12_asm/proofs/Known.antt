@@ -79,7 +79,7 @@ module _ (f g : List ℕ → Option ℕ) (kept : AreKept f g) where
   groups_kept s (w ∷ groups) known = elim (cases_Bool (with_group f s w).unknown) [
     | inl none ↦ (let unknown = groups_stay f (with_group f s w) groups none in absurd (cc))
     | inr here ↦ groups_kept (with_group f s w) groups known
-      ∙ ap (λ (t : Sum). fold (with_group g) t groups) (words_kept (record s { negative = false }) (pieces 0x2D w) here)
+        ∙ ap (λ (t : Sum). fold (with_group g) t groups) (words_kept (record s { negative = false }) (pieces 0x2D w) here)
   ]
 
   pub within_kept : (limit : ℕ) (text : List ℕ) (x : ℕ) → within limit (sum_of f text) ≡ Ok x → within limit (sum_of g text) ≡ Ok x

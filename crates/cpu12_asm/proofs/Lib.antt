@@ -10,3 +10,4 @@ pub mod Steps
 pub mod Differing
 pub mod Known
 pub mod Labelling
+pub mod Shapes

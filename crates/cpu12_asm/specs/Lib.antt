@@ -4,6 +4,7 @@ pub mod Lines
 pub mod Left
 pub mod Expressions
 pub mod Names
+pub mod Shapes
 pub mod Statements
 pub mod Told
 pub mod Values
