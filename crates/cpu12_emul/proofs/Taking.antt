@@ -1,7 +1,6 @@
 -- Interrupts keep the simulation.
-use Rattle.std.proofs.Common.{◌≡◌, ℕ, zero, suc, ◌+◌, ◌-◌, ◌*◌, ◌/◌, ◌%◌, ◌^◌, ◌<◌, ◌≤◌, Bool, true, false, ◌&&◌, nat_lt, nat_le, List, [], ◌∷◌, ◌++◌, length, refl, ap, ap₂, sym, ◌∙◌, subst, arith, inl, inr, ◌⊎◌, lit≤}
+use Rattle.std.proofs.Common.{◌≡◌, ℕ, ◌+◌, ◌-◌, ◌*◌, ◌/◌, ◌%◌, ◌^◌, ◌<◌, Bool, true, false, ◌&&◌, nat_lt, nat_le, List, [], ◌∷◌, ◌++◌, length, refl, ap, ap₂, sym, ◌∙◌, subst, arith, inl, inr, lit≤}
 use Rattle.std.proofs.lemmas.Bool.{or_parts, false≢true}
-use Rattle.std.proofs.lemmas.Bool.Decides.{nat_tests}
 use Rattle.cpu12_isa.specs.declared.instr.Regs.{Regs}
 use Rattle.cpu12_isa.specs.declared.instr.Ccr.{Ccr}
 use Rattle.cpu12_isa.specs.declared.instr.Write.{Write}
@@ -9,15 +8,14 @@ use Rattle.cpu12_isa.specs.Act.{write_all}
 use Rattle.cpu12_isa.specs.Memory.{plus, from, placed, bytes_at}
 use Rattle.cpu12_isa.specs.Flags.{put, pulled_flags, interrupts_masked}
 use Rattle.cpu12_isa.specs.Registers.{frame_bytes, pulled}
-use Rattle.cpu12_isa.specs.Agreement.{Agree, AllShown, IsWritten}
-use Rattle.cpu12_isa.specs.Regions.{stack_start, stack_end, is_hidden, LeavesStack}
+use Rattle.cpu12_isa.specs.Agreement.{Agree, IsWritten}
+use Rattle.cpu12_isa.specs.Regions.{stack_start, is_hidden, LeavesStack}
 use Rattle.cpu12_isa.specs.Fits.{FitsRegs}
 use Rattle.cpu12_isa.proofs.Lemmas.{unwritten, length_writes, agree_with, place_of, read_placed, bytes_unwritten, bytes_split, same_bytes, pulled_again, agree_less, shown_from, push_agrees}
 use Rattle.cpu12_parts.specs.declared.temps.Temps.{Temps}
-use Rattle.cpu12_parts.specs.declared.temps.Temps.TheVariants.{Free, Running, OnStack}
+use Rattle.cpu12_parts.specs.declared.temps.Temps.TheVariants.{Running}
 use Rattle.cpu12_parts.specs.State.{State}
 use Rattle.cpu12_parts.specs.Sums.{sum_bytes}
-use Rattle.cpu12_parts.specs.Cuts.{suspended, wav}
 use Rattle.cpu12_parts.specs.Laws.{IsOff}
 use Rattle.cpu12_parts.proofs.Lemmas.{pushed_sums, suspends, suspends_not, temps_cases}
 use Rattle.cpu12_emul.specs.Take.{pairs_of, pushed, written, framed, taken, FrameSeen, frame_size, frame_of, frame_in}

@@ -2,7 +2,8 @@
 ghost use Rattle.cpu12_isa.specs.declared.instr.Instr.TheVariants.{Rev, Revw, Wav};
 ghost use Rattle.cpu12_parts.specs.Cuts.{rev, revw, wav};
 ghost use Rattle.cpu12_emul.specs.Fits.{StepFits};
-ghost use Rattle.cpu12_emul.specs.Image.{HoldsImage};
+ghost use Rattle.cpu12_emul.specs.Image.{HoldsImage, ImagesLoadAlike};
+ghost use Rattle.cpu12_emul.specs.Run.{RunsEndOnce};
 ghost use Rattle.cpu12_emul.specs.Simulation.{StepAgrees, WavrGoesOn, StepKeeps, TakesQuietly, TakeKeeps, FrameIsOnStack, PlainIsStep, PartIsStep, SumsAreStep};
 
 use cpu12_isa::laws::{bytes_stay, decoded_fits, stays_fit};
@@ -11,6 +12,16 @@ use cpu12_parts::laws::{rev_fits, revw_fits, wav_fits};
 /// A memory made from an image holds just its bytes.
 pub fn holds_image()
     ensures { HoldsImage }
+{}
+
+/// Images with the same bytes give the same memory.
+pub fn images_load_alike()
+    ensures { ImagesLoadAlike }
+{}
+
+/// A run has one end.
+pub fn runs_end_once()
+    ensures { RunsEndOnce }
 {}
 
 /// A plain instruction is one step.

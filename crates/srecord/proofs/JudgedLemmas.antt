@@ -1,5 +1,5 @@
 -- Each text gives an image or has a fault.
-use Rattle.std.proofs.Common.{◌≡◌, ◌≢◌, ℕ, zero, suc, ◌+◌, ◌-◌, ◌*◌, ◌<◌, ◌≤◌, Bool, true, false, List, [], ◌∷◌, ◌++◌, length, take, drop, get_or, Option, Some, None, IsSome, refl, sym, ap, subst, ◌∙◌, arith, inl, inr, append_assoc}
+use Rattle.std.proofs.Common.{◌≡◌, ℕ, zero, suc, ◌+◌, ◌-◌, ◌*◌, ◌<◌, ◌≤◌, false, List, [], ◌∷◌, ◌++◌, length, take, drop, get_or, Option, Some, None, IsSome, refl, sym, ap, subst, ◌∙◌, arith, inl, inr, append_assoc}
 use Rattle.std.specs.Prelude.{◌⊎◌, Result, Ok, Err}
 use Rattle.std.proofs.lemmas.Bool.{cases_Bool, cases_lt, cases_eq}
 use Rattle.std.proofs.lemmas.List.{append-nil, length-drop, length-take-le, take-append-drop}
@@ -14,7 +14,7 @@ use Rattle.srecord.specs.declared.fields.Kind.{Kind}
 use Rattle.srecord.specs.declared.fields.Kind.TheVariants.{Header, Bytes, Count, Start}
 use Rattle.srecord.specs.Records.{body_of, checksum_of}
 use Rattle.srecord.specs.Lines.{FieldsFail, FitsKind, HasGoodFields, Opens, OpeningFails, is_wide, kind_of, parts_of, unread, wide}
-use Rattle.srecord.specs.Texts.{Give, Given, GivesImage, HasFault, IsFree, IsRecord, IsTaken, LineFails, MayFollow, RecordFails, after_end, at_line, count_differs, fields_fail, given_with, more, no_end, none, nothing_given, opening_fails, overlap, record_fails, with_bytes}
+use Rattle.srecord.specs.Texts.{Give, Given, GivesImage, HasFault, IsRecord, LineFails, MayFollow, RecordFails, after_end, at_line, count_differs, fields_fail, given_with, more, no_end, none, nothing_given, opening_fails, overlap, record_fails, with_bytes}
 use Rattle.srecord.proofs.FieldLemmas.{are_fields, is_body, is_counted, no_bytes, no_kind, no_parts, only_fields, payload_in, wrong_sum}
 use Rattle.srecord.proofs.WrittenBytes.{byte_at-placed_then}
 
