@@ -12,14 +12,14 @@ use Rattle.cpu12_asm.specs.declared.statements.Action.{Action}
 use Rattle.cpu12_asm.specs.declared.statements.Action.TheVariants.{Nothing, Origin, Equate, Bytes, Words, Operate}
 use Rattle.cpu12_asm.specs.declared.values.Behind.{Behind}
 use Rattle.cpu12_asm.specs.Expressions.{sum_of}
-use Rattle.cpu12_asm.specs.Faults.{on_line, through}
+use Rattle.cpu12_asm.specs.Faults.{through}
 use Rattle.cpu12_asm.specs.Labels.{HasNoOrigin, IsPlaceBehind, Says, behind_origin, line_size, statement_size, without_origin}
 use Rattle.cpu12_asm.specs.Lines.{lines_of}
 use Rattle.cpu12_asm.specs.Sources.{defined_by, names_of, start, value_known}
 use Rattle.cpu12_asm.specs.Statements.{Statement, statement_of}
 use Rattle.cpu12_asm.specs.Values.{Known, behind_of, defined, equal_to, is_given, moved_to, size_of, with_line, with_value, within}
 use Rattle.cpu12_asm.proofs.Known.{AreKept, within_kept}
-use Rattle.cpu12_asm.proofs.Steps.{through-ok}
+use Rattle.cpu12_asm.proofs.Passes.{continues, ended, splits}
 
 -- what is known behind a line
 pub record Reads (k m : Known) (line : List ℕ) : Type 0 where
@@ -73,40 +73,11 @@ value_kept value (b ∷ bs) v fresh = λ n x is. elim (cases_Bool (bytes_eq (b �
 line_keeps : (k m : Known) (line : List ℕ) → Reads k m line → AreKept k.value m.value
 line_keeps k m line r = subst (λ (x : Known). AreKept k.value x.value) (sym r.is) (value_kept k.value r.name r.next.value r.fresh)
 
-record Continues (k t : Known) (line : List ℕ) (lines : List (List ℕ)) (n : ℕ) : Type 0 where
-  m : Known
-  first : defined_by k line ≡ Ok m
-  rest : through defined_by m (n + 1) lines ≡ Ok t
-
-continues_with : (k t : Known) (line : List ℕ) (lines : List (List ℕ)) (n : ℕ) (r : Result Known LineFault) → defined_by k line ≡ r
-    → on_line n r (λ (m : Known). through defined_by m (n + 1) lines) ≡ Ok t → Continues k t line lines n
-continues_with k t line lines n (Err f) is all = absurd (cc)
-continues_with k t line lines n (Ok m) is all = record { m = m; first = is; rest = all }
-
-continues : (k t : Known) (line : List ℕ) (lines : List (List ℕ)) (n : ℕ) → through defined_by k n (line ∷ lines) ≡ Ok t → Continues k t line lines n
-continues k t line lines n all = continues_with k t line lines n (defined_by k line) refl all
-
-ended : (k t : Known) → ◌≡◌ {A = Result Known AsmFault} (Ok k) (Ok t) → k ≡ t
-ended k t same = cc
-
 pub lines_keep : (lines : List (List ℕ)) (k t : Known) (n : ℕ) → through defined_by k n lines ≡ Ok t → AreKept k.value t.value
-lines_keep [] k t n all = subst (λ (x : Known). AreKept k.value x.value) (ended k t all) (λ name x is. is)
+lines_keep [] k t n all = subst (λ (x : Known). AreKept k.value x.value) (ended Known k t all) (λ name x is. is)
 lines_keep (line ∷ lines) k t n all =
-    let c = continues k t line lines n all in
+    let c = continues Known defined_by k t line lines n all in
     λ name x is. lines_keep lines c.m t (n + 1) c.rest name x (line_keeps k c.m line (reads k c.m line c.first) name x is)
-
-record Splits (k t : Known) (before rest : List (List ℕ)) (n : ℕ) : Type 0 where
-  m : Known
-  number : ℕ
-  first : through defined_by k n before ≡ Ok m
-  then : through defined_by m number rest ≡ Ok t
-
-splits : (before rest : List (List ℕ)) (k t : Known) (n : ℕ) → through defined_by k n (before ++ rest) ≡ Ok t → Splits k t before rest n
-splits [] rest k t n all = record { m = k; number = n; first = refl; then = all }
-splits (line ∷ before) rest k t n all =
-    let c = continues k t line (before ++ rest) n all in
-    let s = splits before rest c.m t (n + 1) c.rest in
-    record { m = s.m; number = s.number; first = through-ok defined_by k c.m n line before c.first ∙ s.first; then = s.then }
 
 some_same : (s t : Statement) → ◌≡◌ {A = Option Statement} (Some s) (Some t) → s ≡ t
 some_same s t same = cc
@@ -163,35 +134,41 @@ value_then k Bytes operand next other is = (plain_place k (size_of Bytes operand
 value_then k Words operand next other is = (plain_place k (size_of Words operand) next is).1
 value_then k (Operate form) operand next other is = (plain_place k (size_of (Operate form) operand) next is).1
 
-module _ (value : List ℕ → Option ℕ) (done : List (List ℕ)) (k : Known) (line : List ℕ) (kept : AreKept k.value value) (here : IsPlaceBehind value done k.place) where
-  plain_line : (name : List ℕ) (action : Action) (operand : List ℕ) (next : Behind) → Says line name action operand → behind_of k action operand ≡ Ok next → action ≢ Origin
-      → IsPlaceBehind value (done ++ line ∷ []) next.place
-  plain_line name action operand next says behind other =
-      let size : line_size line ≡ size_of action operand = ap statement_size says.is in
-      let place : k.place + line_size line ≡ next.place = omega (arith, size, place_then k action operand next other behind) in
-      subst (IsPlaceBehind value (done ++ line ∷ [])) place (place_push value done k.place line here (λ m o org. other (action_same line name m action Origin operand o says org)))
+origin_then : (k : Known) (action : Action) (operand : List ℕ) (next : Behind) → action ≡ Origin → behind_of k action operand ≡ Ok next
+    → within 65535 (sum_of k.value operand) ≡ Ok next.place
+origin_then k action operand next origin is =
+    (moved_is k.place (within 65535 (sum_of k.value operand)) next (subst (λ (a : Action). behind_of k a operand ≡ Ok next) origin is)).0
 
-  line_place : (name : List ℕ) (action : Action) (operand : List ℕ) (next : Behind) → Says line name action operand → behind_of k action operand ≡ Ok next
-      → IsPlaceBehind value (done ++ line ∷ []) next.place
-  line_place name Origin operand next says behind =
-      let to = within_kept k.value value kept 65535 operand next.place (moved_is k.place (within 65535 (sum_of k.value operand)) next behind).0 in
-      subst (IsPlaceBehind value (done ++ line ∷ [])) (omega arith) (behind_origin done [] line name operand next.place says to tt)
-  line_place name Nothing operand next says behind = plain_line name Nothing operand next says behind (λ e. (let bad = e in cc))
-  line_place name Equate operand next says behind = plain_line name Equate operand next says behind (λ e. (let bad = e in cc))
-  line_place name Bytes operand next says behind = plain_line name Bytes operand next says behind (λ e. (let bad = e in cc))
-  line_place name Words operand next says behind = plain_line name Words operand next says behind (λ e. (let bad = e in cc))
-  line_place name (Operate form) operand next says behind = plain_line name (Operate form) operand next says behind (λ e. (let bad = e in cc))
+module _ (value : List ℕ → Option ℕ) (done : List (List ℕ)) (place next : ℕ) (line name operand : List ℕ) (here : IsPlaceBehind value done place) where
+  plain_line : (action : Action) → Says line name action operand → action ≢ Origin → next ≡ place + size_of action operand → IsPlaceBehind value (done ++ line ∷ []) next
+  plain_line action says other moves =
+      let size : line_size line ≡ size_of action operand = ap statement_size says.is in
+      let count : place + line_size line ≡ next = omega (arith, size, moves) in
+      subst (IsPlaceBehind value (done ++ line ∷ [])) count (place_push value done place line here (λ m o org. other (action_same line name m action Origin operand o says org)))
+
+  -- the place behind one line more
+  pub place_behind_line : (action : Action) → Says line name action operand → (action ≡ Origin → within 65535 (sum_of value operand) ≡ Ok next)
+      → (action ≢ Origin → next ≡ place + size_of action operand) → IsPlaceBehind value (done ++ line ∷ []) next
+  place_behind_line Origin says origin moves =
+      subst (IsPlaceBehind value (done ++ line ∷ [])) (omega arith) (behind_origin done [] line name operand next says (origin refl) tt)
+  place_behind_line Nothing says origin moves = let other : Nothing ≢ Origin = λ e. (let bad = e in cc) in plain_line Nothing says other (moves other)
+  place_behind_line Equate says origin moves = let other : Equate ≢ Origin = λ e. (let bad = e in cc) in plain_line Equate says other (moves other)
+  place_behind_line Bytes says origin moves = let other : Bytes ≢ Origin = λ e. (let bad = e in cc) in plain_line Bytes says other (moves other)
+  place_behind_line Words says origin moves = let other : Words ≢ Origin = λ e. (let bad = e in cc) in plain_line Words says other (moves other)
+  place_behind_line (Operate form) says origin moves = let other : Operate form ≢ Origin = λ e. (let bad = e in cc) in plain_line (Operate form) says other (moves other)
 
 places : (value : List ℕ → Option ℕ) (lines done : List (List ℕ)) (k t : Known) (n : ℕ) → AreKept t.value value → IsPlaceBehind value done k.place
     → through defined_by k n lines ≡ Ok t → IsPlaceBehind value (done ++ lines) t.place
 places value [] done k t n kept here all =
-    subst (λ (l : List (List ℕ)). IsPlaceBehind value l t.place) (sym (append-nil done)) (subst (λ (x : Known). IsPlaceBehind value done x.place) (ended k t all) here)
+    subst (λ (l : List (List ℕ)). IsPlaceBehind value l t.place) (sym (append-nil done)) (subst (λ (x : Known). IsPlaceBehind value done x.place) (ended Known k t all) here)
 places value (line ∷ lines) done k t n kept here all =
-    let c = continues k t line lines n all in
+    let c = continues Known defined_by k t line lines n all in
     let r = reads k c.m line c.first in
     let known : AreKept k.value value = λ name x is. kept name x (lines_keep (line ∷ lines) k t n all name x is) in
     let next : IsPlaceBehind value (done ++ line ∷ []) c.m.place =
-    subst (λ (x : Known). IsPlaceBehind value (done ++ line ∷ []) x.place) (sym r.is) (line_place value done k line known here r.name r.action r.operand r.next r.says r.behind) in
+    subst (λ (x : Known). IsPlaceBehind value (done ++ line ∷ []) x.place) (sym r.is) (place_behind_line value done k.place r.next.place line r.name r.operand here r.action r.says
+    (λ origin. within_kept k.value value known 65535 r.operand r.next.place (origin_then k r.action r.operand r.next origin r.behind))
+    (λ other. place_then k r.action r.operand r.next other r.behind)) in
     subst (λ (l : List (List ℕ)). IsPlaceBehind value l t.place) (append_assoc done (line ∷ []) lines) (places value lines (done ++ line ∷ []) c.m t (n + 1) kept next c.rest)
 
 named : (value : List ℕ → Option ℕ) (name : List ℕ) (v : ℕ) → 1 ≤ length name → with_value value name v name ≡ Some v
@@ -211,7 +188,7 @@ names_with text value (Err f) all is = absurd (cc)
 names_with text value (Ok t) all is = record { t = t; all = all; is = values_same t.value value is }
 
 -- what is known before a line, and what it leaves, which the source's names keep
-record Stands (value : List ℕ → Option ℕ) (before : List (List ℕ)) (line : List ℕ) : Type 0 where
+record Reaches (value : List ℕ → Option ℕ) (before : List (List ℕ)) (line : List ℕ) : Type 0 where
   k : Known
   m : Known
   read : Reads k m line
@@ -219,11 +196,11 @@ record Stands (value : List ℕ → Option ℕ) (before : List (List ℕ)) (line
   kept : AreKept m.value value
   place : IsPlaceBehind value before k.place
 
-stands : (text : List ℕ) (value : List ℕ → Option ℕ) → names_of text ≡ Ok value → (before after : List (List ℕ)) (line : List ℕ) → lines_of text ≡ before ++ line ∷ after → Stands value before line
+stands : (text : List ℕ) (value : List ℕ → Option ℕ) → names_of text ≡ Ok value → (before after : List (List ℕ)) (line : List ℕ) → lines_of text ≡ before ++ line ∷ after → Reaches value before line
 stands text value names before after line lines =
     let n = names_with text value (through defined_by start 1 (lines_of text)) refl names in
-    let s = splits before (line ∷ after) start n.t 1 (ap (through defined_by start 1) (sym lines) ∙ n.all) in
-    let c = continues s.m n.t line after s.number s.then in
+    let s = splits Known defined_by before (line ∷ after) start n.t 1 (ap (through defined_by start 1) (sym lines) ∙ n.all) in
+    let c = continues Known defined_by s.m n.t line after s.number s.then in
     let last : AreKept n.t.value value = subst (AreKept n.t.value) n.is (λ name x is. is) in
     let kept : AreKept s.m.value value = λ name x is. last name x (lines_keep (line ∷ after) s.m n.t s.number s.then name x is) in
     record {
@@ -236,7 +213,7 @@ stands text value names before after line lines =
     }
 
 -- the value of a line's name
-name_value_is : (value : List ℕ → Option ℕ) (before : List (List ℕ)) (line name : List ℕ) (action : Action) (operand : List ℕ) → (s : Stands value before line)
+name_value_is : (value : List ℕ → Option ℕ) (before : List (List ℕ)) (line name : List ℕ) (action : Action) (operand : List ℕ) → (s : Reaches value before line)
     → Says line name action operand → 1 ≤ length name → (next : Behind) × (behind_of s.k action operand ≡ Ok next) × (value name ≡ Some next.value)
 name_value_is value before line name action operand s says some =
     let r = s.read in

@@ -9,5 +9,7 @@ pub mod Overlapping
 pub mod Steps
 pub mod Differing
 pub mod Known
+pub mod Passes
 pub mod Labelling
+pub mod Standing
 pub mod Shapes

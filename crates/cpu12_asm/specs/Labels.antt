@@ -1,11 +1,14 @@
 -- The values of labels, in words of the lines before them.
-use Rattle.std.specs.Prelude.{ℕ, ◌≡◌, ◌≢◌, ◌≤◌, ◌+◌, List, [], ◌∷◌, ◌++◌, length, Option, Some, None, Ok}
+use Rattle.std.specs.Prelude.{ℕ, ◌≡◌, ◌≢◌, ◌≤◌, ◌<◌, ◌+◌, List, [], ◌∷◌, ◌++◌, length, slice_index, Option, Some, None, Ok}
 use Rattle.std.specs.List.{sum_by}
+use Rattle.std.specs.Str.{str_to_ascii_uppercase}
 use Rattle.cpu12_asm.specs.declared.statements.Action.{Action}
 use Rattle.cpu12_asm.specs.declared.statements.Action.TheVariants.{Origin, Equate}
+use Rattle.cpu12_asm.specs.Bytes.{byte_at}
 use Rattle.cpu12_asm.specs.Expressions.{sum_of}
+use Rattle.cpu12_asm.specs.Giving.{bytes_with, limits_of, values_within}
 use Rattle.cpu12_asm.specs.Lines.{lines_of}
-use Rattle.cpu12_asm.specs.Sources.{names_of}
+use Rattle.cpu12_asm.specs.Sources.{Assembles, names_of}
 use Rattle.cpu12_asm.specs.Statements.{Statement, statement_of}
 use Rattle.cpu12_asm.specs.Values.{size_of, within}
 
@@ -46,3 +49,23 @@ EquatesAreValues = (text : List ℕ) (value : List ℕ → Option ℕ) → names
     → (before after : List (List ℕ)) (line : List ℕ) → lines_of text ≡ before ++ line ∷ after
     → (name operand : List ℕ) → Says line name Equate operand → 1 ≤ length name
     → (to : ℕ) × (value name ≡ Some to) × (within 65535 (sum_of value operand) ≡ Ok to)
+
+-- a line's bytes stand in an image from its place on, as many as it counts for
+pub record Stands (value : List ℕ → Option ℕ) (image : List (ℕ × ℕ)) (before : List (List ℕ)) (line : List ℕ) : Type 0 where
+  pub place : ℕ
+  pub is_place : IsPlaceBehind value before place
+  pub name : List ℕ
+  pub action : Action
+  pub operand : List ℕ
+  pub says : Says line name action operand
+  pub values : List ℕ
+  pub values_are : values_within value operand (limits_of action) ≡ Ok values
+  pub size : length (bytes_with place action values) ≡ line_size line
+  pub bytes : (k : ℕ) → k < line_size line → byte_at image (place + k) ≡ Some (slice_index (bytes_with place action values) k)
+
+-- each line of a source that gives an image stands in it
+abbrev pub LinesStand : Type 0
+LinesStand = (source : List ℕ) (image : List (ℕ × ℕ)) → Assembles source image
+    → (value : List ℕ → Option ℕ) → names_of (str_to_ascii_uppercase source) ≡ Ok value
+    → (before after : List (List ℕ)) (line : List ℕ) → lines_of (str_to_ascii_uppercase source) ≡ before ++ line ∷ after
+    → Stands value image before line
