@@ -22,7 +22,7 @@ pub use choosing::best;
 pub use grades::term_error;
 pub use laws::{
     answers_are_near, bounds_are_determined, bounds_fall_inside, cells_have_bounds,
-    faulty_leaves_fail, leaves_hold_inside, term_errors_are,
+    faulty_leaves_fail, leaf_faults_are_one, leaves_hold_inside, term_errors_are,
 };
 pub use leaves::{leaf_bound, leaf_bound16};
 pub use rules::BoxTable;
