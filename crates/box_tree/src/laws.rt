@@ -1,5 +1,5 @@
 //! Laws of the definitions.
-ghost use Rattle.box_tree.specs.Laws.{CertsAreOne, FaultsAreOne, CertTextsAreSound};
+ghost use Rattle.box_tree.specs.Laws.{CertsAreOne, FaultsAreOne, CertTextsAreSound, OpenBoxesGoOn};
 
 /// A text has at most one certificate, and is of one version.
 pub fn certs_are_one()
@@ -14,4 +14,9 @@ pub fn faults_are_one()
 /// A text with a certificate has no fault.
 pub fn cert_texts_are_sound()
     ensures { CertTextsAreSound }
+{}
+
+/// More nodes go on with the boxes that those before left open.
+pub fn open_boxes_go_on()
+    ensures { OpenBoxesGoOn }
 {}

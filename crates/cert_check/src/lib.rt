@@ -7,9 +7,11 @@
 //! and that one with a fault is not accepted.
 #![tactic(auto)]
 
+mod boxes;
 mod checker;
 mod laws;
 mod pairs;
+mod text;
 mod walk;
 
 pub use checker::{CheckFault, check, check16};
@@ -17,6 +19,7 @@ pub use laws::{
     accepted_answers_are_near, errors_are_determined, examples_are_accepted, faulty_certs_fail,
     one_leaf_has_the_bytes, wide_is_accepted,
 };
+pub use text::{CertRefusal, check_text, check_text16};
 
 #[cfg(test)]
 mod tests;

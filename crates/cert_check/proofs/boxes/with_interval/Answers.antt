@@ -2,8 +2,8 @@ use Rattle.std.proofs.Common.{◌≡◌, ◌<◌, ◌++◌, ◌∷◌, [], List,
 use Rattle.std.specs.Prelude.{set}
 use Rattle.error_bound.specs.declared.boxes.Interval.{Interval}
 use Rattle.cert_check.proofs.CutLemmas.{set_more, get_or-set_here, get_or-set_elsewhere}
-use Rattle.cert_check.proofs.walk.with_interval.Goals.{then-k-place, else-k-place}
-use Rattle.cert_check.proofs.walk.with_interval.Goals as goal
+use Rattle.cert_check.proofs.boxes.with_interval.Goals.{then-k-place, else-k-place}
+use Rattle.cert_check.proofs.boxes.with_interval.Goals as goal
 
 pub loop-k-preserved : goal.loop-k-preserved
 loop-k-preserved c =

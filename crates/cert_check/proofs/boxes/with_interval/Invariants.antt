@@ -1,6 +1,6 @@
 use Rattle.std.proofs.Common.{◌≡◌, take, length}
 use Rattle.std.specs.Prelude.{set}
-use Rattle.cert_check.proofs.walk.with_interval.Given as goal
+use Rattle.cert_check.proofs.boxes.with_interval.Given as goal
 
 abbrev pub invariant-loop-k : goal.invariant-loop-k
 invariant-loop-k l = record {

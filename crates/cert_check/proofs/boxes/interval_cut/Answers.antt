@@ -4,8 +4,8 @@ use Rattle.std.proofs.lemmas.Option.{slice_get_past}
 use Rattle.cert_check.specs.Trees.{IsCut}
 use Rattle.cert_check.proofs.PairLemmas.{at_place}
 use Rattle.cert_check.proofs.CutLemmas.{cut_at, cut_inside, cut_nowhere}
-use Rattle.cert_check.proofs.walk.interval_cut.Goals.{else-interval-cut-via-then-interval-cut+else-cut-interval, else-interval-cut-via-else-interval-cut}
-use Rattle.cert_check.proofs.walk.interval_cut.Goals as goal
+use Rattle.cert_check.proofs.boxes.interval_cut.Goals.{else-interval-cut-via-then-interval-cut+else-cut-interval, else-interval-cut-via-else-interval-cut}
+use Rattle.cert_check.proofs.boxes.interval_cut.Goals as goal
 
 pub returns-in_err-interval-clause-none : goal.returns-in_err-interval-clause-none
 returns-in_err-interval-clause-none c =

@@ -1,6 +1,6 @@
 use Rattle.std.proofs.Common.{◌≡◌, take, length}
 use Rattle.cert_check.specs.Trees.{whole}
-use Rattle.cert_check.proofs.walk.whole_box.Given as goal
+use Rattle.cert_check.proofs.boxes.whole_box.Given as goal
 
 abbrev pub invariant-loop-input : goal.invariant-loop-input
 invariant-loop-input l = record {
