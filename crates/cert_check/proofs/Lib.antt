@@ -10,3 +10,4 @@ pub mod TakeLemmas
 pub mod CheckLemmas
 pub mod DriverLemmas
 pub mod FaultLemmas
+pub mod FirstFaults
