@@ -4,13 +4,13 @@ use Rattle.std.proofs.lemmas.List.{append_cancel_left, append-nil}
 use Rattle.std.proofs.lemmas.List.Elements.{All-head, All-tail}
 use Rattle.arrayvec.specs.ArrayVec.{ArrayVec}
 use Rattle.box_tree.specs.declared.cert.Node.{Node}
-use Rattle.box_tree.specs.declared.cert.Node.TheVariants.{Split, Leaf}
+use Rattle.box_tree.specs.declared.cert.Node.TheVariants.{Leaf}
 use Rattle.box_tree.specs.declared.cert.Cert.{Cert}
 use Rattle.box_tree.specs.declared.cert.CertFault.{CertFault}
 use Rattle.box_tree.specs.declared.cert.CertFault.TheVariants.{BadLine, Early, Late, TooManyLeaves}
 use Rattle.box_tree.specs.Texts.{version_line, claim_line, node_line, node_lines}
 use Rattle.box_tree.specs.Trees.{open_from, leaf_count}
-use Rattle.box_tree.specs.Certificates.{AreClaims, IsNode, Begins, CertText, HasNoClaims, HasNoNode, line_behind, HasFault, bad_version, no_version, bad_claims, no_claims, bad_node, left_open, late, many_leaves}
+use Rattle.box_tree.specs.Certificates.{IsNode, Begins, CertText, HasNoClaims, HasNoNode, line_behind, HasFault, bad_version, no_version, bad_claims, no_claims, bad_node, left_open, late, many_leaves}
 use Rattle.box_tree.specs.Laws.{FaultsAreOne, CertTextsAreSound}
 use Rattle.box_tree.proofs.HeaderLemmas.{one_claim_line}
 use Rattle.box_tree.proofs.LawLemmas.{one_node, line_is_some}

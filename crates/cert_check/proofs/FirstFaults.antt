@@ -1,10 +1,9 @@
 -- A certificate has one first fault, and a text one answer.
-use Rattle.std.proofs.Common.{◌≡◌, ⊎_elim, ℕ, ◌+◌, ◌-◌, ◌<◌, ◌≤◌, List, [], ◌∷◌, length, Some, refl, sym, ap, ◌∙◌, subst, arith}
-use Rattle.std.specs.Prelude.{slice_get, All, Result, Ok, Err}
+use Rattle.std.proofs.Common.{◌≡◌, ⊎_elim, ℕ, ◌+◌, ◌-◌, ◌<◌, ◌≤◌, List, ◌∷◌, Some, refl, sym, ap, ◌∙◌, subst, arith}
+use Rattle.std.specs.Prelude.{slice_get, All, Ok, Err}
 use Rattle.std.proofs.lemmas.Bool.{cases_lt}
 use Rattle.arrayvec.specs.ArrayVec.{ArrayVec}
 use Rattle.fuzzy_meaning.specs.declared.block.Block.{Block}
-use Rattle.fuzzy_meaning.specs.Blocks.{IsValid}
 use Rattle.error_bound.specs.declared.boxes.Interval.{Interval}
 use Rattle.error_bound.specs.declared.boxes.Leaf as the
 use Rattle.error_bound.specs.declared.boxes.LeafFault.{LeafFault}
@@ -13,17 +12,14 @@ use Rattle.box_tree.specs.declared.cert.Node.{Node}
 use Rattle.box_tree.specs.declared.cert.Node.TheVariants.{Split, Leaf}
 use Rattle.box_tree.specs.declared.cert.Cert.{Cert}
 use Rattle.box_tree.specs.declared.cert.CertFault.{CertFault}
-use Rattle.box_tree.specs.Certificates.{CertText}
 use Rattle.box_tree.specs.Laws.{CertsAreOne, FaultsAreOne, CertTextsAreSound}
 use Rattle.cert_check.specs.declared.checker.CheckFault.{CheckFault}
 use Rattle.cert_check.specs.declared.checker.CheckFault.TheVariants as fault
-use Rattle.cert_check.specs.declared.text.CertRefusal.{CertRefusal}
 use Rattle.cert_check.specs.declared.text.CertRefusal.TheVariants as refusal
 use Rattle.cert_check.specs.Trees.{Part, IsTree, leaf, split, part_of, left_of, right_of, IsCut, whole}
-use Rattle.cert_check.specs.Acceptance.{IsAccepted}
 use Rattle.cert_check.specs.Faults.{AllHold, line_at, Reaches, root, in_left, in_right, HasPartFault, IsPairFault, bad_rule, fails, HasTreeFault, bad_cut, bad_leaf, IsFirstOver, HasCheckFault, outputs, tree, claimed}
-use Rattle.cert_check.specs.Refusals.{IsAcceptedText, HasRefusal, of_text, of_cert}
-use Rattle.cert_check.specs.Laws.{CheckFaultsAreOne, IsTextAnswer, TextAnswersAreOne}
+use Rattle.cert_check.specs.Refusals.{of_text, of_cert}
+use Rattle.cert_check.specs.Laws.{CheckFaultsAreOne, TextAnswersAreOne}
 use Rattle.cert_check.proofs.Determined.{tree_unique, errors_unique}
 use Rattle.cert_check.proofs.FaultLemmas.{inside, pair_fails, tree_fails, certs_fail}
 

@@ -1,13 +1,11 @@
 -- A walk that takes one more node.
-use Rattle.std.proofs.Common.{◌≡◌, ℕ, ◌+◌, ◌-◌, ◌≤◌, List, [], ◌∷◌, ◌++◌, length, length-append, Option, Some, None, refl, sym, ap, ◌∙◌, subst, arith, vec_capacity}
-use Rattle.std.specs.Prelude.{All, Result, Ok, Err, OnOk, IfErr, MatchOption}
+use Rattle.std.proofs.Common.{◌≡◌, ℕ, ◌+◌, ◌-◌, ◌≤◌, List, [], ◌∷◌, ◌++◌, length, length-append, Some, None, sym, ◌∙◌, subst, arith, vec_capacity}
+use Rattle.std.specs.Prelude.{Result, Ok, Err, OnOk, IfErr, MatchOption}
 use Rattle.std.specs.Global.{Vec}
 use Rattle.std.specs.Vec.{with_items}
-use Rattle.std.proofs.lemmas.List.{append_assoc, append-nil, with_items_is}
+use Rattle.std.proofs.lemmas.List.{append_assoc, with_items_is}
 use Rattle.std.proofs.Math.Seq.{get_or-append_seam}
 use Rattle.arrayvec.specs.ArrayVec.{ArrayVec}
-use Rattle.fuzzy_meaning.specs.declared.block.Block.{Block}
-use Rattle.error_bound.specs.declared.boxes.Interval.{Interval}
 use Rattle.error_bound.specs.declared.boxes.ByteBox.{ByteBox}
 use Rattle.error_bound.specs.Boxes.{IsBoxOf}
 use Rattle.box_tree.specs.declared.cert.Node.{Node}

@@ -55,7 +55,12 @@ pub fn check_text16(alloc: Global, block: &Block, text: &[u8]) -> Result<Vec<u32
 
 /// The errors of a text of which the claims are read, or why it is refused. Behind a fault of the
 /// certificate the text is read on, since a fault of the text comes first.
-fn errors_of(alloc: Global, block: &Block, mut lines: Lines<'_>, parts: u16) -> Result<Vec<u32>, CertRefusal>
+fn errors_of(
+    alloc: Global,
+    block: &Block,
+    mut lines: Lines<'_>,
+    parts: u16,
+) -> Result<Vec<u32>, CertRefusal>
     requires block { IsValid block.now }
     requires lines { (version : ℕ) × (text : Items ℕ) × HasRead version text [] lines }
     requires parts_from { 1 ≤ parts }

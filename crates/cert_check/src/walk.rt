@@ -39,7 +39,12 @@ impl<'a> Walk<'a> {
     ghost use Rattle.cert_check.specs.Walks.{HasTaken, IsBehind, AreFirst, IsSameTask, cert_over};
 
     /// A walk that has taken no node, for answers in so many parts to a byte.
-    pub(crate) fn new(alloc: Global, block: &'a Block, claims: &'a [u32], parts: u16) -> Result<Walk<'a>, AllocError>
+    pub(crate) fn new(
+        alloc: Global,
+        block: &'a Block,
+        claims: &'a [u32],
+        parts: u16,
+    ) -> Result<Walk<'a>, AllocError>
         requires block { IsValid block.now }
         requires claims { AreClaims claims.now }
         requires parts_from { 1 ≤ parts }
@@ -127,11 +132,7 @@ impl<'a> Walk<'a> {
             return Err(fault);
         }
         match first_over(self.errors.as_slice(), self.claims) {
-            Some(o) => Err(CheckFault::Claimed(
-                o as u8 + 1,
-                self.claims[o],
-                self.errors[o],
-            )),
+            Some(o) => Err(CheckFault::Claimed(o as u8 + 1, self.claims[o], self.errors[o])),
             None => Ok(self.errors),
         }
     }

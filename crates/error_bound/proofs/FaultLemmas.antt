@@ -1,5 +1,5 @@
 -- A leaf that has a fault does not hold, and has one first fault.
-use Rattle.std.proofs.Common.{◌≡◌, ⊎_elim, ℕ, ◌-◌, ◌<◌, ◌≤◌, List, get_or, refl, ap, ◌∙◌, subst, arith}
+use Rattle.std.proofs.Common.{◌≡◌, ⊎_elim, ℕ, ◌-◌, ◌<◌, ◌≤◌, List, get_or, refl, subst, arith}
 use Rattle.std.specs.Prelude.{IsTrue, Some}
 use Rattle.std.proofs.lemmas.Bool.{cases_lt}
 use Rattle.std.proofs.lemmas.Option.{slice_get_within, get_or_from_slice_get}
@@ -13,7 +13,7 @@ use Rattle.error_bound.specs.declared.boxes.LeafFault.{LeafFault}
 use Rattle.error_bound.specs.Spans.{Span, ByteSpan}
 use Rattle.error_bound.specs.Boxes.{rule_span, rule_byte_span}
 use Rattle.error_bound.specs.Leaves.{rule_at, strong, silent, IsStrong, IsStill}
-use Rattle.error_bound.specs.Faults.{IsStrongFault, weak, still, IsFirstFiring, IsSilentFault, silent as firing, loud, HasLeafFault, of_strong, of_silent, FaultyLeavesFail, LeafFaultsAreOne}
+use Rattle.error_bound.specs.Faults.{IsStrongFault, weak, still, IsFirstFiring, IsSilentFault, silent as firing, loud, of_strong, of_silent, FaultyLeavesFail, LeafFaultsAreOne}
 use Rattle.error_bound.proofs.ConclusionLemmas.{any-term}
 
 below_not : (f g : Fraction) → IsBelow f g → AtMost g f → ⊥

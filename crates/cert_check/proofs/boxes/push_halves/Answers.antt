@@ -1,4 +1,4 @@
-use Rattle.std.proofs.Common.{◌≡◌, ◌-◌, ◌∷◌, List, ap, ap₂, arith, ◌∙◌}
+use Rattle.std.proofs.Common.{◌-◌, ◌∷◌, List, ap, ap₂, arith, ◌∙◌}
 use Rattle.error_bound.specs.declared.boxes.Interval.{Interval}
 use Rattle.cert_check.proofs.CutLemmas.{cut_inside, set-left, set-right}
 use Rattle.cert_check.proofs.WalkLemmas.{few_below, stack-length}

@@ -1,9 +1,7 @@
-use Rattle.std.proofs.Common.{◌≡◌, ◌≢◌, ℕ, List, [], ◌∷◌, ◌++◌, length, sym, ◌∙◌, subst}
-use Rattle.std.specs.Global.{Vec}
-use Rattle.box_tree.specs.declared.cert.Node.{Node}
-use Rattle.box_tree.specs.Reading.{HasRead, claims_of}
+use Rattle.std.proofs.Common.{ℕ, List, [], ◌∷◌, ◌++◌, length, sym, ◌∙◌, subst}
+use Rattle.box_tree.specs.Reading.{claims_of}
 use Rattle.cert_check.specs.Refusals.{of_text, of_cert}
-use Rattle.cert_check.specs.Walks.{HasTaken, AreFirst}
+use Rattle.cert_check.specs.Walks.{AreFirst}
 use Rattle.cert_check.proofs.DriverLemmas.{IsWalkOver, still_over, is_cert, accepted_over, fault_over, first_of_text}
 use Rattle.cert_check.proofs.text.errors_of.Goals as goal
 

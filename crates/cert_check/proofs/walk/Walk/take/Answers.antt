@@ -1,4 +1,4 @@
-use Rattle.std.proofs.Common.{Fits, ◌+◌, arith}
+use Rattle.std.proofs.Common.{arith}
 use Rattle.cert_check.proofs.CheckLemmas.{none_from_is_some}
 use Rattle.cert_check.proofs.TakeLemmas.{as_behind, few_lines_taken}
 use Rattle.cert_check.proofs.walk.Walk.take.Goals as goal
