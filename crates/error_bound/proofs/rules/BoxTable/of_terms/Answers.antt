@@ -8,7 +8,7 @@ use Rattle.error_bound.specs.declared.reaches.Reach.{Reach}
 use Rattle.error_bound.specs.Boxes.{IsBoxOf}
 use Rattle.error_bound.specs.Reaches.{IsReachOfRule}
 use Rattle.error_bound.proofs.Filling.{AreFilled-more}
-use Rattle.error_bound.proofs.rules.BoxTable.new.Goals as goal
+use Rattle.error_bound.proofs.rules.BoxTable.of_terms.Goals as goal
 
 pub loop-n-init : goal.loop-n-init
 loop-n-init c = (refl, λ k x lt e. absurd (omega arith))
@@ -17,7 +17,7 @@ pub loop-n-preserved : goal.loop-n-preserved
 loop-n-preserved c =
     let b = c.args.block.now in
     let n = c.loop-n.n in
-    let box = c.new-terms.result.bytes.0.items in
+    let box = c.args.terms.bytes.0.items in
     let r0 = c.index-all-n.result in
     let all : c.as_slice-all.result.now ≡ b.rules = c.as_slice-all.ensures in
     let same = ap length all in
@@ -31,7 +31,7 @@ loop-n-preserved c =
 
 pub returns-clause-table : goal.returns-clause-table
 returns-clause-table c = record {
-  box_is = subst (λ (x : ByteBox). IsBoxOf c.args.block.now x.0.items) (sym c.new-terms.ensures.same) c.requires.bytes;
+  box_is = subst (λ (x : ByteBox). IsBoxOf c.args.block.now x.0.items) refl c.requires.bytes;
   count = c.loop-n.invariant.0;
   each = λ k r e. c.loop-n.invariant.1 k r (let l = slice_get_within c.args.block.now.rules k r e in let same = ap length c.as_slice-all.ensures in omega (arith, same)) e;
 }

@@ -3,7 +3,7 @@ use Rattle.std.proofs.lemmas.Int.{ints}
 use Rattle.fz_num.specs.declared.frac.Frac.{Frac}
 use Rattle.fz_num.specs.Fractions.{Fraction, IsNear}
 use Rattle.fz_num.specs.Fracs.{fraction_of, IsTruth}
-use Rattle.error_bound.proofs.grades.error_of_cell.Goals as goal
+use Rattle.error_bound.proofs.cells.error_of_cell.Goals as goal
 
 wider : (f : Frac) → IsTruth 1000000000000 f → IsTruth 10000000000000000 f
 wider f t = record { num_from = t.num_from; num_to = t.num_to; den_from = t.den_from; den_to = omega (arith, ints, t.den_to) }
