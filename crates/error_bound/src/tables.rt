@@ -117,12 +117,7 @@ fn row_of(input: &Input, cells: &InputCells, bytes: Interval) -> Row
 }
 
 /// The reach of a term of these cells.
-fn reach_of_term(
-    input: &Input,
-    term: &Trapezoid,
-    cells: &TermCells,
-    bytes: Interval,
-) -> Reach
+fn reach_of_term(input: &Input, term: &Trapezoid, cells: &TermCells, bytes: Interval) -> Reach
     requires input { IsValidInput input.now }
     requires term { IsValidTerm input.now.lo input.now.hi term.now }
     requires order { bytes.from ≤ bytes.to }

@@ -22,8 +22,7 @@ loop-input-preserved c =
     let here = λ (x : Input) (e : slice_get xs t ≡ Some x).
     let same : x0 ≡ x = c.input-item.is ∙ ap (λ l. get_or l t x0) c.as_slice-input-items.ensures ∙ get_or_from_slice_get xs t x x0 e in
     subst (λ z. AreInputCells z all_bytes c.new.result) same c.new.ensures in
-    let longer : length (c.loop-input.inputs.items ++ c.new.result ∷ []) ≡ t + 1 = let l = length-append c.loop-input.inputs.items (c.new.result ∷ []) in omega (arith, l, count) in
-    (
+    let longer : length (c.loop-input.inputs.items ++ c.new.result ∷ []) ≡ t + 1 = let l = length-append c.loop-input.inputs.items (c.new.result ∷ []) in omega (arith, l, count) in (
       ap length items ∙ longer,
       subst (λ ys. AreFilled P xs ys (t + 1)) (sym items) (AreFilled-push P xs c.loop-input.inputs.items t c.new.result count i.1 here),
     )
