@@ -1,10 +1,12 @@
 //! Laws of the generated code.
+ghost use Rattle.codegen.specs.Alike.{FirmwaresAreOne};
 ghost use Rattle.codegen.specs.Answers.{FirmwareAnswers};
 ghost use Rattle.codegen.specs.Evaluation.{EvalAnswers};
 ghost use Rattle.codegen.specs.Firing.{RulesGiveMasses};
 ghost use Rattle.codegen.specs.Uninterrupted.{AnsweredAreUninterrupted, FirmwareIsUninterrupted, UninterruptedAreOne};
 
 use cpu12_parts::executions::executions_are_one;
+use rule_layout::layouts_are_one;
 
 /// The rules leave in the slots of the outputs' terms their masses.
 pub fn rules_give_masses()
@@ -40,4 +42,11 @@ pub fn uninterrupted_are_one()
     ensures { UninterruptedAreOne }
 {
     executions_are_one();
+}
+
+/// Blocks that say the same, wherever their conditions lie in memory, have firmware with one image.
+pub fn firmwares_are_one()
+    ensures { FirmwaresAreOne }
+{
+    layouts_are_one();
 }
