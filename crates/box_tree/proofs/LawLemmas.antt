@@ -15,7 +15,7 @@ use Rattle.box_tree.proofs.PairLemmas.{pairs_are_one}
 abbrev the_leaf : List (ℕ × ℕ) → Node
 the_leaf pairs = Leaf (record { items = pairs })
 
-one_node : (width other : ℕ) (a b : Node) (x y : List ℕ) → IsNode width a → IsNode other b → node_line a ++ x ≡ node_line b ++ y → (a ≡ b) × (x ≡ y)
+pub one_node : (width other : ℕ) (a b : Node) (x y : List ℕ) → IsNode width a → IsNode other b → node_line a ++ x ≡ node_line b ++ y → (a ≡ b) × (x ≡ y)
 one_node width other (Split i c) (Split j d) x y a_good b_good same =
     let one = line_is_one (codes "split") (i ∷ c ∷ []) (j ∷ d ∷ []) x y (cut_is_small i c a_good) (cut_is_small j d b_good) same in
     let numbers : i ∷ c ∷ [] ≡ j ∷ d ∷ [] = one.0 in
@@ -28,7 +28,7 @@ one_node width other (Leaf pairs) (Leaf others) x y a_good b_good same =
     let one = line_is_one (codes "leaf") (pair_numbers pairs.items) (pair_numbers others.items) x y (pairs_are_small pairs.items a_good.1) (pairs_are_small others.items b_good.1) same in
     (ap the_leaf (pairs_are_one pairs.items others.items one.0), one.1)
 
-line_is_some : (node : Node) (rest : List ℕ) → [] ≡ node_line node ++ rest → ⊥
+pub line_is_some : (node : Node) (rest : List ℕ) → [] ≡ node_line node ++ rest → ⊥
 line_is_some (Split i c) rest same = cc
 line_is_some (Leaf pairs) rest same = cc
 

@@ -7,3 +7,4 @@ pub mod HeaderLemmas
 pub mod TreeLemmas
 pub mod ReadLemmas
 pub mod LawLemmas
+pub mod StopLemmas

@@ -42,7 +42,7 @@ node_lines_more nodes i node text text' before lt is so_far added =
     ∙ ap (λ (t : List ℕ). before ++ t) (ap (λ (t : List ℕ). node_lines (take i nodes) ++ t) (sym (append-nil (node_line node))) ∙ sym (node_lines-snoc (take i nodes) node []) ∙ append-nil _
     ∙ ap node_lines (ap (λ (n : Node). take i nodes ++ n ∷ []) is ∙ sym (take-suc nodes i node lt) ∙ ap (λ (k : ℕ). take k nodes) (sym (add-one i))))
 
-lines_behind : (version : ℕ) (claims : List ℕ) (nodes : List Node) (rest : List ℕ) → lines_of version claims nodes ++ rest ≡ version_line version ++ (claim_line claims ++ (node_lines nodes ++ rest))
+pub lines_behind : (version : ℕ) (claims : List ℕ) (nodes : List Node) (rest : List ℕ) → lines_of version claims nodes ++ rest ≡ version_line version ++ (claim_line claims ++ (node_lines nodes ++ rest))
 lines_behind version claims nodes rest =
     append_assoc (version_line version) (claim_line claims ++ node_lines nodes) rest ∙ ap (λ (t : List ℕ). version_line version ++ t) (append_assoc (claim_line claims) (node_lines nodes) rest)
 

@@ -58,7 +58,7 @@ All-back P [] ys a = a
 All-back P (x ∷ xs) ys a = All-back P xs ys (λ j e m. a (suc j) e (omega arith))
 
 -- what is reached in a tree is a tree, whose leaves are among its leaves
-inside : (b : Block) (P : Part → Type 0) (box : List Interval) (nodes : List Node) (found : List Interval)
+pub inside : (b : Block) (P : Part → Type 0) (box : List Interval) (nodes : List Node) (found : List Interval)
     (rest : List Node) → Reaches b box nodes found rest → (parts : List Part) (after : List Node)
     → IsTree box nodes parts after → All P parts
     → (ps : List Part) × (behind : List Node) × IsTree found rest ps behind × All P ps
@@ -101,7 +101,7 @@ Holds-pair b box o pair (silent no_rule no_part still) = record {
   concludes_one = λ z. absurd (omega arith);
 }
 
-pair_fails : (b : Block) (box : List Interval) (o : ℕ) (pair : the.Leaf) (line : ℕ) (f : CheckFault)
+pub pair_fails : (b : Block) (box : List Interval) (o : ℕ) (pair : the.Leaf) (line : ℕ) (f : CheckFault)
     → IsPairFault b box o pair line f → Holds b box o pair → ⊥
 pair_fails b box o pair line f (bad_rule n) h = n (Holds-pair b box o pair h)
 pair_fails b box o pair line f (fails g p e) h = faulty_fail b box o pair g e h
@@ -116,7 +116,7 @@ part_fails b h p line f x n fault bound =
 only_part : (P : Part → Type 0) (p : Part) (parts : List Part) → p ∷ [] ≡ parts → All P parts → P p
 only_part P p parts e a = subst (λ ps. All P ps) (sym e) a 0 p (omega arith)
 
-tree_fails : (b : Block) (h : ℕ) (cert : Cert) (errors : List ℕ) (f : CheckFault) → HasTreeFault b cert.nodes f
+pub tree_fails : (b : Block) (h : ℕ) (cert : Cert) (errors : List ℕ) (f : CheckFault) → HasTreeFault b cert.nodes f
     → IsAccepted b h cert errors → ⊥
 tree_fails b h cert errors f (bad_cut box i c rest reach outside) a =
     let t = inside b (λ _. Unit {0}) (whole b) cert.nodes box (Split i c ∷ rest) reach a.parts [] a.tree (λ k d l. tt) in

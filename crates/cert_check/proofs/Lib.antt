@@ -6,5 +6,8 @@ pub mod WideAccepted
 pub mod CutLemmas
 pub mod PairLemmas
 pub mod WalkLemmas
+pub mod TakeLemmas
 pub mod CheckLemmas
+pub mod DriverLemmas
 pub mod FaultLemmas
+pub mod FirstFaults

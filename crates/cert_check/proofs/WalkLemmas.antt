@@ -1,9 +1,9 @@
 -- How far a walk over the nodes has come: the boxes that are open, and what is known of the tree from what follows.
-use Rattle.std.proofs.Common.{◌≡◌, ◌⊎◌, ⊎_elim, inl, inr, ℕ, zero, suc, ◌+◌, ◌-◌, ◌*◌, ◌<◌, ◌≤◌, List, [], ◌∷◌, ◌++◌, length, length-drop, get_or, map, drop, drop-cons, replicate, Some, refl, sym, ap, ◌∙◌, subst, arith}
+use Rattle.std.proofs.Common.{◌≡◌, ⊎_elim, inl, inr, ℕ, zero, suc, ◌+◌, ◌-◌, ◌*◌, ◌<◌, ◌≤◌, List, [], ◌∷◌, ◌++◌, length, length-append, get_or, map, reverse, replicate, Some, refl, sym, ap, ◌∙◌, subst, arith}
 use Rattle.std.specs.Prelude.{slice_get, slice_index, All, max}
 use Rattle.std.specs.List.{Any}
 use Rattle.std.proofs.lemmas.Bool.{cases_lt}
-use Rattle.std.proofs.lemmas.List.{append_assoc, append-nil, reverse-append}
+use Rattle.std.proofs.lemmas.List.{append_assoc, append-nil, reverse-append, length-map, length-reverse}
 use Rattle.std.proofs.lemmas.List.Elements.{All-append}
 use Rattle.std.proofs.lemmas.Option.{get_or_from_slice_get}
 use Rattle.arrayvec.specs.ArrayVec.{ArrayVec}
@@ -16,24 +16,15 @@ use Rattle.error_bound.specs.Boxes.{IsBoxOf}
 use Rattle.box_tree.specs.declared.cert.Node.{Node}
 use Rattle.box_tree.specs.declared.cert.Node.TheVariants.{Split, Leaf}
 use Rattle.box_tree.specs.Trees.{open_from, leaf_count}
+use Rattle.box_tree.specs.Laws.{OpenBoxesGoOn}
+use Rattle.cert_check.specs.declared.checker.CheckFault.{CheckFault}
+use Rattle.cert_check.specs.declared.checker.CheckFault.TheVariants as fault
 use Rattle.cert_check.specs.Trees.{Part, IsTree, leaf, split, part_of, left_of, right_of, IsCut, whole}
 use Rattle.cert_check.specs.Acceptance.{HasBound, IsGreatestBound, IsAccepted}
-use Rattle.cert_check.specs.Faults.{AllHold, Reaches, line_at, root, in_left, in_right}
-use Rattle.cert_check.specs.Walks.{stack_of, Raises}
+use Rattle.cert_check.specs.Faults.{AllHold, HasPartFault, AreClaimed, HasCheckFault, Reaches, line_at, root, in_left, in_right, bad_cut, bad_leaf, tree}
+use Rattle.cert_check.specs.Walks.{stack_of, Raises, cuts_of, AreCutOut, AreTrees, AreReached, IsGreatestSoFar, HasWalked}
 use Rattle.cert_check.proofs.CutLemmas.{IsBox-left, IsBox-right}
 use Rattle.cert_check.proofs.Determined.{left_count, right_count, map_count}
-
--- nodes begin with a tree for each box
-abbrev pub AreTrees : List (List Interval) → List Node → List Part → List Node → Type 0
-AreTrees [] nodes parts rest = (parts ≡ []) × (nodes ≡ rest)
-AreTrees (box ∷ boxes) nodes parts rest = (ps : List Part) × (qs : List Part) × (mid : List Node) × IsTree box nodes ps mid
-    × AreTrees boxes mid qs rest × (parts ≡ ps ++ qs)
-
--- in the first tree, or in a later one where the leaves of those before hold
-abbrev pub AreReached : Block → List (List Interval) → List Node → List Interval → List Node → Type 0
-AreReached b [] nodes found rest = ⊥
-AreReached b (box ∷ boxes) nodes found rest = Reaches b box nodes found rest ⊎
-    ((ps : List Part) × (mid : List Node) × IsTree box nodes ps mid × All (AllHold b) ps × AreReached b boxes mid found rest)
 
 trees_split : (box : List Interval) (boxes : List (List Interval)) (i c : ℕ) (nodes : List Node) (parts : List Part)
     (rest : List Node) → 1 ≤ i → IsCut (i - 1) c box
@@ -75,11 +66,6 @@ reached_leaf : (b : Block) (box : List Interval) (boxes : List (List Interval)) 
 reached_leaf b box boxes pairs nodes found rest hold more = inr
     (part_of box pairs.items ∷ [], nodes, leaf box pairs nodes, one_of (AllHold b) (part_of box pairs.items) hold, more)
 
--- e is the greatest Bound of the leaves, or 0 where there is none
-pub record IsGreatestSoFar (b : Block) (o : ℕ) (x : Output) (h : ℕ) (parts : List Part) (e : ℕ) : Type 0 where
-  pub each : All (λ p. (n : ℕ) × HasBound b o x h p n × (n ≤ e)) parts
-  pub some : 1 ≤ e → Any (λ p. HasBound b o x h p e) parts
-
 Any-left : {X : Type 0} (P : X → Type 0) (xs ys : List X) → Any P xs → Any P (xs ++ ys)
 Any-left P [] ys (k, x, l, e, p) = absurd (omega arith)
 Any-left P (z ∷ xs) ys (zero, x, l, e, p) = (zero, x, omega arith, e, p)
@@ -118,18 +104,6 @@ greatest_all b o x h (p ∷ parts) zero l g =
     let z : w.0 ≡ 0 = omega arith in
     record { each = g.each; some = (0, p, omega arith, refl, subst (λ m. HasBound b o x h p m) z w.1) }
 
--- the walk over nodes has come to the rest, with these boxes open and these errors
-pub record HasWalked (b : Block) (h : ℕ) (nodes rest : List Node) (boxes : List (List Interval)) (errors : List ℕ) : Type 0 where
-  pub are_boxes : All (IsBoxOf b) boxes
-  pub open_count : open_from (length boxes) rest ≡ Some 0
-  pub parts : List Part
-  pub trees : (ps : List Part) → AreTrees boxes rest ps [] → AreTrees (whole b ∷ []) nodes (parts ++ ps) []
-  pub reached : (found : List Interval) (after : List Node) → AreReached b boxes rest found after
-      → AreReached b (whole b ∷ []) nodes found after
-  pub count : length errors ≡ length b.outputs
-  pub greatest : (k : ℕ) (x : Output) → slice_get b.outputs k ≡ Some x
-      → IsGreatestSoFar b (k + 1) x h parts (slice_index errors k)
-
 All-head : {X : Type 0} (P : X → Type 0) (x : X) (xs : List X) → All P (x ∷ xs) → P x
 All-head P x xs a = a 0 x (omega arith)
 
@@ -139,49 +113,6 @@ All-tail P x xs a k d l = a (suc k) d (omega arith)
 All-cons : {X : Type 0} (P : X → Type 0) (x : X) (xs : List X) → P x → All P xs → All P (x ∷ xs)
 All-cons P x xs h a zero d l = h
 All-cons P x xs h a (suc k) d l = a k d (omega arith)
-
-pub walked_split : (b : Block) (h : ℕ) (nodes rest : List Node) (box : List Interval) (boxes : List (List Interval))
-    (errors : List ℕ) (i c : ℕ) → 1 ≤ i → IsCut (i - 1) c box
-    → HasWalked b h nodes (Split i c ∷ rest) (box ∷ boxes) errors
-    → HasWalked b h nodes rest (left_of (i - 1) c box ∷ right_of (i - 1) c box ∷ boxes) errors
-walked_split b h nodes rest box boxes errors i c some cut w =
-    let this : IsBoxOf b box = All-head (IsBoxOf b) box boxes w.are_boxes in
-    let left : IsBoxOf b (left_of (i - 1) c box) = record
-    { count = left_count (i - 1) c box ∙ this.count; intervals = IsBox-left (i - 1) c box this.intervals cut } in
-    let right : IsBoxOf b (right_of (i - 1) c box) = record
-    { count = right_count (i - 1) c box ∙ this.count; intervals = IsBox-right (i - 1) c box this.intervals cut } in
-    record {
-      are_boxes = All-cons (IsBoxOf b) (left_of (i - 1) c box) (right_of (i - 1) c box ∷ boxes) left
-          (All-cons (IsBoxOf b) (right_of (i - 1) c box) boxes right (All-tail (IsBoxOf b) box boxes w.are_boxes));
-      open_count = w.open_count;
-      parts = w.parts;
-      trees = λ ps t. w.trees ps (trees_split box boxes i c rest ps [] some cut t);
-      reached = λ found after r. w.reached found after (reached_split b box boxes i c rest found after some cut r);
-      count = w.count;
-      greatest = w.greatest;
-    }
-
-pub walked_leaf : (b : Block) (h : ℕ) (nodes rest : List Node) (box : List Interval) (boxes : List (List Interval))
-    (errors new : List ℕ) (pairs : ArrayVec (ℕ × ℕ)) → AllHold b (part_of box pairs.items)
-    → Raises b h (part_of box pairs.items) errors new
-    → HasWalked b h nodes (Leaf pairs ∷ rest) (box ∷ boxes) errors → HasWalked b h nodes rest boxes new
-walked_leaf b h nodes rest box boxes errors new pairs hold raised w =
-    let p = part_of box pairs.items in
-    record {
-      are_boxes = All-tail (IsBoxOf b) box boxes w.are_boxes;
-      open_count = w.open_count;
-      parts = w.parts ++ p ∷ [];
-      trees = λ ps t. subst (λ xs. AreTrees (whole b ∷ []) nodes xs []) (sym (append_assoc w.parts (p ∷ []) ps))
-          (w.trees (p ∷ ps) (p ∷ [], ps, rest, leaf box pairs rest, t, refl));
-      reached = λ found after r. w.reached found after (reached_leaf b box boxes pairs rest found after hold r);
-      count = raised.count ∙ w.count;
-      greatest = λ k x e.
-          let r = raised.each k x e in
-          let s : max (slice_index errors k) r.0 ≡ slice_index new k = sym
-          (get_or_from_slice_get new k (max (slice_index errors k) r.0) 0 r.2) in
-          subst (λ m. IsGreatestSoFar b (k + 1) x h (w.parts ++ p ∷ []) m) s
-          (greatest_more b (k + 1) x h w.parts p (slice_index errors k) r.0 r.1 (w.greatest k x e));
-    }
 
 zero_at : (n k : ℕ) → slice_index (replicate {A = ℕ} n 0) k ≡ 0
 zero_at zero k = refl
@@ -203,15 +134,39 @@ whole_intervals (i ∷ is) zero v e =
     (omega arith, omega arith)
 whole_intervals (i ∷ is) (suc k) v e = whole_intervals is k v e
 
-pub walked_none : (b : Block) (h : ℕ) (nodes : List Node) → open_from 1 nodes ≡ Some 0
-    → HasWalked b h nodes nodes (whole b ∷ []) (replicate (length b.outputs) 0)
-walked_none b h nodes tree = record {
+-- each cut of a box leaves one less for its halves
+cuts-left : (k c : ℕ) (box : List Interval) → IsCut k c box → cuts_of (left_of k c box) + 1 ≤ cuts_of box
+cuts-left k c [] h = absurd h
+cuts-left zero c (v ∷ vs) h = let h0 = h.0 in let h1 = h.1 in omega arith
+cuts-left (suc k) c (v ∷ vs) h = let r = cuts-left k c vs h in omega (arith, r)
+
+cuts-right : (k c : ℕ) (box : List Interval) → IsCut k c box → cuts_of (right_of k c box) + 1 ≤ cuts_of box
+cuts-right k c [] h = absurd h
+cuts-right zero c (v ∷ vs) h = let h0 = h.0 in let h1 = h.1 in omega arith
+cuts-right (suc k) c (v ∷ vs) h = let r = cuts-right k c vs h in omega (arith, r)
+
+cuts-whole : (is : List Input) → cuts_of (map (λ (_ : Input). record { from = 0; to = 255 }) is) ≡ 255 * length is
+cuts-whole [] = refl
+cuts-whole (i ∷ is) = let r = cuts-whole is in omega (arith, r)
+
+-- no more boxes are open than cuts made them
+pub few_boxes : (boxes : List (List Interval)) → AreCutOut boxes → length boxes ≤ 2041
+few_boxes [] c = omega arith
+few_boxes (box ∷ boxes) c = let c0 = c.0 in omega (arith, c0)
+
+pub few_below : (box : List Interval) (boxes : List (List Interval)) (k c : ℕ) → AreCutOut (box ∷ boxes) → IsCut k c box → length boxes ≤ 2039
+few_below box boxes k c a cut = let a0 = a.0 in let l = cuts-left k c box cut in omega (arith, a0, l)
+
+-- the walk before the first node, and behind one more
+pub walked_none : (b : Block) (h : ℕ) → length b.inputs ≤ 8 → HasWalked b h [] (whole b ∷ []) (replicate (length b.outputs) 0)
+walked_none b h few = record {
   are_boxes = one_of (IsBoxOf b) (whole b) (record
       { count = map_count b.inputs; intervals = record { some = whole_intervals b.inputs } });
-  open_count = tree;
+  cut_out = (let e = cuts-whole b.inputs in omega (arith, e, few), tt);
+  open_count = refl;
   parts = [];
-  trees = λ ps t. t;
-  reached = λ found after r. r;
+  trees = λ rest ps t. t;
+  reached = λ rest found after r. r;
   count = zeros_count (length b.outputs);
   greatest = λ k x e. record {
     each = λ j d l. absurd (omega arith);
@@ -219,6 +174,57 @@ walked_none b h nodes tree = record {
         absurd (omega (arith, z, l));
   };
 }
+
+pub walked_split : (b : Block) (h : ℕ) (nodes : List Node) (box : List Interval) (boxes : List (List Interval))
+    (errors : List ℕ) (i c : ℕ) → OpenBoxesGoOn → 1 ≤ i → IsCut (i - 1) c box → HasWalked b h nodes (box ∷ boxes) errors
+    → HasWalked b h (nodes ++ Split i c ∷ []) (left_of (i - 1) c box ∷ right_of (i - 1) c box ∷ boxes) errors
+walked_split b h nodes box boxes errors i c goes_on some cut w =
+    let this : IsBoxOf b box = All-head (IsBoxOf b) box boxes w.are_boxes in
+    let left : IsBoxOf b (left_of (i - 1) c box) = record
+    { count = left_count (i - 1) c box ∙ this.count; intervals = IsBox-left (i - 1) c box this.intervals cut } in
+    let right : IsBoxOf b (right_of (i - 1) c box) = record
+    { count = right_count (i - 1) c box ∙ this.count; intervals = IsBox-right (i - 1) c box this.intervals cut } in
+    let c0 = w.cut_out.0 in
+    let l = cuts-left (i - 1) c box cut in
+    let r = cuts-right (i - 1) c box cut in
+    record {
+      are_boxes = All-cons (IsBoxOf b) (left_of (i - 1) c box) (right_of (i - 1) c box ∷ boxes) left
+          (All-cons (IsBoxOf b) (right_of (i - 1) c box) boxes right (All-tail (IsBoxOf b) box boxes w.are_boxes));
+      cut_out = (omega (arith, c0, l), (omega (arith, c0, r), w.cut_out.1));
+      open_count = goes_on 1 (length (box ∷ boxes)) nodes (Split i c ∷ []) w.open_count;
+      parts = w.parts;
+      trees = λ rest ps t. subst (λ ns. AreTrees (whole b ∷ []) ns (w.parts ++ ps) []) (sym (append_assoc nodes (Split i c ∷ []) rest))
+          (w.trees (Split i c ∷ rest) ps (trees_split box boxes i c rest ps [] some cut t));
+      reached = λ rest found after r. subst (λ ns. AreReached b (whole b ∷ []) ns found after) (sym (append_assoc nodes (Split i c ∷ []) rest))
+          (w.reached (Split i c ∷ rest) found after (reached_split b box boxes i c rest found after some cut r));
+      count = w.count;
+      greatest = w.greatest;
+    }
+
+pub walked_leaf : (b : Block) (h : ℕ) (nodes : List Node) (box : List Interval) (boxes : List (List Interval))
+    (errors new : List ℕ) (pairs : ArrayVec (ℕ × ℕ)) → OpenBoxesGoOn → AllHold b (part_of box pairs.items)
+    → Raises b h (part_of box pairs.items) errors new
+    → HasWalked b h nodes (box ∷ boxes) errors → HasWalked b h (nodes ++ Leaf pairs ∷ []) boxes new
+walked_leaf b h nodes box boxes errors new pairs goes_on hold raised w =
+    let p = part_of box pairs.items in
+    record {
+      are_boxes = All-tail (IsBoxOf b) box boxes w.are_boxes;
+      cut_out = w.cut_out.1;
+      open_count = goes_on 1 (length (box ∷ boxes)) nodes (Leaf pairs ∷ []) w.open_count;
+      parts = w.parts ++ p ∷ [];
+      trees = λ rest ps t. subst (λ ns. AreTrees (whole b ∷ []) ns ((w.parts ++ p ∷ []) ++ ps) []) (sym (append_assoc nodes (Leaf pairs ∷ []) rest))
+          (subst (λ xs. AreTrees (whole b ∷ []) (nodes ++ Leaf pairs ∷ rest) xs []) (sym (append_assoc w.parts (p ∷ []) ps))
+          (w.trees (Leaf pairs ∷ rest) (p ∷ ps) (p ∷ [], ps, rest, leaf box pairs rest, t, refl)));
+      reached = λ rest found after r. subst (λ ns. AreReached b (whole b ∷ []) ns found after) (sym (append_assoc nodes (Leaf pairs ∷ []) rest))
+          (w.reached (Leaf pairs ∷ rest) found after (reached_leaf b box boxes pairs rest found after hold r));
+      count = raised.count ∙ w.count;
+      greatest = λ k x e.
+          let r = raised.each k x e in
+          let s : max (slice_index errors k) r.0 ≡ slice_index new k = sym
+          (get_or_from_slice_get new k (max (slice_index errors k) r.0) 0 r.2) in
+          subst (λ m. IsGreatestSoFar b (k + 1) x h (w.parts ++ p ∷ []) m) s
+          (greatest_more b (k + 1) x h w.parts p (slice_index errors k) r.0 r.1 (w.greatest k x e));
+    }
 
 tree_some : (box : List Interval) (nodes rest : List Node) (parts : List Part) → IsTree box nodes parts rest → 1 ≤ length parts
 tree_some box nodes rest parts (leaf x pairs r) = omega arith
@@ -229,15 +235,17 @@ tree_some box nodes rest parts (split x i c n m r left right some cut tl tr) = l
     some_more [] ys h = absurd (omega arith)
     some_more (x ∷ xs) ys h = omega arith
 
--- at the end the certificate that claims the errors is accepted
-pub walked_all : (b : Block) (h : ℕ) (nodes : List Node) (boxes : List (List Interval)) (errors : List ℕ)
-    → HasWalked b h nodes [] boxes errors → IsAccepted b h (record { claims = errors; nodes = nodes }) errors
-walked_all b h nodes (box ∷ boxes) errors w = absurd (let z : ⊥ = let e = w.open_count in cc in z)
-walked_all b h nodes [] errors w =
-    let tree : IsTree (whole b) nodes w.parts [] = trees_one (whole b) nodes w.parts
-    (subst (λ ps. AreTrees (whole b ∷ []) nodes ps []) (append-nil w.parts) (w.trees [] (refl, refl))) in
+-- at the end a certificate that claims no less than the errors is accepted
+accepted_all : (b : Block) (h : ℕ) (nodes : List Node) (boxes : List (List Interval)) (claims errors : List ℕ) → boxes ≡ []
+    → length claims ≡ length b.outputs → AreClaimed errors claims → HasWalked b h nodes boxes errors
+    → IsAccepted b h (record { claims = claims; nodes = nodes }) errors
+accepted_all b h nodes (box ∷ boxes) claims errors none count claimed w = absurd (let z : ⊥ = cc in z)
+accepted_all b h nodes [] claims errors none count claimed w =
+    let front : AreTrees (whole b ∷ []) nodes w.parts [] = subst (λ ns. AreTrees (whole b ∷ []) ns w.parts []) (append-nil nodes)
+    (subst (λ ps. AreTrees (whole b ∷ []) (nodes ++ []) ps []) (append-nil w.parts) (w.trees [] [] (refl, refl))) in
+    let tree : IsTree (whole b) nodes w.parts [] = trees_one (whole b) nodes w.parts front in
     record {
-      claims_count = w.count;
+      claims_count = count;
       errors_count = w.count;
       parts = w.parts;
       tree = tree;
@@ -247,21 +255,52 @@ walked_all b h nodes [] errors w =
           greatest_all b o x h w.parts e (tree_some (whole b) nodes [] w.parts tree)
           (subst (λ j. IsGreatestSoFar b j x h w.parts e) ko
           (subst (λ m. IsGreatestSoFar b (o - 1 + 1) x h w.parts m) s (w.greatest (o - 1) x ex)));
-      claimed = λ k e c ee ec. let s : Some e ≡ Some c = sym ee ∙ ec in let same : e ≡ c = cc in omega arith;
+      claimed = claimed;
     }
 
--- a box that is open begins with the node that comes
-pub walked_to : (b : Block) (h : ℕ) (nodes : List Node) (node : Node) (rest : List Node) (box : List Interval)
-    (boxes : List (List Interval)) (errors : List ℕ) → HasWalked b h nodes (node ∷ rest) (box ∷ boxes) errors
-    → Reaches b (whole b) nodes box (node ∷ rest)
-walked_to b h nodes node rest box boxes errors w = first (w.reached box (node ∷ rest) (inl (root box (node ∷ rest))))
+no_boxes : (boxes : List (List Interval)) → length boxes ≡ 0 → boxes ≡ []
+no_boxes [] e = refl
+no_boxes (box ∷ boxes) e = absurd (omega arith)
+
+pub walked_all : (b : Block) (h : ℕ) (nodes : List Node) (boxes : List (List Interval)) (claims errors : List ℕ)
+    → open_from 1 nodes ≡ Some 0 → length claims ≡ length b.outputs → AreClaimed errors claims → HasWalked b h nodes boxes errors
+    → IsAccepted b h (record { claims = claims; nodes = nodes }) errors
+walked_all b h nodes boxes claims errors is_tree count claimed w =
+    let opens : Some (length boxes) ≡ Some 0 = sym w.open_count ∙ is_tree in
+    accepted_all b h nodes boxes claims errors (no_boxes boxes (let e : length boxes ≡ 0 = cc in e)) count claimed w
+
+-- the next open box begins with the node that comes
+walked_to : (b : Block) (h : ℕ) (nodes : List Node) (box : List Interval) (boxes : List (List Interval)) (errors : List ℕ) (rest : List Node)
+    → HasWalked b h nodes (box ∷ boxes) errors → Reaches b (whole b) (nodes ++ rest) box rest
+walked_to b h nodes box boxes errors rest w = first (w.reached rest box rest (inl (root box rest)))
   where
-    first : AreReached b (whole b ∷ []) nodes box (node ∷ rest) → Reaches b (whole b) nodes box (node ∷ rest)
+    first : AreReached b (whole b ∷ []) (nodes ++ rest) box rest → Reaches b (whole b) (nodes ++ rest) box rest
     first (inl r) = r
     first (inr (ps, mid, t, hold, none)) = absurd none
 
+line-here : (nodes rest : List Node) (node : Node) → line_at (nodes ++ node ∷ rest) (node ∷ rest) ≡ length nodes + 3
+line-here nodes rest node = let l = length-append nodes (node ∷ rest) in omega (arith, l)
+
+module _ (b : Block) (h : ℕ) (claims : List ℕ) (nodes : List Node) (box : List Interval) (boxes : List (List Interval)) (errors : List ℕ)
+    (line : ℕ) (rest : List Node) (count : length claims ≡ length b.outputs) (at : line ≡ length nodes + 3)
+    (w : HasWalked b h nodes (box ∷ boxes) errors) where
+  pub cut_fault : (i c : ℕ) → (IsCut (i - 1) c box → ⊥)
+      → HasCheckFault b h (record { claims = claims; nodes = nodes ++ Split i c ∷ rest }) (fault.BadCut line)
+  cut_fault i c none =
+      let same = at ∙ sym (line-here nodes rest (Split i c)) in
+      subst (λ n. HasCheckFault b h (record { claims = claims; nodes = nodes ++ Split i c ∷ rest }) (fault.BadCut n)) (sym same)
+      (tree (fault.BadCut (line_at (nodes ++ Split i c ∷ rest) (Split i c ∷ rest))) count
+      (bad_cut box i c rest (walked_to b h nodes box boxes errors (Split i c ∷ rest) w) none))
+
+  pub leaf_fault : (pairs : ArrayVec (ℕ × ℕ)) (f : CheckFault) → HasPartFault b (part_of box pairs.items) line f
+      → HasCheckFault b h (record { claims = claims; nodes = nodes ++ Leaf pairs ∷ rest }) f
+  leaf_fault pairs f part =
+      let same = at ∙ sym (line-here nodes rest (Leaf pairs)) in
+      tree f count (bad_leaf box pairs rest f (walked_to b h nodes box boxes errors (Leaf pairs ∷ rest) w)
+      (subst (λ n. HasPartFault b (part_of box pairs.items) n f) same part))
+
 -- as many nodes as leaves and boxes ask for
-pub nodes_count : (n m : ℕ) (nodes : List Node) → open_from n nodes ≡ Some m → length nodes + n ≡ 2 * leaf_count nodes + m
+nodes_count : (n m : ℕ) (nodes : List Node) → open_from n nodes ≡ Some m → length nodes + n ≡ 2 * leaf_count nodes + m
 nodes_count n m [] e = let s : n ≡ m = cc in omega arith
 nodes_count zero m (node ∷ nodes) e = absurd (let z : ⊥ = cc in z)
 nodes_count (suc n) m (Split i c ∷ nodes) e = let r = nodes_count (suc (suc n)) m nodes e in omega (arith, r)
@@ -270,49 +309,29 @@ nodes_count (suc n) m (Leaf pairs ∷ nodes) e = let r = nodes_count n m nodes e
 stack-last : (boxes : List ByteBox) (x : ByteBox) → stack_of (boxes ++ x ∷ []) ≡ x.0.items ∷ stack_of boxes
 stack-last boxes x = ap (λ (xs : List ByteBox). map (λ (y : ByteBox). y.0.items) xs) (reverse-append boxes (x ∷ []))
 
--- the walk stands before a node, with the box that it takes from the stack
-pub walked_before : (b : Block) (h : ℕ) (nodes : List Node) (n : ℕ) (boxes left : List ByteBox) (bytes : ByteBox)
-    (item node : Node) (errors : List ℕ) → n < length nodes → item ≡ get_or nodes n item → item ≡ node
-    → boxes ≡ left ++ bytes ∷ []
-    → HasWalked b h nodes (drop n nodes) (stack_of boxes) errors
-    → HasWalked b h nodes (node ∷ drop (n + 1) nodes) (bytes.0.items ∷ stack_of left) errors
-walked_before b h nodes n boxes left bytes item node errors within at is popped w =
-    let e : suc n ≡ n + 1 = omega arith in
-    let front : drop n nodes ≡ item ∷ drop (suc n) nodes = drop-cons nodes n item within ∙ ap
-    (λ (x : Node). x ∷ drop (suc n) nodes) (sym at) in
-    let rest : drop n nodes ≡ node ∷ drop (n + 1) nodes = front ∙ ap (λ (x : Node). x ∷ drop (suc n) nodes) is ∙ ap
-    (λ m. node ∷ drop m nodes) e in
-    let stack : stack_of boxes ≡ bytes.0.items ∷ stack_of left = ap stack_of popped ∙ stack-last left bytes in
-    subst (λ s. HasWalked b h nodes (node ∷ drop (n + 1) nodes) s errors) stack
-    (subst (λ r. HasWalked b h nodes r (stack_of boxes) errors) rest w)
+pub stack-pop : (boxes left : List ByteBox) (x : ByteBox) → boxes ≡ left ++ x ∷ [] → stack_of boxes ≡ x.0.items ∷ stack_of left
+stack-pop boxes left x popped = ap stack_of popped ∙ stack-last left x
 
-pub walked_box : (b : Block) (h : ℕ) (nodes rest : List Node) (box : List Interval) (boxes : List (List Interval))
-    (errors : List ℕ) → HasWalked b h nodes rest (box ∷ boxes) errors → IsBoxOf b box
-walked_box b h nodes rest box boxes errors w = All-head (IsBoxOf b) box boxes w.are_boxes
+pub leaves-front : (nodes more : List Node) → leaf_count nodes ≤ leaf_count (nodes ++ more)
+leaves-front [] more = omega arith
+leaves-front (Split i c ∷ nodes) more = leaves-front nodes more
+leaves-front (Leaf pairs ∷ nodes) more = let l = leaves-front nodes more in omega (arith, l)
 
--- where nodes are left a box is open
-pub walked_open : (b : Block) (h : ℕ) (nodes : List Node) (n : ℕ) (errors : List ℕ) → n < length nodes
-    → HasWalked b h nodes (drop n nodes) [] errors → ⊥
-walked_open b h nodes n errors within w = none_open (drop n nodes) (let d = length-drop n nodes in omega (arith, d, within))
-    w.open_count
-  where
-    none_open : (rest : List Node) → 1 ≤ length rest → open_from 0 rest ≡ Some 0 → ⊥
-    none_open [] l e = let z : ⊥ = omega arith in z
-    none_open (node ∷ rest) l e = let z : ⊥ = cc in z
+-- the lines of a walk that has met no fault are few
+pub few_lines : (b : Block) (h : ℕ) (nodes more : List Node) (boxes : List (List Interval)) (errors : List ℕ) → leaf_count (nodes ++ more) ≤ 4096
+    → HasWalked b h nodes boxes errors → length nodes ≤ 10232
+few_lines b h nodes more boxes errors few w =
+    let c = nodes_count 1 (length boxes) nodes w.open_count in
+    let l = leaves-front nodes more in
+    let k = few_boxes boxes w.cut_out in
+    omega (arith, c, l, k, few)
 
-pub walked_end : (b : Block) (h : ℕ) (nodes : List Node) (n : ℕ) (boxes : List (List Interval)) (errors : List ℕ)
-    → length nodes ≤ n → HasWalked b h nodes (drop n nodes) boxes errors
-    → IsAccepted b h (record { claims = errors; nodes = nodes }) errors
-walked_end b h nodes n boxes errors all w = walked_all b h nodes boxes errors
-    (subst (λ rest. HasWalked b h nodes rest boxes errors)
-    (nothing (drop n nodes) (let d = length-drop n nodes in omega (arith, d, all))) w)
-  where
-    nothing : (rest : List Node) → length rest ≡ 0 → rest ≡ []
-    nothing [] e = refl
-    nothing (node ∷ rest) e = absurd (omega arith)
+-- where a node may follow, a box is open
+pub some_open : (b : Block) (h n : ℕ) (nodes : List Node) (node : Node) (errors : List ℕ) → OpenBoxesGoOn → open_from 1 (nodes ++ node ∷ []) ≡ Some n
+    → HasWalked b h nodes [] errors → ⊥
+some_open b h n nodes node errors goes_on opens w =
+    let none : open_from 0 (node ∷ []) ≡ Some n = sym (goes_on 1 0 nodes (node ∷ []) w.open_count) ∙ opens in
+    cc
 
-pub line-here : (nodes : List Node) (n : ℕ) (node : Node) → n < length nodes → line_at nodes (node ∷ drop (n + 1) nodes) ≡ n + 3
-line-here nodes n node within = let d = length-drop (n + 1) nodes in omega (arith, d, within)
-
-pub few_nodes : (nodes : List Node) → open_from 1 nodes ≡ Some 0 → leaf_count nodes ≤ 4096 → length nodes ≤ 8191
-few_nodes nodes tree few = let c = nodes_count 1 0 nodes tree in omega (arith, c, few)
+pub stack-length : (boxes : List ByteBox) → length (stack_of boxes) ≡ length boxes
+stack-length boxes = length-map (reverse boxes) (λ (x : ByteBox). x.0.items) ∙ length-reverse boxes

@@ -2,5 +2,6 @@ pub mod Trees
 pub mod Acceptance
 pub mod Faults
 pub mod Walks
+pub mod Refusals
 pub mod Laws
 pub mod Examples

@@ -5,7 +5,7 @@ ghost use Rattle.box_tree.specs.Certificates.{IsCert};
 ghost use Rattle.cert_check.specs.Acceptance.{IsAccepted};
 ghost use Rattle.cert_check.specs.Faults.{HasCheckFault, IsFirstOver, AreClaimed};
 
-use crate::walk::errors_of;
+use crate::walk::Walk;
 use box_tree::Cert;
 use error_bound::LeafFault;
 use fuzzy_meaning::Block;
@@ -70,29 +70,12 @@ fn checked(alloc: Global, block: &Block, cert: &Cert, parts: u16) -> Result<Vec<
     ensures fault { IfErr result (λ fault.
         fault ≢ CheckFault.Memory → HasCheckFault block.now parts cert.now fault) }
 {
-    let outputs = block.outputs.len();
-    let claims = cert.claims.as_slice();
-    if claims.len() != outputs {
-        return Err(CheckFault::Outputs(claims.len() as u32, outputs as u32));
+    let mut walk = match Walk::new(alloc, block, cert.claims.as_slice(), parts) {
+        Ok(walk) => walk,
+        Err(_) => return Err(CheckFault::Memory),
+    };
+    for node in cert.nodes.as_slice() {
+        walk.take(node);
     }
-    let errors = errors_of(alloc, block, cert.nodes.as_slice(), parts)?;
-    match first_over(errors.as_slice(), claims) {
-        Some(o) => Err(CheckFault::Claimed(o as u8 + 1, claims[o], errors[o])),
-        None => Ok(errors),
-    }
-}
-
-/// The place of the first error that is greater than its claim.
-fn first_over(errors: &[u32], claims: &[u32]) -> Option<usize>
-    requires { length errors.now ≡ length claims.now }
-    ensures within { IfSome result (λ o. o < length errors.now) }
-    ensures over { IfSome result (IsFirstOver errors.now claims.now) }
-    ensures none { IfNone result (AreClaimed errors.now claims.now) }
-{
-    for o in 0..errors.len() {
-        if errors[o] > claims[o] {
-            return Some(o);
-        }
-    }
-    None
+    walk.finish()
 }

@@ -1,6 +1,9 @@
 //! Laws of the definitions.
-ghost use Rattle.cert_check.specs.Laws.{OneLeafHasTheBytes, AcceptedAnswersAreNear, ErrorsAreDetermined, FaultyCertsFail, WideIsAccepted};
+ghost use Rattle.cert_check.specs.Laws.{OneLeafHasTheBytes, AcceptedAnswersAreNear, ErrorsAreDetermined, FaultyCertsFail, WideIsAccepted, CheckFaultsAreOne, TextAnswersAreOne};
 ghost use Rattle.cert_check.specs.Examples.{ExamplesAreAccepted};
+
+use box_tree::{cert_texts_are_sound, certs_are_one, faults_are_one};
+use error_bound::leaf_faults_are_one;
 
 /// Each list of bytes of a box lies in exactly one leaf of a tree over it.
 pub fn one_leaf_has_the_bytes()
@@ -32,3 +35,20 @@ pub fn wide_is_accepted()
 pub fn examples_are_accepted()
     ensures { ExamplesAreAccepted }
 {}
+
+/// A certificate has at most one first fault.
+pub fn check_faults_are_one()
+    ensures { CheckFaultsAreOne }
+{
+    leaf_faults_are_one();
+}
+
+/// A text is accepted with one list of errors, or is refused for one reason.
+pub fn text_answers_are_one()
+    ensures { TextAnswersAreOne }
+{
+    certs_are_one();
+    faults_are_one();
+    cert_texts_are_sound();
+    check_faults_are_one();
+}

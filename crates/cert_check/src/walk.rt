@@ -1,138 +1,165 @@
 //! A walk over the nodes of a tree, with a stack of the boxes still to come.
-ghost use Rattle.std.specs.Prelude.{◌≡◌, ◌≢◌, ◌≤◌, ◌<◌, ◌+◌, ◌-◌, ℕ, ◌∷◌, [], length, replicate, set, All, OnOk, IfOk, IfErr, IfSome, IfNone, Some, slice_get};
+ghost use Rattle.std.specs.Prelude.{◌≡◌, ◌≤◌, ◌<◌, ◌+◌, ℕ, List, [], ◌∷◌, ◌++◌, length, replicate, OnOk, IfOk, IfErr, IfSome, IfNone, None};
 ghost use Rattle.fuzzy_meaning.specs.Blocks.{IsValid};
-ghost use Rattle.box_tree.specs.Certificates.{IsNode};
-ghost use Rattle.box_tree.specs.Trees.{IsTree as AreOneTree, leaf_count};
-ghost use Rattle.box_tree.specs.declared.cert.Cert.{Cert as TheCert};
-ghost use Rattle.error_bound.specs.Boxes.{IsBox};
-ghost use Rattle.cert_check.specs.Trees.{whole, left_of, right_of, IsCut};
-ghost use Rattle.cert_check.specs.Acceptance.{IsAccepted};
-ghost use Rattle.cert_check.specs.Faults.{HasTreeFault};
-ghost use Rattle.cert_check.specs.Walks.{stack_of};
+ghost use Rattle.box_tree.specs.Certificates.{AreClaims, IsCert};
+ghost use Rattle.box_tree.specs.declared.cert.Node.{Node as TheNode};
+ghost use Rattle.cert_check.specs.Faults.{IsFirstOver, AreClaimed};
 
+use crate::boxes::{push, push_halves, whole_box};
 use crate::checker::CheckFault;
 use crate::pairs::raise_errors;
-use arrayvec::ArrayVec;
-use box_tree::Node;
-use error_bound::{ByteBox, Interval};
+use box_tree::{Node, open_boxes_go_on};
+use error_bound::{BlockCells, ByteBox};
 use fuzzy_meaning::Block;
-use std::alloc::Global;
+use std::alloc::{AllocError, Global};
 
-/// The error of each output over the leaves of a tree, or the tree's first fault.
-pub(crate) fn errors_of(
-    alloc: Global,
-    block: &Block,
-    nodes: &[Node],
+/// The most boxes that are open at once: 255 cuts of each of 8 inputs leave so many, and one more.
+const MOST_BOXES: usize = 2041;
+
+/// A walk over the nodes of a certificate. It takes them one by one, and no memory meanwhile.
+#[derive(Drop)]
+pub(crate) struct Walk<'a> {
+    block: &'a Block,
+    claims: &'a [u32],
+    /// How many parts an answer has to a byte.
     parts: u16,
-) -> Result<Vec<u32>, CheckFault>
-    requires block { IsValid block.now }
-    requires nodes { All (IsNode (length block.now.outputs)) nodes.now }
-    requires tree { AreOneTree nodes.now }
-    requires few_leaves { leaf_count nodes.now ≤ 4096 }
-    requires parts_from { 1 ≤ parts }
-    requires parts_to { parts ≤ 256 }
-    ensures errors { IfOk result (λ errors.
-        IsAccepted block.now parts (record { claims = errors.items; nodes = nodes.now }) errors.items) }
-    ensures fault { IfErr result (λ fault. fault ≢ CheckFault.Memory → HasTreeFault block.now nodes.now fault) }
-{
-    let mut errors = zeros(alloc, block.outputs.len())?;
-    let mut boxes = Vec::new(alloc);
-    push(&mut boxes, whole_box(block))?;
-    for (n, node) in nodes.iter().enumerate() {
-        if let Some(bytes) = boxes.pop() {
-            let line = n as u32 + 3;
-            match node {
-                Node::Split(input, cut) => push_halves(&mut boxes, bytes, *input, *cut, line)?,
-                Node::Leaf(pairs) => {
-                    raise_errors(&mut errors, block, bytes, pairs.as_slice(), parts, line)?
-                }
-            }
-        }
-    }
-    Ok(errors)
-}
-
-fn zeros(alloc: Global, count: usize) -> Result<Vec<u32>, CheckFault>
-    ensures zeros { IfOk result (λ zeros. zeros.items ≡ replicate count 0) }
-    ensures memory { IfErr result (λ fault. fault ≡ CheckFault.Memory) }
-{
-    match vec![in alloc; 0; count] {
-        Ok(zeros) => Ok(zeros),
-        Err(_) => Err(CheckFault::Memory),
-    }
-}
-
-fn push(boxes: &mut Vec<ByteBox>, bytes: ByteBox) -> Result<(), CheckFault>
-    ensures boxes { OnOk result (stack_of boxes.new.items ≡ bytes.0.items ∷ stack_of boxes.old.items) }
-    ensures memory { IfErr result (λ fault. fault ≡ CheckFault.Memory) }
-{
-    match boxes.push(bytes) {
-        Ok(()) => Ok(()),
-        Err(_) => Err(CheckFault::Memory),
-    }
-}
-
-/// All bytes of all inputs.
-fn whole_box(block: &Block) -> ByteBox
-    requires { length block.now.inputs ≤ 8 }
-    ensures { result.0.items ≡ whole block.now }
-{
-    let mut intervals = ArrayVec::new();
-    for _input in block.inputs.as_slice() {
-        intervals.push(Interval { from: 0, to: 255 });
-    }
-    ByteBox(intervals)
-}
-
-/// Puts the halves of a box onto the stack, the left one last.
-fn push_halves(
-    boxes: &mut Vec<ByteBox>,
-    bytes: ByteBox,
-    input: u8,
-    cut: u8,
+    /// The cells of the block's terms, for the leaves.
+    cells: BlockCells,
+    /// The open boxes, the next one last.
+    boxes: Vec<ByteBox>,
+    /// The error of each output over the leaves that were taken.
+    errors: Vec<u32>,
+    /// The line of the next node.
     line: u32,
-) -> Result<(), CheckFault>
-    requires input { 1 ≤ input }
-    requires bytes { IsBox bytes.0.items }
-    ensures cut { OnOk result (IsCut (input - 1) cut bytes.0.items) }
-    ensures boxes { OnOk result (stack_of boxes.new.items ≡ left_of (input - 1) cut bytes.0.items
-        ∷ right_of (input - 1) cut bytes.0.items ∷ stack_of boxes.old.items) }
-    ensures fault { IfErr result (λ fault. fault ≢ CheckFault.Memory →
-        (fault ≡ CheckFault.BadCut line) × (IsCut (input - 1) cut bytes.0.items → ⊥)) }
-{
-    let place = input as usize - 1;
-    match interval_cut(&bytes, place, cut) {
-        None => Err(CheckFault::BadCut(line)),
-        Some(Interval { from, to }) => {
-            let right = with_interval(&bytes, place, Interval { from: cut, to });
-            let left = with_interval(&bytes, place, Interval { from, to: cut - 1 });
-            push(boxes, right)?;
-            push(boxes, left)
+    /// The first fault, if one was met.
+    fault: Option<CheckFault>,
+}
+
+impl<'a> Walk<'a> {
+    ghost use Rattle.cert_check.specs.Acceptance.{IsAccepted};
+    ghost use Rattle.cert_check.specs.Faults.{HasCheckFault};
+    ghost use Rattle.cert_check.specs.Walks.{HasTaken, IsBehind, AreFirst, IsSameTask, cert_over};
+
+    /// A walk that has taken no node, for answers in so many parts to a byte.
+    pub(crate) fn new(
+        alloc: Global,
+        block: &'a Block,
+        claims: &'a [u32],
+        parts: u16,
+    ) -> Result<Walk<'a>, AllocError>
+        requires block { IsValid block.now }
+        requires claims { AreClaims claims.now }
+        requires parts_from { 1 ≤ parts }
+        requires parts_to { parts ≤ 256 }
+        ensures begun { IfOk result (HasTaken []) }
+        ensures block { IfOk result (λ walk. walk.block.now ≡ block.now) }
+        ensures claims { IfOk result (λ walk. walk.claims.now ≡ claims.now) }
+        ensures parts { IfOk result (λ walk. walk.parts ≡ parts) }
+    {
+        let cells = BlockCells::new(alloc, block)?;
+        let outputs = block.outputs.len();
+        let mut boxes = Vec::with_capacity(alloc, MOST_BOXES)?;
+        push(&mut boxes, whole_box(block));
+        let errors = zeros(alloc, outputs)?;
+        let fault = if claims.len() == outputs {
+            None
+        } else {
+            Some(CheckFault::Outputs(claims.len() as u32, outputs as u32))
+        };
+        Ok(Walk {
+            block,
+            claims,
+            parts,
+            cells,
+            boxes,
+            errors,
+            line: 3,
+            fault,
+        })
+    }
+
+    /// Takes the next node. After a fault it only passes by.
+    pub(crate) fn take(&mut self, node: &Node)
+        requires { (nodes : List TheNode) × HasTaken nodes self.old × AreFirst (length self.old.claims.now) (nodes ++ node.now ∷ []) }
+        ensures same { IsSameTask self.new self.old }
+        ensures taken { (nodes : List TheNode) → HasTaken nodes self.old → AreFirst (length self.old.claims.now) (nodes ++ node.now ∷ [])
+            → HasTaken (nodes ++ node.now ∷ []) self.new }
+    {
+        if self.fault.is_some() {
+            return;
+        }
+        match self.visit(node) {
+            Ok(()) => self.line += 1,
+            Err(fault) => self.fault = Some(fault),
+        }
+    }
+
+    /// Takes a node, where no fault was met before.
+    fn visit(&mut self, node: &Node) -> Result<(), CheckFault>
+        requires { (nodes : List TheNode) × HasTaken nodes self.old × IsBehind nodes self.old × AreFirst (length self.old.claims.now) (nodes ++ node.now ∷ []) }
+        ensures same { IsSameTask self.new self.old }
+        ensures line { self.new.line ≡ self.old.line }
+        ensures no_fault { self.new.fault ≡ self.old.fault }
+        ensures behind { OnOk result ((nodes : List TheNode) → IsBehind nodes self.old → AreFirst (length self.old.claims.now) (nodes ++ node.now ∷ [])
+            → IsBehind (nodes ++ node.now ∷ []) (record self.new { line = self.old.line + 1 })) }
+        ensures fault { IfErr result (λ fault. (nodes rest : List TheNode) → IsBehind nodes self.old → AreFirst (length self.old.claims.now) (nodes ++ node.now ∷ [])
+            → HasCheckFault self.old.block.now self.old.parts (cert_over self.old (nodes ++ node.now ∷ rest)) fault) }
+    {
+        open_boxes_go_on();
+        let Some(bytes) = self.boxes.pop() else {
+            return Ok(());
+        };
+        match node {
+            Node::Split(input, cut) => {
+                push_halves(&mut self.boxes, bytes, *input, *cut, self.line)
+            }
+            Node::Leaf(pairs) => raise_errors(
+                &mut self.errors,
+                self.block,
+                &self.cells,
+                bytes,
+                pairs.as_slice(),
+                self.parts,
+                self.line,
+            ),
+        }
+    }
+
+    /// The errors of the certificate of the nodes that were taken, or its first fault.
+    pub(crate) fn finish(self) -> Result<Vec<u32>, CheckFault>
+        requires { (nodes : List TheNode) × HasTaken nodes self }
+        ensures accepted { (nodes : List TheNode) → HasTaken nodes self.entry → IsCert (cert_over self.entry nodes)
+            → IfOk result (λ errors. IsAccepted self.entry.block.now self.entry.parts (cert_over self.entry nodes) errors.items) }
+        ensures fault { (nodes : List TheNode) → HasTaken nodes self.entry → IsCert (cert_over self.entry nodes)
+            → IfErr result (HasCheckFault self.entry.block.now self.entry.parts (cert_over self.entry nodes)) }
+    {
+        if let Some(fault) = self.fault {
+            return Err(fault);
+        }
+        match first_over(self.errors.as_slice(), self.claims) {
+            Some(o) => Err(CheckFault::Claimed(o as u8 + 1, self.claims[o], self.errors[o])),
+            None => Ok(self.errors),
         }
     }
 }
 
-/// The interval at a place, if the cut is inside it.
-fn interval_cut(bytes: &ByteBox, place: usize, cut: u8) -> Option<Interval>
-    ensures inside { IfSome result (λ v.
-        IsCut place cut bytes.now.0.items × (slice_get bytes.now.0.items place ≡ Some v)) }
-    ensures none { IfNone result (IsCut place cut bytes.now.0.items → ⊥) }
+fn zeros(alloc: Global, count: usize) -> Result<Vec<u32>, AllocError>
+    ensures { IfOk result (λ zeros. zeros.items ≡ replicate count 0) }
 {
-    let interval = *bytes.0.as_slice().get(place)?;
-    if interval.from < cut && cut <= interval.to {
-        Some(interval)
-    } else {
-        None
-    }
+    vec![in alloc; 0; count]
 }
 
-/// The box with another interval at a place.
-fn with_interval(bytes: &ByteBox, place: usize, new: Interval) -> ByteBox
-    ensures { result.0.items ≡ set bytes.now.0.items place new }
+/// The place of the first error that is greater than its claim.
+fn first_over(errors: &[u32], claims: &[u32]) -> Option<usize>
+    requires { length errors.now ≡ length claims.now }
+    ensures within { IfSome result (λ o. o < length errors.now) }
+    ensures over { IfSome result (IsFirstOver errors.now claims.now) }
+    ensures none { IfNone result (AreClaimed errors.now claims.now) }
 {
-    let mut intervals = ArrayVec::new();
-    for (k, interval) in bytes.0.as_slice().iter().enumerate() {
-        intervals.push(if k == place { new } else { *interval });
+    for o in 0..errors.len() {
+        if errors[o] > claims[o] {
+            return Some(o);
+        }
     }
-    ByteBox(intervals)
+    None
 }

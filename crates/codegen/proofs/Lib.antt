@@ -6,3 +6,4 @@ pub mod steps
 pub mod phases
 pub mod masses
 pub mod runs
+pub mod AlikeLemmas

@@ -8,5 +8,6 @@ pub mod Firmwares
 pub mod Firing
 pub mod Evaluation
 pub mod Interruptible
+pub mod Alike
 pub mod Answers
 pub mod Uninterrupted

@@ -1,15 +1,16 @@
 //! Laws of the generated code.
+ghost use Rattle.codegen.specs.Alike.{FirmwaresAreOne};
 ghost use Rattle.codegen.specs.Answers.{FirmwareAnswers};
 ghost use Rattle.codegen.specs.Evaluation.{EvalAnswers};
 ghost use Rattle.codegen.specs.Firing.{RulesGiveMasses};
 ghost use Rattle.codegen.specs.Uninterrupted.{AnsweredAreUninterrupted, FirmwareIsUninterrupted, UninterruptedAreOne};
 
 use byte_scaling::nearest_is_byte;
-use cpu12_asm::laws::rising_items;
+use cpu12_asm::rising_items;
 use cpu12_emul::laws::holds_image;
 use cpu12_isa::laws::stays_fit;
 use cpu12_parts::executions::executions_are_one;
-use rule_layout::{layout_law, mass_law};
+use rule_layout::{layout_law, layouts_are_one, mass_law};
 
 /// The rules leave in the slots of the outputs' terms their masses.
 pub fn rules_give_masses()
@@ -62,4 +63,11 @@ pub fn uninterrupted_are_one()
     ensures { UninterruptedAreOne }
 {
     executions_are_one();
+}
+
+/// Blocks that say the same, wherever their conditions lie in memory, have firmware with one image.
+pub fn firmwares_are_one()
+    ensures { FirmwaresAreOne }
+{
+    layouts_are_one();
 }

@@ -20,8 +20,8 @@ mod width;
 pub use firmware::{Firmware, compile, compile16};
 pub use items::firmware_items;
 pub use laws::{
-    eval_answers, firmware_answers, firmware_is_uninterrupted, rules_give_masses,
-    uninterrupted_are_one,
+    eval_answers, firmware_answers, firmware_is_uninterrupted, firmwares_are_one,
+    rules_give_masses, uninterrupted_are_one,
 };
 pub use layout::Layout;
 pub use width::Width;

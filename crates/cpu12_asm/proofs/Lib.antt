@@ -8,3 +8,9 @@ pub mod Naming
 pub mod Valuing
 pub mod Overlapping
 pub mod Steps
+pub mod Differing
+pub mod Known
+pub mod Passes
+pub mod Labelling
+pub mod Standing
+pub mod Shapes

@@ -1,5 +1,5 @@
 -- Values before others.
-use Rattle.std.proofs.Common.{◌≡◌, ℕ, List, [], ◌∷◌, ◌++◌, Result, Ok, Err, refl, ap, sym, append_assoc, append-nil}
+use Rattle.std.proofs.Common.{◌≡◌, ℕ, List, [], ◌∷◌, ◌++◌, Result, Ok, Err, refl, ap, append_assoc, append-nil}
 use Rattle.cpu12_asm.specs.declared.faults.LineFault.{LineFault}
 use Rattle.cpu12_asm.specs.Giving.{before}
 

@@ -1,5 +1,5 @@
 -- The bytes of an image, as a list of addresses with their bytes.
-use Rattle.std.specs.Prelude.{◌≡◌, ℕ, ◌+◌, ◌*◌, ◌^◌, ◌<◌, List, [], ◌∷◌, Option, Some, None}
+use Rattle.std.specs.Prelude.{◌≡◌, ◌≢◌, ℕ, ◌+◌, ◌*◌, ◌^◌, ◌<◌, List, [], ◌∷◌, Option, Some, None}
 use Rattle.std.specs.BTreeMap.{is_at}
 use Rattle.std.specs.Ordering.{nat_cmp}
 use Rattle.std.specs.Map.{lookup, keys_of}
@@ -22,6 +22,22 @@ IsGivenOnce (b ∷ bytes) = (byte_at bytes b.0 ≡ None) × IsGivenOnce bytes
 abbrev pub FitsMemory : List (ℕ × ℕ) → Type 0
 FitsMemory [] = Unit {0}
 FitsMemory (b ∷ bytes) = (b.0 < 2 ^ 16) × FitsMemory bytes
+
+-- each byte of the first, below an address, is the second's
+abbrev pub HaveBelow : ℕ → List (ℕ × ℕ) → List (ℕ × ℕ) → Type 0
+HaveBelow limit bytes others = (q b : ℕ) → q < limit → byte_at bytes q ≡ Some b → byte_at others q ≡ Some b
+
+-- the least address of a byte of the first that is not the second's
+pub record IsFirstMissing (bytes others : List (ℕ × ℕ)) (at : ℕ) : Type 0 where
+  pub byte : ℕ
+  pub has : byte_at bytes at ≡ Some byte
+  pub lacks : byte_at others at ≢ Some byte
+  pub before : HaveBelow at bytes others
+
+-- the least address at which two have different bytes, or one a byte and the other none
+pub record IsFirstDifference (bytes others : List (ℕ × ℕ)) (at : ℕ) : Type 0 where
+  pub differs : byte_at bytes at ≢ byte_at others at
+  pub before : (q : ℕ) → q < at → byte_at bytes q ≡ byte_at others q
 
 -- bytes with their addresses, one after another from a place
 abbrev pub placed : ℕ → List ℕ → List (ℕ × ℕ)

@@ -1,16 +1,15 @@
 -- What the lines of a source give, once all its names have values.
-use Rattle.std.specs.Prelude.{ℕ, ◌+◌, ◌-◌, ◌*◌, ◌%◌, ◌^◌, ◌&&◌, nat_lt, nat_le, if◌then◌else◌, Bool, true, false, not, List, [], ◌∷◌, ◌++◌, length, map, drop, slice_index, Option, Some, None, is_some, Result, Ok, Err}
+use Rattle.std.specs.Prelude.{ℕ, ◌+◌, ◌-◌, ◌%◌, ◌^◌, ◌&&◌, nat_lt, nat_le, if◌then◌else◌, Bool, true, false, not, List, [], ◌∷◌, ◌++◌, length, map, drop, slice_index, Option, Some, None, is_some, Result, Ok, Err}
 use Rattle.std.specs.List.{list_any, flat_map}
-use Rattle.cpu12_isa.specs.declared.form.Form.{Form}
 use Rattle.cpu12_isa.specs.declared.form.Operand.{Operand}
-use Rattle.cpu12_isa.specs.declared.form.Operand.TheVariants.{Inherent, Byte, Word, Address, Offset, ByteToAddress, AddressToAddress, XToD, YToD, PostIncrementX}
+use Rattle.cpu12_isa.specs.declared.form.Operand.TheVariants.{Byte, Word, Address, Offset, ByteToAddress, AddressToAddress}
 use Rattle.cpu12_isa.specs.Code.{form_bytes}
 use Rattle.cpu12_isa.specs.Memory.{high_of, low_of}
 use Rattle.cpu12_asm.specs.declared.faults.LineFault.{LineFault}
 use Rattle.cpu12_asm.specs.declared.faults.LineFault.TheVariants as fault
 use Rattle.cpu12_asm.specs.declared.operands.Limits.{Limits}
 use Rattle.cpu12_asm.specs.declared.statements.Action.{Action}
-use Rattle.cpu12_asm.specs.declared.statements.Action.TheVariants.{Nothing, Origin, Equate, Bytes, Words, Operate}
+use Rattle.cpu12_asm.specs.declared.statements.Action.TheVariants.{Origin, Bytes, Words, Operate}
 use Rattle.cpu12_asm.specs.Bytes.{byte_at, placed}
 use Rattle.cpu12_asm.specs.Lines.{pieces}
 use Rattle.cpu12_asm.specs.Expressions.{sum_of}

@@ -5,9 +5,12 @@ pub mod Lines
 pub mod Left
 pub mod Expressions
 pub mod Names
+pub mod Shapes
 pub mod Statements
 pub mod Told
 pub mod Values
 pub mod Faults
 pub mod Sources
 pub mod Giving
+pub mod Labels
+pub mod Laws

@@ -1,11 +1,12 @@
 //! Expressions and their values.
 ghost use Rattle.std.specs.Prelude.{ℕ, ◌≡◌, ◌≤◌, ◌<◌, ◌+◌, ◌*◌, ◌^◌, List, [], ◌∷◌, fold, length, min};
-ghost use Rattle.std.specs.Char.{is_ascii_digit};
+ghost use Rattle.std.specs.Char.{is_ascii_digit, is_ascii_uppercase};
 ghost use Rattle.std.specs.Str.{bytes_eq};
 ghost use Rattle.std.specs.List.{list_all};
 ghost use Rattle.cpu12_isa.specs.Forms.{form_of};
 ghost use Rattle.cpu12_asm.specs.Names.{value_in};
 ghost use Rattle.cpu12_asm.specs.Lines.{pieces};
+ghost use Rattle.cpu12_asm.specs.Shapes.{may_be_mnemonic};
 ghost use Rattle.cpu12_asm.specs.Left.{pieces_left, size_left};
 ghost use Rattle.cpu12_asm.specs.Expressions.{is_letter, is_in_name, is_mnemonic, is_directive, is_operation, has_name_form, is_name, is_hex_digit, hex_value, decimal_value, hexadecimal_value, number, plain_term, term_of, with_term, with_group, sum_of};
 
@@ -65,10 +66,24 @@ fn is_hex_digit(b: u8) -> bool
     b.is_ascii_digit() || (b'A'..=b'F').contains(&b)
 }
 
+fn are_letters(word: &[u8]) -> bool
+    ensures { result ≡ list_all is_ascii_uppercase word.now }
+{
+    word.iter().all(|b| b.is_ascii_uppercase())
+}
+
+/// Whether a word has the form of a mnemonic: three to five letters.
+fn may_be_mnemonic(word: &[u8]) -> bool
+    ensures { result ≡ may_be_mnemonic word.now }
+{
+    word.len() >= 3 && word.len() <= 5 && are_letters(word)
+}
+
 fn is_mnemonic(word: &[u8]) -> bool
     ensures { result ≡ is_mnemonic word.now }
 {
-    EVERY.iter().any(|i| is(word, i.form().mnemonic.text()))
+    // most names have another form, and need no look at the table
+    may_be_mnemonic(word) && EVERY.iter().any(|i| is(word, i.form().mnemonic.text()))
 }
 
 fn is_directive(word: &[u8]) -> bool

@@ -1,8 +1,8 @@
 //! Images of memory.
-ghost use Rattle.std.specs.Prelude.{◌≡◌, ◌↔◌, ◌<◌, ◌≤◌, ◌+◌, ◌^◌, ℕ, List, [], ◌++◌, length, Some, None, Ok, Err, IsTrue, IsSome, OnOk, OnErr, IfOk, if◌then◌else◌, slice_index, unwrap_or};
+ghost use Rattle.std.specs.Prelude.{◌≡◌, ◌↔◌, ◌<◌, ◌≤◌, ◌+◌, ◌^◌, ℕ, List, [], ◌++◌, length, Some, None, Ok, Err, IsTrue, IsSome, OnOk, OnErr, IfOk, IfSome, IfNone, if◌then◌else◌, slice_index, unwrap_or};
 ghost use Rattle.std.specs.BTreeMap.{is_at};
 ghost use Rattle.std.specs.Ordering.{nat_cmp};
-ghost use Rattle.cpu12_asm.specs.Bytes.{byte_at, start_of, placed, Holds, IsAscending};
+ghost use Rattle.cpu12_asm.specs.Bytes.{byte_at, start_of, placed, Holds, IsAscending, IsFirstDifference, IsFirstMissing};
 
 use cpu12_isa::mem::Mem;
 use std::alloc::{AllocError, Global};
@@ -66,6 +66,31 @@ impl ByteMap {
             .iter()
             .map(|(at, byte)| (*at, *byte))
             .collect(alloc)
+    }
+
+    /// The least address at which two have different bytes, or one a byte and the other none.
+    pub fn first_difference(&self, other: &ByteMap) -> Option<u16>
+        ensures differs { IfSome result (IsFirstDifference self.now other.now) }
+        ensures same { IfNone result ((q : ℕ) → byte_at self.now q ≡ byte_at other.now q) }
+    {
+        match (self.first_missing(other), other.first_missing(self)) {
+            (Some(here), Some(there)) => Some(here.min(there)),
+            (Some(here), None) => Some(here),
+            (None, there) => there,
+        }
+    }
+
+    /// The least address of a byte that another has not.
+    fn first_missing(&self, other: &ByteMap) -> Option<u16>
+        ensures missing { IfSome result (IsFirstMissing self.now other.now) }
+        ensures none { IfNone result ((q b : ℕ) → byte_at self.now q ≡ Some b → byte_at other.now q ≡ Some b) }
+    {
+        for (at, byte) in &self.bytes {
+            if other.get(*at) != Some(*byte) {
+                return Some(*at);
+            }
+        }
+        None
     }
 
     /// Puts a byte to an address, in the place of one that is there.

@@ -13,7 +13,7 @@ mod expressions;
 mod faults;
 mod image;
 mod items;
-pub mod laws;
+mod laws;
 mod lines;
 mod operands;
 mod sources;
@@ -24,4 +24,5 @@ mod values;
 
 pub use image::{ByteMap, Image};
 pub use items::{AsmFault, Item, assemble_items};
+pub use laws::{labels_are_places, rising_items, sources_have_one_fault};
 pub use sources::assemble;

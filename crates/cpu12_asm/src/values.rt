@@ -1,5 +1,5 @@
 //! What the lines of a source define.
-ghost use Rattle.std.specs.Prelude.{ℕ, ◌≡◌, ◌≢◌, ◌≤◌, ◌<◌, ◌+◌, ◌*◌, ◌^◌, length, IfOk, IfErr, OnOk, Ok, Err};
+ghost use Rattle.std.specs.Prelude.{ℕ, ◌≡◌, ◌≢◌, ◌≤◌, ◌<◌, ◌+◌, ◌*◌, ◌^◌, length, IfOk, IfErr, OnOk, Ok, Err, not};
 ghost use Rattle.cpu12_asm.specs.Expressions.{sum_of};
 ghost use Rattle.cpu12_asm.specs.Names.{value_in};
 ghost use Rattle.cpu12_asm.specs.Statements.{statement_of};
@@ -84,15 +84,16 @@ fn read_behind(
     }
 }
 
-/// Gives a name a value, where there is a name.
-fn set_value<'a>(names: &mut Names<'a>, name: &'a [u8], value: u64) -> Result<(), LineFault>
+/// Gives a name a value, where there is a name, and answers whether it had none before.
+fn set_value<'a>(names: &mut Names<'a>, name: &'a [u8], value: u64) -> Result<bool, LineFault>
+    ensures fresh { IfOk result (λ fresh. not fresh ≡ is_given (value_in names.old) name.now) }
     ensures ok { OnOk result (value_in names.new ≡ with_value (value_in names.old) name.now value) }
     ensures memory { IfErr result (λ fault. fault ≡ LineFault.Memory) }
 {
     match name {
-        [] => Ok(()),
+        [] => Ok(true),
         _ => match names.insert(name, value) {
-            Ok(_) => Ok(()),
+            Ok(old) => Ok(old.is_none()),
             Err(_) => Err(LineFault::Memory),
         },
     }
@@ -123,14 +124,13 @@ pub(crate) fn define<'a>(
     let Some(statement) = read_line(alloc, line) else {
         return Err(LineFault::BadLine);
     };
-    if is_given(names, statement.name) {
-        return Err(LineFault::Twice);
-    }
     match read_behind(names, place, &statement) {
         Ok(behind) => match set_value(names, statement.name, behind.value) {
-            Ok(()) => Ok(behind.place),
+            Ok(true) => Ok(behind.place),
+            Ok(false) => Err(LineFault::Twice),
             Err(fault) => Err(fault),
         },
+        Err(_) if is_given(names, statement.name) => Err(LineFault::Twice),
         Err(fault) => Err(fault),
     }
 }

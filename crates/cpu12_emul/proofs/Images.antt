@@ -53,3 +53,10 @@ image_memory-written image old new z size bytes = loaded_by image new 65536 size
 
 pub holds_image : HoldsImage
 holds_image image = (length_loaded image 65536, λ at l. loaded_at image 65536 at l)
+
+pub loaded_same : (a b : List (ℕ × ℕ)) → ((at : ℕ) → byte_at a at ≡ byte_at b at) → (n : ℕ) → loaded a n ≡ loaded b n
+unfolding loaded
+loaded_same a b same zero = refl
+loaded_same a b same (suc n) =
+    ap (λ (l : List ℕ). l ++ (byte_or_zero (byte_at a n) ∷ [])) (loaded_same a b same n)
+    ∙ ap (λ (o : Option ℕ). loaded b n ++ (byte_or_zero o ∷ [])) (same n)

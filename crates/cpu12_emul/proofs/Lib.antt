@@ -4,3 +4,4 @@ pub mod Stepping
 pub mod Taking
 mod Bytes
 pub mod Fitting
+pub mod Endings

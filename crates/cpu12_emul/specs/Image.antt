@@ -18,3 +18,7 @@ image_memory image = loaded image 65536
 -- such a memory has 65536 bytes, each the image's, or 0 where the image has none
 abbrev pub HoldsImage : Type 0
 HoldsImage = (image : List (ℕ × ℕ)) → (length (image_memory image) ≡ 65536) × ((at : ℕ) → at < 65536 → slice_index (image_memory image) at ≡ byte_or_zero (byte_at image at))
+
+-- images with the same bytes give the same memory
+abbrev pub ImagesLoadAlike : Type 0
+ImagesLoadAlike = (a b : List (ℕ × ℕ)) → ((at : ℕ) → byte_at a at ≡ byte_at b at) → image_memory a ≡ image_memory b

@@ -21,3 +21,7 @@ abbrev pub EndsRun : ℕ → ℕ → State → RunEnd → State → Type 0
 EndsRun flags n s (Arrived k) t = (k ≤ n) × StepsTo flags k s t × (is_at_rest t ≡ true)
 EndsRun flags n s (Budget k) t = (k ≡ n) × StepsTo flags k s t × (is_at_rest t ≡ false)
 EndsRun flags n s (Trap pc byte) t = (k : ℕ) × ((k < n) × StepsTo flags k s t × (is_at_rest t ≡ false) × (t.regs.pc ≡ pc) × (next_of flags t ≡ Err byte))
+
+-- A run has one end.
+abbrev pub RunsEndOnce : Type 0
+RunsEndOnce = (flags n : ℕ) (s t u : State) (e f : RunEnd) → EndsRun flags n s e t → EndsRun flags n s f u → (e ≡ f) × (t ≡ u)

@@ -2,7 +2,8 @@
 ghost use Rattle.cpu12_isa.specs.declared.instr.Instr.TheVariants.{Rev, Revw, Wav};
 ghost use Rattle.cpu12_parts.specs.Cuts.{rev, revw, wav};
 ghost use Rattle.cpu12_emul.specs.Fits.{StepFits};
-ghost use Rattle.cpu12_emul.specs.Image.{HoldsImage};
+ghost use Rattle.cpu12_emul.specs.Image.{HoldsImage, ImagesLoadAlike};
+ghost use Rattle.cpu12_emul.specs.Run.{RunsEndOnce};
 ghost use Rattle.cpu12_emul.specs.Simulation.{StepAgrees, WavrGoesOn, StepKeeps, TakesQuietly, TakeKeeps};
 ghost use Rattle.cpu12_emul.specs.Simulation.{FrameIsOnStack, PlainIsStep, PartIsStep, SumsAreStep};
 
@@ -14,6 +15,16 @@ use cpu12_parts::laws::{rev_fits, revw_fits, wav_fits, wav_suspends};
 /// A memory made from an image holds just its bytes.
 pub fn holds_image()
     ensures { HoldsImage }
+{}
+
+/// Images with the same bytes give the same memory.
+pub fn images_load_alike()
+    ensures { ImagesLoadAlike }
+{}
+
+/// A run has one end.
+pub fn runs_end_once()
+    ensures { RunsEndOnce }
 {}
 
 /// A plain instruction is one step.

@@ -1,5 +1,5 @@
 -- Lists that a loop fills place by place.
-use Rattle.std.proofs.Common.{◌≡◌, ⊎_elim, ℕ, zero, suc, ◌+◌, ◌<◌, ◌≤◌, List, [], ◌∷◌, length, Some, refl, ◌∙◌, subst, arith}
+use Rattle.std.proofs.Common.{◌≡◌, ⊎_elim, ℕ, zero, suc, ◌+◌, ◌<◌, ◌≤◌, List, [], ◌∷◌, ◌++◌, length, Some, refl, ◌∙◌, subst, arith}
 use Rattle.std.specs.Prelude.{slice_get, slice_set}
 use Rattle.std.proofs.lemmas.Bool.{cases_lt}
 
@@ -24,4 +24,23 @@ AreFilled-more {X} {Y} P xs ys t y within before here k x lt e = ⊎_elim
     (λ (l : t ≤ k).
     let same : t ≡ k = omega arith in
     subst (λ j. slice_get xs j ≡ Some x → (r : Y) × (slice_get (slice_set ys t y) j ≡ Some r) × P j x r) same (λ f. (y, slice_get-set_same ys t y within, here x f)) e)
+    (cases_lt k t)
+
+slice_get-front : {X : Type 0} (xs : List X) (y : X) (k : ℕ) (x : X) → slice_get xs k ≡ Some x → slice_get (xs ++ y ∷ []) k ≡ Some x
+slice_get-front [] y k x e = absurd (let z : ⊥ = cc in z)
+slice_get-front (z ∷ xs) y zero x e = e
+slice_get-front (z ∷ xs) y (suc k) x e = slice_get-front xs y k x e
+
+slice_get-last : {X : Type 0} (xs : List X) (y : X) → slice_get (xs ++ y ∷ []) (length xs) ≡ Some y
+slice_get-last [] y = refl
+slice_get-last (x ∷ xs) y = slice_get-last xs y
+
+-- or that it lengthens one by one
+pub AreFilled-push : {X Y : Type 0} (P : ℕ → X → Y → Type 0) (xs : List X) (ys : List Y) (t : ℕ) (y : Y) → length ys ≡ t → AreFilled P xs ys t → ((x : X) → slice_get xs t ≡ Some x → P t x y) → AreFilled P xs (ys ++ y ∷ []) (t + 1)
+AreFilled-push {X} {Y} P xs ys t y count before here k x lt e = ⊎_elim
+    (λ (l : k < t). let b = before k x l e in (b.0, slice_get-front ys y k b.0 b.1, b.2))
+    (λ (l : t ≤ k).
+    let same : t ≡ k = omega arith in
+    let at : slice_get (ys ++ y ∷ []) t ≡ Some y = subst (λ j. slice_get (ys ++ y ∷ []) j ≡ Some y) count (slice_get-last ys y) in
+    subst (λ j. slice_get xs j ≡ Some x → (r : Y) × (slice_get (ys ++ y ∷ []) j ≡ Some r) × P j x r) same (λ f. (y, at, here x f)) e)
     (cases_lt k t)

@@ -3,6 +3,7 @@ pub mod Limits
 pub mod Sums
 pub mod Quotients
 pub mod CellErrors
+pub mod CellTables
 pub mod ConditionLemmas
 pub mod PlaceLemmas
 pub mod Literals

@@ -45,3 +45,7 @@ pub data HasLeafFault (b : Block) (box : List Interval) (o : ℕ) (leaf : the.Le
 -- a leaf with a fault doesn't hold
 abbrev pub FaultyLeavesFail : Type 0
 FaultyLeavesFail = (b : Block) (box : List Interval) (o : ℕ) (leaf : the.Leaf) (f : LeafFault) → HasLeafFault b box o leaf f → Holds b box o leaf → ⊥
+
+-- a leaf has at most one first fault
+abbrev pub LeafFaultsAreOne : Type 0
+LeafFaultsAreOne = (b : Block) (box : List Interval) (o : ℕ) (leaf : the.Leaf) (f g : LeafFault) → HasLeafFault b box o leaf f → HasLeafFault b box o leaf g → f ≡ g

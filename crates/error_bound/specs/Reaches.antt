@@ -1,26 +1,50 @@
 -- What the code's reaches stand for.
-use Rattle.std.specs.Prelude.{◌≡◌, ℕ, ◌≤◌, List, length, Some, slice_get}
+use Rattle.std.specs.Prelude.{◌≡◌, ℕ, ◌≤◌, List, length, Some, slice_get, slice_index}
+use Rattle.fz_num.specs.Decimals.{distance}
 use Rattle.fz_num.specs.Fracs.{fraction_of, IsTruth}
 use Rattle.fuzzy_meaning.specs.declared.block.Block.{Block}
 use Rattle.fuzzy_meaning.specs.declared.block.Input.{Input}
 use Rattle.fuzzy_meaning.specs.declared.block.Rule.{Rule}
 use Rattle.fuzzy_meaning.specs.declared.block.Trapezoid.{Trapezoid}
+use Rattle.fuzzy_meaning.specs.Places.{points_of}
+use Rattle.point_slope.specs.Tables.{row_of, grade_of}
 use Rattle.error_bound.specs.declared.boxes.Interval.{Interval}
+use Rattle.error_bound.specs.declared.cells.TermCells.{TermCells}
 use Rattle.error_bound.specs.declared.degrees.Degrees.{Degrees}
 use Rattle.error_bound.specs.declared.reaches.Reach.{Reach}
+use Rattle.error_bound.specs.declared.tables.InputCells.{InputCells}
+use Rattle.error_bound.specs.declared.tables.BlockCells.{BlockCells}
 use Rattle.error_bound.specs.declared.tables.Row.{Row}
 use Rattle.error_bound.specs.declared.tables.BoxTerms.{BoxTerms}
 use Rattle.error_bound.specs.declared.rules.BoxTable.{BoxTable}
 use Rattle.error_bound.specs.Spans.{Span, ByteSpan}
 use Rattle.error_bound.specs.Boxes.{IsBoxOf, degrees_over, grades_over, literal_span, literal_byte_span, rule_span, rule_byte_span}
-use Rattle.error_bound.specs.Errors.{rule_error}
-use Rattle.error_bound.specs.CellErrors.{term_error, term_errors}
+use Rattle.error_bound.specs.Errors.{billion, rule_error}
+use Rattle.error_bound.specs.CellErrors.{cell_error, term_error, term_errors}
 
 abbrev pub span_of : Degrees → Span
 span_of d = record { low = fraction_of d.low; high = fraction_of d.high }
 
 abbrev pub byte_span_of : Reach → ByteSpan
 byte_span_of r = record { low = r.least; high = r.greatest }
+
+-- a term's grades and their errors at the bytes of an interval
+pub record AreTermCells (x : Input) (term : Trapezoid) (v : Interval) (c : TermCells) : Type 0 where
+  pub grades : (n : ℕ) → v.from ≤ n → n ≤ v.to → slice_index c.grades n ≡ grade_of (row_of x term) n
+  pub errors : (n : ℕ) → v.from ≤ n → n ≤ v.to
+      → slice_index c.errors n ≡ cell_error billion (points_of x term) (distance x.lo x.hi) (grade_of (row_of x term)) n
+  pub small : (n : ℕ) → v.from ≤ n → n ≤ v.to → slice_index c.errors n ≤ billion
+
+-- those of each term of an input
+abbrev pub AreInputCells : Input → Interval → InputCells → Type 0
+AreInputCells x v cells = (t : ℕ) (term : Trapezoid) → slice_get x.terms t ≡ Some term → (c : TermCells) × (slice_get cells.terms t ≡ Some c) × AreTermCells x term v c
+
+-- and of each input, at all bytes
+abbrev pub all_bytes : Interval
+all_bytes = record { from = 0; to = 255 }
+
+abbrev pub AreBlockCells : Block → BlockCells → Type 0
+AreBlockCells b cells = (i : ℕ) (x : Input) → slice_get b.inputs i ≡ Some x → (c : InputCells) × (slice_get cells.inputs.items i ≡ Some c) × AreInputCells x all_bytes c
 
 -- fractions of small denominators
 pub record AreTruths (d : Degrees) : Type 0 where

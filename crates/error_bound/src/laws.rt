@@ -1,7 +1,7 @@
 //! Laws of the definitions.
 ghost use Rattle.error_bound.specs.Laws.{CellsHaveBounds, TermErrorsAre, LeavesHoldInside, BoundsFallInside, BoundsAreDetermined};
 ghost use Rattle.error_bound.specs.Answers.{AnswersAreNear};
-ghost use Rattle.error_bound.specs.Faults.{FaultyLeavesFail};
+ghost use Rattle.error_bound.specs.Faults.{FaultyLeavesFail, LeafFaultsAreOne};
 
 /// `low` and `high` are the greatest lower and the least upper bound of a term's degrees over the
 /// cells of an interval.
@@ -38,4 +38,9 @@ pub fn bounds_are_determined()
 /// A leaf that has a fault does not hold.
 pub fn faulty_leaves_fail()
     ensures { FaultyLeavesFail }
+{}
+
+/// A leaf has at most one first fault.
+pub fn leaf_faults_are_one()
+    ensures { LeafFaultsAreOne }
 {}

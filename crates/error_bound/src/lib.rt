@@ -3,14 +3,15 @@
 //!
 //! [`leaf_bound`] gives the Bound of a leaf that holds, or exactly its first fault, and a Bound is at
 //! least the distance of each answer from the exact one, in millionths of the output's range
-//! ([`answers_are_near`]). For many leaves of one box a [`BoxTable`] is made once. No call takes memory.
+//! ([`answers_are_near`]). For many leaves of one box a [`BoxTable`] is made once, and for
+//! many boxes the [`BlockCells`]; only these take memory.
 #![tactic(auto)]
 
 mod bounds;
 mod boxes;
+mod cells;
 mod choosing;
 mod degrees;
-mod grades;
 mod laws;
 mod leaves;
 mod reaches;
@@ -18,14 +19,15 @@ mod rules;
 mod tables;
 
 pub use boxes::{ByteBox, Interval, Leaf, LeafFault};
+pub use cells::term_error;
 pub use choosing::best;
-pub use grades::term_error;
 pub use laws::{
     answers_are_near, bounds_are_determined, bounds_fall_inside, cells_have_bounds,
-    faulty_leaves_fail, leaves_hold_inside, term_errors_are,
+    faulty_leaves_fail, leaf_faults_are_one, leaves_hold_inside, term_errors_are,
 };
 pub use leaves::{leaf_bound, leaf_bound16};
 pub use rules::BoxTable;
+pub use tables::BlockCells;
 
 #[cfg(test)]
 mod tests;

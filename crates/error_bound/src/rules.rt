@@ -4,12 +4,12 @@ ghost use Rattle.fz_num.specs.Fractions.{up_div};
 ghost use Rattle.fuzzy_meaning.specs.Blocks.{IsValid, IsValidRule};
 ghost use Rattle.error_bound.specs.Boxes.{IsBoxOf};
 ghost use Rattle.error_bound.specs.Errors.{apart};
-ghost use Rattle.error_bound.specs.Reaches.{AreBoxTerms, IsReachOfRule, IsTable};
+ghost use Rattle.error_bound.specs.Reaches.{AreBlockCells, AreBoxTerms, IsReachOfRule, IsTable};
 
 use crate::boxes::ByteBox;
 use crate::degrees::Degrees;
 use crate::reaches::{NOTHING, Reach, reach_of};
-use crate::tables::BoxTerms;
+use crate::tables::{BlockCells, BoxTerms};
 use byte_scaling::weight_byte;
 use fuzzy_meaning::{Block, Rule};
 use fz_num::Dec;
@@ -31,7 +31,27 @@ impl BoxTable {
         ensures same { result.bytes ≡ bytes }
         ensures table { IsTable block.now result }
     {
-        let terms = BoxTerms::new(block, bytes);
+        BoxTable::of_terms(block, BoxTerms::new(block, bytes, None))
+    }
+
+    /// The same where the block's cells are kept, in a few steps for each term.
+    pub fn over(block: &Block, cells: &BlockCells, bytes: ByteBox) -> BoxTable
+        requires block { IsValid block.now }
+        requires cells { AreBlockCells block.now cells.now }
+        requires bytes { IsBoxOf block.now bytes.0.items }
+        ensures same { result.bytes ≡ bytes }
+        ensures table { IsTable block.now result }
+    {
+        BoxTable::of_terms(block, BoxTerms::new(block, bytes, Some(cells)))
+    }
+
+    fn of_terms(block: &Block, terms: BoxTerms) -> BoxTable
+        requires block { IsValid block.now }
+        requires bytes { IsBoxOf block.now terms.bytes.0.items }
+        requires terms { AreBoxTerms block.now terms }
+        ensures same { result.bytes ≡ terms.bytes }
+        ensures table { IsTable block.now result }
+    {
         let mut rules = [NOTHING; 256];
         let all = block.rules.as_slice();
         for n in 0..all.len() {

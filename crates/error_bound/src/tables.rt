@@ -1,14 +1,57 @@
 //! The reaches of all terms over a box.
-ghost use Rattle.std.specs.Prelude.{◌≡◌, ◌≤◌, ◌-◌, length, IfSome, slice_get};
-ghost use Rattle.fuzzy_meaning.specs.Blocks.{IsValid, IsValidInput};
+ghost use Rattle.std.specs.Prelude.{◌≡◌, ◌≤◌, ◌-◌, ℕ, length, IfOk, IfSome, Some, slice_get};
+ghost use Rattle.fuzzy_meaning.specs.Blocks.{IsValid, IsValidInput, IsValidTerm};
+ghost use Rattle.error_bound.specs.declared.tables.InputCells.{InputCells as TheCells};
 ghost use Rattle.error_bound.specs.Boxes.{IsBoxOf};
-ghost use Rattle.error_bound.specs.Reaches.{IsReachOfTerm, AreInputReaches, AreBoxTerms};
+ghost use Rattle.error_bound.specs.Reaches.{AreTermCells, AreInputCells, AreBlockCells, all_bytes, IsReachOfTerm, AreInputReaches, AreBoxTerms};
 
 use crate::boxes::{ByteBox, Interval};
+use crate::cells::TermCells;
 use crate::degrees::degrees_of;
-use crate::grades::grades_of;
 use crate::reaches::{NOTHING, Reach};
-use fuzzy_meaning::{Block, Input};
+use fuzzy_meaning::{Block, Input, Trapezoid};
+use std::alloc::{AllocError, Global};
+
+/// The cells of an input's terms.
+#[derive(Drop)]
+pub(crate) struct InputCells {
+    pub(crate) terms: [TermCells; 15],
+}
+
+impl InputCells {
+    /// At the bytes of an interval.
+    pub(crate) fn new(input: &Input, bytes: Interval) -> InputCells
+        requires { IsValidInput input.now }
+        ensures { AreInputCells input.now bytes result }
+    {
+        let mut terms = [TermCells::NONE; 15];
+        for t in 0..input.terms.len() {
+            terms[t] = TermCells::new(input, t as u8 + 1, bytes);
+        }
+        InputCells { terms }
+    }
+}
+
+/// The cells of all terms of a block, made once for all of its boxes.
+#[derive(Drop)]
+pub struct BlockCells {
+    pub(crate) inputs: Vec<InputCells>,
+}
+
+impl BlockCells {
+    /// Takes some 20 KB for each input, and a division or two for each byte of each term.
+    pub fn new(alloc: Global, block: &Block) -> Result<BlockCells, AllocError>
+        requires { IsValid block.now }
+        ensures { IfOk result (AreBlockCells block.now) }
+    {
+        let all = Interval { from: 0, to: 255 };
+        let mut inputs = Vec::new(alloc);
+        for input in block.inputs.as_slice() {
+            inputs.push(InputCells::new(input, all))?;
+        }
+        Ok(BlockCells { inputs })
+    }
+}
 
 /// The reaches of an input's terms.
 #[derive(Clone, Copy)]
@@ -28,44 +71,60 @@ const NO_TERMS: Row = Row {
 };
 
 impl BoxTerms {
-    pub(crate) fn new(block: &Block, bytes: ByteBox) -> BoxTerms
+    /// Of a box, from the block's cells where they are kept.
+    pub(crate) fn new(block: &Block, bytes: ByteBox, kept: Option<&BlockCells>) -> BoxTerms
         requires block { IsValid block.now }
         requires bytes { IsBoxOf block.now bytes.0.items }
+        requires kept { IfSome kept (λ cells. AreBlockCells block.now cells.now) }
         ensures same { result.bytes ≡ bytes }
         ensures terms { AreBoxTerms block.now result }
     {
         let mut rows = [NO_TERMS; 8];
         let inputs = block.inputs.as_slice();
         for i in 0..inputs.len() {
-            rows[i] = row_of(&inputs[i], bytes.0[i]);
+            rows[i] = row_in(kept, i, &inputs[i], bytes.0[i]);
         }
         BoxTerms { bytes, rows }
     }
 }
 
-/// The reaches of an input's terms over an interval.
-fn row_of(input: &Input, bytes: Interval) -> Row
+/// The row of the input at a place, from its cells where they are kept.
+fn row_in(kept: Option<&BlockCells>, place: usize, input: &Input, bytes: Interval) -> Row
     requires input { IsValidInput input.now }
     requires order { bytes.from ≤ bytes.to }
+    requires kept { IfSome kept (λ cells. (c : TheCells) × (slice_get cells.now.inputs.items place ≡ Some c) × AreInputCells input.now all_bytes c) }
+    ensures { AreInputReaches input.now bytes result.reaches }
+{
+    match kept {
+        Some(cells) => row_of(input, &cells.inputs[place], bytes),
+        None => row_of(input, &InputCells::new(input, bytes), bytes),
+    }
+}
+
+/// The reaches of an input's terms over an interval.
+fn row_of(input: &Input, cells: &InputCells, bytes: Interval) -> Row
+    requires input { IsValidInput input.now }
+    requires order { bytes.from ≤ bytes.to }
+    requires cells { AreInputCells input.now bytes cells.now }
     ensures { AreInputReaches input.now bytes result.reaches }
 {
     let mut reaches = [NOTHING; 15];
-    for t in 0..input.terms.len() {
-        reaches[t] = reach_of_term(input, t as u8 + 1, bytes);
+    let terms = input.terms.as_slice();
+    for t in 0..terms.len() {
+        reaches[t] = reach_of_term(input, &terms[t], &cells.terms[t], bytes);
     }
     Row { reaches }
 }
 
-/// The reach of a term, which counts from 1 in its input.
-fn reach_of_term(input: &Input, term: u8, bytes: Interval) -> Reach
+/// The reach of a term of these cells.
+fn reach_of_term(input: &Input, term: &Trapezoid, cells: &TermCells, bytes: Interval) -> Reach
     requires input { IsValidInput input.now }
-    requires term_from { 1 ≤ term }
-    requires term_to { term ≤ length input.now.terms }
+    requires term { IsValidTerm input.now.lo input.now.hi term.now }
     requires order { bytes.from ≤ bytes.to }
-    ensures { IfSome (slice_get input.now.terms (term - 1)) (λ t. IsReachOfTerm input.now t bytes result) }
+    requires cells { AreTermCells input.now term.now bytes cells.now }
+    ensures { IsReachOfTerm input.now term.now bytes result }
 {
-    let grades = grades_of(input, term, bytes);
-    let term = &input.terms.as_slice()[term as usize - 1];
+    let grades = cells.over(bytes);
     Reach {
         degrees: degrees_of(input, term, bytes),
         least: grades.least,

@@ -3,6 +3,7 @@ pub mod Fakes
 pub mod Faults
 pub mod Files
 pub mod Lines
+pub mod Parts
 pub mod Log
 pub mod MemFiles
 pub mod Reading

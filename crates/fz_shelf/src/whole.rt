@@ -2,7 +2,7 @@
 ghost use Rattle.std.specs.Prelude.{◌≡◌, length, OnOk, OnErr, IsOk};
 ghost use Rattle.fz_shelf.specs.Faults.{HasCause};
 ghost use Rattle.fz_shelf.specs.Told.{gained, GainedPart, HasRoom};
-ghost use Rattle.fz_shelf.specs.Lines.{text_of, joined};
+ghost use Rattle.fz_shelf.specs.Lines.{text_of};
 
 use crate::{Failed, Sink};
 
@@ -32,20 +32,6 @@ pub fn put_lines<S: Sink>(sink: &mut S, lines: &[String]) -> Result<(), Failed>
 {
     for line in lines {
         put_all(sink, line.as_bytes())?;
-    }
-    Ok(())
-}
-
-/// Puts the pieces one after the other.
-pub fn put_pieces<S: Sink>(sink: &mut S, pieces: &[&[u8]]) -> Result<(), Failed>
-    ensures whole { OnOk result (S.told sink.new ≡ gained (S.told sink.old) (joined pieces.now)) }
-    ensures part { GainedPart (S.told sink.old) (S.told sink.new) (joined pieces.now) }
-    ensures cause { HasCause (S.faults sink.old) (S.faults sink.new) result }
-    ensures sound { S.sound sink.old → S.sound sink.new }
-    ensures steady { S.sound sink.old → HasRoom (S.told sink.old) (length (joined pieces.now)) → IsOk result }
-{
-    for piece in pieces {
-        put_all(sink, piece)?;
     }
     Ok(())
 }

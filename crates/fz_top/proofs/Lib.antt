@@ -4,3 +4,4 @@ pub mod UsageLemmas
 pub mod LineLemmas
 pub mod AnswerLemmas
 pub mod DeedLemmas
+pub mod StatusLemmas

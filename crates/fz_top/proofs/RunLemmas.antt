@@ -17,6 +17,7 @@ use Rattle.fz_top.specs.declared.command.Command.{Command}
 use Rattle.fz_top.specs.declared.reading.Stop.TheVariants as stop
 use Rattle.fz_top.specs.declared.status.Status.{Status}
 use Rattle.fz_top.specs.declared.status.Status.TheVariants as status
+use Rattle.fz_top.proofs.StatusLemmas.{Kind, done, failed_read, failed_write, kind_of, long_read, no_command, no_memory, of_contents}
 
 -- what was read and made, before anything is written
 pub record Made (words : List Text) (f0 f1 : Names) (k0 k1 : Counts) (a0 a1 : Log) (deed : Deed) : Type 0 where
@@ -86,7 +87,7 @@ module _ (words : List Text) (f0 f1 f2 : Names) (k0 k1 k2 : Counts) (a0 a1 a2 : 
 pub stopped : (words : List Text) (f0 f1 : Names) (k0 k1 : Counts) (a0 a1 : Log) (t0 : Option Taken) (e0 : ℕ) (command : Command) (places : List ℕ) (contents slice : List (Vec ℕ Global)) (s : Status)
     → Some command ≡ command_in words → f1 ≡ f0 → places ≡ inputs_of command → ReadsWhole words places f0 k0 k1 a0 a1 (bytes_of contents) → slice ≡ contents
     → IsFaultOf (Makes command (bytes_of slice)) s → Runs words (world f0 k0 a0 t0 e0) (world f1 k1 a1 t0 e0) s
-stopped words f0 f1 k0 k1 a0 a1 t0 e0 command places contents slice s is files at whole same fault = go s fault
+stopped words f0 f1 k0 k1 a0 a1 t0 e0 command places contents slice s is files at whole same fault = go s (kind_of s) fault
   where
     counts : k1 ≡ k0
     counts = whole.counts
@@ -110,16 +111,14 @@ stopped words f0 f1 k0 k1 a0 a1 t0 e0 command places contents slice s is files a
           untouched = untouched;
         }
 
-    go : (t : Status) → IsFaultOf (Makes command (bytes_of slice)) t → Runs words (world f0 k0 a0 t0 e0) (world f1 k1 a1 t0 e0) t
-    go status.Ok fault = absurd fault
-    go status.Usage fault = absurd fault
-    go (status.ReadFault p) fault = absurd fault
-    go status.WriteFault fault = absurd fault
-    go (status.Fcl f) fault = faulted (status.Fcl f) fault
-    go (status.Trace f) fault = faulted (status.Trace f) fault
-    go (status.Asm f) fault = faulted (status.Asm f) fault
-    go status.Memory fault = (counts, untouched)
-    go (status.TooLong p) fault = absurd fault
+    go : (t : Status) → Kind t → IsFaultOf (Makes command (bytes_of slice)) t → Runs words (world f0 k0 a0 t0 e0) (world f1 k1 a1 t0 e0) t
+    go _ done fault = absurd fault
+    go _ no_command fault = absurd fault
+    go _ (failed_read p) fault = absurd fault
+    go _ failed_write fault = absurd fault
+    go _ no_memory fault = (counts, untouched)
+    go _ (long_read p) fault = absurd fault
+    go _ (of_contents t of) fault = of.runs words _ _ (faulted t (of.made command (bytes_of slice) fault))
 
 known_held : (files : Names) (ns : List Text) (cs cs' : List (List ℕ)) → AreKnown files ns cs → AreHeld files ns cs' → cs' ≡ cs
 known_held files [] [] [] known held = refl
@@ -170,21 +169,22 @@ module _ (words : List Text) (old new : World) (command : Command) (contents : L
   made_by : (r : Result Deed Status) → Worked words old new r → IsMade (Makes command contents) (status_of r)
   made_by r w = (r, makes_same words old.files command contents is known w.command w.contents r w.is w.held w.outcome, refl)
 
-  pub settles : (s : Status) → Runs words old new s → Settles (Makes command contents) s
-  settles status.Ok runs = inl (made_by (Ok runs.0) runs.1)
-  settles status.Usage runs = absurd (let e : Some command ≡ None = sym is ∙ runs.0 in cc)
-  settles (status.ReadFault p) runs = inr (inr (inl tt))
-  settles status.WriteFault runs = inr (inr (inr tt))
-  settles (status.Fcl f) runs = inl (made_by (Err (status.Fcl f)) runs.worked)
-  settles (status.Trace f) runs = inl (made_by (Err (status.Trace f)) runs.worked)
-  settles (status.Asm f) runs = inl (made_by (Err (status.Asm f)) runs.worked)
-  settles status.Memory runs = inr (inl refl)
-  settles (status.TooLong p) runs =
+  settles_as : (s : Status) → Kind s → Runs words old new s → Settles (Makes command contents) s
+  settles_as _ done runs = inl (made_by (Ok runs.0) runs.1)
+  settles_as _ no_command runs = absurd (let e : Some command ≡ None = sym is ∙ runs.0 in cc)
+  settles_as _ (failed_read p) runs = inr (inr (inl tt))
+  settles_as _ failed_write runs = inr (inr (inr tt))
+  settles_as _ no_memory runs = inr (inl refl)
+  settles_as _ (long_read p) runs =
       let same = same_command runs.is is in
       let stops : StopsBy words (inputs_of command) old.files old.counts new.counts old.asked new.asked (stop.TooLong p) =
       subst (λ (c : Command). StopsBy words (inputs_of c) old.files old.counts new.counts old.asked new.asked (stop.TooLong p)) same runs.stops in
       let at : AreKnown old.files (names_at words (stops.0.before ++ p ∷ stops.0.after)) contents = subst (λ (ps : List ℕ). AreKnown old.files (names_at words ps) contents) (sym stops.0.split) known in
       absurd (not_long old.files words stops.0.before stops.0.after p contents at stops.3)
+  settles_as _ (of_contents s of) runs = inl (made_by (Err s) (of.faulted words old new runs).worked)
+
+  pub settles : (s : Status) → Runs words old new s → Settles (Makes command contents) s
+  settles s runs = settles_as s (kind_of s) runs
 
   pub completes : (s : Status) → Runs words old new s → (IsReadFault s → ⊥) → (IsWriteFault s → ⊥) → IsMade (Makes command contents) s ⊎ (s ≡ status.Memory)
   completes s runs no_read no_write = ⊎_elim inl (⊎_elim inr (⊎_elim (λ r. absurd (no_read r)) (λ w. absurd (no_write w)))) (settles s runs)
@@ -207,40 +207,43 @@ does apart words old new command contents deed can s runs no_read no_write = go 
     go (inl (Err t, makes, is)) = absurd (apart command contents deed t can.makes makes)
 
 pub no_read_fault : (words : List Text) (old new : World) → HasNoFault old new → (s : Status) → Runs words old new s → IsReadFault s → ⊥
-no_read_fault words old new none status.Ok runs is = is
-no_read_fault words old new none status.Usage runs is = is
-no_read_fault words old new none (status.ReadFault p) runs is = none.reads runs.stops.2
-no_read_fault words old new none status.WriteFault runs is = is
-no_read_fault words old new none (status.Fcl f) runs is = is
-no_read_fault words old new none (status.Trace f) runs is = is
-no_read_fault words old new none (status.Asm f) runs is = is
-no_read_fault words old new none status.Memory runs is = is
-no_read_fault words old new none (status.TooLong p) runs is = is
+no_read_fault words old new none s runs is = go s (kind_of s) runs is
+  where
+    go : (t : Status) → Kind t → Runs words old new t → IsReadFault t → ⊥
+    go _ done at is = is
+    go _ no_command at is = is
+    go _ (failed_read p) at is = none.reads at.stops.2
+    go _ failed_write at is = is
+    go _ no_memory at is = is
+    go _ (long_read p) at is = is
+    go _ (of_contents t of) at is = of.no_read is
 
 pub no_write_fault : (words : List Text) (old new : World) → HasNoFault old new → (s : Status) → Runs words old new s → IsWriteFault s → ⊥
-no_write_fault words old new none status.Ok runs is = is
-no_write_fault words old new none status.Usage runs is = is
-no_write_fault words old new none (status.ReadFault p) runs is = is
-no_write_fault words old new none status.WriteFault runs is = ⊎_elim (λ w. none.writes w.rose) (λ p. none.puts p.rose) runs.3
-no_write_fault words old new none (status.Fcl f) runs is = is
-no_write_fault words old new none (status.Trace f) runs is = is
-no_write_fault words old new none (status.Asm f) runs is = is
-no_write_fault words old new none status.Memory runs is = is
-no_write_fault words old new none (status.TooLong p) runs is = is
+no_write_fault words old new none s runs is = go s (kind_of s) runs is
+  where
+    go : (t : Status) → Kind t → Runs words old new t → IsWriteFault t → ⊥
+    go _ done at is = is
+    go _ no_command at is = is
+    go _ (failed_read p) at is = is
+    go _ failed_write at is = ⊎_elim (λ w. none.writes w.rose) (λ p. none.puts p.rose) at.3
+    go _ no_memory at is = is
+    go _ (long_read p) at is = is
+    go _ (of_contents t of) at is = of.no_write is
 
 none_some : {w : Option Command} {c : Command} → w ≡ None → w ≡ Some c → ⊥
 none_some {w} {c} none some = let bad : None ≡ Some c = sym none ∙ some in cc
 
 pub usage_status : (words : List Text) (old new : World) (s : Status) → Runs words old new s → command_in words ≡ None → (s ≡ status.Usage) ⊎ (s ≡ status.Memory)
-usage_status words old new status.Ok runs none = absurd (none_some none runs.1.is)
-usage_status words old new status.Usage runs none = inl refl
-usage_status words old new (status.ReadFault p) runs none = absurd (none_some none runs.is)
-usage_status words old new status.WriteFault runs none = absurd (none_some none runs.1.is)
-usage_status words old new (status.Fcl f) runs none = absurd (none_some none runs.worked.is)
-usage_status words old new (status.Trace f) runs none = absurd (none_some none runs.worked.is)
-usage_status words old new (status.Asm f) runs none = absurd (none_some none runs.worked.is)
-usage_status words old new status.Memory runs none = inr refl
-usage_status words old new (status.TooLong p) runs none = absurd (none_some none runs.is)
+usage_status words old new s runs none = go s (kind_of s) runs
+  where
+    go : (t : Status) → Kind t → Runs words old new t → (t ≡ status.Usage) ⊎ (t ≡ status.Memory)
+    go _ done at = absurd (none_some none at.1.is)
+    go _ no_command at = inl refl
+    go _ (failed_read p) at = absurd (none_some none at.is)
+    go _ failed_write at = absurd (none_some none at.1.is)
+    go _ no_memory at = inr refl
+    go _ (long_read p) at = absurd (none_some none at.is)
+    go _ (of_contents t of) at = absurd (none_some none (of.faulted words old new at).worked.is)
 
 pub usage_cause : (words : List Text) (old new : World) (s : Status) → Runs words old new s → s ≡ status.Usage → command_in words ≡ None
 usage_cause words old new s runs is = let at : Runs words old new status.Usage = subst (λ (t : Status). Runs words old new t) is runs in at.0
@@ -288,19 +291,20 @@ module _ (words : List Text) (old new : World) (place : ℕ) (long : IsTooLong w
       let at : AreHeld old.files (names_at words (long.before ++ place ∷ long.after)) w.contents = subst (λ (ps : List ℕ). AreHeld old.files (names_at words ps) w.contents) (sym long.split) held in
       never_held old.files words long.before long.after place w.contents long.bytes long.room long.told long.long at
 
-  pub long_status : (s : Status) → Runs words old new s → (s ≡ status.TooLong place) ⊎ (IsReadFault s ⊎ (s ≡ status.Memory))
-  long_status status.Ok runs = absurd (no_work (Ok runs.0) runs.1)
-  long_status status.Usage runs = absurd (none_some runs.0 long.is)
-  long_status (status.ReadFault p) runs = inr (inl tt)
-  long_status status.WriteFault runs = absurd (no_work (Ok runs.0) runs.1)
-  long_status (status.Fcl f) runs = absurd (no_work (Err (status.Fcl f)) runs.worked)
-  long_status (status.Trace f) runs = absurd (no_work (Err (status.Trace f)) runs.worked)
-  long_status (status.Asm f) runs = absurd (no_work (Err (status.Asm f)) runs.worked)
-  long_status status.Memory runs = inr (inr refl)
-  long_status (status.TooLong q) runs =
+  long_status_as : (s : Status) → Kind s → Runs words old new s → (s ≡ status.TooLong place) ⊎ (IsReadFault s ⊎ (s ≡ status.Memory))
+  long_status_as _ done runs = absurd (no_work (Ok runs.0) runs.1)
+  long_status_as _ no_command runs = absurd (none_some runs.0 long.is)
+  long_status_as _ (failed_read p) runs = inr (inl tt)
+  long_status_as _ failed_write runs = absurd (no_work (Ok runs.0) runs.1)
+  long_status_as _ no_memory runs = inr (inr refl)
+  long_status_as _ (long_read q) runs =
       let same = same_command runs.is long.is in
       let stops : StopsBy words (inputs_of long.command) old.files old.counts new.counts old.asked new.asked (stop.TooLong q) =
       subst (λ (c : Command). StopsBy words (inputs_of c) old.files old.counts new.counts old.asked new.asked (stop.TooLong q)) same runs.stops in
       let e : q ≡ place = same_cut old.files words long.before long.after place stops.0.before stops.0.after q long.contents stops.0.contents long.bytes long.room
       (long.split ∙ sym stops.0.split) long.known_before long.told long.long stops.0.held stops.3 in
       inl (ap (λ (n : ℕ). status.TooLong n) e)
+  long_status_as _ (of_contents s of) runs = absurd (no_work (Err s) (of.faulted words old new runs).worked)
+
+  pub long_status : (s : Status) → Runs words old new s → (s ≡ status.TooLong place) ⊎ (IsReadFault s ⊎ (s ≡ status.Memory))
+  long_status s runs = long_status_as s (kind_of s) runs

@@ -1,15 +1,13 @@
 -- The command `asm SRC OUT`.
-use Rattle.std.specs.Prelude.{◌≡◌, ◌≢◌, ℕ, List, [], ◌∷◌, length, codes, Some, Result, Ok, Err}
+use Rattle.std.specs.Prelude.{◌≡◌, ℕ, List, [], ◌∷◌, length, codes, Some, Result, Ok, Err}
 use Rattle.cpu12_asm.specs.Bytes.{IsAscending, start_of}
 use Rattle.cpu12_asm.specs.Sources.{Assembles, assembled}
 use Rattle.cpu12_asm.specs.declared.image.Image.{Image}
-use Rattle.cpu12_asm.specs.declared.items.AsmFault.{AsmFault}
-use Rattle.cpu12_asm.specs.declared.items.AsmFault.TheVariants as asm
 use Rattle.srecord.specs.Images.{ImageText}
 use Rattle.fz_top.specs.Deeds.{Deed}
 use Rattle.fz_top.specs.Lines.{line}
+use Rattle.fz_top.specs.Refusals.{Refusals, Refuses, never}
 use Rattle.fz_top.specs.declared.status.Status.{Status}
-use Rattle.fz_top.specs.declared.status.Status.TheVariants as status
 
 -- SRC
 abbrev pub asm_inputs : List ℕ
@@ -25,11 +23,10 @@ pub record AsmGives (source : List ℕ) (deed : Deed) : Type 0 where
   pub text : ImageText image.bytes image.start records
   pub deed_is : deed ≡ record { text = line (codes "bytes ") (length image.bytes); file = Some (3, records) }
 
--- why a source gives none; it is not for want of memory
-abbrev pub RefusesSource : List ℕ → AsmFault → Type 0
-RefusesSource source f = (f ≢ asm.Memory) × (assembled source ≡ Err f)
+-- why a source gives none
+abbrev pub source_refusals : List ℕ → Refusals
+source_refusals source = record never { asm = λ f. assembled source ≡ Err f }
 
 abbrev pub AsmMakes : List ℕ → Result Deed Status → Type 0
 AsmMakes source (Ok deed) = AsmGives source deed
-AsmMakes source (Err (status.Asm f)) = RefusesSource source f
-AsmMakes source (Err _) = ⊥
+AsmMakes source (Err s) = Refuses (source_refusals source) s

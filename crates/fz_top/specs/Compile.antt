@@ -6,11 +6,11 @@ use Rattle.codegen.specs.declared.firmware.Firmware.{Firmware}
 use Rattle.codegen.specs.declared.width.Width.{Width}
 use Rattle.srecord.specs.Images.{ImageText}
 use Rattle.fz_top.specs.Deeds.{Deed}
-use Rattle.fz_top.specs.Firmwares.{GivesFirmware, RefusesText}
+use Rattle.fz_top.specs.Firmwares.{GivesFirmware, text_refusals}
 use Rattle.fz_top.specs.Lines.{line}
+use Rattle.fz_top.specs.Refusals.{Refuses}
 use Rattle.fz_top.specs.declared.compile.Compile.{Compile}
 use Rattle.fz_top.specs.declared.status.Status.{Status}
-use Rattle.fz_top.specs.declared.status.Status.TheVariants as status
 
 abbrev pub compile_in : Width → Compile
 compile_in width = record { width = width }
@@ -40,5 +40,4 @@ pub record CompileGives (compile : Compile) (text : List ℕ) (deed : Deed) : Ty
 
 abbrev pub CompileMakes : Compile → List ℕ → Result Deed Status → Type 0
 CompileMakes compile text (Ok deed) = CompileGives compile text deed
-CompileMakes compile text (Err (status.Fcl f)) = RefusesText text f
-CompileMakes compile text (Err _) = ⊥
+CompileMakes compile text (Err s) = Refuses (text_refusals text) s

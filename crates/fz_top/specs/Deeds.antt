@@ -15,11 +15,13 @@ deed_of w = record { text = text_of w.lines.items; file = option_map (λ p. (p.0
 
 -- the fault is one that comes of the contents, or want of memory
 abbrev pub IsFaultOf : (Result Deed Status → Type 0) → Status → Type 0
+IsFaultOf makes status.Ok = ⊥
+IsFaultOf makes status.Usage = ⊥
+IsFaultOf makes (status.ReadFault p) = ⊥
+IsFaultOf makes status.WriteFault = ⊥
+IsFaultOf makes (status.TooLong p) = ⊥
 IsFaultOf makes status.Memory = Unit {0}
-IsFaultOf makes (status.Fcl f) = makes (Err (status.Fcl f))
-IsFaultOf makes (status.Trace f) = makes (Err (status.Trace f))
-IsFaultOf makes (status.Asm f) = makes (Err (status.Asm f))
-IsFaultOf makes _ = ⊥
+IsFaultOf makes s = makes (Err s)
 
 -- what is made, or one of its faults, or want of memory
 abbrev pub IsResultOf : (Result Deed Status → Type 0) → Result Work Status → Type 0

@@ -1,5 +1,5 @@
 -- The block and the firmware of a text.
-use Rattle.std.specs.Prelude.{◌≡◌, ◌≢◌, ℕ, List}
+use Rattle.std.specs.Prelude.{◌≡◌, ℕ, List}
 use Rattle.fuzzy_meaning.specs.declared.block.Block.{Block}
 use Rattle.rule_layout.specs.Layouts.{IsWithinLimits, IsFaultOf as IsLayoutFault}
 use Rattle.codegen.specs.Firmwares.{IsFirmwareOf}
@@ -8,12 +8,9 @@ use Rattle.codegen.specs.declared.width.Width.{Width}
 use Rattle.codegen.specs.Widths.{is_wide}
 use Rattle.fcl_syntax.specs.Text.{IsFirstFault}
 use Rattle.fcl_check.specs.Texts.{SpellsBlock, HasLoadFault}
-use Rattle.fcl_check.specs.declared.fault.LoadFault.TheVariants as load
-use Rattle.rule_layout.specs.declared.flat.LayoutFault.TheVariants as layout
+use Rattle.fz_top.specs.Refusals.{Refusals, never}
 use Rattle.fz_top.specs.declared.status.FclFault.{FclFault}
 use Rattle.fz_top.specs.declared.status.FclFault.TheVariants as fcl
-use Rattle.fz_top.specs.declared.status.Status.{Status}
-use Rattle.fz_top.specs.declared.status.Status.TheVariants as status
 
 -- the block is the text's, it can be laid out, and the firmware is the block's, with answers of this width
 pub record GivesFirmware (width : Width) (text : List ℕ) (block : Block) (firmware : Firmware) : Type 0 where
@@ -22,14 +19,11 @@ pub record GivesFirmware (width : Width) (text : List ℕ) (block : Block) (firm
   pub compiled : IsFirmwareOf block firmware
   pub wide : firmware.wide ≡ is_wide width
 
--- why a text gives no firmware; none is for want of memory
+-- why a text gives no firmware
 abbrev pub RefusesText : List ℕ → FclFault → Type 0
 RefusesText text (fcl.Syntax f) = IsFirstFault text f
-RefusesText text (fcl.Load f) = (f ≢ load.Memory) × HasLoadFault text f
-RefusesText text (fcl.Layout f) = (f ≢ layout.Memory) × (block : Block) × SpellsBlock text block × IsLayoutFault block f
+RefusesText text (fcl.Load f) = HasLoadFault text f
+RefusesText text (fcl.Layout f) = (block : Block) × SpellsBlock text block × IsLayoutFault block f
 
--- a fault of the text, or want of memory
-abbrev pub IsFclFault : (FclFault → Type 0) → Status → Type 0
-IsFclFault refuses status.Memory = Unit {0}
-IsFclFault refuses (status.Fcl f) = refuses f
-IsFclFault refuses _ = ⊥
+abbrev pub text_refusals : List ℕ → Refusals
+text_refusals text = record never { fcl = RefusesText text }

@@ -4,9 +4,11 @@ pub mod Commands
 pub mod Compile
 pub mod Deeds
 pub mod Errors
+pub mod FaultLines
 pub mod Firmwares
 pub mod Lines
 pub mod Reads
+pub mod Refusals
 pub mod Run
 pub mod Runs
 pub mod Texts

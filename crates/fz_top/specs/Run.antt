@@ -1,5 +1,5 @@
 -- The command `run FCL TRACE FLAGS`.
-use Rattle.std.specs.Prelude.{◌≡◌, ◌≢◌, ◌+◌, ℕ, List, [], ◌∷◌, ◌++◌, codes, decimal, map, Option, None, option_map, Result, Ok, Err}
+use Rattle.std.specs.Prelude.{◌≡◌, ◌+◌, ℕ, List, [], ◌∷◌, ◌++◌, codes, decimal, map, Option, None, option_map, Result, Ok, Err}
 use Rattle.fuzzy_meaning.specs.declared.block.Block.{Block}
 use Rattle.codegen.specs.Bounds.{instruction_bound}
 use Rattle.codegen.specs.declared.firmware.Firmware.{Firmware}
@@ -7,7 +7,6 @@ use Rattle.codegen.specs.declared.width.Width.TheVariants.{Byte}
 use Rattle.trace_io.specs.Traces.{HasFault, Spells}
 use Rattle.trace_io.specs.declared.sample.Sample.{Sample}
 use Rattle.trace_io.specs.declared.sample.TraceFault.{TraceFault}
-use Rattle.trace_io.specs.declared.sample.TraceFault.TheVariants as trace
 use Rattle.run_law.specs.Forms.{RowSeen}
 use Rattle.fz_run.specs.Answering.{AnswerBlock}
 use Rattle.fz_run.specs.Rows.{firmware_rows, input_bytes, row_seen}
@@ -15,11 +14,11 @@ use Rattle.fz_run.specs.declared.rows.Row.{Row}
 use Rattle.fz_top.specs.Deeds.{Deed}
 use Rattle.fz_top.specs.Firmwares.{GivesFirmware, RefusesText}
 use Rattle.fz_top.specs.Lines.{line, newline}
+use Rattle.fz_top.specs.Refusals.{Refusals, Refuses, never}
 use Rattle.fz_top.specs.Texts.{Text, word_at}
 use Rattle.fz_top.specs.Words.{flags_of}
 use Rattle.fz_top.specs.declared.run.Run.{Run}
 use Rattle.fz_top.specs.declared.status.Status.{Status}
-use Rattle.fz_top.specs.declared.status.Status.TheVariants as status
 
 abbrev pub run_with : ℕ → Run
 run_with flags = record { flags = flags }
@@ -81,13 +80,14 @@ pub record RunGives (run : Run) (text samples : List ℕ) (deed : Deed) : Type 0
   pub answers : AnswerBlock block firmware run.flags (map input_bytes values) rows
   pub deed_is : deed ≡ record { text = run_lines (instruction_bound Byte block) (map shown rows); file = None }
 
--- why a trace is refused, the text giving firmware; none is for want of memory
+-- why a trace is refused, the text giving firmware
 abbrev pub RefusesTrace : List ℕ → List ℕ → TraceFault → Type 0
-RefusesTrace text samples f = (f ≢ trace.Memory)
-    × (block : Block) × (firmware : Firmware) × GivesFirmware Byte text block firmware × HasFault block.inputs samples f
+RefusesTrace text samples f =
+    (block : Block) × (firmware : Firmware) × GivesFirmware Byte text block firmware × HasFault block.inputs samples f
+
+abbrev pub run_refusals : List ℕ → List ℕ → Refusals
+run_refusals text samples = record never { fcl = RefusesText text; trace = RefusesTrace text samples }
 
 abbrev pub RunMakes : Run → List ℕ → List ℕ → Result Deed Status → Type 0
 RunMakes run text samples (Ok deed) = RunGives run text samples deed
-RunMakes run text samples (Err (status.Fcl f)) = RefusesText text f
-RunMakes run text samples (Err (status.Trace f)) = RefusesTrace text samples f
-RunMakes run text samples (Err _) = ⊥
+RunMakes run text samples (Err s) = Refuses (run_refusals text samples) s

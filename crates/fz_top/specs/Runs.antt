@@ -98,11 +98,9 @@ Runs words old new status.Usage = (command_in words ≡ None) × (new ≡ old)
 Runs words old new (status.ReadFault p) = Refused words old new (stop.Failed p)
 Runs words old new status.WriteFault = (deed : Deed) × Worked words old new (Ok deed)
     × ChangesOnly words deed.file old.files new.files × (WriteFailed deed old new ⊎ PutFailed words deed old new)
-Runs words old new (status.Fcl f) = Faulted words old new (status.Fcl f)
-Runs words old new (status.Trace f) = Faulted words old new (status.Trace f)
 Runs words old new status.Memory = (new.counts ≡ old.counts) × Untouched old new
 Runs words old new (status.TooLong p) = Refused words old new (stop.TooLong p)
-Runs words old new (status.Asm f) = Faulted words old new (status.Asm f)
+Runs words old new s = Faulted words old new s
 
 -- the shelf tells these contents, and none is too long
 abbrev pub AreKnown : Names → List Text → List (List ℕ) → Type 0

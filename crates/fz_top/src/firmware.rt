@@ -1,7 +1,8 @@
 //! From a text to its block, and to the block's firmware.
 ghost use Rattle.std.specs.Prelude.{◌≡◌, ◌≤◌, length, IfOk, IfErr};
 ghost use Rattle.fcl_check.specs.Texts.{SpellsBlock};
-ghost use Rattle.fz_top.specs.Firmwares.{GivesFirmware, IsFclFault, RefusesText};
+ghost use Rattle.fz_top.specs.Firmwares.{GivesFirmware, text_refusals};
+ghost use Rattle.fz_top.specs.Refusals.{IsRefusal};
 
 use crate::{FclFault, Status};
 use codegen::{Firmware, Width, compile, compile16};
@@ -23,7 +24,7 @@ pub(crate) struct Compiled {
 pub(crate) fn firmware_of(alloc: Global, width: Width, text: &[u8]) -> Result<Compiled, Status>
     requires { length text.now ≤ 1048576 }
     ensures gives { IfOk result (λ c. GivesFirmware width text.now c.block c.firmware) }
-    ensures fault { IfErr result (IsFclFault (RefusesText text.now)) }
+    ensures fault { IfErr result (IsRefusal (text_refusals text.now)) }
 {
     let block = match block_of(alloc, text) {
         Ok(block) => block,
@@ -44,7 +45,7 @@ pub(crate) fn firmware_of(alloc: Global, width: Width, text: &[u8]) -> Result<Co
 fn block_of(alloc: Global, text: &[u8]) -> Result<Block, Status>
     requires { length text.now ≤ 1048576 }
     ensures block { IfOk result (SpellsBlock text.now) }
-    ensures fault { IfErr result (IsFclFault (RefusesText text.now)) }
+    ensures fault { IfErr result (IsRefusal (text_refusals text.now)) }
 {
     let tree = match parse(alloc, text) {
         Ok(tree) => tree,

@@ -14,6 +14,7 @@ mod command;
 mod compile;
 mod delivery;
 mod errors;
+mod fault_lines;
 mod firmware;
 mod laws;
 mod lines;
@@ -28,7 +29,7 @@ pub use command::Command;
 pub use compile::Compile;
 pub use program::fuzz12;
 pub use run::Run;
-pub use status::{FclFault, Status};
+pub use status::{CertRefusal, FclFault, ImageFault, Status};
 
 #[cfg(test)]
 mod tests;

@@ -6,7 +6,8 @@ ghost use Rattle.fz_top.specs.Commands.{command_in, inputs_of, IsUsage, Makes};
 ghost use Rattle.fz_top.specs.Deeds.{Deed};
 ghost use Rattle.fz_top.specs.Reads.{names_at, AreThere};
 ghost use Rattle.fz_top.specs.Runs.{world, Runs, IsReady, IsReadFault, IsWriteFault, IsTooLong, AreKnown, CanBeDone, HasNoFault, IsMade, RoomFor, Settles};
-ghost use Rattle.fz_top.specs.Errors.{CarriesNoMemory, error_line_of, Complains};
+ghost use Rattle.fz_top.specs.Errors.{error_line_of, Complains};
+ghost use Rattle.fz_top.specs.Refusals.{CarriesNoMemory};
 ghost use Rattle.fz_top.specs.declared.command.Command.{Command};
 
 use crate::command::command_of;

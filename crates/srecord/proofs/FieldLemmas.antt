@@ -2,7 +2,7 @@
 use Rattle.std.proofs.Common.{◌≡◌, ◌≢◌, ℕ, ◌+◌, ◌-◌, ◌*◌, ◌/◌, ◌%◌, ◌<◌, ◌≤◌, List, [], ◌∷◌, ◌++◌, length, take, drop, get_or, Some, None, false, refl, sym, ap, subst, ◌∙◌, arith, length-append}
 use Rattle.std.specs.Prelude.{Err}
 use Rattle.std.proofs.lemmas.List.{take_rest, take-append-drop}
-use Rattle.std.proofs.Math.Seq.{take-append_seam}
+use Rattle.std.proofs.Math.Seq.{drop-append_seam, take-append_seam}
 use Rattle.hex.specs.Hex.{decode_of}
 use Rattle.hex.specs.declared.error.FromHexError.{FromHexError}
 use Rattle.srecord.specs.declared.fault.SrecFault.TheVariants.{BadLine, BadSum}
@@ -78,12 +78,23 @@ pub snoc_same : {X : Type 0} (xs ys : List X) (x y : X) → length xs ≡ length
 snoc_same xs ys x y as_long same =
     sym (take-append_seam xs (x ∷ [])) ∙ ap (take (length xs)) same ∙ ap (λ (n : ℕ). take n (ys ++ y ∷ [])) as_long ∙ take-append_seam ys (y ∷ [])
 
+pub snoc_last : {X : Type 0} (xs ys : List X) (x y none : X) → length xs ≡ length ys → xs ++ x ∷ [] ≡ ys ++ y ∷ [] → x ≡ y
+snoc_last {X = X} xs ys x y none as_long same =
+    ap (λ (l : List X). get_or l 0 none)
+    (sym (drop-append_seam xs (x ∷ [])) ∙ ap (drop (length xs)) same ∙ ap (λ (n : ℕ). drop n (ys ++ y ∷ [])) as_long ∙ drop-append_seam ys (y ∷ []))
+
 module _ (a at : ℕ) (p payload : List ℕ) (s sum : ℕ) (same : body_of a p ++ s ∷ [] ≡ body_of at payload ++ sum ∷ []) where
   pub same_address : a ≡ at
   same_address = omega (arith, ap (λ (b : List ℕ). get_or b 1 0) same, ap (λ (b : List ℕ). get_or b 2 0) same)
 
   pub same_payload : p ≡ payload
   same_payload = let count : length p ≡ length payload = omega (arith, ap (λ (b : List ℕ). get_or b 0 0) same) in snoc_same p payload s sum count (ap (drop 3) same)
+
+  pub same_body : body_of a p ≡ body_of at payload
+  same_body = ap (λ (x : ℕ). body_of x p) same_address ∙ ap (body_of at) same_payload
+
+  pub same_sum : s ≡ sum
+  same_sum = let count : length (body_of a p) ≡ length (body_of at payload) = ap length same_body in snoc_last (body_of a p) (body_of at payload) s sum 0 count same
 
 pub only_fields : (kind : Kind) (at : ℕ) (payload : List ℕ) (sum : ℕ) (bytes : List ℕ) → bytes ≡ body_of at payload ++ sum ∷ []
     → (FitsKind kind at payload → ⊥) → (n : ℕ) → FieldsFail kind bytes n (BadLine n)

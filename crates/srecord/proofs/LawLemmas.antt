@@ -1,6 +1,6 @@
 -- Lines give one thing, and have a fault or none.
-use Rattle.std.proofs.Common.{◌≡◌, ℕ, zero, suc, ◌+◌, true, List, [], ◌∷◌, ◌++◌, length, take, drop, get_or, Option, Some, None, IsSome, refl, sym, ap, subst, ◌∙◌, arith, length-append}
-use Rattle.std.proofs.Math.Seq.{take-append_seam, take-append-add, drop-append_seam}
+use Rattle.std.proofs.Common.{◌≡◌, ℕ, zero, suc, ◌+◌, true, List, [], ◌∷◌, ◌++◌, length, take, Option, Some, None, IsSome, refl, sym, ap, subst, ◌∙◌, arith, length-append}
+use Rattle.std.proofs.Math.Seq.{take-append_seam, take-append-add}
 use Rattle.std.proofs.lemmas.Bool.Decides.{nat_tests}
 use Rattle.std.proofs.lemmas.List.{length-take-le}
 use Rattle.std.specs.Str.Lines.{lines}
@@ -12,7 +12,7 @@ use Rattle.srecord.specs.declared.fields.Kind.{Kind}
 use Rattle.srecord.specs.Records.{body_of, checksum_of}
 use Rattle.srecord.specs.Lines.{FieldsFail, HasFields, Opens, OpeningFails, bad_sum, is_wide, kind_of, parts_of, unopened, unread, wide}
 use Rattle.srecord.specs.Texts.{Give, Given, GivesImage, HasFault, IsRecord, LineFails, MayFollow, RecordFails, after_end, at_line, count_differs, fields_fail, given_with, more, no_end, none, nothing_given, opening_fails, overlap, record_fails}
-use Rattle.srecord.proofs.FieldLemmas.{same_address, same_payload, snoc_same}
+use Rattle.srecord.proofs.FieldLemmas.{same_address, same_body, same_payload, same_sum, snoc_last, snoc_same}
 
 module _ (line : List ℕ) (d e : ℕ) (ds es : List ℕ) (one : parts_of line ≡ Some (d, ds)) (other : parts_of line ≡ Some (e, es)) where
   pair_same : ◌≡◌ {A = ℕ × List ℕ} (d, ds) (e, es)
@@ -67,11 +67,6 @@ pub record Last (before : List (List ℕ)) (line : List ℕ) (h : Given) : Type 
 as_long : (xs ys : List (List ℕ)) (x y : List ℕ) → xs ++ x ∷ [] ≡ ys ++ y ∷ [] → length xs ≡ length ys
 as_long xs ys x y same = omega (arith, ap length same, length-append xs (x ∷ []), length-append ys (y ∷ []))
 
-last_same : (xs ys : List (List ℕ)) (x y : List ℕ) → xs ++ x ∷ [] ≡ ys ++ y ∷ [] → x ≡ y
-last_same xs ys x y same =
-    ap (λ (l : List (List ℕ)). get_or l 0 [])
-    (sym (drop-append_seam xs (x ∷ [])) ∙ ap (drop (length xs)) same ∙ ap (λ (n : ℕ). drop n (ys ++ y ∷ [])) (as_long xs ys x y same) ∙ drop-append_seam ys (y ∷ []))
-
 last_given : (ls : List (List ℕ)) (h : Given) → Give ls h → (before : List (List ℕ)) (line : List ℕ) → ls ≡ before ++ line ∷ [] → Last before line h
 last_given _ _ none before line same = absurd (omega (arith, ap length same, length-append before (line ∷ [])))
 last_given _ _ (more b g l kind at payload give start is follows) before line same = record {
@@ -81,7 +76,7 @@ last_given _ _ (more b g l kind at payload give start is follows) before line sa
   payload = payload;
   give = subst (λ (x : List (List ℕ)). Give x g) (snoc_same b before l line (as_long b before l line same) same) give;
   start = start;
-  is_record = subst (λ (x : List ℕ). IsRecord x kind at payload) (last_same b before l line same) is;
+  is_record = subst (λ (x : List ℕ). IsRecord x kind at payload) (snoc_last b before l line [] (as_long b before l line same) same) is;
   follows = follows;
   is = refl;
 }
@@ -106,67 +101,67 @@ same_image text a b one other =
     let starts : Some a.start ≡ Some b.start = sym one.start ∙ ap (λ (g : Given). g.start) same ∙ other.start in
     (cc, λ q. one.bytes q ∙ ap (λ (g : Given). g.bytes q) same ∙ sym (other.bytes q))
 
-first_lines : (b before after : List (List ℕ)) (l line : List ℕ) (m : ℕ) → length after ≡ suc m → b ++ l ∷ [] ≡ before ++ line ∷ after → b ≡ before ++ line ∷ take m after
-first_lines b before after l line m count same =
-    let long : length b ≡ length before + suc m = omega (arith, ap length same, length-append b (l ∷ []), length-append before (line ∷ after), count) in
-    sym (take-append_seam b (l ∷ [])) ∙ ap (take (length b)) same ∙ ap (λ (n : ℕ). take n (before ++ line ∷ after)) long ∙ take-append-add before (line ∷ after) (suc m)
+-- lines that are longer than others, which begin alike, have those and one more
+pub first_lines : (b rest before after : List (List ℕ)) (line : List ℕ) (m : ℕ) → length b ≡ length before + suc m → b ++ rest ≡ before ++ line ∷ after → b ≡ before ++ line ∷ take m after
+first_lines b rest before after line m long same =
+    sym (take-append_seam b rest) ∙ ap (take (length b)) same ∙ ap (λ (n : ℕ). take n (before ++ line ∷ after)) long ∙ take-append-add before (line ∷ after) (suc m)
 
 -- a line among others was good where it stands
-given_there : (ls : List (List ℕ)) (h : Given) → Give ls h → (before : List (List ℕ)) (line : List ℕ) (after : List (List ℕ)) (n : ℕ)
+pub given_there : (ls : List (List ℕ)) (h : Given) → Give ls h → (before : List (List ℕ)) (line : List ℕ) (after : List (List ℕ)) (n : ℕ)
     → length after ≡ n → ls ≡ before ++ line ∷ after → (g : Given) × Last before line g
 given_there ls h give before line [] n count same = (h, last_given ls h give before line same)
 given_there ls h give before line (x ∷ after) zero count same = absurd (omega arith)
 given_there _ _ none before line (x ∷ after) (suc m) count same = absurd (omega (arith, ap length same, length-append before (line ∷ x ∷ after)))
 given_there _ _ (more b g l kind at payload give start is follows) before line (x ∷ after) (suc m) count same =
     let shorter : length (take m (x ∷ after)) ≡ m = length-take-le m (x ∷ after) (omega (arith, count)) in
-    given_there b g give before line (take m (x ∷ after)) m shorter (first_lines b before (x ∷ after) l line m count same)
+    let long : length b ≡ length before + suc m = omega (arith, ap length same, length-append b (l ∷ []), length-append before (line ∷ x ∷ after), count) in
+    given_there b g give before line (take m (x ∷ after)) m shorter (first_lines b (l ∷ []) before (x ∷ after) line m long same)
 
 wide_has_no_kind : (d : ℕ) (k : Kind) → is_wide d ≡ true → kind_of d ≡ Some k → ⊥
 wide_has_no_kind d k is some = grind (arith, nat_tests)
 
-opens : (n : ℕ) (line : List ℕ) (k : Kind) (bytes : List ℕ) (fault : SrecFault) → Opens line k bytes → OpeningFails line n fault → ⊥
+pub opens : (n : ℕ) (line : List ℕ) (k : Kind) (bytes : List ℕ) (fault : SrecFault) → Opens line k bytes → OpeningFails line n fault → ⊥
 opens n line k bytes _ one (wide w) =
     wide_has_no_kind one.digit k (ap is_wide (digit_same line one.digit w.digit one.digits w.digits one.parts w.parts) ∙ w.wide) one.kind_is
 opens n line k bytes _ one (unopened narrow never) = never k bytes one
 
-has_fields : (n : ℕ) (k : Kind) (bytes : List ℕ) (at : ℕ) (payload : List ℕ) (fault : SrecFault)
+pub has_fields : (n : ℕ) (k : Kind) (bytes : List ℕ) (at : ℕ) (payload : List ℕ) (fault : SrecFault)
     → HasFields k bytes at payload (checksum_of (body_of at payload)) → FieldsFail k bytes n fault → ⊥
 has_fields n k bytes at payload _ one (unread never) = never at payload (checksum_of (body_of at payload)) one
 has_fields n k bytes at payload _ one (bad_sum a p sum other wrong) =
     let same : body_of a p ++ sum ∷ [] ≡ body_of at payload ++ checksum_of (body_of at payload) ∷ [] = sym other.bytes_are ∙ one.bytes_are in
-    let address = same_address a at p payload sum _ same in
-    let all = same_payload a at p payload sum _ same in
-    let body : body_of a p ≡ body_of at payload = ap (λ (x : ℕ). body_of x p) address ∙ ap (body_of at) all in
-    let sums : sum ∷ [] ≡ checksum_of (body_of at payload) ∷ [] =
-    sym (drop-append_seam (body_of a p) (sum ∷ []))
-    ∙ ap (drop (length (body_of a p))) same
-    ∙ ap (λ (b : List ℕ). drop (length b) (body_of at payload ++ checksum_of (body_of at payload) ∷ [])) body
-    ∙ drop-append_seam (body_of at payload) (checksum_of (body_of at payload) ∷ []) in
-    wrong (ap (λ (l : List ℕ). get_or l 0 0) sums ∙ ap checksum_of (sym body))
+    wrong (same_sum a at p payload sum _ same ∙ ap checksum_of (sym (same_body a at p payload sum _ same)))
 
 follows_well : (g : Given) (n : ℕ) (k : Kind) (at : ℕ) (payload : List ℕ) (fault : SrecFault) → MayFollow g k at payload → RecordFails g n k at payload fault → ⊥
 follows_well g n _ _ _ _ free (overlap at payload taken) = let none = free taken.0 taken.1 in let some = subst (λ (o : Option ℕ). IsSome o) none taken.2 in cc
 follows_well g n _ _ _ _ counted (count_differs at payload other) = other counted
 
+-- a line that is read in two ways fails in both
+module _ (line : List ℕ) (n : ℕ) (fault : SrecFault) where
+  pub fields_fail_too : (j k : Kind) (bs cs : List ℕ) → Opens line j bs → Opens line k cs → FieldsFail j bs n fault → FieldsFail k cs n fault
+  fields_fail_too j k bs cs one other fails =
+      subst (λ (x : Kind). FieldsFail x cs n fault) (kind_same line j k bs cs one other)
+      (subst (λ (x : List ℕ). FieldsFail j x n fault) (bytes_same line j k bs cs one other) fails)
+
+  pub record_fails_too : (g h : Given) (j k : Kind) (a b : ℕ) (p q : List ℕ) → g ≡ h → IsRecord line j a p → IsRecord line k b q
+      → RecordFails g n j a p fault → RecordFails h n k b q fault
+  record_fails_too g h j k a b p q same one other fails =
+      subst (λ (x : Given). RecordFails x n k b q fault) same
+      (subst (λ (x : Kind). RecordFails g n x b q fault) (record_kind line j k a b p q one other)
+      (subst (λ (x : ℕ). RecordFails g n j x q fault) (record_address line j k a b p q one other)
+      (subst (λ (x : List ℕ). RecordFails g n j a x fault) (record_payload line j k a b p q one other) fails)))
+
 -- a good line does not fail
-good_line : (before : List (List ℕ)) (line : List ℕ) (h g : Given) (n : ℕ) (fault : SrecFault) → Last before line h → Give before g → LineFails g n line fault → ⊥
+pub good_line : (before : List (List ℕ)) (line : List ℕ) (h g : Given) (n : ℕ) (fault : SrecFault) → Last before line h → Give before g → LineFails g n line fault → ⊥
 good_line before line h g n _ last give (after_end ended) = ended (ap (λ (x : Given). x.start) (give_one before g last.given give last.give) ∙ last.start)
 good_line before line h g n _ last give (opening_fails fault start fails) = opens n line last.kind last.is_record.bytes fault last.is_record.opens fails
 good_line before line h g n _ last give (fields_fail kind bytes fault start other fails) =
     let r = last.is_record in
-    let kinds = kind_same line kind last.kind bytes r.bytes other r.opens in
-    let all = bytes_same line kind last.kind bytes r.bytes other r.opens in
-    has_fields n last.kind r.bytes last.at last.payload fault r.fields (subst (λ (k : Kind). FieldsFail k r.bytes n fault) kinds (subst (λ (b : List ℕ). FieldsFail kind b n fault) all fails))
+    has_fields n last.kind r.bytes last.at last.payload fault r.fields (fields_fail_too line n fault kind last.kind bytes r.bytes other r.opens fails)
 good_line before line h g n _ last give (record_fails kind at payload fault start other fails) =
-    let one = give_one before g last.given give last.give in
-    let kinds = record_kind line kind last.kind at last.at payload last.payload other last.is_record in
-    let address = record_address line kind last.kind at last.at payload last.payload other last.is_record in
-    let all = record_payload line kind last.kind at last.at payload last.payload other last.is_record in
+    let same = give_one before g last.given give last.give in
     follows_well last.given n last.kind last.at last.payload fault last.follows
-    (subst (λ (x : Given). RecordFails x n last.kind last.at last.payload fault) one
-    (subst (λ (x : Kind). RecordFails g n x last.at last.payload fault) kinds
-    (subst (λ (x : ℕ). RecordFails g n kind x last.payload fault) address
-    (subst (λ (x : List ℕ). RecordFails g n kind at x fault) all fails))))
+    (record_fails_too line n fault g last.given kind last.kind at last.at payload last.payload same other last.is_record fails)
 
 pub images_have_no_fault : (text : List ℕ) (image : Image) (fault : SrecFault) → GivesImage text image → HasFault text fault → ⊥
 images_have_no_fault text image _ gives (at_line before after line g fault same give fails) =

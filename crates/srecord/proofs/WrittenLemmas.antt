@@ -1,6 +1,6 @@
 -- What is written gives the image.
 use Rattle.std.proofs.Common.{◌≡◌, ℕ, ◌+◌, ◌-◌, ◌*◌, ◌<◌, ◌≤◌, Bool, true, false, cond, List, [], ◌∷◌, ◌++◌, map, length, Option, Some, None, refl, sym, ap, subst, ◌∙◌, arith, inl, inr, append_assoc}
-use Rattle.std.specs.Prelude.{codes, ◌%◌, ◌&&◌, nat_le, nat_lt, slice_index}
+use Rattle.std.specs.Prelude.{codes, ◌&&◌, nat_le, nat_lt, slice_index}
 use Rattle.std.proofs.lemmas.Bool.Decides.{nat_tests}
 use Rattle.std.proofs.lemmas.List.{append-nil}
 use Rattle.std.specs.Str.Lines.{lines}
@@ -38,6 +38,9 @@ few_pieces _ _ (next p behind pieces good cut) low rises =
       | inl full ↦ (let rest = few_pieces behind pieces cut (p.at + length p.bytes) r.1 in omega (arith, rest, full, r.0, good.fits))
       | inr ends ↦ (let rest = few_pieces behind pieces cut (p.at + length p.bytes + 1) (rise_past (p.at + length p.bytes) behind r.1 ends) in omega (arith, rest, good.some, r.0, good.fits))
     ]
+
+pub few_records : (bytes : List (ℕ × ℕ)) (pieces : List Piece) → IsAscending bytes → AreCut bytes pieces → length pieces ≤ 32768
+few_records bytes pieces ascend cut = let few = few_pieces bytes pieces cut 0 (rise bytes ascend) in omega arith
 
 -- the second where there is no first
 abbrev pub or_else : Option ℕ → Option ℕ → Option ℕ
@@ -103,10 +106,11 @@ header_are = (omega arith, (omega arith, (omega arith, (omega arith, tt))))
 
 -- the lines of an image's text
 lines_written : (bytes : List (ℕ × ℕ)) (start : ℕ) (text : List ℕ) (t : ImageText bytes start text) → RiseFrom 0 bytes
-    → lines text ≡ record_line 48 0 header_bytes ∷ (map piece_line t.pieces ++ record_line 53 (length t.pieces % 65536) [] ∷ record_line 57 start [] ∷ [])
+    → lines text ≡ record_line 48 0 header_bytes ∷ (map piece_line t.pieces ++ record_line 53 (length t.pieces) [] ∷ record_line 57 start [] ∷ [])
 lines_written bytes start text t rises =
-    let n = length t.pieces % 65536 in
+    let n = length t.pieces in
     let behind = record_text 53 n [] ++ record_text 57 start [] in
+    let few = few_pieces bytes t.pieces t.cut 0 rises in
     let last : lines (record_text 57 start []) ≡ record_line 57 start [] ∷ [] = ap lines (sym (append-nil (record_text 57 start []))) ∙ lines_record 57 start [] [] t.fits (omega arith) tt refl refl in
     ap lines t.records
     ∙ lines_record 48 0 header_bytes (data_text t.pieces ++ behind) (omega arith) (omega arith) header_are refl refl
@@ -117,11 +121,12 @@ lines_written bytes start text t rises =
 pub written_gives : (image : Image) (text : List ℕ) → IsAscending image.bytes → ImageText image.bytes image.start text → GivesImage text image
 written_gives image text ascend t =
     let rises = rise image.bytes ascend in
-    let n = length t.pieces % 65536 in
+    let n = length t.pieces in
     let head = record_line 48 0 header_bytes in
     let first : Give (head ∷ []) nothing_given = more [] nothing_given head Header 0 header_bytes nothing_yet refl (is_record 48 Header 0 header_bytes refl (omega arith) (omega arith) header_are tt) tt in
     let ps = give_pieces image.bytes t.pieces t.cut 0 rises (head ∷ []) nothing_given first refl (λ q low. refl) in
-    let counted : n ≡ ps.given.records = omega (arith, ps.records, few_pieces image.bytes t.pieces t.cut 0 rises) in
+    let few = few_pieces image.bytes t.pieces t.cut 0 rises in
+    let counted : n ≡ ps.given.records = omega (arith, ps.records) in
     let count = record_line 53 n [] in
     let end = record_line 57 image.start [] in
     let before = head ∷ map piece_line t.pieces in

@@ -1,5 +1,5 @@
 -- The records of an image.
-use Rattle.std.specs.Prelude.{◌≡◌, ◌⊎◌, ℕ, ◌+◌, ◌%◌, ◌<◌, ◌≤◌, List, [], ◌∷◌, ◌++◌, length, codes}
+use Rattle.std.specs.Prelude.{◌≡◌, ◌⊎◌, ℕ, ◌+◌, ◌<◌, ◌≤◌, List, [], ◌∷◌, ◌++◌, length, codes}
 use Rattle.cpu12_asm.specs.Bytes.{placed}
 use Rattle.hex.specs.Hex.{IsBytes}
 use Rattle.srecord.specs.Records.{record_text}
@@ -31,10 +31,9 @@ abbrev pub data_text : List Piece → List ℕ
 data_text [] = []
 data_text (p ∷ pieces) = record_text 49 p.at p.bytes ++ data_text pieces
 
--- the text of the image of these bytes, with this start: a header, the bytes, how many records they take (as the 16 bits
--- of an address), and the start
+-- the text of the image of these bytes, with this start: a header, the bytes, how many records they take, and the start
 pub record ImageText (bytes : List (ℕ × ℕ)) (start : ℕ) (text : List ℕ) : Type 0 where
   pub pieces : List Piece
   pub cut : AreCut bytes pieces
   pub fits : start < 65536
-  pub records : text ≡ record_text 48 0 (codes "FZ12") ++ (data_text pieces ++ (record_text 53 (length pieces % 65536) [] ++ record_text 57 start []))
+  pub records : text ≡ record_text 48 0 (codes "FZ12") ++ (data_text pieces ++ (record_text 53 (length pieces) [] ++ record_text 57 start []))

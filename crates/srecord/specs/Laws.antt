@@ -1,8 +1,9 @@
 -- What holds of every text of records.
-use Rattle.std.specs.Prelude.{◌≡◌, ℕ, List}
-use Rattle.cpu12_asm.specs.Bytes.{byte_at}
+use Rattle.std.specs.Prelude.{◌≡◌, ◌⊎◌, ℕ, ◌≤◌, List, length}
+use Rattle.cpu12_asm.specs.Bytes.{IsAscending, byte_at}
 use Rattle.cpu12_asm.specs.declared.image.Image.{Image}
 use Rattle.srecord.specs.declared.fault.SrecFault.{SrecFault}
+use Rattle.srecord.specs.Images.{AreCut, Piece}
 use Rattle.srecord.specs.Texts.{GivesImage, HasFault}
 
 -- a text gives one image at most: one start, and one byte or none at each address
@@ -14,3 +15,16 @@ ImagesAreOne = (text : List ℕ) (a b : Image) → GivesImage text a → GivesIm
 abbrev pub ImagesHaveNoFault : Type 0
 ImagesHaveNoFault = (text : List ℕ) (image : Image) (fault : SrecFault) → GivesImage text image
     → HasFault text fault → ⊥
+
+-- a text has one first fault at most
+abbrev pub FaultsAreOne : Type 0
+FaultsAreOne = (text : List ℕ) (f g : SrecFault) → HasFault text f → HasFault text g → f ≡ g
+
+-- bytes at ascending addresses take 32768 records at most: one each where every second address has a byte
+abbrev pub ImagesHaveFewRecords : Type 0
+ImagesHaveFewRecords = (bytes : List (ℕ × ℕ)) (pieces : List Piece) → IsAscending bytes → AreCut bytes pieces
+    → length pieces ≤ 32768
+
+-- a text gives an image, or it has a fault
+abbrev pub EachTextIsJudged : Type 0
+EachTextIsJudged = (text : List ℕ) → ((image : Image) × GivesImage text image) ⊎ ((fault : SrecFault) × HasFault text fault)

@@ -1,8 +1,23 @@
 //! Laws of the definitions.
-ghost use Rattle.srecord.specs.Laws.{ImagesAreOne, ImagesHaveNoFault};
+ghost use Rattle.srecord.specs.Laws.{EachTextIsJudged, FaultsAreOne, ImagesAreOne, ImagesHaveFewRecords, ImagesHaveNoFault};
 
 /// A text gives at most one image, and then it has no fault.
 pub fn images_are_one()
     ensures one { ImagesAreOne }
     ensures no_fault { ImagesHaveNoFault }
+{}
+
+/// A text has at most one first fault.
+pub fn faults_are_one()
+    ensures { FaultsAreOne }
+{}
+
+/// An image has at most 32768 records of bytes, so their count always fits its record.
+pub fn images_have_few_records()
+    ensures { ImagesHaveFewRecords }
+{}
+
+/// A text gives an image, or it has a fault.
+pub fn each_text_is_judged()
+    ensures { EachTextIsJudged }
 {}

@@ -16,7 +16,7 @@ mod records;
 mod writer;
 
 pub use fault::SrecFault;
-pub use laws::images_are_one;
+pub use laws::{each_text_is_judged, faults_are_one, images_are_one, images_have_few_records};
 pub use reader::read;
 pub use writer::write;
 

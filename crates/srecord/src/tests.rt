@@ -10,6 +10,20 @@ S5030002FA
 S903C0003C
 ";
 
+/// The firmware of a block of one input, one output and two rules.
+const HEATER: &[u8] = b"S0070000465A3132F5
+S123C000CF200079100010EFB6100027FB16C01679100020F30BCED000CD1100B6100101E6
+S123C02001791102791103CED800CD110086FF10FD183ACED200CD1102C602183C8E000050
+S110C040270511B7642002C6007B10103DD7
+S10BD00000FF000100FF010024
+S105D20000FF29
+S10BD80000FE02FE01FE03FF1D
+S105FFF2C01534
+S105FFFEC0003D
+S5030008F4
+S903C0003C
+";
+
 fn put(bytes: &mut ByteMap, at: u16, new: &[u8]) -> Result<(), AllocError> {
     let mut next = at;
     for byte in new {
@@ -45,12 +59,15 @@ fn a_run_is_cut_at_32(rt: HostRuntime) -> Result<(), Fail> {
     Ok(())
 }
 
+/// What is read is written with the same text.
 #[test]
-fn a_small_image_is_read(rt: HostRuntime) -> Result<(), Fail> {
-    let image = read(rt.alloc(), SMALL)?;
-    assert_eq!(rt; image.start, 0xC000);
-    assert_eq!(rt; image.bytes.len(), 7);
-    assert!(rt; image.bytes.get(0xC004) == Some(0xFE) && image.bytes.get(0xFFFE) == Some(0xC0));
+fn records_are_read_and_written(rt: HostRuntime) -> Result<(), Fail> {
+    for records in [SMALL, HEATER] {
+        assert!(rt; records.len() <= 1_048_576);
+        let image = read(rt.alloc(), records)?;
+        let text = write(rt.alloc(), &image)?;
+        assert_eq!(rt; text.as_slice(), records);
+    }
     Ok(())
 }
 
@@ -62,7 +79,8 @@ fn read_from(alloc: Global, text: &[u8]) -> Option<Result<(usize, u16), SrecFaul
     Some(read(alloc, text).map(|image| (image.bytes.len(), image.start)))
 }
 
-const GOOD: [(&[u8], (usize, u16)); 6] = [
+const GOOD: [(&[u8], (usize, u16)); 7] = [
+    (SMALL, (7, 0xC000)),
     (b"S903C0003C\n", (0, 0xC000)),
     (b"S903C0003C", (0, 0xC000)),
     (b"s108c00086054120fe4d\r\ns903c0003c\r\n", (5, 0xC000)),
@@ -78,7 +96,7 @@ fn images(rt: HostRuntime) {
     }
 }
 
-const BAD: [(&[u8], SrecFault); 20] = [
+const BAD: [(&[u8], SrecFault); 23] = [
     (b"", SrecFault::NoEnd),
     (b"S0030000FC\n", SrecFault::NoEnd),
     (b"S903C0003D", SrecFault::BadSum(1, 0x3D, 0x3C)),
@@ -102,9 +120,6 @@ const BAD: [(&[u8], SrecFault); 20] = [
     ),
     (b"S104C000013A\nS105BFFF020337", SrecFault::Overlap(2)),
     (b"S5030002FA\nS9030000FC", SrecFault::CountDiffers(2, 0)),
-];
-
-const LATE: [(&[u8], SrecFault); 3] = [
     (b"S903C0003C\n\n", SrecFault::AfterEnd(2)),
     (b"S903C0003C\nS2\n", SrecFault::AfterEnd(2)),
     (b"S903C0003C\nS903C0003C", SrecFault::AfterEnd(2)),
@@ -113,9 +128,6 @@ const LATE: [(&[u8], SrecFault); 3] = [
 #[test]
 fn faults(rt: HostRuntime) {
     for (text, want) in BAD {
-        assert!(rt; read_from(rt.alloc(), text) == Some(Err(want)), "{text:?}");
-    }
-    for (text, want) in LATE {
         assert!(rt; read_from(rt.alloc(), text) == Some(Err(want)), "{text:?}");
     }
 }

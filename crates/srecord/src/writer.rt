@@ -1,5 +1,6 @@
 //! The records of an image.
 ghost use Rattle.std.specs.Prelude.{IfOk};
+ghost use Rattle.cpu12_asm.specs.Bytes.{IsAscending};
 ghost use Rattle.srecord.specs.Images.{ImageText};
 ghost use Rattle.srecord.specs.Texts.{GivesImage};
 
@@ -10,12 +11,13 @@ use std::alloc::{AllocError, Global};
 
 /// The records of bytes, and of a start.
 fn text_of(alloc: Global, bytes: &[(u16, u8)], start: u16) -> Result<Vec<u8>, AllocError>
+    requires { IsAscending bytes.now }
     ensures { IfOk result (λ text. ImageText bytes.now start text.items) }
 {
     let mut text = Vec::new(alloc);
     put_record(alloc, &mut text, b'0', 0, b"FZ12")?;
     let count = put_pieces(alloc, &mut text, bytes)?;
-    put_record(alloc, &mut text, b'5', (count % 0x1_0000) as u16, &[])?;
+    put_record(alloc, &mut text, b'5', count as u16, &[])?;
     put_record(alloc, &mut text, b'9', start, &[])?;
     Ok(text)
 }

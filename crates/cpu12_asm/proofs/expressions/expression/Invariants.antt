@@ -1,4 +1,4 @@
-use Rattle.std.proofs.Common.{◌≡◌, ℕ, ◌+◌, ◌*◌, ◌^◌, ◌≤◌, fold, length}
+use Rattle.std.proofs.Common.{◌≡◌, ◌+◌, ◌*◌, ◌^◌, ◌≤◌, fold, length}
 use Rattle.cpu12_asm.specs.Names.{value_in}
 use Rattle.cpu12_asm.specs.Left.{pieces_left, size_left}
 use Rattle.cpu12_asm.specs.Expressions.{with_group, sum_of}

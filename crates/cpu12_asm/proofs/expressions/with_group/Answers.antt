@@ -1,4 +1,4 @@
-use Rattle.std.proofs.Common.{◌≡◌, ℕ, List, ◌∷◌, fold, ap, sym, ◌∙◌, arith}
+use Rattle.std.proofs.Common.{◌≡◌, ℕ, List, fold, ap, sym, ◌∙◌, arith}
 use Rattle.cpu12_asm.specs.declared.expressions.Sum.{Sum}
 use Rattle.cpu12_asm.specs.Names.{value_in}
 use Rattle.cpu12_asm.specs.Left.{pieces_left}

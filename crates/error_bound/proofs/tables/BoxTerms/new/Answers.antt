@@ -18,10 +18,10 @@ loop-i-preserved c =
     let i = c.loop-i.i in
     let none : Interval = record { from = 0; to = 0 } in
     let x0 = c.index-inputs-i.result in
-    let rs = c.row_of.result.reaches in
+    let rs = c.row_in.result.reaches in
     let inputs : c.as_slice-inputs.result.now ≡ b.inputs = c.as_slice-inputs.ensures in
     let spans : c.deref.result.now ≡ c.args.bytes.0.items = c.deref.ensures.0 in
-    let made : AreInputReaches x0 (get_or c.deref.result.now i none) rs = c.row_of.ensures in
+    let made : AreInputReaches x0 (get_or c.deref.result.now i none) rs = c.row_in.ensures in
     let few = c.requires.block.few_inputs in
     let count = c.loop-i.invariant.0 in
     let same = ap length inputs in
@@ -30,7 +30,7 @@ loop-i-preserved c =
     let same_x : x0 ≡ x = c.index-inputs-i.is ∙ ap (λ l. get_or l i x0) inputs ∙ get_or_from_slice_get b.inputs i x x0 e in
     let same_v : get_or c.deref.result.now i none ≡ v = ap (λ l. get_or l i none) spans ∙ get_or_from_slice_get c.args.bytes.0.items i v none ev in
     subst (λ z. AreInputReaches z v rs) same_x (subst (λ w. AreInputReaches x0 w rs) same_v made) in
-    (omega (arith, length-set {A = Row}), AreFilled-more P b.inputs c.loop-i.rows i c.row_of.result (omega (arith, same)) c.loop-i.invariant.1 here)
+    (omega (arith, length-set {A = Row}), AreFilled-more P b.inputs c.loop-i.rows i c.row_in.result (omega (arith, same)) c.loop-i.invariant.1 here)
 
 pub returns-clause-terms : goal.returns-clause-terms
 returns-clause-terms c = record {

@@ -1,0 +1,101 @@
+-- A walk that is driven over a tree, or over a text.
+use Rattle.std.proofs.Common.{◌≡◌, ℕ, zero, suc, ◌+◌, ◌<◌, ◌≤◌, List, [], ◌∷◌, ◌++◌, length, take, drop, get_or, take-append-drop, add-one, Some, refl, sym, ap, ◌∙◌, subst, arith}
+use Rattle.std.specs.Prelude.{All, Result, Ok, Err, IfOk, IfErr}
+use Rattle.std.proofs.Math.Seq.{take-suc}
+use Rattle.fuzzy_meaning.specs.declared.block.Block.{Block}
+use Rattle.box_tree.specs.declared.cert.Node.{Node}
+use Rattle.box_tree.specs.declared.cert.Node.TheVariants.{Split, Leaf}
+use Rattle.box_tree.specs.declared.cert.Cert.{Cert}
+use Rattle.box_tree.specs.declared.lines.Lines.{Lines}
+use Rattle.box_tree.specs.Certificates.{IsNode, IsCert}
+use Rattle.box_tree.specs.Reading.{HasRead, claims_of}
+use Rattle.box_tree.specs.Trees.{open_from, leaf_count}
+use Rattle.cert_check.specs.declared.checker.CheckFault.{CheckFault}
+use Rattle.cert_check.specs.declared.walk.Walk.{Walk}
+use Rattle.cert_check.specs.Acceptance.{IsAccepted}
+use Rattle.cert_check.specs.Faults.{HasCheckFault}
+use Rattle.cert_check.specs.Walks.{cert_over, AreFirst, IsSameTask}
+use Rattle.cert_check.proofs.WalkLemmas.{leaves-front}
+
+-- the walk is over a certificate with these claims
+pub record IsWalkOver (b : Block) (claims : List ℕ) (h : ℕ) (w : Walk) : Type 0 where
+  pub block : w.block.now ≡ b
+  pub claims_are : w.claims.now ≡ claims
+  pub parts : w.parts ≡ h
+
+pub still_over : (b : Block) (claims : List ℕ) (h : ℕ) (w v : Walk) → IsWalkOver b claims h w → IsSameTask v w → IsWalkOver b claims h v
+still_over b claims h w v over same = record {
+  block = ap (λ x. x.now) same.block ∙ over.block;
+  claims_are = ap (λ x. x.now) same.claims ∙ over.claims_are;
+  parts = same.parts ∙ over.parts;
+}
+
+module _ (b : Block) (claims : List ℕ) (h : ℕ) (w : Walk) (over : IsWalkOver b claims h w) (nodes : List Node) where
+  abbrev the_cert : Cert
+  the_cert = record { claims = claims; nodes = nodes }
+
+  cert_is : cert_over w nodes ≡ the_cert
+  cert_is = ap (λ (cs : List ℕ). record { claims = cs; nodes = nodes }) over.claims_are
+
+  pub is_cert : IsCert the_cert → IsCert (cert_over w nodes)
+  is_cert good = subst (λ c. IsCert c) (sym cert_is) good
+
+  pub accepted_over : (errors : List ℕ) → IsAccepted w.block.now w.parts (cert_over w nodes) errors → IsAccepted b h the_cert errors
+  accepted_over errors a = subst (λ x. IsAccepted x h the_cert errors) over.block (subst (λ p. IsAccepted w.block.now p the_cert errors) over.parts (subst (λ c. IsAccepted w.block.now w.parts c errors) cert_is a))
+
+  pub fault_over : (f : CheckFault) → HasCheckFault w.block.now w.parts (cert_over w nodes) f → HasCheckFault b h the_cert f
+  fault_over f a = subst (λ x. HasCheckFault x h the_cert f) over.block (subst (λ p. HasCheckFault w.block.now p the_cert f) over.parts (subst (λ c. HasCheckFault w.block.now w.parts c f) cert_is a))
+
+-- ---- the nodes of a tree, one by one
+
+opens-front : (k m : ℕ) (nodes more : List Node) → open_from k (nodes ++ more) ≡ Some m → (n : ℕ) × (open_from k nodes ≡ Some n)
+opens-front k m [] more e = (k, refl)
+opens-front zero m (node ∷ nodes) more e = absurd (let z : ⊥ = cc in z)
+opens-front (suc k) m (Split i c ∷ nodes) more e = opens-front (suc (suc k)) m nodes more e
+opens-front (suc k) m (Leaf pairs ∷ nodes) more e = opens-front k m nodes more e
+
+All-take : {X : Type 0} (P : X → Type 0) (xs : List X) (k : ℕ) → All P xs → All P (take k xs)
+All-take P xs zero all j d l = absurd (omega arith)
+All-take P [] (suc k) all j d l = absurd (omega arith)
+All-take P (x ∷ xs) (suc k) all zero d l = all 0 d (omega arith)
+All-take P (x ∷ xs) (suc k) all (suc j) d l = All-take P xs k (λ i e m. all (suc i) e (omega arith)) j d (omega arith)
+
+pub are_first : (cert : Cert) (k : ℕ) → IsCert cert → AreFirst (length cert.claims) (take k cert.nodes)
+are_first cert k good =
+    let parts : take k cert.nodes ++ drop k cert.nodes ≡ cert.nodes = take-append-drop k cert.nodes in
+    let leaves = leaves-front (take k cert.nodes) (drop k cert.nodes) in
+    let few = good.few_leaves in
+    record {
+      good = All-take (IsNode (length cert.claims)) cert.nodes k good.nodes;
+      opens = opens-front 1 0 (take k cert.nodes) (drop k cert.nodes) (ap (λ ns. open_from 1 ns) parts ∙ good.tree);
+      few_leaves = omega (arith, leaves, few, ap leaf_count parts);
+    }
+
+pub take_next : (nodes : List Node) (k : ℕ) (node : Node) → k < length nodes → node ≡ get_or nodes k node → take (k + 1) nodes ≡ take k nodes ++ node ∷ []
+take_next nodes k node within is = ap (λ n. take n nodes) (add-one k) ∙ take-suc nodes k node within ∙ ap (λ (n : Node). take k nodes ++ n ∷ []) (sym is)
+
+pub take_all : (nodes : List Node) (k : ℕ) → length nodes ≤ k → take k nodes ≡ nodes
+take_all [] zero l = refl
+take_all [] (suc k) l = refl
+take_all (node ∷ nodes) zero l = absurd (omega arith)
+take_all (node ∷ nodes) (suc k) l = ap (λ (ns : List Node). node ∷ ns) (take_all nodes k (omega arith))
+
+-- ---- the nodes of a text, as far as it is read
+
+pub first_of_text : (version : ℕ) (text : List ℕ) (nodes : List Node) (lines : Lines) → HasRead version text nodes lines → AreFirst (length (claims_of lines)) nodes
+first_of_text version text nodes lines read = record { good = read.begins.good_nodes; opens = (lines.open_boxes, read.begins.left_open); few_leaves = read.begins.few_leaves }
+
+-- a walk that may take the next node
+pub next_first : (cert : Cert) (w : Walk) (k : ℕ) (node : Node) → IsCert cert → w.claims.now ≡ cert.claims → k < length cert.nodes → node ≡ get_or cert.nodes k node
+    → AreFirst (length w.claims.now) (take k cert.nodes ++ node ∷ [])
+next_first cert w k node good claims within is =
+    subst (λ cs. AreFirst (length cs) (take k cert.nodes ++ node ∷ [])) (sym claims)
+    (subst (λ ns. AreFirst (length cert.claims) ns) (take_next cert.nodes k node within is) (are_first cert (k + 1) good))
+
+pub IfOk-then : {A E : Type 0} (P Q : A → Type 0) (r : Result A E) → ((x : A) → P x → Q x) → IfOk r P → IfOk r Q
+IfOk-then P Q (Ok x) f p = f x p
+IfOk-then P Q (Err e) f p = tt
+
+pub IfErr-then : {A E : Type 0} (P Q : E → Type 0) (r : Result A E) → ((e : E) → P e → Q e) → IfErr r P → IfErr r Q
+IfErr-then P Q (Ok x) f p = tt
+IfErr-then P Q (Err e) f p = f e p

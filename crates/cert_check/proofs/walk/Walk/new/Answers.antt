@@ -1,0 +1,32 @@
+use Rattle.std.proofs.Common.{◌∷◌, [], List, ap, ap₂, sym, ◌∙◌, subst, refl, arith, replicate}
+use Rattle.std.specs.Prelude.{MatchOption}
+use Rattle.error_bound.specs.declared.boxes.Interval.{Interval}
+use Rattle.error_bound.specs.declared.boxes.ByteBox.{ByteBox}
+use Rattle.box_tree.specs.declared.cert.Node.{Node}
+use Rattle.cert_check.specs.declared.walk.Walk.{Walk}
+use Rattle.cert_check.specs.Faults.{HasCheckFault}
+use Rattle.cert_check.specs.Walks.{stack_of, cert_over, IsBehind}
+use Rattle.cert_check.proofs.CheckLemmas.{behind_none, count_fault}
+use Rattle.cert_check.proofs.walk.Walk.new.Goals.{then-claims-outputs, else-claims-outputs}
+use Rattle.cert_check.proofs.walk.Walk.new.Goals as goal
+
+pub returns-clause-begun : goal.returns-clause-begun
+returns-clause-begun c =
+    let w : Walk = record { block = c.args.block; claims = c.args.claims; parts = c.args.parts; cells = c.in_ok-cells.cells; boxes = c.push.new.boxes; errors = c.in_ok-errors.errors; line = 3; fault = c.if-claims-outputs.fault } in
+    let stack = c.push.ensures.boxes ∙ ap₂ (λ (x : List Interval) (xs : List ByteBox). x ∷ stack_of xs) c.whole_box.ensures c.in_ok-boxes.ensures.items in
+    let zeros = c.in_ok-errors.ensures ∙ ap (λ n. replicate n 0) c.len-outputs.ensures in
+    let room = c.push.ensures.room in
+    let exact = c.in_ok-boxes.ensures.exact in
+    record {
+      valid = c.requires.block;
+      claims = c.requires.claims;
+      cells = c.in_ok-cells.ensures;
+      parts_from = c.requires.parts_from;
+      parts_to = c.requires.parts_to;
+      so_far = elim c.if-claims-outputs.branch [
+        | then-claims-outputs v ↦ subst (λ f. MatchOption f (IsBehind [] w) (λ g. (rest : List Node) → HasCheckFault w.block.now w.parts (cert_over w rest) g)) (sym v.fault-is)
+            (behind_none w c.requires.block.few_inputs (v.if-claims-outputs.true ∙ c.len-outputs.ensures) stack zeros refl (omega (arith, room, exact)))
+        | else-claims-outputs v ↦ subst (λ f. MatchOption f (IsBehind [] w) (λ g. (rest : List Node) → HasCheckFault w.block.now w.parts (cert_over w rest) g)) (sym v.fault-is)
+            (count_fault w c.len-outputs.result c.len-outputs.ensures v.if-claims-outputs.false)
+      ];
+    }

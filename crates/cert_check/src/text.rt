@@ -1,0 +1,89 @@
+//! Certificates that are checked as their text is read, node by node.
+ghost use Rattle.std.specs.Prelude.{◌≡◌, ◌≢◌, ◌≤◌, ℕ, List as Items, [], length, IfOk, IfErr};
+ghost use Rattle.fuzzy_meaning.specs.Blocks.{IsValid};
+ghost use Rattle.box_tree.specs.Reading.{HasRead};
+ghost use Rattle.cert_check.specs.Refusals.{IsAcceptedText, HasRefusal};
+
+use crate::checker::CheckFault;
+use crate::walk::Walk;
+use box_tree::{CertFault, Lines};
+use fuzzy_meaning::Block;
+use std::alloc::Global;
+use thiserror::Error;
+
+/// Why a text is refused as a certificate.
+#[derive(Clone, Copy, PartialEq, Eq, Debug, Error)]
+pub enum CertRefusal {
+    /// The text has no certificate. It is never `CertFault::Memory`.
+    #[error("{0}")]
+    Text(CertFault),
+    /// The text has a certificate, and it is not accepted. It is never `CheckFault::Memory`.
+    #[error("{0}")]
+    Check(CheckFault),
+    /// There was no memory for the errors or for the boxes still to come.
+    #[error("no memory")]
+    Memory,
+}
+
+/// The errors that a text's certificate is accepted with, for answers that are bytes, or why the text
+/// is refused: its first fault as a text, or else that of its certificate. It makes no tree, and takes
+/// what memory it needs before the first node.
+pub fn check_text(alloc: Global, block: &Block, text: &[u8]) -> Result<Vec<u32>, CertRefusal>
+    requires block { IsValid block.now }
+    requires text { length text.now ≤ 1048576 }
+    ensures accepted { IfOk result (λ errors. IsAcceptedText block.now 1 1 text.now errors.items) }
+    ensures refused { IfErr result (λ refusal. refusal ≢ CertRefusal.Memory → HasRefusal block.now 1 1 text.now refusal) }
+{
+    match Lines::new(text) {
+        Ok(lines) => errors_of(alloc, block, lines, 1),
+        Err(fault) => Err(CertRefusal::Text(fault)),
+    }
+}
+
+/// The same for answers of 16 bits, and texts of version 2.
+pub fn check_text16(alloc: Global, block: &Block, text: &[u8]) -> Result<Vec<u32>, CertRefusal>
+    requires block { IsValid block.now }
+    requires text { length text.now ≤ 1048576 }
+    ensures accepted { IfOk result (λ errors. IsAcceptedText block.now 256 2 text.now errors.items) }
+    ensures refused { IfErr result (λ refusal. refusal ≢ CertRefusal.Memory → HasRefusal block.now 256 2 text.now refusal) }
+{
+    match Lines::new16(text) {
+        Ok(lines) => errors_of(alloc, block, lines, 256),
+        Err(fault) => Err(CertRefusal::Text(fault)),
+    }
+}
+
+/// The errors of a text of which the claims are read, or why it is refused. Behind a fault of the
+/// certificate the text is read on, since a fault of the text comes first.
+fn errors_of(
+    alloc: Global,
+    block: &Block,
+    mut lines: Lines<'_>,
+    parts: u16,
+) -> Result<Vec<u32>, CertRefusal>
+    requires block { IsValid block.now }
+    requires lines { (version : ℕ) × (text : Items ℕ) × HasRead version text [] lines }
+    requires parts_from { 1 ≤ parts }
+    requires parts_to { parts ≤ 256 }
+    ensures accepted { (version : ℕ) (text : Items ℕ) → HasRead version text [] lines.entry
+        → IfOk result (λ errors. IsAcceptedText block.now parts version text errors.items) }
+    ensures refused { (version : ℕ) (text : Items ℕ) → HasRead version text [] lines.entry
+        → IfErr result (λ refusal. refusal ≢ CertRefusal.Memory → HasRefusal block.now parts version text refusal) }
+{
+    let claims = lines.claims();
+    let mut walk = match Walk::new(alloc, block, claims.as_slice(), parts) {
+        Ok(walk) => walk,
+        Err(_) => return Err(CertRefusal::Memory),
+    };
+    loop {
+        match lines.next() {
+            Ok(Some(node)) => walk.take(&node),
+            Ok(None) => break,
+            Err(fault) => return Err(CertRefusal::Text(fault)),
+        }
+    }
+    match walk.finish() {
+        Ok(errors) => Ok(errors),
+        Err(fault) => Err(CertRefusal::Check(fault)),
+    }
+}

@@ -1,0 +1,125 @@
+-- The rows of a trace, one after another.
+use Rattle.std.proofs.Common.{rules, ◌≡◌, ◌<◌, ◌≤◌, ℕ, zero, suc, ◌+◌, ◌-◌, List, [], ◌∷◌, ◌++◌, length, take, refl, ap, ap₂, sym, ◌∙◌, subst, arith, append_assoc}
+use Rattle.std.specs.Prelude.{All, map, fold, Some, slice_get, slice_index}
+use Rattle.std.proofs.lemmas.List.Sums.{fold-append}
+use Rattle.std.proofs.lemmas.Option.{slice_get_within}
+use Rattle.std.proofs.lemmas.List.Elements.{All-cons, All-take}
+use Rattle.fz_num.specs.declared.dec.Dec.{Dec}
+use Rattle.fz_num.specs.Decimals.{distance}
+use Rattle.fz_num.specs.Fracs.{IsClose}
+use Rattle.fuzzy_meaning.specs.declared.block.Block.{Block}
+use Rattle.fuzzy_meaning.specs.declared.block.Input.{Input}
+use Rattle.fuzzy_meaning.specs.declared.block.Output.{Output}
+use Rattle.fuzzy_meaning.specs.Blocks.{AreInputs, IsValid, IsWithin, output_at}
+use Rattle.fuzzy_meaning.specs.Meaning.{exact_answer}
+use Rattle.byte_scaling.specs.Cells.{value_in}
+use Rattle.point_slope.specs.Bytes.{answer_in}
+use Rattle.box_tree.specs.declared.cert.Cert.{Cert}
+use Rattle.cert_check.specs.Acceptance.{IsAccepted}
+use Rattle.cert_check.specs.Laws.{AcceptedAnswersAreNear, answer_to, bytes_of as bytes_to}
+use Rattle.codegen.specs.Uninterrupted.{AreAnswersOf}
+use Rattle.codegen.specs.Widths.{answer, parts, width_of}
+use Rattle.codegen.specs.declared.firmware.Firmware.{Firmware}
+use Rattle.codegen.specs.declared.width.Width.{Width}
+use Rattle.codegen.specs.declared.width.Width.TheVariants.{Byte, Word}
+use Rattle.trace_io.specs.Traces.{AreWithin, Fields, SpellSamples, Spells, bytes_of}
+use Rattle.trace_io.specs.declared.sample.Sample.{Sample}
+use Rattle.run_law.specs.Forms.{RowSeen}
+use Rattle.fz_run.specs.Answering.{AnswerBlock, answer_of_row}
+use Rattle.fz_run.specs.Rows.{input_bytes}
+use Rattle.certified_run.specs.Nearness.{AnswersAreWithinErrors, AreWithinErrors, IsWithinErrors, numbers_of}
+
+-- ---- the samples
+
+bytes_same : (is : List Input) (ds : List Dec) → bytes_of is ds ≡ bytes_to is ds
+bytes_same [] ds = refl
+bytes_same (i ∷ is) [] = refl
+bytes_same (i ∷ is) (d ∷ ds) = ap (λ (l : List ℕ). bytes_to (i ∷ []) (d ∷ []) ++ l) (bytes_same is ds)
+
+bytes_read : (is : List Input) (rows : List Fields) (samples : List Sample) → SpellSamples is rows samples
+    → map input_bytes samples ≡ map (bytes_to is) (numbers_of samples)
+bytes_read is [] [] spelled = refl
+bytes_read is [] (s ∷ ss) spelled = absurd spelled
+bytes_read is (r ∷ rs) [] spelled = absurd spelled
+bytes_read is (r ∷ rs) (s ∷ ss) spelled =
+    let first : input_bytes s ≡ bytes_to is s.values = spelled.0.bytes ∙ bytes_same is s.values in
+    ap₂ (λ (x : List ℕ) (xs : List (List ℕ)). x ∷ xs) first (bytes_read is rs ss spelled.1)
+
+count_within : (is : List Input) (ds : List Dec) → AreWithin is ds → length ds ≡ length is
+count_within [] [] within = refl
+count_within [] (d ∷ ds) within = absurd within
+count_within (i ∷ is) [] within = absurd within
+count_within (i ∷ is) (d ∷ ds) within = ap suc (count_within is ds within.1)
+
+each_within : (is : List Input) (ds : List Dec) → AreWithin is ds → (k : ℕ) (i : Input) (x : Dec)
+    → slice_get is k ≡ Some i → slice_get ds k ≡ Some x → IsWithin i.lo i.hi x
+each_within [] ds within k i x is_at x_at = absurd (let e : slice_get [] k ≡ Some i = is_at in cc)
+each_within (j ∷ is) [] within k i x is_at x_at = absurd within
+each_within (j ∷ is) (d ∷ ds) within zero i x is_at x_at =
+    let at : j ≡ i = cc in
+    let num : d ≡ x = cc in
+    subst (λ (y : Dec). IsWithin i.lo i.hi y) num (subst (λ (n : Input). IsWithin n.lo n.hi d) at within.0)
+each_within (j ∷ is) (d ∷ ds) within (suc k) i x is_at x_at = each_within is ds within.1 k i x is_at x_at
+
+are_inputs : (b : Block) (rows : List Fields) (samples : List Sample) → SpellSamples b.inputs rows samples
+    → All (AreInputs b) (numbers_of samples)
+are_inputs b [] [] spelled = λ d k lt. absurd (omega arith)
+are_inputs b [] (s ∷ ss) spelled = absurd spelled
+are_inputs b (r ∷ rs) [] spelled = absurd spelled
+are_inputs b (r ∷ rs) (s ∷ ss) spelled =
+    let own : AreInputs b s.values = record {
+      count = count_within b.inputs s.values spelled.0.within;
+      within = each_within b.inputs s.values spelled.0.within;
+    } in
+    All-cons (AreInputs b) s.values (numbers_of ss) own (are_inputs b rs ss spelled.1)
+
+-- ---- the answers of a row are those to the samples up to it
+
+answer_to_next : (h : ℕ) (b : Block) (o : ℕ) (before : List (List Dec)) (xs : List Dec)
+    → answer_to h b o (before ++ xs ∷ []) ≡ answer_in h b o (bytes_to b.inputs xs) (answer_to h b o before)
+answer_to_next h b o before xs =
+    fold-append (λ (n : ℕ) (ds : List Dec). answer_in h b o (bytes_to b.inputs ds) n) 0 before (xs ∷ [])
+
+row_answers : (w : Width) (b : Block) (before : List (List Dec)) (given : ℕ → ℕ)
+    → ((o : ℕ) → given o ≡ answer_to (parts w) b o before)
+    → (samples : List (List Dec)) (rows : List (RowSeen (List ℕ)))
+    → AreAnswersOf w b given (map (bytes_to b.inputs) samples) (map answer_of_row rows)
+    → (k : ℕ) (row : RowSeen (List ℕ)) → slice_get rows k ≡ Some row → (o : ℕ) → 1 ≤ o → o ≤ length b.outputs
+    → slice_index row.answers (o - 1) ≡ answer_to (parts w) b o (before ++ take (k + 1) samples)
+row_answers w b before given same samples [] answers k row is o from to = absurd (let e : slice_get [] k ≡ Some row = is in cc)
+row_answers w b before given same [] (r ∷ rs) answers k row is o from to = absurd answers
+row_answers w b before given same (xs ∷ ss) (r ∷ rs) answers zero row is o from to =
+    let row_is : r ≡ row = cc in
+    let own : slice_index r.answers (o - 1) ≡ answer w b o (bytes_to b.inputs xs) (given o) = answers.0.values o from to in
+    ap (λ (q : RowSeen (List ℕ)). slice_index q.answers (o - 1)) (sym row_is) ∙ own
+    ∙ ap (λ (n : ℕ). answer_in (parts w) b o (bytes_to b.inputs xs) n) (same o)
+    ∙ sym (answer_to_next (parts w) b o before xs)
+row_answers w b before given same (xs ∷ ss) (r ∷ rs) answers (suc k) row is o from to =
+    let next : (n : ℕ) → answer w b n (bytes_to b.inputs xs) (given n) ≡ answer_to (parts w) b n (before ++ xs ∷ []) =
+    λ n. ap (λ (m : ℕ). answer_in (parts w) b n (bytes_to b.inputs xs) m) (same n)
+    ∙ sym (answer_to_next (parts w) b n before xs) in
+    let rest = row_answers w b (before ++ xs ∷ []) (λ n. answer w b n (bytes_to b.inputs xs) (given n)) next ss rs answers.1 k row is o from to in
+    let one_more : suc k + 1 ≡ suc (k + 1) = omega arith in
+    rest ∙ ap (λ (l : List (List Dec)). answer_to (parts w) b o l) (append_assoc before (xs ∷ []) (take (k + 1) ss)
+    ∙ ap (λ (n : ℕ). before ++ take n (xs ∷ ss)) (sym one_more))
+
+-- ---- the law
+
+parts_some : (w : Width) → 1 ≤ parts w
+parts_some Byte = omega arith
+parts_some Word = omega arith
+
+pub within_errors : AcceptedAnswersAreNear → AnswersAreWithinErrors
+within_errors near b f flags cert errors trace samples rows valid spells block accepted k row row_is o x e from output error =
+    let w = width_of f.wide in
+    let xs = numbers_of samples in
+    let bytes : map input_bytes samples ≡ map (bytes_to b.inputs) xs = bytes_read b.inputs spells.rows samples spells.spelled in
+    let answers : AreAnswersOf w b (λ n. 0) (map (bytes_to b.inputs) xs) (map answer_of_row rows) =
+    subst (λ (l : List (List ℕ)). AreAnswersOf w b (λ n. 0) l (map answer_of_row rows)) bytes block.answers in
+    let to : o ≤ length b.outputs = (let lt = slice_get_within b.outputs (o - 1) x output in omega (arith, lt, from)) in
+    let is : slice_index row.answers (o - 1) ≡ answer_to (parts w) b o (take (k + 1) xs) =
+    row_answers w b [] (λ n. 0) (λ n. refl) xs rows answers k row row_is o from to in
+    let inputs : All (AreInputs b) (take (k + 1) xs) =
+    All-take (AreInputs b) (k + 1) xs (are_inputs b spells.rows samples spells.spelled) in
+    let close = near b (parts w) cert errors o x e (take (k + 1) xs) valid (parts_some w) accepted from output error inputs in
+    subst (λ (q : ℕ). IsClose (distance x.lo x.hi) e (value_in (parts w) x q) (exact_answer b o (take (k + 1) xs))) (sym is) close

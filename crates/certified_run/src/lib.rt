@@ -1,0 +1,15 @@
+//! What certificates say of runs.
+//!
+//! [`answers_are_within_errors`] joins the two halves of the product: a run's rows are a block's answers over
+//! bytes, and an accepted certificate bounds their distance from the exact answers.
+#![tactic(auto)]
+
+ghost use Rattle.certified_run.specs.Nearness.{AnswersAreWithinErrors};
+
+/// The rows of a block's firmware are within the errors of each accepted certificate of the exact
+/// answers, which know no bytes, tables, slots or machine: for answers of a byte and of 16 bits.
+pub fn answers_are_within_errors()
+    ensures { AnswersAreWithinErrors }
+{
+    cert_check::accepted_answers_are_near();
+}

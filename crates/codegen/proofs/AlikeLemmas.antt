@@ -1,0 +1,77 @@
+-- Blocks that say the same have one image.
+use Rattle.std.proofs.Common.{◌≡◌, ℕ, Bool, List, [], ◌∷◌, ◌++◌, refl, sym, ◌∙◌, ap, ap₂}
+use Rattle.std.specs.Prelude.{flat_map}
+use Rattle.fuzzy_meaning.specs.declared.block.Block.{Block}
+use Rattle.fuzzy_meaning.specs.declared.block.Input.{Input}
+use Rattle.fuzzy_meaning.specs.declared.block.Output.{Output}
+use Rattle.point_slope.specs.Tables.{rows_of}
+use Rattle.rule_layout.specs.Alike.{LayoutsAreOne, SaysTheSame}
+use Rattle.rule_layout.specs.Layouts.{conjunctions_of, flat_of, form_of, weights_of}
+use Rattle.rule_layout.specs.Slots.{slots_of}
+use Rattle.rule_layout.specs.declared.flat.Conjunction.{Conjunction}
+use Rattle.rule_layout.specs.declared.flat.Flat.{Flat}
+use Rattle.rule_layout.specs.declared.flat.Form.{Form}
+use Rattle.rule_layout.specs.declared.flat.Slot.{Slot}
+use Rattle.cpu12_isa.specs.declared.instr.Instr.TheVariants.{Rts}
+use Rattle.cpu12_asm.specs.Bytes.{byte_at, start_of, word_or_zero}
+use Rattle.cpu12_asm.specs.Items.{given_by}
+use Rattle.cpu12_asm.specs.declared.items.Item.{Item}
+use Rattle.codegen.specs.Alike.{FirmwaresAreOne}
+use Rattle.codegen.specs.Code.{eval_code_over, frame_code}
+use Rattle.codegen.specs.Data.{rule_bytes_by, singleton_bytes_of, weight_bytes_by}
+use Rattle.codegen.specs.Firmwares.{IsFirmwareOf}
+use Rattle.codegen.specs.Images.{bytes_at, code_at, firmware_items, vector_items}
+use Rattle.codegen.specs.Layouts.{main_layout}
+use Rattle.codegen.specs.Widths.{width_of}
+use Rattle.codegen.specs.declared.firmware.Firmware.{Firmware}
+use Rattle.codegen.specs.declared.layout.Layout.{Layout}
+use Rattle.codegen.specs.declared.width.Width.{Width}
+
+-- the same items by what they are made of
+abbrev items_of : Layout → Width → List Input → List Output → List Slot → List Conjunction → List ℕ → Form → List Item
+items_of l w inputs outputs slots conjunctions weights form =
+    code_at l.code (frame_code l ++ (eval_code_over l w inputs outputs slots form ++ Rts ∷ []))
+    ++ (bytes_at l.tables (flat_map (λ row. row) (flat_map rows_of inputs))
+    ++ (bytes_at l.singletons (flat_map singleton_bytes_of outputs)
+    ++ (bytes_at l.weights (weight_bytes_by form weights)
+    ++ (bytes_at l.rules (rule_bytes_by l.slots form conjunctions)
+    ++ vector_items l))))
+
+made_of : (l : Layout) (b : Block) (w : Width)
+    → firmware_items l b w ≡ items_of l w b.inputs b.outputs (slots_of b) (conjunctions_of b) (weights_of b) (form_of b)
+unfolding firmware_items
+made_of l b w = refl
+
+record SameLayout (p q : Block) : Type 0 where
+  slots : slots_of p ≡ slots_of q
+  conjunctions : conjunctions_of p ≡ conjunctions_of q
+  weights : weights_of p ≡ weights_of q
+  form : form_of p ≡ form_of q
+
+parts_same : (p q : Block) → flat_of p ≡ flat_of q → SameLayout p q
+unfolding flat_of
+parts_same p q same = record {
+  slots = ap (λ (f : Flat). f.slots) same;
+  conjunctions = ap (λ (f : Flat). f.conjunctions) same;
+  weights = ap (λ (f : Flat). f.weights) same;
+  form = ap (λ (f : Flat). f.form) same;
+}
+
+same_items : (l : Layout) (p q : Block) (w : Width) → SaysTheSame p q → SameLayout p q → firmware_items l p w ≡ firmware_items l q w
+same_items l p q w says same =
+    made_of l p w
+    ∙ (λ i. items_of l w (says.inputs i) (says.outputs i) (same.slots i) (same.conjunctions i) (same.weights i) (same.form i))
+    ∙ sym (made_of l q w)
+
+pub one_image : LayoutsAreOne → FirmwaresAreOne
+one_image layouts p q f g says wide of_p of_q = (bytes, start)
+  where
+    items : firmware_items main_layout p (width_of f.wide) ≡ firmware_items main_layout q (width_of g.wide)
+    items = same_items main_layout p q (width_of f.wide) says (parts_same p q (layouts.layout p q says))
+        ∙ ap (λ (b : Bool). firmware_items main_layout q (width_of b)) wide
+
+    bytes : (at : ℕ) → byte_at f.image.bytes at ≡ byte_at g.image.bytes at
+    bytes at = of_p.image.bytes at ∙ ap (λ (l : List Item). byte_at (given_by l) at) items ∙ sym (of_q.image.bytes at)
+
+    start : f.image.start ≡ g.image.start
+    start = of_p.start ∙ ap₂ word_or_zero (bytes 65534) (bytes 65535) ∙ sym of_q.start

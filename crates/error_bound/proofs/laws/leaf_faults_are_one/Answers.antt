@@ -1,0 +1,5 @@
+use Rattle.error_bound.proofs.FaultLemmas as lemmas
+use Rattle.error_bound.proofs.laws.leaf_faults_are_one.Goals as goal
+
+pub returns : goal.returns
+returns c = lemmas.faults_are_one

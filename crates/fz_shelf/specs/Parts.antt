@@ -1,0 +1,22 @@
+-- A text in parts.
+use Rattle.std.specs.Prelude.{ℕ, ◌/◌, ◌%◌, List, [], ◌∷◌, decimal}
+use Rattle.std.specs.List.{flat_map}
+use Rattle.hex.specs.Hex.{encode_upper}
+use Rattle.fz_shelf.specs.declared.parts.Part.{Part}
+use Rattle.fz_shelf.specs.declared.parts.Part.TheVariants.{Text, Number, Address, Byte}
+
+-- a byte as two hexadecimal digits, and an address as four
+abbrev pub byte_digits : ℕ → List ℕ
+byte_digits byte = encode_upper (byte ∷ [])
+
+abbrev pub address_digits : ℕ → List ℕ
+address_digits address = encode_upper (address / 256 ∷ address % 256 ∷ [])
+
+abbrev pub part_text : Part → List ℕ
+part_text (Text text) = text.now
+part_text (Number n) = decimal n
+part_text (Address address) = address_digits address
+part_text (Byte byte) = byte_digits byte
+
+abbrev pub parts_text : List Part → List ℕ
+parts_text = flat_map part_text

@@ -1,0 +1,76 @@
+//! Texts with numbers in them, put without taking memory.
+ghost use Rattle.std.specs.Prelude.{◌≡◌, ◌/◌, ◌%◌, [], ◌∷◌, length, OnOk, IsOk};
+ghost use Rattle.hex.specs.Hex.{encode_upper};
+ghost use Rattle.fz_shelf.specs.Faults.{HasCause};
+ghost use Rattle.fz_shelf.specs.Told.{gained, GainedPart, HasRoom};
+ghost use Rattle.fz_shelf.specs.Parts.{address_digits, byte_digits, part_text, parts_text};
+
+use crate::whole::put_all;
+use crate::{Failed, Sink};
+use itoa::Buffer;
+
+/// A part of a text.
+#[derive(Clone, Copy)]
+pub enum Part<'a> {
+    /// The bytes as they stand.
+    Text(&'a [u8]),
+    /// The number in decimal.
+    Number(u64),
+    /// The address as four hexadecimal digits in upper case.
+    Address(u16),
+    /// The byte as two hexadecimal digits in upper case.
+    Byte(u8),
+}
+
+/// Puts the parts one after the other.
+pub fn put_parts<S: Sink>(sink: &mut S, parts: &[Part]) -> Result<(), Failed>
+    ensures whole { OnOk result (S.told sink.new ≡ gained (S.told sink.old) (parts_text parts.now)) }
+    ensures part { GainedPart (S.told sink.old) (S.told sink.new) (parts_text parts.now) }
+    ensures cause { HasCause (S.faults sink.old) (S.faults sink.new) result }
+    ensures sound { S.sound sink.old → S.sound sink.new }
+    ensures steady { S.sound sink.old → HasRoom (S.told sink.old) (length (parts_text parts.now)) → IsOk result }
+{
+    for part in parts {
+        put_part(sink, part)?;
+    }
+    Ok(())
+}
+
+fn put_part<S: Sink>(sink: &mut S, part: &Part) -> Result<(), Failed>
+    ensures whole { OnOk result (S.told sink.new ≡ gained (S.told sink.old) (part_text part.now)) }
+    ensures part { GainedPart (S.told sink.old) (S.told sink.new) (part_text part.now) }
+    ensures cause { HasCause (S.faults sink.old) (S.faults sink.new) result }
+    ensures sound { S.sound sink.old → S.sound sink.new }
+    ensures steady { S.sound sink.old → HasRoom (S.told sink.old) (length (part_text part.now)) → IsOk result }
+{
+    match part {
+        Part::Text(text) => put_all(sink, text),
+        Part::Number(n) => {
+            let mut buffer = Buffer::new();
+            put_all(sink, buffer.format(*n).as_bytes())
+        }
+        Part::Address(address) => put_all(sink, &digits_of_address(*address)),
+        Part::Byte(byte) => put_all(sink, &digits_of_byte(*byte)),
+    }
+}
+
+const DIGITS: &[u8; 16] = b"0123456789ABCDEF";
+
+#[tactic(auto, unfolding(hex::specs::Hex::encode_with))]
+fn digits_of_byte(byte: u8) -> [u8; 2]
+    ensures { result ≡ byte_digits byte }
+{
+    [
+        DIGITS[usize::from(byte / 16)],
+        DIGITS[usize::from(byte % 16)],
+    ]
+}
+
+#[tactic(auto, unfolding(hex::specs::Hex::encode_with))]
+fn digits_of_address(address: u16) -> [u8; 4]
+    ensures { result ≡ address_digits address }
+{
+    let high = digits_of_byte((address / 256) as u8);
+    let low = digits_of_byte((address % 256) as u8);
+    [high[0], high[1], low[0], low[1]]
+}
