@@ -34,7 +34,8 @@ exec_with steps flags = record { steps = steps; flags = flags }
 
 -- the command of the words, where the last two are of the forms of STEPS and FLAGS
 abbrev pub exec_in : List Text → Option Exec
-exec_in words = option_and_then (λ steps. option_map (exec_with steps) (flags_of (word_at words 4))) (steps_of (word_at words 3))
+exec_in words =
+    option_and_then (λ steps. option_map (exec_with steps) (flags_of (word_at words 4))) (steps_of (word_at words 3))
 
 -- IMAGE
 abbrev pub exec_inputs : List ℕ
@@ -46,7 +47,8 @@ abbrev pub exec_line : Regs → ℕ → List ℕ
 exec_line r steps =
     codes "pc " ++ (address_digits r.pc ++ (codes " a " ++ (byte_digits r.a ++ (codes " b " ++ (byte_digits r.b
     ++ (codes " x " ++ (address_digits r.x ++ (codes " y " ++ (address_digits r.y
-    ++ (codes " sp " ++ (address_digits r.sp ++ (codes " ccr " ++ (byte_digits r.ccr.0 ++ line (codes " steps ") steps)))))))))))))
+    ++ (codes " sp " ++ (address_digits r.sp ++ (codes " ccr " ++ (byte_digits r.ccr.0
+    ++ line (codes " steps ") steps)))))))))))))
 
 -- ---- what it makes of its file
 
