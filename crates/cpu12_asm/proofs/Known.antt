@@ -47,7 +47,8 @@ words_stay value s (w ∷ words) unknown = words_stay value (with_word value s w
 
 groups_stay : (value : List ℕ → Option ℕ) (s : Sum) (groups : List (List ℕ)) → s.unknown ≡ true → (fold (with_group value) s groups).unknown ≡ true
 groups_stay value s [] unknown = unknown
-groups_stay value s (w ∷ groups) unknown = groups_stay value (with_group value s w) groups (words_stay value (record s { negative = false }) (pieces 0x2D w) unknown)
+groups_stay value s (w ∷ groups) unknown = groups_stay value (with_group value s w) groups
+    (words_stay value (record s { negative = false }) (pieces 0x2D w) unknown)
 
 known_within : (b : Bool) (r : Result ℕ LineFault) (x : ℕ) → cond b (Err UnknownName) r ≡ Ok x → b ≡ false
 known_within true r x is = absurd (cc)
@@ -60,12 +61,14 @@ module _ (f g : List ℕ → Option ℕ) (kept : AreKept f g) where
 
   plain_kept : (word : List ℕ) → IsKept (plain_term f word) (plain_term g word)
   plain_kept word =
-      kept_in (is_number is_ascii_digit word) (cond (is_name word) (name_value (f word)) Bad) (cond (is_name word) (name_value (g word)) Bad) (number (decimal_value word))
+      kept_in (is_number is_ascii_digit word) (cond (is_name word) (name_value (f word)) Bad) (cond (is_name word) (name_value (g word)) Bad)
+      (number (decimal_value word))
       (kept_if (is_name word) (name_value (f word)) (name_value (g word)) Bad (name_kept word (f word) refl))
 
   term_kept : (word : List ℕ) → IsKept (term_of f word) (term_of g word)
   term_kept [] = inr refl
-  term_kept (b ∷ bs) = kept_in (b == 0x24) (plain_term f (b ∷ bs)) (plain_term g (b ∷ bs)) (cond (is_number is_hex_digit bs) (number (hexadecimal_value bs)) Bad) (plain_kept (b ∷ bs))
+  term_kept (b ∷ bs) = kept_in (b == 0x24) (plain_term f (b ∷ bs)) (plain_term g (b ∷ bs))
+      (cond (is_number is_hex_digit bs) (number (hexadecimal_value bs)) Bad) (plain_kept (b ∷ bs))
 
   words_kept : (s : Sum) (words : List (List ℕ)) → (fold (with_word f) s words).unknown ≡ false → fold (with_word f) s words ≡ fold (with_word g) s words
   words_kept s [] known = refl
@@ -74,7 +77,8 @@ module _ (f g : List ℕ → Option ℕ) (kept : AreKept f g) where
     | inr same ↦ words_kept (with_word f s w) words known ∙ ap (λ (t : Term). fold (with_word g) (with_term s t) words) same
   ]
 
-  groups_kept : (s : Sum) (groups : List (List ℕ)) → (fold (with_group f) s groups).unknown ≡ false → fold (with_group f) s groups ≡ fold (with_group g) s groups
+  groups_kept : (s : Sum) (groups : List (List ℕ)) → (fold (with_group f) s groups).unknown ≡ false
+      → fold (with_group f) s groups ≡ fold (with_group g) s groups
   groups_kept s [] known = refl
   groups_kept s (w ∷ groups) known = elim (cases_Bool (with_group f s w).unknown) [
     | inl none ↦ (let unknown = groups_stay f (with_group f s w) groups none in absurd (cc))

@@ -65,7 +65,8 @@ reads k m line is = reads_as k m line (statement_of line) refl is
 value_kept : (value : List ℕ → Option ℕ) (name : List ℕ) (v : ℕ) → is_given value name ≡ false → AreKept value (with_value value name v)
 value_kept value [] v fresh = λ n x is. is
 value_kept value (b ∷ bs) v fresh = λ n x is. elim (cases_Bool (bytes_eq (b ∷ bs) n)) [
-  | inl same ↦ (let here : value (b ∷ bs) ≡ Some x = ap value ((bytes_eq-Decides (b ∷ bs) n).0 same) ∙ is in let bad : true ≡ false = sym (ap is_some here) ∙ fresh in absurd (cc))
+  | inl same ↦ (let here : value (b ∷ bs) ≡ Some x = ap value ((bytes_eq-Decides (b ∷ bs) n).0 same) ∙ is in
+      let bad : true ≡ false = sym (ap is_some here) ∙ fresh in absurd (cc))
   | inr other ↦ rw other is
 ]
 
@@ -89,14 +90,16 @@ module _ (line m n : List ℕ) (a b : Action) (o p : List ℕ) (one : Says line 
   action_same : a ≡ b
   action_same = ap (λ (x : Statement). x.action) statement_same
 
-no_origin_push : (lines : List (List ℕ)) (line : List ℕ) → HasNoOrigin lines → ((name operand : List ℕ) → Says line name Origin operand → ⊥) → HasNoOrigin (lines ++ line ∷ [])
+no_origin_push : (lines : List (List ℕ)) (line : List ℕ) → HasNoOrigin lines → ((name operand : List ℕ) → Says line name Origin operand → ⊥)
+    → HasNoOrigin (lines ++ line ∷ [])
 no_origin_push [] line none other = (other, tt)
 no_origin_push (l ∷ lines) line none other = (none.0, no_origin_push lines line none.1 other)
 
 place_push : (value : List ℕ → Option ℕ) (lines : List (List ℕ)) (place : ℕ) (line : List ℕ) → IsPlaceBehind value lines place
     → ((name operand : List ℕ) → Says line name Origin operand → ⊥) → IsPlaceBehind value (lines ++ line ∷ []) (place + line_size line)
 place_push value _ _ line (without_origin lines none) other =
-    subst (IsPlaceBehind value (lines ++ line ∷ [])) (sum_by_push line_size lines line) (without_origin (lines ++ line ∷ []) (no_origin_push lines line none other))
+    subst (IsPlaceBehind value (lines ++ line ∷ [])) (sum_by_push line_size lines line)
+    (without_origin (lines ++ line ∷ []) (no_origin_push lines line none other))
 place_push value _ _ line (behind_origin before since at name operand to says is none) other =
     let count : to + sum_by line_size (since ++ line ∷ []) ≡ (to + sum_by line_size since) + line_size line = omega (arith, sum_by_push line_size since line) in
     let all = behind_origin before (since ++ line ∷ []) at name operand to says is (no_origin_push since line none other) in
@@ -118,7 +121,8 @@ plain_place : (k : Known) (size : ℕ) (next : Behind) → ◌≡◌ {A = Result
     → (next.place ≡ k.place + size) × (next.value ≡ k.place)
 plain_place k size next is = let same = next_same _ next is in (sym (ap (λ (n : Behind). n.place) same), sym (ap (λ (n : Behind). n.value) same))
 
-place_then : (k : Known) (action : Action) (operand : List ℕ) (next : Behind) → action ≢ Origin → behind_of k action operand ≡ Ok next → next.place ≡ k.place + size_of action operand
+place_then : (k : Known) (action : Action) (operand : List ℕ) (next : Behind) → action ≢ Origin → behind_of k action operand ≡ Ok next
+    → next.place ≡ k.place + size_of action operand
 place_then k Nothing operand next other is = (plain_place k 0 next is).0
 place_then k Origin operand next other is = absurd (other refl)
 place_then k Equate operand next other is = omega (arith, (equal_is k.place (within 65535 (sum_of k.value operand)) next is).1)
@@ -140,11 +144,13 @@ origin_then k action operand next origin is =
     (moved_is k.place (within 65535 (sum_of k.value operand)) next (subst (λ (a : Action). behind_of k a operand ≡ Ok next) origin is)).0
 
 module _ (value : List ℕ → Option ℕ) (done : List (List ℕ)) (place next : ℕ) (line name operand : List ℕ) (here : IsPlaceBehind value done place) where
-  plain_line : (action : Action) → Says line name action operand → action ≢ Origin → next ≡ place + size_of action operand → IsPlaceBehind value (done ++ line ∷ []) next
+  plain_line : (action : Action) → Says line name action operand → action ≢ Origin → next ≡ place + size_of action operand
+      → IsPlaceBehind value (done ++ line ∷ []) next
   plain_line action says other moves =
       let size : line_size line ≡ size_of action operand = ap statement_size says.is in
       let count : place + line_size line ≡ next = omega (arith, size, moves) in
-      subst (IsPlaceBehind value (done ++ line ∷ [])) count (place_push value done place line here (λ m o org. other (action_same line name m action Origin operand o says org)))
+      subst (IsPlaceBehind value (done ++ line ∷ [])) count (place_push value done place line here
+      (λ m o org. other (action_same line name m action Origin operand o says org)))
 
   -- the place behind one line more
   pub place_behind_line : (action : Action) → Says line name action operand → (action ≡ Origin → within 65535 (sum_of value operand) ≡ Ok next)
@@ -155,21 +161,25 @@ module _ (value : List ℕ → Option ℕ) (done : List (List ℕ)) (place next 
   place_behind_line Equate says origin moves = let other : Equate ≢ Origin = λ e. (let bad = e in cc) in plain_line Equate says other (moves other)
   place_behind_line Bytes says origin moves = let other : Bytes ≢ Origin = λ e. (let bad = e in cc) in plain_line Bytes says other (moves other)
   place_behind_line Words says origin moves = let other : Words ≢ Origin = λ e. (let bad = e in cc) in plain_line Words says other (moves other)
-  place_behind_line (Operate form) says origin moves = let other : Operate form ≢ Origin = λ e. (let bad = e in cc) in plain_line (Operate form) says other (moves other)
+  place_behind_line (Operate form) says origin moves = let other : Operate form ≢ Origin = λ e. (let bad = e in cc) in
+      plain_line (Operate form) says other (moves other)
 
 places : (value : List ℕ → Option ℕ) (lines done : List (List ℕ)) (k t : Known) (n : ℕ) → AreKept t.value value → IsPlaceBehind value done k.place
     → through defined_by k n lines ≡ Ok t → IsPlaceBehind value (done ++ lines) t.place
 places value [] done k t n kept here all =
-    subst (λ (l : List (List ℕ)). IsPlaceBehind value l t.place) (sym (append-nil done)) (subst (λ (x : Known). IsPlaceBehind value done x.place) (ended Known k t all) here)
+    subst (λ (l : List (List ℕ)). IsPlaceBehind value l t.place) (sym (append-nil done))
+    (subst (λ (x : Known). IsPlaceBehind value done x.place) (ended Known k t all) here)
 places value (line ∷ lines) done k t n kept here all =
     let c = continues Known defined_by k t line lines n all in
     let r = reads k c.m line c.first in
     let known : AreKept k.value value = λ name x is. kept name x (lines_keep (line ∷ lines) k t n all name x is) in
     let next : IsPlaceBehind value (done ++ line ∷ []) c.m.place =
-    subst (λ (x : Known). IsPlaceBehind value (done ++ line ∷ []) x.place) (sym r.is) (place_behind_line value done k.place r.next.place line r.name r.operand here r.action r.says
+    subst (λ (x : Known). IsPlaceBehind value (done ++ line ∷ []) x.place) (sym r.is)
+    (place_behind_line value done k.place r.next.place line r.name r.operand here r.action r.says
     (λ origin. within_kept k.value value known 65535 r.operand r.next.place (origin_then k r.action r.operand r.next origin r.behind))
     (λ other. place_then k r.action r.operand r.next other r.behind)) in
-    subst (λ (l : List (List ℕ)). IsPlaceBehind value l t.place) (append_assoc done (line ∷ []) lines) (places value lines (done ++ line ∷ []) c.m t (n + 1) kept next c.rest)
+    subst (λ (l : List (List ℕ)). IsPlaceBehind value l t.place) (append_assoc done (line ∷ []) lines)
+    (places value lines (done ++ line ∷ []) c.m t (n + 1) kept next c.rest)
 
 named : (value : List ℕ → Option ℕ) (name : List ℕ) (v : ℕ) → 1 ≤ length name → with_value value name v name ≡ Some v
 named value [] v some = absurd (omega arith)
@@ -183,7 +193,8 @@ record Names (text : List ℕ) (value : List ℕ → Option ℕ) : Type 0 where
   all : through defined_by start 1 (lines_of text) ≡ Ok t
   is : t.value ≡ value
 
-names_with : (text : List ℕ) (value : List ℕ → Option ℕ) (r : Result Known AsmFault) → through defined_by start 1 (lines_of text) ≡ r → value_known r ≡ Ok value → Names text value
+names_with : (text : List ℕ) (value : List ℕ → Option ℕ) (r : Result Known AsmFault) → through defined_by start 1 (lines_of text) ≡ r → value_known r ≡ Ok value
+    → Names text value
 names_with text value (Err f) all is = absurd (cc)
 names_with text value (Ok t) all is = record { t = t; all = all; is = values_same t.value value is }
 
@@ -196,7 +207,8 @@ record Reaches (value : List ℕ → Option ℕ) (before : List (List ℕ)) (lin
   kept : AreKept m.value value
   place : IsPlaceBehind value before k.place
 
-stands : (text : List ℕ) (value : List ℕ → Option ℕ) → names_of text ≡ Ok value → (before after : List (List ℕ)) (line : List ℕ) → lines_of text ≡ before ++ line ∷ after → Reaches value before line
+stands : (text : List ℕ) (value : List ℕ → Option ℕ) → names_of text ≡ Ok value → (before after : List (List ℕ)) (line : List ℕ)
+    → lines_of text ≡ before ++ line ∷ after → Reaches value before line
 stands text value names before after line lines =
     let n = names_with text value (through defined_by start 1 (lines_of text)) refl names in
     let s = splits Known defined_by before (line ∷ after) start n.t 1 (ap (through defined_by start 1) (sym lines) ∙ n.all) in
@@ -220,10 +232,12 @@ name_value_is value before line name action operand s says some =
     let same = statement_same line r.name name r.action action r.operand operand r.says says in
     let behind : behind_of s.k action operand ≡ Ok r.next = ap (λ (x : Statement). behind_of s.k x.action x.operand) (sym same) ∙ r.behind in
     let known : s.m.value name ≡ Some r.next.value =
-    ap (λ (x : Known). x.value name) r.is ∙ ap (λ (x : Statement). with_value s.k.value x.name r.next.value name) same ∙ named s.k.value name r.next.value some in
+    ap (λ (x : Known). x.value name) r.is ∙ ap (λ (x : Statement). with_value s.k.value x.name r.next.value name) same
+    ∙ named s.k.value name r.next.value some in
     (r.next, behind, s.kept name r.next.value known)
 
-pub labels_are_places : (text : List ℕ) (value : List ℕ → Option ℕ) → names_of text ≡ Ok value → (before after : List (List ℕ)) (line : List ℕ) → lines_of text ≡ before ++ line ∷ after
+pub labels_are_places : (text : List ℕ) (value : List ℕ → Option ℕ) → names_of text ≡ Ok value → (before after : List (List ℕ)) (line : List ℕ)
+    → lines_of text ≡ before ++ line ∷ after
     → (name : List ℕ) (action : Action) (operand : List ℕ) → Says line name action operand → 1 ≤ length name → action ≢ Equate
     → (place : ℕ) × (value name ≡ Some place) × IsPlaceBehind value before place
 labels_are_places text value names before after line lines name action operand says some other =
@@ -231,7 +245,8 @@ labels_are_places text value names before after line lines name action operand s
     let v = name_value_is value before line name action operand s says some in
     (s.k.place, v.2 ∙ ap (λ (x : ℕ). Some x) (value_then s.k action operand v.0 other v.1), s.place)
 
-pub equates_are_values : (text : List ℕ) (value : List ℕ → Option ℕ) → names_of text ≡ Ok value → (before after : List (List ℕ)) (line : List ℕ) → lines_of text ≡ before ++ line ∷ after
+pub equates_are_values : (text : List ℕ) (value : List ℕ → Option ℕ) → names_of text ≡ Ok value → (before after : List (List ℕ)) (line : List ℕ)
+    → lines_of text ≡ before ++ line ∷ after
     → (name operand : List ℕ) → Says line name Equate operand → 1 ≤ length name
     → (to : ℕ) × (value name ≡ Some to) × (within 65535 (sum_of value operand) ≡ Ok to)
 equates_are_values text value names before after line lines name operand says some =

@@ -45,7 +45,8 @@ first_value false v r vs is = absurd (cc)
 first_value true v (Err f) vs is = absurd (cc)
 first_value true v (Ok ws) vs is = record { rest = ws; is = refl; all = sym (ok_same (v ∷ ws) vs is) }
 
-as_many_from : (value : List ℕ → Option ℕ) (first other : ℕ) (es : List (List ℕ)) (vs : List ℕ) → values_from value first other es ≡ Ok vs → length vs ≡ length es
+as_many_from : (value : List ℕ → Option ℕ) (first other : ℕ) (es : List (List ℕ)) (vs : List ℕ) → values_from value first other es ≡ Ok vs
+    → length vs ≡ length es
 as_many_from value first other [] vs is = sym (ap length (ok_same [] vs is))
 as_many_from value first other (e ∷ es) vs is =
     let v = first_value (fits first (sum_of value e)) _ (values_from value other other es) vs is in
@@ -107,14 +108,16 @@ moved_to_place g t (Err f) is = absurd (cc)
 moved_to_place g t (Ok place) is = let same = given_same _ t is in (ap (λ (x : Given). Ok x.place) same, sym (ap (λ (x : Given). x.bytes) same))
 
 put_there : (g t : Given) (b c d : Bool) (bytes : List ℕ)
-    → cond b (Err fault.Range) (cond c (Err fault.BranchFar) (cond d (Err fault.Overlap) (Ok (record { place = g.place + length bytes; bytes = g.bytes ++ placed g.place bytes })))) ≡ Ok t
+    → cond b (Err fault.Range) (cond c (Err fault.BranchFar) (cond d (Err fault.Overlap)
+    (Ok (record { place = g.place + length bytes; bytes = g.bytes ++ placed g.place bytes })))) ≡ Ok t
     → (t.place ≡ g.place + length bytes) × (t.bytes ≡ g.bytes ++ placed g.place bytes)
 put_there g t true c d bytes is = absurd (cc)
 put_there g t false true d bytes is = absurd (cc)
 put_there g t false false true bytes is = absurd (cc)
 put_there g t false false false bytes is = let same = given_same _ t is in (sym (ap (λ (x : Given). x.place) same), sym (ap (λ (x : Given). x.bytes) same))
 
-gives_values : (value : List ℕ → Option ℕ) (g t : Given) (line name : List ℕ) (action : Action) (operand : List ℕ) → Says line name action operand → action ≢ Origin
+gives_values : (value : List ℕ → Option ℕ) (g t : Given) (line name : List ℕ) (action : Action) (operand : List ℕ) → Says line name action operand
+    → action ≢ Origin
     → (r : Result (List ℕ) LineFault) → values_within value operand (limits_of action) ≡ r → put_values g action r ≡ Ok t → Gives value g t line
 gives_values value g t line name action operand says other (Err f) values is = absurd (cc)
 gives_values value g t line name action operand says other (Ok vs) values is =
@@ -130,10 +133,12 @@ gives_values value g t line name action operand says other (Ok vs) values is =
       moves = λ e. there.0;
     }
 
-gives_plain : (value : List ℕ → Option ℕ) (g t : Given) (line name : List ℕ) (action : Action) (operand : List ℕ) → Says line name action operand → action ≢ Origin
+gives_plain : (value : List ℕ → Option ℕ) (g t : Given) (line name : List ℕ) (action : Action) (operand : List ℕ) → Says line name action operand
+    → action ≢ Origin
     → given_with value g action operand ≡ Ok t → Gives value g t line
 gives_plain value g t line name action operand says other is =
-    gives_values value g t line name action operand says other (values_within value operand (limits_of action)) refl (sym (given_with-bytes value g action operand other) ∙ is)
+    gives_values value g t line name action operand says other (values_within value operand (limits_of action)) refl
+    (sym (given_with-bytes value g action operand other) ∙ is)
 
 gives_with : (value : List ℕ → Option ℕ) (g t : Given) (line name : List ℕ) (action : Action) (operand : List ℕ) → Says line name action operand
     → given_with value g action operand ≡ Ok t → Gives value g t line
@@ -154,7 +159,8 @@ gives_with value g t line name Bytes operand says is = gives_plain value g t lin
 gives_with value g t line name Words operand says is = gives_plain value g t line name Words operand says (λ e. (let bad = e in cc)) is
 gives_with value g t line name (Operate form) operand says is = gives_plain value g t line name (Operate form) operand says (λ e. (let bad = e in cc)) is
 
-gives_as : (value : List ℕ → Option ℕ) (g t : Given) (line : List ℕ) (o : Option Statement) → statement_of line ≡ o → given value g o ≡ Ok t → Gives value g t line
+gives_as : (value : List ℕ → Option ℕ) (g t : Given) (line : List ℕ) (o : Option Statement) → statement_of line ≡ o → given value g o ≡ Ok t
+    → Gives value g t line
 gives_as value g t line None says is = absurd (cc)
 gives_as value g t line (Some s) says is = gives_with value g t line s.name s.action s.operand (record { is = says }) is
 
@@ -181,7 +187,8 @@ in_placed place (b ∷ bytes) zero lt =
     let first : place ≡ place + 0 = omega arith in subst (λ (p : ℕ). In p b (placed place (b ∷ bytes))) first (here (placed (place + 1) bytes))
 in_placed place (b ∷ bytes) (suc k) lt =
     let next : place + 1 + k ≡ place + suc k = omega arith in
-    subst (λ (p : ℕ). In p (get_or bytes k 0) (placed place (b ∷ bytes))) next (there (place, b) (placed (place + 1) bytes) (in_placed (place + 1) bytes k (omega arith)))
+    subst (λ (p : ℕ). In p (get_or bytes k 0) (placed place (b ∷ bytes))) next
+    (there (place, b) (placed (place + 1) bytes) (in_placed (place + 1) bytes k (omega arith)))
 
 found : (at v : ℕ) (bytes : List (ℕ × ℕ)) → IsGivenOnce bytes → In at v bytes → byte_at bytes at ≡ Some v
 found at v _ once (here bytes) = let same : is_same at at ≡ true = grind (arith, nat_tests) in rw same refl
@@ -190,7 +197,8 @@ found at v _ once (there b bytes i) = let rest = found at v bytes once.1 i in el
   | inr other ↦ rw other rest
 ]
 
-lines_keep_bytes : (value : List ℕ → Option ℕ) (lines : List (List ℕ)) (g t : Given) (n at v : ℕ) → through (given_by_line value) g n lines ≡ Ok t → In at v g.bytes → In at v t.bytes
+lines_keep_bytes : (value : List ℕ → Option ℕ) (lines : List (List ℕ)) (g t : Given) (n at v : ℕ) → through (given_by_line value) g n lines ≡ Ok t
+    → In at v g.bytes → In at v t.bytes
 lines_keep_bytes value [] g t n at v all i = subst (λ (x : Given). In at v x.bytes) (ended Given g t all) i
 lines_keep_bytes value (line ∷ lines) g t n at v all i =
     let c = continues Given (given_by_line value) g t line lines n all in
@@ -200,19 +208,23 @@ lines_keep_bytes value (line ∷ lines) g t n at v all i =
 
 -- ---- places of the second pass
 
-places_given : (value : List ℕ → Option ℕ) (lines done : List (List ℕ)) (g t : Given) (n : ℕ) → IsPlaceBehind value done g.place → through (given_by_line value) g n lines ≡ Ok t
+places_given : (value : List ℕ → Option ℕ) (lines done : List (List ℕ)) (g t : Given) (n : ℕ) → IsPlaceBehind value done g.place
+    → through (given_by_line value) g n lines ≡ Ok t
     → IsPlaceBehind value (done ++ lines) t.place
 places_given value [] done g t n from all =
-    subst (λ (l : List (List ℕ)). IsPlaceBehind value l t.place) (sym (append-nil done)) (subst (λ (x : Given). IsPlaceBehind value done x.place) (ended Given g t all) from)
+    subst (λ (l : List (List ℕ)). IsPlaceBehind value l t.place) (sym (append-nil done))
+    (subst (λ (x : Given). IsPlaceBehind value done x.place) (ended Given g t all) from)
 places_given value (line ∷ lines) done g t n from all =
     let c = continues Given (given_by_line value) g t line lines n all in
     let l = gives value g c.m line c.first in
     let next = place_behind_line value done g.place c.m.place line l.name l.operand from l.action l.says l.origin
     (λ other. l.moves other ∙ ap (λ (k : ℕ). g.place + k) (size_is value g.place l.action l.operand l.values l.values_are)) in
-    subst (λ (x : List (List ℕ)). IsPlaceBehind value x t.place) (append_assoc done (line ∷ []) lines) (places_given value lines (done ++ line ∷ []) c.m t (n + 1) next c.rest)
+    subst (λ (x : List (List ℕ)). IsPlaceBehind value x t.place) (append_assoc done (line ∷ []) lines)
+    (places_given value lines (done ++ line ∷ []) c.m t (n + 1) next c.rest)
 
 -- what a source gives, where its names have these values
-with_values : (text : List ℕ) (value : List ℕ → Option ℕ) (g : Given) → names_of text ≡ Ok value → with_names text (names_of text) ≡ Ok g → through (given_by_line value) empty 1 (lines_of text) ≡ Ok g
+with_values : (text : List ℕ) (value : List ℕ → Option ℕ) (g : Given) → names_of text ≡ Ok value → with_names text (names_of text) ≡ Ok g
+    → through (given_by_line value) empty 1 (lines_of text) ≡ Ok g
 with_values text value g names is = sym (ap (with_names text) names) ∙ is
 
 pub lines_stand : (source : List ℕ) (image : List (ℕ × ℕ)) → Assembles source image
@@ -239,7 +251,8 @@ lines_stand source image a value names before after line lines =
       size = size;
       bytes = λ k lt.
           (let put = in_placed s.m.place bytes k (omega (arith, size, lt)) in
-          let behind : In (s.m.place + k) (get_or bytes k 0) c.m.bytes = subst (In (s.m.place + k) (get_or bytes k 0)) (sym l.bytes) (in_back (s.m.place + k) (get_or bytes k 0) s.m.bytes (placed s.m.place bytes) put) in
+          let behind : In (s.m.place + k) (get_or bytes k 0) c.m.bytes =
+          subst (In (s.m.place + k) (get_or bytes k 0)) (sym l.bytes) (in_back (s.m.place + k) (get_or bytes k 0) s.m.bytes (placed s.m.place bytes) put) in
           let last = lines_keep_bytes value after c.m a.given (s.number + 1) (s.m.place + k) (get_or bytes k 0) c.rest behind in
           a.holds.bytes (s.m.place + k) ∙ found (s.m.place + k) (get_or bytes k 0) a.given.bytes a.holds.once last);
     }

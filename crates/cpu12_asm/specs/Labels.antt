@@ -40,7 +40,8 @@ pub data IsPlaceBehind (value : List ℕ → Option ℕ) : List (List ℕ) → �
 abbrev pub LabelsArePlaces : Type 0
 LabelsArePlaces = (text : List ℕ) (value : List ℕ → Option ℕ) → names_of text ≡ Ok value
     → (before after : List (List ℕ)) (line : List ℕ) → lines_of text ≡ before ++ line ∷ after
-    → (name : List ℕ) (action : Action) (operand : List ℕ) → Says line name action operand → 1 ≤ length name → action ≢ Equate
+    → (name : List ℕ) (action : Action) (operand : List ℕ) → Says line name action operand → 1 ≤ length name
+    → action ≢ Equate
     → (place : ℕ) × (value name ≡ Some place) × IsPlaceBehind value before place
 
 -- the value of the name of an EQU is its expression's
@@ -51,7 +52,8 @@ EquatesAreValues = (text : List ℕ) (value : List ℕ → Option ℕ) → names
     → (to : ℕ) × (value name ≡ Some to) × (within 65535 (sum_of value operand) ≡ Ok to)
 
 -- a line's bytes stand in an image from its place on, as many as it counts for
-pub record Stands (value : List ℕ → Option ℕ) (image : List (ℕ × ℕ)) (before : List (List ℕ)) (line : List ℕ) : Type 0 where
+pub record Stands (value : List ℕ → Option ℕ) (image : List (ℕ × ℕ))
+    (before : List (List ℕ)) (line : List ℕ) : Type 0 where
   pub place : ℕ
   pub is_place : IsPlaceBehind value before place
   pub name : List ℕ
@@ -61,7 +63,8 @@ pub record Stands (value : List ℕ → Option ℕ) (image : List (ℕ × ℕ)) 
   pub values : List ℕ
   pub values_are : values_within value operand (limits_of action) ≡ Ok values
   pub size : length (bytes_with place action values) ≡ line_size line
-  pub bytes : (k : ℕ) → k < line_size line → byte_at image (place + k) ≡ Some (slice_index (bytes_with place action values) k)
+  pub bytes : (k : ℕ) → k < line_size line
+      → byte_at image (place + k) ≡ Some (slice_index (bytes_with place action values) k)
 
 -- each line of a source that gives an image stands in it
 abbrev pub LinesStand : Type 0

@@ -8,6 +8,8 @@ use std::alloc::{AllocError, Global};
 use std::process::Abort;
 use std::test::Fail;
 
+mod exec;
+
 const BLOCK: &str = "FUNCTION_BLOCK a
 VAR_INPUT t : REAL; END_VAR
 VAR_OUTPUT power : REAL; END_VAR
@@ -395,6 +397,29 @@ fn failures(rt: HostRuntime) -> Result<(), Fail> {
     Ok(())
 }
 
+/// A command over a shelf.
+fn call(
+    rt: &impl Abort,
+    alloc: Global,
+    line: &[&str],
+    shelf: &mut MemShelf,
+    code: u8,
+    out_text: &str,
+    err_text: &str,
+) -> Result<(), Fail> {
+    let mut words = Vec::new(alloc);
+    for word in line {
+        words.push(String::from_str(alloc, word)?)?;
+    }
+    let mut out = MemSink::new(alloc, 1000, List::new(Vec::new(alloc)), 1000)?;
+    let mut err = MemSink::new(alloc, 1000, List::new(Vec::new(alloc)), 1000)?;
+    let status = fuzz12(alloc, words.as_slice(), shelf, &mut out, &mut err);
+    assert_eq!(rt; err.bytes(), err_text.as_bytes());
+    assert_eq!(rt; out.bytes(), out_text.as_bytes());
+    assert_eq!(rt; status.code(), code);
+    Ok(())
+}
+
 /// A run of a text, given in parts, over a trace that are the only files.
 fn run_of(
     rt: &impl Abort,
@@ -415,17 +440,8 @@ fn run_of(
     ]?;
     let never = List::new(Vec::new(alloc));
     let mut shelf = MemShelf::new(alloc, List::new(files), never, List::new(Vec::new(alloc)))?;
-    let mut words = Vec::new(alloc);
-    for word in ["fuzz12", "run", "n.fcl", "n.csv", "00"] {
-        words.push(String::from_str(alloc, word)?)?;
-    }
-    let mut out = MemSink::new(alloc, 1000, List::new(Vec::new(alloc)), 1000)?;
-    let mut err = MemSink::new(alloc, 1000, List::new(Vec::new(alloc)), 1000)?;
-    let status = fuzz12(alloc, words.as_slice(), &mut shelf, &mut out, &mut err);
-    assert_eq!(rt; err.bytes(), err_text.as_bytes());
-    assert_eq!(rt; out.bytes(), out_text.as_bytes());
-    assert_eq!(rt; status.code(), code);
-    Ok(())
+    let line = ["fuzz12", "run", "n.fcl", "n.csv", "00"];
+    call(rt, alloc, &line, &mut shelf, code, out_text, err_text)
 }
 
 #[test]
@@ -462,16 +478,8 @@ fn image_of(
     let never = List::new(Vec::new(alloc));
     let failing = List::new(failing.to_vec(alloc)?);
     let mut shelf = MemShelf::new(alloc, List::new(files), never, failing)?;
-    let mut words = Vec::new(alloc);
-    for word in ["fuzz12", command, "in", "out"] {
-        words.push(String::from_str(alloc, word)?)?;
-    }
-    let mut out = MemSink::new(alloc, 1000, List::new(Vec::new(alloc)), 1000)?;
-    let mut err = MemSink::new(alloc, 1000, List::new(Vec::new(alloc)), 1000)?;
-    let status = fuzz12(alloc, words.as_slice(), &mut shelf, &mut out, &mut err);
-    assert_eq!(rt; err.bytes(), err_text.as_bytes());
-    assert_eq!(rt; out.bytes(), out_text.as_bytes());
-    assert_eq!(rt; status.code(), code);
+    let line = ["fuzz12", command, "in", "out"];
+    call(rt, alloc, &line, &mut shelf, code, out_text, err_text)?;
     if let Some(records) = records {
         let mut held = Vec::new(alloc);
         assert!(rt; shelf.read("out", &mut held).is_ok());

@@ -1,12 +1,11 @@
 -- Contents that make a deed make no fault.
-use Rattle.std.proofs.Common.{◌≡◌, ◌≢◌, ℕ, List, [], ◌∷◌, refl, subst}
+use Rattle.std.proofs.Common.{◌≡◌, ◌≢◌, ℕ, List, [], ◌∷◌, refl, subst, ap}
 use Rattle.std.specs.Prelude.{map, Err}
 use Rattle.std.specs.List.{AllZip}
 use Rattle.fuzzy_meaning.specs.declared.block.Block.{Block}
 use Rattle.fuzzy_meaning.specs.declared.block.Input.{Input}
 use Rattle.fuzzy_meaning.specs.declared.block.Rule.{Rule}
 use Rattle.fcl_syntax.specs.Readings.{FirstFaultsAreOne}
-use Rattle.fcl_syntax.specs.Text.{IsFirstFault}
 use Rattle.fcl_syntax.specs.View.{view}
 use Rattle.fcl_check.specs.Alike.{AreAlike, AreAlikeRules, SpelledBlocksAreAlike}
 use Rattle.fcl_check.specs.Texts.{LoadFaultsAreOne, SpellsBlock}
@@ -17,7 +16,18 @@ use Rattle.trace_io.specs.Traces.{Spells}
 use Rattle.trace_io.specs.declared.sample.Sample.{Sample}
 use Rattle.trace_io.specs.declared.sample.TraceFault.{TraceFault}
 use Rattle.trace_io.specs.declared.sample.TraceFault.TheVariants as trace
+use Rattle.cpu12_asm.specs.declared.image.Image.{Image}
+use Rattle.cpu12_parts.specs.State.{State}
+use Rattle.cpu12_emul.specs.Image.{ImagesLoadAlike, image_memory}
+use Rattle.cpu12_emul.specs.Run.{EndsRun, RunsEndOnce}
+use Rattle.cpu12_emul.specs.Step.{reset_with}
+use Rattle.cpu12_emul.specs.declared.ends.RunEnd.{RunEnd}
+use Rattle.cpu12_emul.specs.declared.ends.RunEnd.TheVariants as end
+use Rattle.srecord.specs.Laws.{ImagesAreOne, ImagesHaveNoFault}
+use Rattle.srecord.specs.Texts.{GivesImage}
 use Rattle.fz_top.specs.Commands.{Makes}
+use Rattle.fz_top.specs.Exec.{Ends, ExecGives, exec_refusals}
+use Rattle.fz_top.specs.Images.{RefusesRecords}
 use Rattle.fz_top.specs.Asm.{AsmGives, source_refusals}
 use Rattle.fz_top.specs.Firmwares.{RefusesText, text_refusals}
 use Rattle.fz_top.specs.Run.{RefusesTrace, run_refusals}
@@ -27,6 +37,9 @@ use Rattle.fz_top.specs.Runs.{DeedsHaveNoFault, Runs, World}
 use Rattle.fz_top.specs.Texts.{Text}
 use Rattle.fz_top.specs.declared.command.Command.{Command}
 use Rattle.fz_top.specs.declared.command.Command.TheVariants as command
+use Rattle.fz_top.specs.declared.exec.Exec.{Exec}
+use Rattle.fz_top.specs.declared.status.ImageFault.{ImageFault}
+use Rattle.fz_top.specs.declared.status.ImageFault.TheVariants as fault
 use Rattle.fz_top.specs.declared.status.FclFault.{FclFault}
 use Rattle.fz_top.specs.declared.status.FclFault.TheVariants as fcl
 use Rattle.fz_top.specs.declared.status.Status.{Status}
@@ -45,7 +58,8 @@ says_same : (p q : Block) → AreAlike p q → SaysTheSame p q
 says_same p q alike = record { inputs = alike.inputs; outputs = alike.outputs; rules = rules_say p.rules q.rules alike.rules }
 
 module _ (first : FirstFaultsAreOne) (load : LoadFaultsAreOne) (alike : SpelledBlocksAreAlike)
-    (layouts : LayoutsAreOne) (limits : LimitsHaveNoFault) (traces : SpelledTracesHaveNoFault) where
+    (layouts : LayoutsAreOne) (limits : LimitsHaveNoFault) (traces : SpelledTracesHaveNoFault)
+    (images : ImagesAreOne) (good : ImagesHaveNoFault) (loads : ImagesLoadAlike) (ends : RunsEndOnce) where
   -- a text that gives firmware is not refused
   text_apart : (text : List ℕ) (block : Block) → SpellsBlock text block → IsWithinLimits block
       → (f : FclFault) → CarriesNoMemory (status.Fcl f) → RefusesText text f → ⊥
@@ -100,11 +114,37 @@ module _ (first : FirstFaultsAreOne) (load : LoadFaultsAreOne) (alike : SpelledB
     budget = λ steps is. is;
   }
 
+  -- two runs of one image end alike
+  ends_alike : (exec : Exec) (text : List ℕ) (e f : RunEnd) (t u : State) → Ends exec text e t → Ends exec text f u → e ≡ f
+  ends_alike exec text e f t u one other =
+      let bytes = (images text one.image other.image one.spelled other.spelled).1 in
+      let same = ap reset_with (loads one.image.bytes other.image.bytes bytes) in
+      (ends exec.flags exec.steps (reset_with (image_memory other.image.bytes)) t u e f
+      (subst (λ (s : State). EndsRun exec.flags exec.steps s e t) same one.ends) other.ends).0
+
+  records_apart : (text : List ℕ) (image : Image) → GivesImage text image → (f : ImageFault) → CarriesNoMemory (status.Image f) → RefusesRecords text f → ⊥
+  records_apart text image gives (fault.Records f) carries refuses = good text image f gives refuses
+  records_apart text image gives (fault.Byte at got wanted) carries refuses = refuses
+  records_apart text image gives (fault.Start got wanted) carries refuses = refuses
+
+  exec_impossible : (exec : Exec) (text : List ℕ) (deed : Deed) → ExecGives exec text deed → AreImpossible (exec_refusals exec text)
+  exec_impossible exec text deed gives = record {
+    fcl = λ f no is. is;
+    image = records_apart text gives.arrives.image gives.arrives.spelled;
+    cert = λ f no is. is;
+    trace = λ f no is. is;
+    plan = λ f no is. is;
+    asm = λ f no is. is;
+    trap = λ pc byte is. (let same = ends_alike exec text (end.Arrived gives.steps) (end.Trap pc byte) gives.last is.0 gives.arrives is.1 in cc);
+    budget = λ n is. (let same = ends_alike exec text (end.Arrived gives.steps) (end.Budget n) gives.last is.0 gives.arrives is.1 in cc);
+  }
+
   pub apart : DeedsHaveNoFault
   unfolding Makes
   apart command.Asm contents deed s makes fault = none_refuses _ (source_impossible _ deed makes) s fault
   apart (command.Compile compile) contents deed s makes fault =
       none_refuses _ (text_impossible _ makes.block makes.gives.spelled makes.gives.limits) s fault
+  apart (command.Exec exec) contents deed s makes fault = none_refuses _ (exec_impossible exec _ deed makes) s fault
   apart (command.Run run) contents deed s makes fault =
       none_refuses _ (run_impossible _ _ makes.block makes.values makes.gives.spelled makes.gives.limits makes.trace) s fault
 
@@ -114,6 +154,7 @@ faults_carry : (command : Command) (contents : List (List ℕ)) (s : Status) →
 unfolding Makes
 faults_carry command.Asm contents s makes = refusals_carry _ s makes
 faults_carry (command.Compile compile) contents s makes = refusals_carry _ s makes
+faults_carry (command.Exec exec) contents s makes = refusals_carry _ s makes
 faults_carry (command.Run run) contents s makes = refusals_carry _ s makes
 
 pub carries : (words : List Text) (old new : World) (s : Status) → Runs words old new s → CarriesNoMemory s

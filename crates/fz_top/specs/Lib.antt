@@ -13,3 +13,5 @@ pub mod Run
 pub mod Runs
 pub mod Texts
 pub mod Words
+pub mod Images
+pub mod Exec

@@ -11,6 +11,7 @@ ghost use Rattle.fz_top.specs.Commands.{IsUsage, Makes, command_in, form_of, inp
 ghost use Rattle.fz_top.specs.Deeds.{IsResultOf};
 
 use crate::compile::{self, Compile};
+use crate::exec::{self, Exec};
 use crate::reading::content;
 use crate::run::{self, Run};
 use crate::work::Work;
@@ -25,14 +26,16 @@ pub(crate) enum Name {
     Asm,
     Compile,
     Compile16,
+    Exec,
     Run,
 }
 
 /// The commands by their names on the command line, each with the number of words that follow.
-static COMMANDS: [(&str, usize, Name); 4] = [
+static COMMANDS: [(&str, usize, Name); 5] = [
     ("asm", 2, Name::Asm),
     ("compile", 2, Name::Compile),
     ("compile16", 2, Name::Compile16),
+    ("exec", 3, Name::Exec),
     ("run", 3, Name::Run),
 ];
 
@@ -43,6 +46,8 @@ pub enum Command {
     Asm,
     /// `compile FCL OUT`, and `compile16 FCL OUT`
     Compile(Compile),
+    /// `exec IMAGE STEPS FLAGS`
+    Exec(Exec),
     /// `run FCL TRACE FLAGS`
     Run(Run),
 }
@@ -56,6 +61,7 @@ fn formed(name: Name, words: &[String]) -> Option<Command>
         Name::Asm => Some(Command::Asm),
         Name::Compile => Some(Command::Compile(Compile { width: Width::Byte })),
         Name::Compile16 => Some(Command::Compile(Compile { width: Width::Word })),
+        Name::Exec => Exec::of(words).map(Command::Exec),
         Name::Run => Run::of(words).map(Command::Run),
     }
 }
@@ -69,6 +75,7 @@ impl Command {
         match self {
             Command::Asm => asm::INPUTS.as_slice(),
             Command::Compile(_) => compile::INPUTS.as_slice(),
+            Command::Exec(_) => exec::INPUTS.as_slice(),
             Command::Run(_) => run::INPUTS.as_slice(),
         }
     }
@@ -82,6 +89,7 @@ impl Command {
         match self {
             Command::Asm => asm::work(alloc, content(contents, 0)),
             Command::Compile(compile) => compile.work(alloc, content(contents, 0)),
+            Command::Exec(exec) => exec.work(alloc, content(contents, 0)),
             Command::Run(run) => run.work(alloc, content(contents, 0), content(contents, 1)),
         }
     }

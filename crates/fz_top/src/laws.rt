@@ -1,9 +1,11 @@
 //! Laws of what commands make, each the contract of a function that does nothing.
 ghost use Rattle.fz_top.specs.Runs.{DeedsHaveNoFault};
 
+use cpu12_emul::laws::{images_load_alike, runs_end_once};
 use fcl_check::{load_faults_are_one, spelled_blocks_are_alike};
 use fcl_syntax::first_faults_are_one;
 use rule_layout::{layouts_are_one, limits_have_no_fault};
+use srecord::images_are_one;
 use trace_io::spelled_traces_have_no_fault;
 
 /// Contents that make a deed make no fault.
@@ -15,5 +17,8 @@ pub(crate) fn deeds_have_no_fault()
     spelled_blocks_are_alike();
     layouts_are_one();
     limits_have_no_fault();
+    images_are_one();
+    images_load_alike();
+    runs_end_once();
     spelled_traces_have_no_fault()
 }

@@ -14,8 +14,10 @@ mod command;
 mod compile;
 mod delivery;
 mod errors;
+mod exec;
 mod fault_lines;
 mod firmware;
+mod images;
 mod laws;
 mod lines;
 mod program;
@@ -27,6 +29,7 @@ mod work;
 
 pub use command::Command;
 pub use compile::Compile;
+pub use exec::Exec;
 pub use program::fuzz12;
 pub use run::Run;
 pub use status::{CertRefusal, FclFault, ImageFault, Status};

@@ -27,7 +27,8 @@ fields_one k bytes n _ _ (bad_sum a p s fields wrong) (bad_sum b q t others bad)
     ap (λ (x : ℕ). BadSum n x (checksum_of (body_of a p))) (same_sum a b p q s t same)
     ∙ ap (λ (x : List ℕ). BadSum n t (checksum_of x)) (same_body a b p q s t same)
 
-record_one : (g : Given) (n : ℕ) (k : Kind) (at : ℕ) (payload : List ℕ) (f h : SrecFault) → RecordFails g n k at payload f → RecordFails g n k at payload h → f ≡ h
+record_one : (g : Given) (n : ℕ) (k : Kind) (at : ℕ) (payload : List ℕ) (f h : SrecFault) → RecordFails g n k at payload f → RecordFails g n k at payload h
+    → f ≡ h
 record_one g n _ _ _ _ _ (overlap at payload taken) (overlap a p too) = refl
 record_one g n _ _ _ _ _ (count_differs at payload other) (count_differs a p too) = refl
 
@@ -42,7 +43,8 @@ line_one g n line _ _ (opening_fails f start fails) (fields_fail k bs h too othe
 line_one g n line _ _ (opening_fails f start fails) (record_fails k a p h too other more) = absurd (opens n line k other.bytes f other.opens fails)
 line_one g n line _ _ (fields_fail j bs f start one fails) (after_end ended) = absurd (ended start)
 line_one g n line _ _ (fields_fail j bs f start one fails) (opening_fails h too more) = absurd (opens n line j bs h one more)
-line_one g n line _ _ (fields_fail j bs f start one fails) (fields_fail k cs h too other more) = fields_one k cs n f h (fields_fail_too line n f j k bs cs one other fails) more
+line_one g n line _ _ (fields_fail j bs f start one fails) (fields_fail k cs h too other more) =
+    fields_one k cs n f h (fields_fail_too line n f j k bs cs one other fails) more
 line_one g n line _ _ (fields_fail j bs f start one fails) (record_fails k a p h too other more) =
     absurd (has_fields n k other.bytes a p f other.fields (fields_fail_too line n f j k bs other.bytes one other.opens fails))
 line_one g n line _ _ (record_fails j a p f start one fails) (after_end ended) = absurd (ended start)
@@ -61,12 +63,15 @@ not_before b c after rest line g h n fault lt same give_c give_b fails =
     let there = given_there c h give_c b line (take m after) (length (take m after)) refl (first_lines c rest b after line m long same) in
     good_line b line there.0 g n fault there.1 give_b fails
 
-same_place : (b c after rest : List (List ℕ)) (line other : List ℕ) (g h : Given) (f e : SrecFault) → length b ≡ length c → b ++ line ∷ after ≡ c ++ other ∷ rest
+same_place : (b c after rest : List (List ℕ)) (line other : List ℕ) (g h : Given) (f e : SrecFault) → length b ≡ length c
+    → b ++ line ∷ after ≡ c ++ other ∷ rest
     → Give b g → Give c h → LineFails g (length b + 1) line f → LineFails h (length c + 1) other e → f ≡ e
 same_place b c after rest line other g h f e as_long same give_b give_c fails more =
-    let fronts : b ≡ c = sym (take-append_seam b (line ∷ after)) ∙ ap (take (length b)) same ∙ ap (λ (n : ℕ). take n (c ++ other ∷ rest)) as_long ∙ take-append_seam c (other ∷ rest) in
+    let fronts : b ≡ c = sym (take-append_seam b (line ∷ after)) ∙ ap (take (length b)) same ∙ ap (λ (n : ℕ). take n (c ++ other ∷ rest)) as_long
+    ∙ take-append_seam c (other ∷ rest) in
     let backs : line ∷ after ≡ other ∷ rest =
-    sym (drop-append_seam b (line ∷ after)) ∙ ap (drop (length b)) same ∙ ap (λ (n : ℕ). drop n (c ++ other ∷ rest)) as_long ∙ drop-append_seam c (other ∷ rest) in
+    sym (drop-append_seam b (line ∷ after)) ∙ ap (drop (length b)) same ∙ ap (λ (n : ℕ). drop n (c ++ other ∷ rest)) as_long
+    ∙ drop-append_seam c (other ∷ rest) in
     let lines_same : line ≡ other = ap (λ (l : List (List ℕ)). get_or l 0 []) backs in
     let given_same : g ≡ h = give_one c g h (subst (λ (l : List (List ℕ)). Give l g) fronts give_b) give_c in
     let there : LineFails h (length c + 1) other f =

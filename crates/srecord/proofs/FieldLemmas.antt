@@ -68,7 +68,8 @@ pub are_fields : (bytes body back made : List ℕ) → bytes ≡ body ++ back �
 are_fields bytes body back made split is one = split ∙ ap (λ (b : List ℕ). b ++ back) (sym is) ∙ ap (λ (s : List ℕ). made ++ s) (only back one)
 
 -- the count is that of the bytes behind it
-pub is_counted : (bytes : List ℕ) (at : ℕ) (payload : List ℕ) (sum : ℕ) → bytes ≡ body_of at payload ++ sum ∷ [] → (4 ≤ length bytes) × (get_or bytes 0 0 + 1 ≡ length bytes)
+pub is_counted : (bytes : List ℕ) (at : ℕ) (payload : List ℕ) (sum : ℕ) → bytes ≡ body_of at payload ++ sum ∷ []
+    → (4 ≤ length bytes) × (get_or bytes 0 0 + 1 ≡ length bytes)
 is_counted bytes at payload sum is =
     let count : length bytes ≡ length payload + 4 = ap length is ∙ omega (arith, length-append payload (sum ∷ [])) in
     let first : get_or bytes 0 0 ≡ length payload + 3 = ap (λ (b : List ℕ). get_or b 0 0) is in
@@ -88,21 +89,25 @@ module _ (a at : ℕ) (p payload : List ℕ) (s sum : ℕ) (same : body_of a p +
   same_address = omega (arith, ap (λ (b : List ℕ). get_or b 1 0) same, ap (λ (b : List ℕ). get_or b 2 0) same)
 
   pub same_payload : p ≡ payload
-  same_payload = let count : length p ≡ length payload = omega (arith, ap (λ (b : List ℕ). get_or b 0 0) same) in snoc_same p payload s sum count (ap (drop 3) same)
+  same_payload = let count : length p ≡ length payload = omega (arith, ap (λ (b : List ℕ). get_or b 0 0) same) in
+      snoc_same p payload s sum count (ap (drop 3) same)
 
   pub same_body : body_of a p ≡ body_of at payload
   same_body = ap (λ (x : ℕ). body_of x p) same_address ∙ ap (body_of at) same_payload
 
   pub same_sum : s ≡ sum
-  same_sum = let count : length (body_of a p) ≡ length (body_of at payload) = ap length same_body in snoc_last (body_of a p) (body_of at payload) s sum 0 count same
+  same_sum = let count : length (body_of a p) ≡ length (body_of at payload) = ap length same_body in
+      snoc_last (body_of a p) (body_of at payload) s sum 0 count same
 
 pub only_fields : (kind : Kind) (at : ℕ) (payload : List ℕ) (sum : ℕ) (bytes : List ℕ) → bytes ≡ body_of at payload ++ sum ∷ []
     → (FitsKind kind at payload → ⊥) → (n : ℕ) → FieldsFail kind bytes n (BadLine n)
 only_fields kind at payload sum bytes is unfit n = unread (λ a p s h.
     (let same : body_of a p ++ s ∷ [] ≡ body_of at payload ++ sum ∷ [] = sym h.bytes_are ∙ is in
-    unfit (subst (FitsKind kind at) (same_payload a at p payload s sum same) (subst (λ (x : ℕ). FitsKind kind x p) (same_address a at p payload s sum same) h.fits))))
+    unfit (subst (FitsKind kind at) (same_payload a at p payload s sum same)
+    (subst (λ (x : ℕ). FitsKind kind x p) (same_address a at p payload s sum same) h.fits))))
 
 pub wrong_sum : (kind : Kind) (bytes : List ℕ) (at : ℕ) (payload : List ℕ) (sum want n : ℕ) → bytes ≡ body_of at payload ++ sum ∷ []
     → FitsKind kind at payload → want ≡ checksum_of (body_of at payload) → sum ≢ want → FieldsFail kind bytes n (BadSum n sum want)
 wrong_sum kind bytes at payload sum want n is fit right other =
-    subst (λ (w : ℕ). FieldsFail kind bytes n (BadSum n sum w)) (sym right) (bad_sum at payload sum (record { bytes_are = is; fits = fit }) (λ same. other (same ∙ sym right)))
+    subst (λ (w : ℕ). FieldsFail kind bytes n (BadSum n sum w)) (sym right)
+    (bad_sum at payload sum (record { bytes_are = is; fits = fit }) (λ same. other (same ∙ sym right)))

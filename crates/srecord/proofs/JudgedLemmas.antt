@@ -26,8 +26,14 @@ record Opened (line : List ℕ) : Type 0 where
   opens : Opens line kind bytes
 
 module _ (line : List ℕ) (n digit : ℕ) (digits : List ℕ) (parts : parts_of line ≡ Some (digit, digits)) where
-  with_bytes_of : (k : Kind) (r : Result (List ℕ) FromHexError) → false ≡ is_wide digit → kind_of digit ≡ Some k → decode_of digits ≡ r → Opened line ⊎ ((f : SrecFault) × OpeningFails line n f)
-  with_bytes_of k (Ok bytes) narrow kind is = inl (record { kind = k; bytes = bytes; opens = record { digit = digit; digits = digits; parts = parts; kind_is = kind; bytes_are = is } })
+  with_bytes_of : (k : Kind) (r : Result (List ℕ) FromHexError) → false ≡ is_wide digit → kind_of digit ≡ Some k → decode_of digits ≡ r
+      → Opened line ⊎ ((f : SrecFault) × OpeningFails line n f)
+  with_bytes_of k (Ok bytes) narrow kind is = inl (record {
+    kind = k;
+    bytes = bytes;
+    opens =
+        record { digit = digit; digits = digits; parts = parts; kind_is = kind; bytes_are = is };
+  })
   with_bytes_of k (Err e) narrow kind is = inr (BadLine n, no_bytes line n digit digits parts e narrow is)
 
   with_kind : (k : Option Kind) → false ≡ is_wide digit → kind_of digit ≡ k → Opened line ⊎ ((f : SrecFault) × OpeningFails line n f)
@@ -134,7 +140,8 @@ free_below bytes at (suc n) = elim (free_below bytes at n) [
   ]
 ]
 
-follows_or_fails : (g : Given) (n : ℕ) (kind : Kind) (at : ℕ) (payload : List ℕ) → MayFollow g kind at payload ⊎ ((f : SrecFault) × RecordFails g n kind at payload f)
+follows_or_fails : (g : Given) (n : ℕ) (kind : Kind) (at : ℕ) (payload : List ℕ)
+    → MayFollow g kind at payload ⊎ ((f : SrecFault) × RecordFails g n kind at payload f)
 follows_or_fails g n Header at payload = inl tt
 follows_or_fails g n Start at payload = inl tt
 follows_or_fails g n Bytes at payload = elim (free_below g.bytes at (length payload)) [
@@ -217,7 +224,8 @@ listed : (ls : List (List ℕ)) (g : Given) → Give ls g → Listed g
 listed _ _ none = record { bytes = []; same = λ q. refl }
 listed _ _ (more before g line kind at payload give start is follows) = listed_with g kind at payload (listed before g give)
 
-ended : (text : List ℕ) (g : Given) (start : Option ℕ) → Give (lines text) g → g.start ≡ start → ((image : Image) × GivesImage text image) ⊎ ((fault : SrecFault) × HasFault text fault)
+ended : (text : List ℕ) (g : Given) (start : Option ℕ) → Give (lines text) g → g.start ≡ start
+    → ((image : Image) × GivesImage text image) ⊎ ((fault : SrecFault) × HasFault text fault)
 ended text g None give is = inr (NoEnd, no_end g give is)
 ended text g (Some s) give is =
     let l = listed (lines text) g give in

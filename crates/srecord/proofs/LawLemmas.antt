@@ -34,7 +34,8 @@ module _ (line : List ℕ) (j k : Kind) (bs cs : List ℕ) (one : Opens line j b
 
   pub bytes_same : bs ≡ cs
   bytes_same =
-      let here : decode_of one.digits ≡ decode_of other.digits = ap decode_of (digits_same line one.digit other.digit one.digits other.digits one.parts other.parts) in
+      let here : decode_of one.digits ≡ decode_of other.digits =
+      ap decode_of (digits_same line one.digit other.digit one.digits other.digits one.parts other.parts) in
       let first = one.bytes_are in
       let second = other.bytes_are in
       cc
@@ -102,9 +103,11 @@ same_image text a b one other =
     (cc, λ q. one.bytes q ∙ ap (λ (g : Given). g.bytes q) same ∙ sym (other.bytes q))
 
 -- lines that are longer than others, which begin alike, have those and one more
-pub first_lines : (b rest before after : List (List ℕ)) (line : List ℕ) (m : ℕ) → length b ≡ length before + suc m → b ++ rest ≡ before ++ line ∷ after → b ≡ before ++ line ∷ take m after
+pub first_lines : (b rest before after : List (List ℕ)) (line : List ℕ) (m : ℕ) → length b ≡ length before + suc m → b ++ rest ≡ before ++ line ∷ after
+    → b ≡ before ++ line ∷ take m after
 first_lines b rest before after line m long same =
-    sym (take-append_seam b rest) ∙ ap (take (length b)) same ∙ ap (λ (n : ℕ). take n (before ++ line ∷ after)) long ∙ take-append-add before (line ∷ after) (suc m)
+    sym (take-append_seam b rest) ∙ ap (take (length b)) same ∙ ap (λ (n : ℕ). take n (before ++ line ∷ after)) long
+    ∙ take-append-add before (line ∷ after) (suc m)
 
 -- a line among others was good where it stands
 pub given_there : (ls : List (List ℕ)) (h : Given) → Give ls h → (before : List (List ℕ)) (line : List ℕ) (after : List (List ℕ)) (n : ℕ)
@@ -132,7 +135,8 @@ has_fields n k bytes at payload _ one (bad_sum a p sum other wrong) =
     let same : body_of a p ++ sum ∷ [] ≡ body_of at payload ++ checksum_of (body_of at payload) ∷ [] = sym other.bytes_are ∙ one.bytes_are in
     wrong (same_sum a at p payload sum _ same ∙ ap checksum_of (sym (same_body a at p payload sum _ same)))
 
-follows_well : (g : Given) (n : ℕ) (k : Kind) (at : ℕ) (payload : List ℕ) (fault : SrecFault) → MayFollow g k at payload → RecordFails g n k at payload fault → ⊥
+follows_well : (g : Given) (n : ℕ) (k : Kind) (at : ℕ) (payload : List ℕ) (fault : SrecFault) → MayFollow g k at payload → RecordFails g n k at payload fault
+    → ⊥
 follows_well g n _ _ _ _ free (overlap at payload taken) = let none = free taken.0 taken.1 in let some = subst (λ (o : Option ℕ). IsSome o) none taken.2 in cc
 follows_well g n _ _ _ _ counted (count_differs at payload other) = other counted
 
@@ -152,7 +156,8 @@ module _ (line : List ℕ) (n : ℕ) (fault : SrecFault) where
       (subst (λ (x : List ℕ). RecordFails g n j a x fault) (record_payload line j k a b p q one other) fails)))
 
 -- a good line does not fail
-pub good_line : (before : List (List ℕ)) (line : List ℕ) (h g : Given) (n : ℕ) (fault : SrecFault) → Last before line h → Give before g → LineFails g n line fault → ⊥
+pub good_line : (before : List (List ℕ)) (line : List ℕ) (h g : Given) (n : ℕ) (fault : SrecFault) → Last before line h → Give before g
+    → LineFails g n line fault → ⊥
 good_line before line h g n _ last give (after_end ended) = ended (ap (λ (x : Given). x.start) (give_one before g last.given give last.give) ∙ last.start)
 good_line before line h g n _ last give (opening_fails fault start fails) = opens n line last.kind last.is_record.bytes fault last.is_record.opens fails
 good_line before line h g n _ last give (fields_fail kind bytes fault start other fails) =

@@ -27,4 +27,5 @@ ImagesHaveFewRecords = (bytes : List (ℕ × ℕ)) (pieces : List Piece) → IsA
 
 -- a text gives an image, or it has a fault
 abbrev pub EachTextIsJudged : Type 0
-EachTextIsJudged = (text : List ℕ) → ((image : Image) × GivesImage text image) ⊎ ((fault : SrecFault) × HasFault text fault)
+EachTextIsJudged = (text : List ℕ) → ((image : Image) × GivesImage text image) ⊎
+    ((fault : SrecFault) × HasFault text fault)

@@ -1,0 +1,77 @@
+-- The command `exec IMAGE STEPS FLAGS`.
+use Rattle.std.specs.Prelude.{◌≡◌, ℕ, ◌&&◌, nat_le, nat_lt, if◌then◌else◌, List, [], ◌∷◌, ◌++◌, length, codes, Option, Some, None, option_and_then, option_map, Result, Ok, Err}
+use Rattle.std.specs.Char.{is_ascii_digit}
+use Rattle.std.specs.List.{list_all}
+use Rattle.std.specs.Str.Parse.{digits_value}
+use Rattle.cpu12_asm.specs.declared.image.Image.{Image}
+use Rattle.cpu12_isa.specs.declared.instr.Regs.{Regs}
+use Rattle.cpu12_parts.specs.State.{State}
+use Rattle.cpu12_emul.specs.Image.{image_memory}
+use Rattle.cpu12_emul.specs.Run.{EndsRun}
+use Rattle.cpu12_emul.specs.Step.{reset_with}
+use Rattle.cpu12_emul.specs.declared.ends.RunEnd.{RunEnd}
+use Rattle.cpu12_emul.specs.declared.ends.RunEnd.TheVariants as end
+use Rattle.srecord.specs.Texts.{GivesImage}
+use Rattle.fz_shelf.specs.Parts.{address_digits, byte_digits}
+use Rattle.fz_top.specs.Deeds.{Deed}
+use Rattle.fz_top.specs.Images.{records_refusals}
+use Rattle.fz_top.specs.Lines.{line}
+use Rattle.fz_top.specs.Refusals.{Refusals, Refuses}
+use Rattle.fz_top.specs.Texts.{Text, word_at}
+use Rattle.fz_top.specs.Words.{flags_of}
+use Rattle.fz_top.specs.declared.exec.Exec.{Exec}
+use Rattle.fz_top.specs.declared.status.Status.{Status}
+
+-- one or more decimal digits, of a number up to 1000000
+abbrev pub steps_of : Text → Option ℕ
+steps_of text =
+    if nat_lt 0 (length text) && (list_all is_ascii_digit text && nat_le (digits_value 10 text) 1000000)
+    then Some (digits_value 10 text)
+    else None
+
+abbrev pub exec_with : ℕ → ℕ → Exec
+exec_with steps flags = record { steps = steps; flags = flags }
+
+-- the command of the words, where the last two are of the forms of STEPS and FLAGS
+abbrev pub exec_in : List Text → Option Exec
+exec_in words =
+    option_and_then (λ steps. option_map (exec_with steps) (flags_of (word_at words 4))) (steps_of (word_at words 3))
+
+-- IMAGE
+abbrev pub exec_inputs : List ℕ
+exec_inputs = 2 ∷ []
+
+-- ---- its line: the registers, and how many steps led to them
+
+abbrev pub exec_line : Regs → ℕ → List ℕ
+exec_line r steps =
+    codes "pc " ++ (address_digits r.pc ++ (codes " a " ++ (byte_digits r.a ++ (codes " b " ++ (byte_digits r.b
+    ++ (codes " x " ++ (address_digits r.x ++ (codes " y " ++ (address_digits r.y
+    ++ (codes " sp " ++ (address_digits r.sp ++ (codes " ccr " ++ (byte_digits r.ccr.0
+    ++ line (codes " steps ") steps)))))))))))))
+
+-- ---- what it makes of its file
+
+-- the text gives an image; from reset with its bytes in memory a run of at most STEPS steps ends like this
+pub record Ends (exec : Exec) (text : List ℕ) (e : RunEnd) (last : State) : Type 0 where
+  pub image : Image
+  pub spelled : GivesImage text image
+  pub ends : EndsRun exec.flags exec.steps (reset_with (image_memory image.bytes)) e last
+
+-- the line is that of the first state at `20 FE`, which is the least number of steps away
+pub record ExecGives (exec : Exec) (text : List ℕ) (deed : Deed) : Type 0 where
+  pub steps : ℕ
+  pub last : State
+  pub arrives : Ends exec text (end.Arrived steps) last
+  pub deed_is : deed ≡ record { text = exec_line last.regs steps; file = None }
+
+-- the text gives no image, or the run ends elsewhere
+abbrev pub exec_refusals : Exec → List ℕ → Refusals
+exec_refusals exec text = record (records_refusals text) {
+  trap = λ pc byte. (last : State) × Ends exec text (end.Trap pc byte) last;
+  budget = λ steps. (last : State) × Ends exec text (end.Budget steps) last;
+}
+
+abbrev pub ExecMakes : Exec → List ℕ → Result Deed Status → Type 0
+ExecMakes exec text (Ok deed) = ExecGives exec text deed
+ExecMakes exec text (Err s) = Refuses (exec_refusals exec text) s

@@ -1,0 +1,142 @@
+//! The command `exec IMAGE STEPS FLAGS`.
+ghost use Rattle.std.specs.Prelude.{◌≡◌, ◌≤◌, ◌++◌, length, string_bytes, IfOk, OnOk};
+ghost use Rattle.std.specs.Char.{is_ascii_digit};
+ghost use Rattle.std.specs.List.{list_all};
+ghost use Rattle.fz_shelf.specs.Lines.{text_of};
+ghost use Rattle.fz_shelf.specs.Parts.{address_digits, byte_digits};
+ghost use Rattle.fz_top.specs.Deeds.{IsResultOf};
+ghost use Rattle.fz_top.specs.Exec.{ExecMakes, exec_in, exec_line, steps_of};
+ghost use Rattle.fz_top.specs.Texts.{texts_of};
+
+use crate::Status;
+use crate::images::image_of;
+use crate::words::{flags, word};
+use crate::work::Work;
+use cpu12_asm::Image;
+use cpu12_emul::ends::RunEnd;
+use cpu12_emul::machine::Machine;
+use cpu12_isa::instr::Regs;
+use cpu12_isa::mem::FlatMem;
+use std::alloc::{AllocError, Global};
+use std::fmt::Write;
+
+/// `exec IMAGE STEPS FLAGS`
+#[derive(Clone, Copy, Debug, PartialEq, Eq)]
+pub struct Exec {
+    /// The most steps that are taken.
+    steps: u32,
+    /// The condition codes that the machine leaves open.
+    flags: u8,
+}
+
+/// The word IMAGE.
+pub(crate) static INPUTS: [u32; 1] = [2];
+
+/// The most steps that the words may ask for.
+const MOST_STEPS: u32 = 1_000_000;
+
+fn are_digits(text: &str) -> bool
+    ensures { result ≡ list_all is_ascii_digit text.now }
+{
+    text.as_bytes().iter().all(|b| b.is_ascii_digit())
+}
+
+/// The number of one or more decimal digits, up to 1000000.
+fn steps(text: &str) -> Option<u32>
+    ensures { result ≡ steps_of text.now }
+{
+    if !are_digits(text) {
+        return None;
+    }
+    let Ok(steps) = text.parse::<u32>() else {
+        return None;
+    };
+    if steps <= MOST_STEPS {
+        Some(steps)
+    } else {
+        None
+    }
+}
+
+impl Exec {
+    /// The command of these words.
+    pub(crate) fn of(words: &[String]) -> Option<Exec>
+        ensures { result ≡ exec_in (texts_of words.now) }
+    {
+        let Some(steps) = steps(word(words, 3)) else {
+            return None;
+        };
+        match flags(word(words, 4)) {
+            Some(flags) => Some(Exec { steps, flags }),
+            None => None,
+        }
+    }
+
+    /// Runs the image from reset until it branches to itself, and writes down the registers.
+    pub(crate) fn work(self, alloc: Global, records: &[u8]) -> Result<Work, Status>
+        requires { length records.now ≤ 1048576 }
+        ensures { IsResultOf (ExecMakes self records.now) result }
+    {
+        let image = match image_of(alloc, records) {
+            Ok(image) => image,
+            Err(status) => return Err(status),
+        };
+        let mut machine = match Machine::<FlatMem>::new(alloc, &image, self.flags) {
+            Ok(machine) => machine,
+            Err(_) => return Err(Status::Memory),
+        };
+        match machine.run(self.steps) {
+            RunEnd::Arrived(steps) => match lines(alloc, &machine.regs(), steps) {
+                Ok(lines) => Ok(Work { lines, file: None }),
+                Err(_) => Err(Status::Memory),
+            },
+            RunEnd::Trap(pc, byte) => Err(Status::Trap(pc, byte)),
+            RunEnd::Budget(steps) => Err(Status::Budget(steps)),
+        }
+    }
+}
+
+fn push_byte(alloc: Global, text: &mut String, label: &str, byte: u8) -> Result<(), AllocError>
+    ensures { OnOk result (string_bytes text.new ≡ string_bytes text.old ++ (label.now ++ byte_digits byte)) }
+{
+    let digits = hex::encode_upper(alloc, &[byte])?;
+    text.push_str(label)?;
+    text.push_str(digits.as_str())
+}
+
+fn push_address(
+    alloc: Global,
+    text: &mut String,
+    label: &str,
+    address: u16,
+) -> Result<(), AllocError>
+    ensures { OnOk result (string_bytes text.new ≡ string_bytes text.old ++ (label.now ++ address_digits address)) }
+{
+    let digits = hex::encode_upper(alloc, &[(address / 256) as u8, (address % 256) as u8])?;
+    text.push_str(label)?;
+    text.push_str(digits.as_str())
+}
+
+/// The line of registers, and of how many steps led to them.
+fn line_of(alloc: Global, regs: &Regs, steps: u32) -> Result<String, AllocError>
+    ensures { IfOk result (λ s. string_bytes s ≡ exec_line regs.now steps) }
+{
+    let mut text = String::new(alloc);
+    push_address(alloc, &mut text, "pc ", regs.pc)?;
+    push_byte(alloc, &mut text, " a ", regs.a)?;
+    push_byte(alloc, &mut text, " b ", regs.b)?;
+    push_address(alloc, &mut text, " x ", regs.x)?;
+    push_address(alloc, &mut text, " y ", regs.y)?;
+    push_address(alloc, &mut text, " sp ", regs.sp)?;
+    push_byte(alloc, &mut text, " ccr ", regs.ccr.0)?;
+    write!(&mut text, " steps {steps}\n")?;
+    Ok(text)
+}
+
+fn lines(alloc: Global, regs: &Regs, steps: u32) -> Result<Vec<String>, AllocError>
+    ensures { IfOk result (λ lines. text_of lines.items ≡ exec_line regs.now steps) }
+{
+    let mut lines = Vec::new(alloc);
+    lines.push(line_of(alloc, regs, steps)?)?;
+    Ok(lines)
+}
