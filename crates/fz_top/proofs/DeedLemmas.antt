@@ -6,7 +6,6 @@ use Rattle.fuzzy_meaning.specs.declared.block.Block.{Block}
 use Rattle.fuzzy_meaning.specs.declared.block.Input.{Input}
 use Rattle.fuzzy_meaning.specs.declared.block.Rule.{Rule}
 use Rattle.fcl_syntax.specs.Readings.{FirstFaultsAreOne}
-use Rattle.fcl_syntax.specs.Text.{IsFirstFault}
 use Rattle.fcl_syntax.specs.View.{view}
 use Rattle.fcl_check.specs.Alike.{AreAlike, AreAlikeRules, SpelledBlocksAreAlike}
 use Rattle.fcl_check.specs.Texts.{LoadFaultsAreOne, SpellsBlock}
@@ -18,7 +17,13 @@ use Rattle.trace_io.specs.declared.sample.Sample.{Sample}
 use Rattle.trace_io.specs.declared.sample.TraceFault.{TraceFault}
 use Rattle.trace_io.specs.declared.sample.TraceFault.TheVariants as trace
 use Rattle.fz_top.specs.Commands.{Makes}
+use Rattle.codegen.specs.declared.width.Width.{Width}
+use Rattle.cert_check.specs.Laws.{TextAnswersAreOne}
+use Rattle.cert_check.specs.SameBlocks.{SameBlocksAnswerAlike}
 use Rattle.fz_top.specs.Asm.{AsmGives, source_refusals}
+use Rattle.fz_top.specs.Certs.{AcceptsCert}
+use Rattle.fz_top.specs.Check.{check_in, check_refusals}
+use Rattle.fz_top.proofs.CertLemmas.{cert_apart}
 use Rattle.fz_top.specs.Firmwares.{RefusesText, text_refusals}
 use Rattle.fz_top.specs.Run.{RefusesTrace, run_refusals}
 use Rattle.fz_top.specs.Deeds.{Deed}
@@ -45,7 +50,8 @@ says_same : (p q : Block) → AreAlike p q → SaysTheSame p q
 says_same p q alike = record { inputs = alike.inputs; outputs = alike.outputs; rules = rules_say p.rules q.rules alike.rules }
 
 module _ (first : FirstFaultsAreOne) (load : LoadFaultsAreOne) (alike : SpelledBlocksAreAlike)
-    (layouts : LayoutsAreOne) (limits : LimitsHaveNoFault) (traces : SpelledTracesHaveNoFault) where
+    (layouts : LayoutsAreOne) (limits : LimitsHaveNoFault) (traces : SpelledTracesHaveNoFault)
+    (certs : TextAnswersAreOne) (blocks : SameBlocksAnswerAlike) where
   -- a text that gives firmware is not refused
   text_apart : (text : List ℕ) (block : Block) → SpellsBlock text block → IsWithinLimits block
       → (f : FclFault) → CarriesNoMemory (status.Fcl f) → RefusesText text f → ⊥
@@ -88,6 +94,20 @@ module _ (first : FirstFaultsAreOne) (load : LoadFaultsAreOne) (alike : SpelledB
     budget = λ steps is. is;
   }
 
+  check_impossible : (width : Width) (text cert errors : List ℕ) (block : Block) → SpellsBlock text block → IsWithinLimits block
+      → AcceptsCert width block cert errors → AreImpossible (check_refusals (check_in width) text cert)
+  check_impossible width text cert errors block spelled within accepts = record {
+    fcl = text_apart text block spelled within;
+    image = λ f no is. is;
+    cert = λ f no refuses. cert_apart certs blocks width cert errors block refuses.0 spelled.valid
+        (alike text refuses.0 block refuses.2.spelled spelled) accepts f refuses.3;
+    trace = λ f no is. is;
+    plan = λ f no is. is;
+    asm = λ f no is. is;
+    trap = λ pc byte is. is;
+    budget = λ steps is. is;
+  }
+
   source_impossible : (source : List ℕ) (deed : Deed) → AsmGives source deed → AreImpossible (source_refusals source)
   source_impossible source deed gives = record {
     fcl = λ f no is. is;
@@ -103,6 +123,8 @@ module _ (first : FirstFaultsAreOne) (load : LoadFaultsAreOne) (alike : SpelledB
   pub apart : DeedsHaveNoFault
   unfolding Makes
   apart command.Asm contents deed s makes fault = none_refuses _ (source_impossible _ deed makes) s fault
+  apart (command.Check check) contents deed s makes fault =
+      none_refuses _ (check_impossible check.width _ _ makes.errors makes.block makes.gives.spelled makes.gives.limits makes.accepts) s fault
   apart (command.Compile compile) contents deed s makes fault =
       none_refuses _ (text_impossible _ makes.block makes.gives.spelled makes.gives.limits) s fault
   apart (command.Run run) contents deed s makes fault =
@@ -113,6 +135,7 @@ module _ (first : FirstFaultsAreOne) (load : LoadFaultsAreOne) (alike : SpelledB
 faults_carry : (command : Command) (contents : List (List ℕ)) (s : Status) → Makes command contents (Err s) → CarriesNoMemory s
 unfolding Makes
 faults_carry command.Asm contents s makes = refusals_carry _ s makes
+faults_carry (command.Check check) contents s makes = refusals_carry _ s makes
 faults_carry (command.Compile compile) contents s makes = refusals_carry _ s makes
 faults_carry (command.Run run) contents s makes = refusals_carry _ s makes
 

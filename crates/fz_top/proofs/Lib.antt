@@ -5,3 +5,4 @@ pub mod LineLemmas
 pub mod AnswerLemmas
 pub mod DeedLemmas
 pub mod StatusLemmas
+pub mod CertLemmas

@@ -1,6 +1,7 @@
 //! Laws of what commands make, each the contract of a function that does nothing.
 ghost use Rattle.fz_top.specs.Runs.{DeedsHaveNoFault};
 
+use cert_check::{same_blocks_answer_alike, text_answers_are_one};
 use fcl_check::{load_faults_are_one, spelled_blocks_are_alike};
 use fcl_syntax::first_faults_are_one;
 use rule_layout::{layouts_are_one, limits_have_no_fault};
@@ -11,6 +12,8 @@ pub(crate) fn deeds_have_no_fault()
     ensures { DeedsHaveNoFault }
 {
     first_faults_are_one();
+    same_blocks_answer_alike();
+    text_answers_are_one();
     load_faults_are_one();
     spelled_blocks_are_alike();
     layouts_are_one();

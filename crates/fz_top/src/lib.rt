@@ -10,6 +10,8 @@
 #![tactic(auto)]
 
 mod asm;
+mod certs;
+mod check;
 mod command;
 mod compile;
 mod delivery;
@@ -25,6 +27,7 @@ mod status;
 mod words;
 mod work;
 
+pub use check::Check;
 pub use command::Command;
 pub use compile::Compile;
 pub use program::fuzz12;
