@@ -11,3 +11,4 @@ pub mod CheckLemmas
 pub mod DriverLemmas
 pub mod FaultLemmas
 pub mod FirstFaults
+pub mod SameBlocks

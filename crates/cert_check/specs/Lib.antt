@@ -4,4 +4,5 @@ pub mod Faults
 pub mod Walks
 pub mod Refusals
 pub mod Laws
+pub mod SameBlocks
 pub mod Examples

@@ -28,7 +28,13 @@ use Rattle.srecord.specs.Texts.{GivesImage}
 use Rattle.fz_top.specs.Commands.{Makes}
 use Rattle.fz_top.specs.Exec.{Ends, ExecGives, exec_refusals}
 use Rattle.fz_top.specs.Images.{RefusesRecords}
+use Rattle.codegen.specs.declared.width.Width.{Width}
+use Rattle.cert_check.specs.Laws.{TextAnswersAreOne}
+use Rattle.cert_check.specs.SameBlocks.{SameBlocksAnswerAlike}
 use Rattle.fz_top.specs.Asm.{AsmGives, source_refusals}
+use Rattle.fz_top.specs.Certs.{AcceptsCert}
+use Rattle.fz_top.specs.Check.{check_in, check_refusals}
+use Rattle.fz_top.proofs.CertLemmas.{cert_apart}
 use Rattle.fz_top.specs.Firmwares.{RefusesText, text_refusals}
 use Rattle.fz_top.specs.Run.{RefusesTrace, run_refusals}
 use Rattle.fz_top.specs.Deeds.{Deed}
@@ -59,7 +65,8 @@ says_same p q alike = record { inputs = alike.inputs; outputs = alike.outputs; r
 
 module _ (first : FirstFaultsAreOne) (load : LoadFaultsAreOne) (alike : SpelledBlocksAreAlike)
     (layouts : LayoutsAreOne) (limits : LimitsHaveNoFault) (traces : SpelledTracesHaveNoFault)
-    (images : ImagesAreOne) (good : ImagesHaveNoFault) (loads : ImagesLoadAlike) (ends : RunsEndOnce) where
+    (images : ImagesAreOne) (good : ImagesHaveNoFault) (loads : ImagesLoadAlike) (ends : RunsEndOnce)
+    (certs : TextAnswersAreOne) (blocks : SameBlocksAnswerAlike) where
   -- a text that gives firmware is not refused
   text_apart : (text : List ℕ) (block : Block) → SpellsBlock text block → IsWithinLimits block
       → (f : FclFault) → CarriesNoMemory (status.Fcl f) → RefusesText text f → ⊥
@@ -96,6 +103,20 @@ module _ (first : FirstFaultsAreOne) (load : LoadFaultsAreOne) (alike : SpelledB
     image = λ f no is. is;
     cert = λ f no is. is;
     trace = trace_apart text samples block values spelled spells;
+    plan = λ f no is. is;
+    asm = λ f no is. is;
+    trap = λ pc byte is. is;
+    budget = λ steps is. is;
+  }
+
+  check_impossible : (width : Width) (text cert errors : List ℕ) (block : Block) → SpellsBlock text block → IsWithinLimits block
+      → AcceptsCert width block cert errors → AreImpossible (check_refusals (check_in width) text cert)
+  check_impossible width text cert errors block spelled within accepts = record {
+    fcl = text_apart text block spelled within;
+    image = λ f no is. is;
+    cert = λ f no refuses. cert_apart certs blocks width cert errors block refuses.0 spelled.valid
+        (alike text refuses.0 block refuses.2.spelled spelled) accepts f refuses.3;
+    trace = λ f no is. is;
     plan = λ f no is. is;
     asm = λ f no is. is;
     trap = λ pc byte is. is;
@@ -142,6 +163,8 @@ module _ (first : FirstFaultsAreOne) (load : LoadFaultsAreOne) (alike : SpelledB
   pub apart : DeedsHaveNoFault
   unfolding Makes
   apart command.Asm contents deed s makes fault = none_refuses _ (source_impossible _ deed makes) s fault
+  apart (command.Check check) contents deed s makes fault =
+      none_refuses _ (check_impossible check.width _ _ makes.errors makes.block makes.gives.spelled makes.gives.limits makes.accepts) s fault
   apart (command.Compile compile) contents deed s makes fault =
       none_refuses _ (text_impossible _ makes.block makes.gives.spelled makes.gives.limits) s fault
   apart (command.Exec exec) contents deed s makes fault = none_refuses _ (exec_impossible exec _ deed makes) s fault
@@ -153,6 +176,7 @@ module _ (first : FirstFaultsAreOne) (load : LoadFaultsAreOne) (alike : SpelledB
 faults_carry : (command : Command) (contents : List (List ℕ)) (s : Status) → Makes command contents (Err s) → CarriesNoMemory s
 unfolding Makes
 faults_carry command.Asm contents s makes = refusals_carry _ s makes
+faults_carry (command.Check check) contents s makes = refusals_carry _ s makes
 faults_carry (command.Compile compile) contents s makes = refusals_carry _ s makes
 faults_carry (command.Exec exec) contents s makes = refusals_carry _ s makes
 faults_carry (command.Run run) contents s makes = refusals_carry _ s makes

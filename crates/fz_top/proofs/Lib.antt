@@ -6,3 +6,4 @@ pub mod AnswerLemmas
 pub mod DeedLemmas
 pub mod StatusLemmas
 pub mod StepsLemmas
+pub mod CertLemmas

@@ -6,6 +6,7 @@ use Rattle.std.proofs.Math.Seq.{take-suc}
 use Rattle.std.proofs.lemmas.List.{append-nil, length-map, length-take-le, map-append}
 use Rattle.fz_shelf.specs.Lines.{text_of}
 use Rattle.fz_run.specs.Rows.{row_seen}
+use Rattle.fz_top.specs.Check.{error_line, error_lines}
 use Rattle.fz_top.specs.Lines.{newline}
 use Rattle.fz_top.specs.Run.{Answered, answered, numbers, run_lines, sample_line, sample_lines, shown}
 use Rattle.fz_run.specs.declared.rows.Row.{Row}
@@ -69,3 +70,24 @@ map_answered (r ∷ rows) = ap (λ (l : List Answered). answered r ∷ l) (map_a
 pub run_text : (bound bound' : ℕ) (rows shows : List Row) (text : List ℕ) → text ≡ run_lines bound (map answered shows) → bound ≡ bound' → shows ≡ rows → text ≡ run_lines bound' (map shown (map row_seen rows))
 run_text bound bound' rows shows text written bound_is shows_are =
     written ∙ ap (λ (b : ℕ). run_lines b (map answered shows)) bound_is ∙ ap (λ (rs : List Row). run_lines bound' (map answered rs)) shows_are ∙ ap (run_lines bound') (map_answered rows)
+
+-- ---- the errors of outputs
+
+error_lines-snoc : (o : ℕ) (es : List ℕ) (e : ℕ) → error_lines o (es ++ e ∷ []) ≡ error_lines o es ++ error_line (o + length es) e
+error_lines-snoc o [] e = append-nil (error_line o e) ∙ ap (λ (n : ℕ). error_line n e) (omega arith)
+error_lines-snoc o (x ∷ es) e =
+    let at : o + 1 + length es ≡ o + length (x ∷ es) = omega arith in
+    ap (λ (t : List ℕ). error_line o x ++ t) (error_lines-snoc (o + 1) es e ∙ ap (λ (n : ℕ). error_lines (o + 1) es ++ error_line n e) at)
+    ∙ sym (append_assoc (error_line o x) (error_lines (o + 1) es) (error_line (o + length (x ∷ es)) e))
+
+-- the lines so far with one output more
+pub error_more : (items next : List (String Global)) (line : String Global) (es : List ℕ) (i d : ℕ) → i < length es
+    → text_of items ≡ error_lines 1 (take i es) → next ≡ items ++ line ∷ [] → string_bytes line ≡ error_line (i + 1) (get_or es i d)
+    → text_of next ≡ error_lines 1 (take (i + 1) es)
+error_more items next line es i d lt so_far added is =
+    let e = get_or es i d in
+    let more : take (i + 1) es ≡ take i es ++ e ∷ [] = rw add-one (take-suc es i d lt) in
+    let size : 1 + length (take i es) ≡ i + 1 = omega (arith, length-take-le i es (omega arith)) in
+    ap text_of added ∙ text_of-snoc items line ∙ ap (λ (t : List ℕ). t ++ string_bytes line) so_far
+    ∙ ap (λ (t : List ℕ). error_lines 1 (take i es) ++ t) (is ∙ ap (λ (n : ℕ). error_line n e) (sym size))
+    ∙ sym (error_lines-snoc 1 (take i es) e) ∙ ap (error_lines 1) (sym more)

@@ -4,24 +4,29 @@ use Rattle.fz_words.specs.App.{IsRefused}
 use Rattle.fz_words.specs.Table.{Row, row, command_in as command_by}
 use Rattle.codegen.specs.declared.width.Width.TheVariants.{Byte, Word}
 use Rattle.fz_top.specs.Asm.{AsmMakes, asm_inputs}
+use Rattle.fz_top.specs.Check.{CheckMakes, check_in, check_inputs}
 use Rattle.fz_top.specs.Compile.{CompileMakes, compile_in, compile_inputs}
 use Rattle.fz_top.specs.Deeds.{Deed}
 use Rattle.fz_top.specs.Exec.{ExecMakes, exec_in, exec_inputs}
 use Rattle.fz_top.specs.Run.{RunMakes, run_in, run_inputs}
 use Rattle.fz_top.specs.Texts.{Text, content_at}
 use Rattle.fz_top.specs.declared.command.Command.{Command}
-use Rattle.fz_top.specs.declared.command.Command.TheVariants.{Asm, Compile, Exec, Run}
+use Rattle.fz_top.specs.declared.command.Command.TheVariants.{Asm, Check, Compile, Exec, Run}
 use Rattle.fz_top.specs.declared.command.Name.{Name}
 use Rattle.fz_top.specs.declared.command.Name.TheVariants as name
 use Rattle.fz_top.specs.declared.status.Status.{Status}
 
 -- the commands by name, each with the number of words that follow
 unfoldable pub table : List (Row Name)
-table = row (codes "asm") 2 name.Asm ∷ row (codes "compile") 2 name.Compile ∷ row (codes "compile16") 2 name.Compile16 ∷ row (codes "exec") 3 name.Exec ∷ row (codes "run") 3 name.Run ∷ []
+table = row (codes "asm") 2 name.Asm ∷ row (codes "check") 2 name.Check ∷ row (codes "check16") 2 name.Check16
+    ∷ row (codes "compile") 2 name.Compile ∷ row (codes "compile16") 2 name.Compile16 ∷ row (codes "exec") 3 name.Exec
+    ∷ row (codes "run") 3 name.Run ∷ []
 
 -- the command of a name, where the words have its form
 unfoldable pub form_of : Name → List Text → Option Command
 form_of name.Asm words = Some Asm
+form_of name.Check words = Some (Check (check_in Byte))
+form_of name.Check16 words = Some (Check (check_in Word))
 form_of name.Compile words = Some (Compile (compile_in Byte))
 form_of name.Compile16 words = Some (Compile (compile_in Word))
 form_of name.Exec words = option_map Exec (exec_in words)
@@ -30,6 +35,7 @@ form_of name.Run words = option_map Run (run_in words)
 -- the words that name the files to read, in order
 unfoldable pub inputs_of : Command → List ℕ
 inputs_of Asm = asm_inputs
+inputs_of (Check check) = check_inputs
 inputs_of (Compile compile) = compile_inputs
 inputs_of (Exec exec) = exec_inputs
 inputs_of (Run run) = run_inputs
@@ -37,6 +43,7 @@ inputs_of (Run run) = run_inputs
 -- what the command makes of the contents of its files
 unfoldable pub Makes : Command → List (List ℕ) → Result Deed Status → Type 0
 Makes Asm contents r = AsmMakes (content_at contents 0) r
+Makes (Check check) contents r = CheckMakes check (content_at contents 0) (content_at contents 1) r
 Makes (Compile compile) contents r = CompileMakes compile (content_at contents 0) r
 Makes (Exec exec) contents r = ExecMakes exec (content_at contents 0) r
 Makes (Run run) contents r = RunMakes run (content_at contents 0) (content_at contents 1) r

@@ -1,4 +1,6 @@
 pub mod Asm
+pub mod Certs
+pub mod Check
 pub mod Codes
 pub mod Commands
 pub mod Compile

@@ -1,8 +1,6 @@
 -- Why contents are refused.
 use Rattle.std.specs.Prelude.{◌≢◌, ℕ}
-use Rattle.box_tree.specs.declared.cert.CertFault.{CertFault}
 use Rattle.box_tree.specs.declared.cert.CertFault.TheVariants as cert
-use Rattle.cert_check.specs.declared.checker.CheckFault.{CheckFault}
 use Rattle.cert_check.specs.declared.checker.CheckFault.TheVariants as check
 use Rattle.cpu12_asm.specs.declared.items.AsmFault.{AsmFault}
 use Rattle.cpu12_asm.specs.declared.items.AsmFault.TheVariants as asm

@@ -10,6 +10,7 @@ ghost use Rattle.fz_top.specs.Texts.{bytes_of, texts_of};
 ghost use Rattle.fz_top.specs.Commands.{IsUsage, Makes, command_in, form_of, inputs_of, name_in, table};
 ghost use Rattle.fz_top.specs.Deeds.{IsResultOf};
 
+use crate::check::{self, Check};
 use crate::compile::{self, Compile};
 use crate::exec::{self, Exec};
 use crate::reading::content;
@@ -24,6 +25,8 @@ use std::alloc::Global;
 #[derive(Clone, Copy)]
 pub(crate) enum Name {
     Asm,
+    Check,
+    Check16,
     Compile,
     Compile16,
     Exec,
@@ -31,8 +34,10 @@ pub(crate) enum Name {
 }
 
 /// The commands by their names on the command line, each with the number of words that follow.
-static COMMANDS: [(&str, usize, Name); 5] = [
+static COMMANDS: [(&str, usize, Name); 7] = [
     ("asm", 2, Name::Asm),
+    ("check", 2, Name::Check),
+    ("check16", 2, Name::Check16),
     ("compile", 2, Name::Compile),
     ("compile16", 2, Name::Compile16),
     ("exec", 3, Name::Exec),
@@ -44,6 +49,8 @@ static COMMANDS: [(&str, usize, Name); 5] = [
 pub enum Command {
     /// `asm SRC OUT`
     Asm,
+    /// `check FCL CERT`, and `check16 FCL CERT`
+    Check(Check),
     /// `compile FCL OUT`, and `compile16 FCL OUT`
     Compile(Compile),
     /// `exec IMAGE STEPS FLAGS`
@@ -59,6 +66,8 @@ fn formed(name: Name, words: &[String]) -> Option<Command>
 {
     match name {
         Name::Asm => Some(Command::Asm),
+        Name::Check => Some(Command::Check(Check { width: Width::Byte })),
+        Name::Check16 => Some(Command::Check(Check { width: Width::Word })),
         Name::Compile => Some(Command::Compile(Compile { width: Width::Byte })),
         Name::Compile16 => Some(Command::Compile(Compile { width: Width::Word })),
         Name::Exec => Exec::of(words).map(Command::Exec),
@@ -74,6 +83,7 @@ impl Command {
     {
         match self {
             Command::Asm => asm::INPUTS.as_slice(),
+            Command::Check(_) => check::INPUTS.as_slice(),
             Command::Compile(_) => compile::INPUTS.as_slice(),
             Command::Exec(_) => exec::INPUTS.as_slice(),
             Command::Run(_) => run::INPUTS.as_slice(),
@@ -88,6 +98,7 @@ impl Command {
     {
         match self {
             Command::Asm => asm::work(alloc, content(contents, 0)),
+            Command::Check(check) => check.work(alloc, content(contents, 0), content(contents, 1)),
             Command::Compile(compile) => compile.work(alloc, content(contents, 0)),
             Command::Exec(exec) => exec.work(alloc, content(contents, 0)),
             Command::Run(run) => run.work(alloc, content(contents, 0), content(contents, 1)),

@@ -1,6 +1,7 @@
 //! Laws of what commands make, each the contract of a function that does nothing.
 ghost use Rattle.fz_top.specs.Runs.{DeedsHaveNoFault};
 
+use cert_check::{same_blocks_answer_alike, text_answers_are_one};
 use cpu12_emul::laws::{images_load_alike, runs_end_once};
 use fcl_check::{load_faults_are_one, spelled_blocks_are_alike};
 use fcl_syntax::first_faults_are_one;
@@ -13,6 +14,8 @@ pub(crate) fn deeds_have_no_fault()
     ensures { DeedsHaveNoFault }
 {
     first_faults_are_one();
+    same_blocks_answer_alike();
+    text_answers_are_one();
     load_faults_are_one();
     spelled_blocks_are_alike();
     layouts_are_one();

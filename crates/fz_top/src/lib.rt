@@ -10,6 +10,8 @@
 #![tactic(auto)]
 
 mod asm;
+mod certs;
+mod check;
 mod command;
 mod compile;
 mod delivery;
@@ -27,6 +29,7 @@ mod status;
 mod words;
 mod work;
 
+pub use check::Check;
 pub use command::Command;
 pub use compile::Compile;
 pub use exec::Exec;

@@ -1,0 +1,52 @@
+-- The commands `check FCL CERT` and `check16 FCL CERT`.
+use Rattle.std.specs.Prelude.{◌≡◌, ◌+◌, ℕ, List, [], ◌∷◌, ◌++◌, codes, decimal, None, Result, Ok, Err}
+use Rattle.fuzzy_meaning.specs.declared.block.Block.{Block}
+use Rattle.codegen.specs.Bounds.{instruction_bound}
+use Rattle.codegen.specs.declared.firmware.Firmware.{Firmware}
+use Rattle.codegen.specs.declared.width.Width.{Width}
+use Rattle.fz_top.specs.Certs.{AcceptsCert, RefusesCert}
+use Rattle.fz_top.specs.Deeds.{Deed}
+use Rattle.fz_top.specs.Firmwares.{GivesFirmware, RefusesText}
+use Rattle.fz_top.specs.Lines.{line, newline}
+use Rattle.fz_top.specs.Refusals.{Refusals, Refuses, never}
+use Rattle.fz_top.specs.declared.check.Check.{Check}
+use Rattle.fz_top.specs.declared.status.Status.{Status}
+
+abbrev pub check_in : Width → Check
+check_in width = record { width = width }
+
+-- FCL and CERT
+abbrev pub check_inputs : List ℕ
+check_inputs = 2 ∷ 3 ∷ []
+
+-- ---- its lines: the error of each output, and the bound on instructions
+
+abbrev pub error_line : ℕ → ℕ → List ℕ
+error_line output error = codes "error " ++ (decimal output ++ (codes " " ++ (decimal error ++ newline)))
+
+-- the lines of outputs that are counted from o
+abbrev pub error_lines : ℕ → List ℕ → List ℕ
+error_lines o [] = []
+error_lines o (e ∷ es) = error_line o e ++ error_lines (o + 1) es
+
+abbrev pub check_lines : List ℕ → ℕ → List ℕ
+check_lines errors instructions = error_lines 1 errors ++ line (codes "instructions ") instructions
+
+-- ---- what it makes of its files
+
+-- the text gives firmware with answers of this width, and CERT is a certificate that is accepted with these errors
+pub record CheckGives (check : Check) (text cert : List ℕ) (deed : Deed) : Type 0 where
+  pub block : Block
+  pub firmware : Firmware
+  pub gives : GivesFirmware check.width text block firmware
+  pub errors : List ℕ
+  pub accepts : AcceptsCert check.width block cert errors
+  pub deed_is : deed ≡ record { text = check_lines errors (instruction_bound check.width block); file = None }
+
+-- why its files are refused: the text first
+abbrev pub check_refusals : Check → List ℕ → List ℕ → Refusals
+check_refusals check text cert = record never { fcl = RefusesText text; cert = RefusesCert check.width text cert }
+
+abbrev pub CheckMakes : Check → List ℕ → List ℕ → Result Deed Status → Type 0
+CheckMakes check text cert (Ok deed) = CheckGives check text cert deed
+CheckMakes check text cert (Err s) = Refuses (check_refusals check text cert) s

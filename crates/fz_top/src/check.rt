@@ -1,0 +1,68 @@
+//! The commands `check FCL CERT` and `check16 FCL CERT`.
+ghost use Rattle.std.specs.Prelude.{◌≡◌, ◌≤◌, length, IfOk, string_bytes};
+ghost use Rattle.fz_shelf.specs.Lines.{text_of};
+ghost use Rattle.fz_top.specs.Deeds.{IsResultOf};
+ghost use Rattle.fz_top.specs.Check.{CheckMakes, check_lines, error_line};
+
+use crate::Status;
+use crate::certs::errors_under;
+use crate::firmware::firmware_of;
+use crate::lines::labelled;
+use crate::work::Work;
+use codegen::Width;
+use std::alloc::{AllocError, Global};
+use std::fmt::Write;
+
+/// `check FCL CERT`, and `check16 FCL CERT` for answers of 16 bits.
+#[derive(Clone, Copy, Debug, PartialEq, Eq)]
+pub struct Check {
+    /// How wide the firmware's answers are.
+    pub(crate) width: Width,
+}
+
+/// The words FCL and CERT.
+pub(crate) static INPUTS: [u32; 2] = [2, 3];
+
+impl Check {
+    /// Checks the certificate against the text's block, and writes down the error of each output and
+    /// the bound on instructions.
+    pub(crate) fn work(self, alloc: Global, fcl: &[u8], cert: &[u8]) -> Result<Work, Status>
+        requires fcl { length fcl.now ≤ 1048576 }
+        requires cert { length cert.now ≤ 1048576 }
+        ensures { IsResultOf (CheckMakes self fcl.now cert.now) result }
+    {
+        let compiled = match firmware_of(alloc, self.width, fcl) {
+            Ok(compiled) => compiled,
+            Err(status) => return Err(status),
+        };
+        let errors = match errors_under(alloc, self.width, &compiled.block, cert) {
+            Ok(errors) => errors,
+            Err(status) => return Err(status),
+        };
+        match lines(alloc, errors.as_slice(), compiled.firmware.instr_bound) {
+            Ok(lines) => Ok(Work { lines, file: None }),
+            Err(_) => Err(Status::Memory),
+        }
+    }
+}
+
+/// The error of each output, and the bound on instructions.
+fn lines(alloc: Global, errors: &[u32], instructions: u32) -> Result<Vec<String>, AllocError>
+    ensures { IfOk result (λ lines. text_of lines.items ≡ check_lines errors.now instructions) }
+{
+    let mut lines = Vec::new(alloc);
+    for (o, error) in errors.iter().enumerate() {
+        lines.push(line_of(alloc, o + 1, *error)?)?;
+    }
+    lines.push(labelled(alloc, "instructions ", u64::from(instructions))?)?;
+    Ok(lines)
+}
+
+/// The error of an output.
+fn line_of(alloc: Global, output: usize, error: u32) -> Result<String, AllocError>
+    ensures { IfOk result (λ s. string_bytes s ≡ error_line output error) }
+{
+    let mut text = String::new(alloc);
+    write!(&mut text, "error {output} {error}\n")?;
+    Ok(text)
+}
