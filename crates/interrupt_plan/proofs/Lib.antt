@@ -1,3 +1,4 @@
 pub mod Instances
 pub mod PlanLemmas
 pub mod PairLemmas
+pub mod ApartLemmas

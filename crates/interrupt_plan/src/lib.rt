@@ -15,9 +15,11 @@ use fz_list::List;
 use std::alloc::Global;
 use thiserror::Error;
 
+mod laws;
 mod reader;
 mod row;
 
+pub use laws::spelled_plans_have_no_fault;
 pub use reader::read_plan;
 
 /// An interrupt that is asked for.

@@ -1,0 +1,9 @@
+//! Laws of plans, each the contract of a function that does nothing.
+ghost use Rattle.interrupt_plan.specs.OneReading.{SpelledPlansHaveNoFault};
+
+/// A text that spells a plan has no fault.
+pub fn spelled_plans_have_no_fault()
+    ensures { SpelledPlansHaveNoFault }
+{
+    fz_rows::first_rows_are_one();
+}
