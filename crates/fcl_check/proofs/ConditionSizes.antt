@@ -10,7 +10,7 @@ use Rattle.fcl_syntax.specs.declared.token.Token.{Token}
 use Rattle.fcl_syntax.specs.declared.token.Token.TheVariants as tok
 use Rattle.fcl_syntax.specs.declared.tree.Name.{Name}
 use Rattle.fcl_syntax.specs.Grammar.{TNot, neg, group, is, lone, TNots, no_nots, more_nots, TAnd, and_of, TAnds, no_ands, more_ands, TOr, or_of, not_text, nots_text, and_text, ands_text, or_text, less, opener}
-use Rattle.fcl_syntax.specs.Marks.{IsClean, Sym, plain}
+use Rattle.fcl_syntax.specs.Annotations.{IsClean, Sym, plain}
 use Rattle.fcl_syntax.specs.Offsets.{AscendWithin, offset_of, offsets}
 use Rattle.fcl_check.specs.Loaded.{not_condition, nots_conditions, and_condition, ands_conditions, or_condition}
 
@@ -36,8 +36,8 @@ token-opener : (n : ℕ) (x : Token) → (opener n x).token ≡ x
 token-opener zero x = refl
 token-opener (suc n) x = refl
 
-no_mark : (k : Kind) → Some k ≡ None → ⊥
-no_mark k h = cc
+no_annotation : (k : Kind) → Some k ≡ None → ⊥
+no_annotation k h = cc
 
 module _ (f : Name → Name → Condition) where
   -- ---- how many
@@ -72,9 +72,9 @@ module _ (f : Name → Name → Condition) where
   module _ (flat : (v t : Name) → depth (f v t) ≡ 1) where
     mutual
       depth_not : (t : TNot) (n : ℕ) → IsClean (not_text t n) → depth (not_condition f t) ≤ 2 * n + 2
-      depth_not (neg at t) zero clean = absurd (no_mark Deep clean.0)
+      depth_not (neg at t) zero clean = absurd (no_annotation Deep clean.0)
       depth_not (neg at t) (suc n) clean = omega (arith, depth_not t n clean.1)
-      depth_not (group at o) zero clean = absurd (no_mark Deep clean.0)
+      depth_not (group at o) zero clean = absurd (no_annotation Deep clean.0)
       depth_not (group at o) (suc n) clean = omega (arith, depth_or o n (clean_parts (or_text o n) (plain tok.Close ∷ []) clean.1).0)
       depth_not (is v i None t) n clean = omega (arith, flat v t)
       depth_not (is v i (Some at) t) n clean = omega (arith, flat v t)

@@ -5,7 +5,7 @@ use Rattle.std.specs.List.{flat_map}
 use Rattle.std.proofs.lemmas.Grind.{flat_map-append}
 use Rattle.std.proofs.lemmas.List.{append-nil}
 use Rattle.fcl_syntax.specs.Grammar.{TNot, neg, group, is, lone, TNots, no_nots, more_nots, TAnd, and_of, TAnds, no_ands, more_ands, TOr, or_of, less, name_token, is_text, not_text, nots_text, and_text, ands_text, or_text, conclusion_text, conclusions_text, weight_text, semicolon_text, rule_item_text, rule_line_text}
-use Rattle.fcl_syntax.specs.Marks.{Sym, plain, either_text}
+use Rattle.fcl_syntax.specs.Annotations.{Sym, plain, either_text}
 use Rattle.fcl_syntax.specs.View.{view_or, view_with, view_weight, view_rule_item, view_rule_line}
 use Rattle.fcl_syntax.specs.declared.token.Keyword.TheVariants as key
 use Rattle.fcl_syntax.specs.declared.token.Token.TheVariants as tok

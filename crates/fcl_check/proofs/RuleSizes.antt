@@ -14,7 +14,7 @@ use Rattle.fcl_syntax.specs.declared.tree.Conclusion.{Conclusion}
 use Rattle.fcl_syntax.specs.declared.tree.FunctionBlock.{FunctionBlock}
 use Rattle.fcl_syntax.specs.declared.tree.Rule.{Rule as RuleNode}
 use Rattle.fcl_syntax.specs.Grammar.{behind, block_text, conclusion_text, conclusions_text, each, end_text, key_text, or_text, part_text, rule_item_text, rule_line_text, rulebase_text, section_text, semicolon_text, weight_text}
-use Rattle.fcl_syntax.specs.Marks.{IsClean, Sym, either_text, plain}
+use Rattle.fcl_syntax.specs.Annotations.{IsClean, Sym, either_text, plain}
 use Rattle.fcl_syntax.specs.View.{view, view_or, view_part, view_rule_item, view_rule_line, view_section, view_weight}
 use Rattle.fcl_check.specs.Faults.{conclusions_of}
 use Rattle.fcl_check.specs.Loaded.{IsRuleOf, conclusion_of, literal_of, or_condition}

@@ -1,8 +1,8 @@
 -- Parts of a tree that their views determine: points, ranges, lines of outputs and of rule blocks, weights.
 use Rattle.std.proofs.Common.{◌≡◌, ℕ, List, Option, Some, None, inr, refl, ap}
 use Rattle.std.specs.Prelude.{◌⊎◌}
-use Rattle.fcl_syntax.specs.Grammar.{TAct, TFallback, TPoint, TRange, TSetting, TSingleton, TWeight, accu_sorts, and_sorts, method_sorts, or_sorts}
-use Rattle.fcl_syntax.specs.Marks.{Among}
+use Rattle.fcl_syntax.specs.Grammar.{TAct, TFallback, TPoint, TRange, TSetting, TSingleton, TWeight, accu_classes, and_classes, method_classes, or_classes}
+use Rattle.fcl_syntax.specs.TokenClasses.{Among}
 use Rattle.fcl_syntax.specs.View.{view_act, view_act_word, view_coordinate, view_defuzzy_line, view_degree, view_fallback, view_num, view_point, view_range, view_rule_line, view_setting, view_singleton, view_value, view_weight, view_with}
 use Rattle.fcl_syntax.specs.declared.tree.ActWord.{ActWord}
 use Rattle.fcl_syntax.specs.declared.tree.ActWord.TheVariants as act
@@ -62,10 +62,10 @@ same_range q r h =
 
 -- ---- lines of outputs
 
-same_setting : (sorts : List ℕ) (s t : Setting) → view_setting {sorts = sorts} s ≡ view_setting {sorts = sorts} t → s ≡ t
-same_setting sorts s t h =
-    let at : s.at ≡ t.at = ap (λ (x : TSetting sorts). x.at) h in
-    let inner : ◌≡◌ {A = Among sorts ⊎ ℕ} (inr s.word) (inr t.word) = ap (λ (x : TSetting sorts). x.word) h in
+same_setting : (classes : List ℕ) (s t : Setting) → view_setting {classes = classes} s ≡ view_setting {classes = classes} t → s ≡ t
+same_setting classes s t h =
+    let at : s.at ≡ t.at = ap (λ (x : TSetting classes). x.at) h in
+    let inner : ◌≡◌ {A = Among classes ⊎ ℕ} (inr s.word) (inr t.word) = ap (λ (x : TSetting classes). x.word) h in
     let word : s.word ≡ t.word = cc in
     λ i. record { at = at i; word = word i }
 
@@ -90,8 +90,8 @@ same_fallback c d h =
 
 pub same_line : (k l : DefuzzyLine) → view_defuzzy_line k ≡ view_defuzzy_line l → k ≡ l
 same_line (defuzzy.Singleton s) (defuzzy.Singleton t) h = let inner = same_singleton s t (cc) in cc
-same_line (defuzzy.Accu s) (defuzzy.Accu t) h = let inner = same_setting accu_sorts s t (cc) in cc
-same_line (defuzzy.Method s) (defuzzy.Method t) h = let inner = same_setting method_sorts s t (cc) in cc
+same_line (defuzzy.Accu s) (defuzzy.Accu t) h = let inner = same_setting accu_classes s t (cc) in cc
+same_line (defuzzy.Method s) (defuzzy.Method t) h = let inner = same_setting method_classes s t (cc) in cc
 same_line (defuzzy.Default c) (defuzzy.Default d) h = let inner = same_fallback c d (cc) in cc
 same_line (defuzzy.Range q) (defuzzy.Range r) h = let inner = same_range q r (cc) in cc
 same_line k l h = absurd cc
@@ -110,10 +110,10 @@ same_activation a e h =
     λ i. record { at = at i; word = word i }
 
 pub same_rulebase_line : (k l : RuleLine) → view_rule_line k ≡ view_rule_line l → k ≡ l
-same_rulebase_line (line.And s) (line.And t) h = let inner = same_setting and_sorts s t (cc) in cc
-same_rulebase_line (line.Or s) (line.Or t) h = let inner = same_setting or_sorts s t (cc) in cc
+same_rulebase_line (line.And s) (line.And t) h = let inner = same_setting and_classes s t (cc) in cc
+same_rulebase_line (line.Or s) (line.Or t) h = let inner = same_setting or_classes s t (cc) in cc
 same_rulebase_line (line.Act a) (line.Act e) h = let inner = same_activation a e (cc) in cc
-same_rulebase_line (line.Accu s) (line.Accu t) h = let inner = same_setting accu_sorts s t (cc) in cc
+same_rulebase_line (line.Accu s) (line.Accu t) h = let inner = same_setting accu_classes s t (cc) in cc
 same_rulebase_line k l h = absurd cc
 
 -- ---- weights

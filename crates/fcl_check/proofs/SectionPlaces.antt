@@ -2,7 +2,7 @@
 use Rattle.std.proofs.Common.{ℕ, Bool, not, ◌&&◌, List, [], ◌∷◌, ◌++◌, map, Option, Some, None, option_map, ℤ, ◌⊎◌, refl}
 use Rattle.std.specs.List.{flat_map}
 use Rattle.fcl_syntax.specs.Grammar.{TTerm, TRange, each, point_text, term_text, range_text, singleton_text, fallback_text, defuzzy_line_text, part_text}
-use Rattle.fcl_syntax.specs.Marks.{Sym, either_text}
+use Rattle.fcl_syntax.specs.Annotations.{Sym, either_text}
 use Rattle.fcl_syntax.specs.View.{view_point, view_term, view_fuzzy_line, view_singleton, view_fallback, view_defuzzy_line, view_part}
 use Rattle.fcl_syntax.specs.declared.tree.Defuzzify.{Defuzzify}
 use Rattle.fcl_syntax.specs.declared.tree.DefuzzyLine.{DefuzzyLine}

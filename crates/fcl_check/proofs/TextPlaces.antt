@@ -4,7 +4,7 @@ use Rattle.std.specs.List.{filter_map, flat_map, cons_option, list_any}
 use Rattle.std.proofs.lemmas.List.{drop-map}
 use Rattle.std.proofs.lemmas.List.Concat.{flat_map_single}
 use Rattle.fcl_syntax.specs.Grammar.{behind, each}
-use Rattle.fcl_syntax.specs.Marks.{Sym}
+use Rattle.fcl_syntax.specs.Annotations.{Sym}
 use Rattle.fcl_syntax.specs.Offsets.{AscendWithin, offset_of, offsets}
 use Rattle.fcl_syntax.specs.declared.token.Token.{Token}
 use Rattle.fcl_check.specs.Faults.{repeated}

@@ -5,7 +5,7 @@ use Rattle.std.specs.Str.{str_to_ascii_lowercase}
 use Rattle.std.specs.List.{flat_map, list_any}
 use Rattle.std.proofs.lemmas.List.Elements.{All-nil, All-cons}
 use Rattle.fcl_syntax.specs.Grammar.{behind, each, name_text, decl_text, section_text, part_text, rule_item_text, rule_line_text, rulebase_text, end_text, block_text}
-use Rattle.fcl_syntax.specs.Marks.{Sym}
+use Rattle.fcl_syntax.specs.Annotations.{Sym}
 use Rattle.fcl_syntax.specs.Offsets.{AscendWithin, OffsetsAscend, offsets}
 use Rattle.fcl_syntax.specs.View.{view_decl, view_section, view_part, view_rule_item, view_rule_line, view_rulebase, view}
 use Rattle.fcl_syntax.specs.declared.token.Token.TheVariants as tok

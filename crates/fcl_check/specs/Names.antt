@@ -3,7 +3,7 @@
 use Rattle.std.specs.Prelude.{if◌then◌else◌, ℕ, suc, Bool, true, false, List, ◌∷◌, drop, map, Option, Some, None, option_map, option_and_then}
 use Rattle.std.specs.List.{filter_map, find, flat_map, position, take_while}
 use Rattle.std.specs.Str.{bytes_eq}
-use Rattle.fcl_syntax.specs.Lexing.{is_name_byte}
+use Rattle.fcl_syntax.specs.Tokens.{is_name_byte}
 use Rattle.fcl_syntax.specs.declared.tree.Decl.{Decl}
 use Rattle.fcl_syntax.specs.declared.tree.Defuzzify.{Defuzzify}
 use Rattle.fcl_syntax.specs.declared.tree.DefuzzyLine.{DefuzzyLine}
