@@ -71,7 +71,8 @@ abbrev pub declared_in : FunctionBlock → List Declared
 declared_in b = flat_map declared_by b.vars.items
 
 abbrev pub declared_as : Direction → FunctionBlock → List Name
-declared_as direction b = filter_map (λ (d : Declared). if is_direction direction d.0 then Some d.1 else None) (declared_in b)
+declared_as direction b =
+    filter_map (λ (d : Declared). if is_direction direction d.0 then Some d.1 else None) (declared_in b)
 
 module _ (text : List ℕ) where
   -- the letters of a name

@@ -48,7 +48,8 @@ fn conclusions(
     rule: &fcl_syntax::Rule,
 ) -> Result<Vec<(u8, u8)>, AllocError>
     requires { AreConcluded source.now.tree.now.text.items source.now.tree.now.block (conclusions_of rule.now) }
-    ensures same { IfOk result (λ v. v.items ≡ map (conclusion_of source.now.tree.now.text.items source.now.tree.now.block) (conclusions_of rule.now)) }
+    ensures same { IfOk result (λ v. v.items ≡ map
+        (conclusion_of source.now.tree.now.text.items source.now.tree.now.block) (conclusions_of rule.now)) }
 {
     let mut places = Vec::new(source.alloc);
     places.push(conclusion(source, &rule.first))?;

@@ -7,6 +7,7 @@
 #![tactic(auto)]
 
 mod block;
+mod checks;
 mod conditions;
 mod fault;
 mod inputs;
@@ -16,7 +17,6 @@ mod names;
 mod numbers;
 mod operands;
 mod outputs;
-mod passes;
 mod rules;
 mod sections;
 mod source;

@@ -91,7 +91,7 @@ fn unknown_conclusion(names: &Names<'_>, tree: &Tree, conclusion: &Conclusion) -
     unknown_pair(names, tree, Direction::Output, variable, term)
 }
 
-#[tactic(auto, using(crate::proofs::Places::firsts))]
+#[tactic(auto, using(crate::proofs::places::Places::firsts))]
 fn unknown_conclusions(names: &Names<'_>, tree: &Tree, rule: &Rule) -> Option<u32>
     requires { Knows tree.now names.now }
     ensures { result ≡ first (flat_map (λ (c : Conclusion). unknown_pair tree.now.text.items tree.now.block side.Output c.variable c.term) (conclusions_of rule.now)) }
@@ -105,7 +105,7 @@ fn unknown_conclusions(names: &Names<'_>, tree: &Tree, rule: &Rule) -> Option<u3
 }
 
 /// The first name of a rule that is unknown.
-#[tactic(auto, using(crate::proofs::Places::firsts))]
+#[tactic(auto, using(crate::proofs::places::Places::firsts))]
 pub fn unknown_name(names: &Names<'_>, tree: &Tree, rule: &RuleNames<'_>) -> Option<u32>
     requires { Knows tree.now names.now }
     ensures { result ≡ first (unknown_in tree.now.text.items tree.now.block rule.now.rule.now) }
@@ -161,7 +161,7 @@ fn mistaken_operand(names: &Names<'_>, tree: &Tree, operands: &[Operand]) -> Opt
     })
 }
 
-#[tactic(auto, using(crate::proofs::Places::firsts))]
+#[tactic(auto, using(crate::proofs::places::Places::firsts))]
 fn mistaken_conclusion(names: &Names<'_>, tree: &Tree, rule: &Rule) -> Option<u32>
     requires { Knows tree.now names.now }
     ensures { result ≡ first (flat_map (λ (c : Conclusion). mistaken tree.now.text.items tree.now.block side.Output c.variable) (conclusions_of rule.now)) }
@@ -175,7 +175,7 @@ fn mistaken_conclusion(names: &Names<'_>, tree: &Tree, rule: &Rule) -> Option<u3
 }
 
 /// The first variable of a rule that stands on the wrong side.
-#[tactic(auto, using(crate::proofs::Places::firsts))]
+#[tactic(auto, using(crate::proofs::places::Places::firsts))]
 pub fn mistaken_name(names: &Names<'_>, tree: &Tree, rule: &RuleNames<'_>) -> Option<u32>
     requires { Knows tree.now names.now }
     ensures { result ≡ first (mistaken_in tree.now.text.items tree.now.block rule.now.rule.now) }

@@ -1,0 +1,4 @@
+pub mod Hulls
+pub mod Scales
+pub mod OutputLines
+pub mod Ranges
