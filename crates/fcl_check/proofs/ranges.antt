@@ -2,3 +2,4 @@ pub mod Hulls
 pub mod Scales
 pub mod OutputLines
 pub mod Ranges
+pub mod KeptNumbers
