@@ -31,7 +31,8 @@ count_of Output c = c.outputs
 -- the first of some declared variables that has these letters, with its number
 abbrev pub variable_in : List ℕ → List Declared → List ℕ → Option Variable
 variable_in text ds ls =
-    option_map (λ (side : Direction). record { direction = side; number = or_zero (number_in text (names_of side ds) ls) })
+    option_map
+    (λ (side : Direction). record { direction = side; number = or_zero (number_in text (names_of side ds) ls) })
     (option_map (λ (d : Declared). d.0) (find (λ (d : Declared). is_named text ls d.1) ds))
 
 -- the names of a section's terms

@@ -16,7 +16,8 @@ use fuzzy_meaning::Cond;
 use std::alloc::AllocError;
 
 fn literal(source: &Source<'_, '_>, operand: &Operand) -> Result<Cond, AllocError>
-    requires { IsKnown source.now.tree.now.text.items source.now.tree.now.block InputSide operand.now.variable operand.now.term }
+    requires { IsKnown source.now.tree.now.text.items source.now.tree.now.block InputSide operand.now.variable
+        operand.now.term }
     ensures { IfOk result (λ c. condition_of c ≡ negated operand.now.not_at
         (literal_of source.now.tree.now.text.items source.now.tree.now.block operand.now.variable operand.now.term)) }
 {

@@ -75,7 +75,9 @@ fn unknown_pair(
 
 fn unknown_operand(names: &Names<'_>, tree: &Tree, operands: &[Operand]) -> Option<u32>
     requires { Knows tree.now names.now }
-    ensures { result ≡ first (flat_map (λ (p : Pair). unknown_pair tree.now.text.items tree.now.block side.Input p.variable p.term) (map pair_of operands.now)) }
+    ensures { result ≡ first (flat_map
+        (λ (p : Pair). unknown_pair tree.now.text.items tree.now.block side.Input p.variable p.term)
+        (map pair_of operands.now)) }
 {
     first_at(operands, |operand| {
         let (variable, term) = (operand.variable, operand.term);
@@ -85,7 +87,8 @@ fn unknown_operand(names: &Names<'_>, tree: &Tree, operands: &[Operand]) -> Opti
 
 fn unknown_conclusion(names: &Names<'_>, tree: &Tree, conclusion: &Conclusion) -> Option<u32>
     requires { Knows tree.now names.now }
-    ensures { result ≡ first (unknown_pair tree.now.text.items tree.now.block side.Output conclusion.now.variable conclusion.now.term) }
+    ensures { result ≡ first (unknown_pair tree.now.text.items tree.now.block side.Output conclusion.now.variable
+        conclusion.now.term) }
 {
     let (variable, term) = (conclusion.variable, conclusion.term);
     unknown_pair(names, tree, Direction::Output, variable, term)
@@ -94,7 +97,9 @@ fn unknown_conclusion(names: &Names<'_>, tree: &Tree, conclusion: &Conclusion) -
 #[tactic(auto, using(crate::proofs::places::Places::firsts))]
 fn unknown_conclusions(names: &Names<'_>, tree: &Tree, rule: &Rule) -> Option<u32>
     requires { Knows tree.now names.now }
-    ensures { result ≡ first (flat_map (λ (c : Conclusion). unknown_pair tree.now.text.items tree.now.block side.Output c.variable c.term) (conclusions_of rule.now)) }
+    ensures { result ≡ first (flat_map
+        (λ (c : Conclusion). unknown_pair tree.now.text.items tree.now.block side.Output c.variable c.term)
+        (conclusions_of rule.now)) }
 {
     if let Some(at) = unknown_conclusion(names, tree, &rule.first) {
         return Some(at);
@@ -154,7 +159,9 @@ pub fn mistaken_section(names: &Names<'_>, tree: &Tree, part: &Part) -> Option<u
 
 fn mistaken_operand(names: &Names<'_>, tree: &Tree, operands: &[Operand]) -> Option<u32>
     requires { Knows tree.now names.now }
-    ensures { result ≡ first (flat_map (λ (p : Pair). mistaken tree.now.text.items tree.now.block side.Input p.variable) (map pair_of operands.now)) }
+    ensures { result ≡ first (flat_map
+        (λ (p : Pair). mistaken tree.now.text.items tree.now.block side.Input p.variable)
+        (map pair_of operands.now)) }
 {
     first_at(operands, |operand| {
         mistaken(names, tree, Direction::Input, operand.variable)
@@ -164,7 +171,9 @@ fn mistaken_operand(names: &Names<'_>, tree: &Tree, operands: &[Operand]) -> Opt
 #[tactic(auto, using(crate::proofs::places::Places::firsts))]
 fn mistaken_conclusion(names: &Names<'_>, tree: &Tree, rule: &Rule) -> Option<u32>
     requires { Knows tree.now names.now }
-    ensures { result ≡ first (flat_map (λ (c : Conclusion). mistaken tree.now.text.items tree.now.block side.Output c.variable) (conclusions_of rule.now)) }
+    ensures { result ≡ first (flat_map
+        (λ (c : Conclusion). mistaken tree.now.text.items tree.now.block side.Output c.variable)
+        (conclusions_of rule.now)) }
 {
     if let Some(at) = mistaken(names, tree, Direction::Output, rule.first.variable) {
         return Some(at);
