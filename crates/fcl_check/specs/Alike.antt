@@ -22,7 +22,8 @@ pub record AreAlike (p q : Block) : Type 0 where
 
 -- A tree has at most one block.
 abbrev pub BlocksAreAlike : Type 0
-BlocksAreAlike = (text : List ℕ) (b : FunctionBlock) (p q : Block) → IsBlockOf text b p → IsBlockOf text b q → AreAlike p q
+BlocksAreAlike =
+    (text : List ℕ) (b : FunctionBlock) (p q : Block) → IsBlockOf text b p → IsBlockOf text b q → AreAlike p q
 
 -- A text spells at most one block.
 abbrev pub SpelledBlocksAreAlike : Type 0

@@ -26,7 +26,8 @@ width from to = unsigned_abs (to -ℤ from)
 
 -- at x on the straight line between two points: each degree by how far the other point is
 abbrev pub on_line : Point → Point → ℤ → Fraction
-on_line p q x = over (cond (has_one q) (width (x_of p) x) 0 + cond (has_one p) (width x (x_of q)) 0) (width (x_of p) (x_of q))
+on_line p q x =
+    over (cond (has_one q) (width (x_of p) x) 0 + cond (has_one p) (width x (x_of q)) 0) (width (x_of p) (x_of q))
 
 -- between the nearest point on the left and the nearest on the right
 abbrev pub between : Option Point → Option Point → ℤ → Fraction
@@ -49,4 +50,5 @@ course points x =
 
 -- the degree of a loaded term is its course
 abbrev pub CourseLaw : Type 0
-CourseLaw = (t : Term) (z : Trapezoid) (x : Dec) → falling_in t ≡ [] → has_shape (points_of t) ≡ true → IsTermOf t z → AreSame (degree z x) (course (points_of t) x.0)
+CourseLaw = (t : Term) (z : Trapezoid) (x : Dec) → falling_in t ≡ [] → has_shape (points_of t) ≡ true → IsTermOf t z
+    → AreSame (degree z x) (course (points_of t) x.0)

@@ -115,7 +115,8 @@ is_over before d = nat_le (most_of d.0) (length (filter (λ (e : Declared). is_d
 -- ---- WeightOutside: weights below 0 or above 1, at WITH
 
 abbrev pub weight_outside : Rule → List ℕ
-weight_outside r = at_some (λ (w : Weight). at_if (int_lt (value w.num) (pos 0) || int_lt (pos 10000) (value w.num)) w.at) r.weight
+weight_outside r =
+    at_some (λ (w : Weight). at_if (int_lt (value w.num) (pos 0) || int_lt (pos 10000) (value w.num)) w.at) r.weight
 
 module _ (text : List ℕ) (b : FunctionBlock) where
   abbrev pub same_name : Name → Name → Bool
@@ -161,7 +162,8 @@ module _ (text : List ℕ) (b : FunctionBlock) where
 
   -- a variable that is not declared, or a term that it does not have where it stands on its side
   abbrev pub unknown_pair : Direction → Name → Name → List ℕ
-  unknown_pair side v t = at_if (is_none (direction v)) v.at ++ at_if (is_declared_as side v && is_none (term_number text b side (letters text v) (letters text t))) t.at
+  unknown_pair side v t = at_if (is_none (direction v)) v.at ++
+      at_if (is_declared_as side v && is_none (term_number text b side (letters text v) (letters text t))) t.at
 
   abbrev pub unknown_in : Rule → List ℕ
   unknown_in r = flat_map (λ (p : Pair). unknown_pair Input p.variable p.term) (condition_pairs r)

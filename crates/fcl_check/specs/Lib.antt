@@ -11,5 +11,6 @@ pub mod Texts
 pub mod Steps
 pub mod Corners
 pub mod Courses
+pub mod Kept
 pub mod Order
 pub mod Alike

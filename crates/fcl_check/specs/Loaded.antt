@@ -59,13 +59,17 @@ pub record IsInputOf (s : Fuzzify) (x : Input) : Type 0 where
 
 -- ---- outputs
 
--- from p to p + 1 where both ends are p
+-- what reaches from p to p reaches to p + 1
 abbrev pub widened : Ends → Ends
 widened e = cond (int_eq e.0 e.1) (e.0, e.1 +ℤ pos 10000) e
 
--- from the RANGE, or from the least to the greatest of the singletons and DEFAULT
+-- from the least to the greatest of the singletons and DEFAULT
+abbrev pub output_hull : Defuzzify → Option Ends
+output_hull s = hull_of (map (λ (n : ℤ × ℕ). n.0) (output_numbers s))
+
+-- the RANGE as it stands; else the hull, which is widened where it is one number
 abbrev pub output_range : Defuzzify → Option Ends
-output_range s = option_map widened (given_or (hull_of (map (λ (n : ℤ × ℕ). n.0) (output_numbers s))) (defuzzy_range s))
+output_range s = given_or (option_map widened (output_hull s)) (defuzzy_range s)
 
 abbrev pub default_number : Fallback → Option ℤ
 default_number d = option_map value (fallback_number d.value)
@@ -119,7 +123,10 @@ abbrev mutual
 module _ (text : List ℕ) (b : FunctionBlock) where
   -- the numbers of a variable and of a term of it on one side
   abbrev pub numbers_of : Direction → Name → Name → ℕ × ℕ
-  numbers_of side v t = (or_zero (variable_number text b side (letters text v)), or_zero (term_number text b side (letters text v) (letters text t)))
+  numbers_of side v t = (
+    or_zero (variable_number text b side (letters text v)),
+    or_zero (term_number text b side (letters text v) (letters text t)),
+  )
 
   abbrev pub literal_of : Name → Name → Condition
   literal_of v t = let n = numbers_of side.Input v t in literal n.0 n.1

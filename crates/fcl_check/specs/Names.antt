@@ -3,7 +3,7 @@
 use Rattle.std.specs.Prelude.{if◌then◌else◌, ℕ, suc, Bool, true, false, List, ◌∷◌, drop, map, Option, Some, None, option_map, option_and_then}
 use Rattle.std.specs.List.{filter_map, find, flat_map, position, take_while}
 use Rattle.std.specs.Str.{bytes_eq}
-use Rattle.fcl_syntax.specs.Lexing.{is_name_byte}
+use Rattle.fcl_syntax.specs.Tokens.{is_name_byte}
 use Rattle.fcl_syntax.specs.declared.tree.Decl.{Decl}
 use Rattle.fcl_syntax.specs.declared.tree.Defuzzify.{Defuzzify}
 use Rattle.fcl_syntax.specs.declared.tree.DefuzzyLine.{DefuzzyLine}
@@ -71,7 +71,8 @@ abbrev pub declared_in : FunctionBlock → List Declared
 declared_in b = flat_map declared_by b.vars.items
 
 abbrev pub declared_as : Direction → FunctionBlock → List Name
-declared_as direction b = filter_map (λ (d : Declared). if is_direction direction d.0 then Some d.1 else None) (declared_in b)
+declared_as direction b =
+    filter_map (λ (d : Declared). if is_direction direction d.0 then Some d.1 else None) (declared_in b)
 
 module _ (text : List ℕ) where
   -- the letters of a name

@@ -11,4 +11,5 @@ use Rattle.fcl_check.specs.declared.fault.LoadFault.{LoadFault}
 -- In a tree that a text spells, the places of each kind ascend within the text: the first is the least
 -- offset.
 abbrev pub PlacesAscend : Type 0
-PlacesAscend = (text : List ℕ) (b : FunctionBlock) → SpellsTree text (view b) → All (λ (k : (ℕ → LoadFault) × List ℕ). AscendWithin 0 (length text) k.1) (kinds (str_to_ascii_lowercase text) b)
+PlacesAscend = (text : List ℕ) (b : FunctionBlock) → SpellsTree text (view b)
+    → All (λ (k : (ℕ → LoadFault) × List ℕ). AscendWithin 0 (length text) k.1) (kinds (str_to_ascii_lowercase text) b)

@@ -137,7 +137,8 @@ is_below p None = false
 is_below p (Some before) = int_lt (x_of p) (x_of before)
 
 abbrev pub falling_in : Term → List ℕ
-falling_in t = at_each (λ (before : List Point) (p : Point). at_if (is_below p (first before)) p.open_at) [] (points_of t)
+falling_in t =
+    at_each (λ (before : List Point) (p : Point). at_if (is_below p (first before)) p.open_at) [] (points_of t)
 
 abbrev pub falling_points : Part → List ℕ
 falling_points (part.Fuzzify s) = flat_map falling_in (terms_of s)
@@ -149,7 +150,8 @@ starts_with_one [] = false
 starts_with_one (p ∷ points) = has_one p
 
 abbrev pub has_shape : List Point → Bool
-has_shape points = let top = drop_while has_zero points in starts_with_one top && list_all has_zero (drop_while has_one top)
+has_shape points =
+    let top = drop_while has_zero points in starts_with_one top && list_all has_zero (drop_while has_one top)
 
 abbrev pub shapeless_terms : Part → List ℕ
 shapeless_terms (part.Fuzzify s) = flat_map (λ (t : Term). at_if (not (has_shape (points_of t))) t.at) (terms_of s)
@@ -169,7 +171,8 @@ points_outside (part.Defuzzify s) = []
 -- singletons and DEFAULT outside the given RANGE, at TERM or DEFAULT
 abbrev pub numbers_outside : Part → List ℕ
 numbers_outside (part.Fuzzify s) = []
-numbers_outside (part.Defuzzify s) = outside (λ e. flat_map (λ (n : ℤ × ℕ). at_if (not (lies_in e n.0)) n.1) (output_numbers s)) (defuzzy_range s)
+numbers_outside (part.Defuzzify s) =
+    outside (λ e. flat_map (λ (n : ℤ × ℕ). at_if (not (lies_in e n.0)) n.1) (output_numbers s)) (defuzzy_range s)
 
 -- a given RANGE whose low end is not below its high end, at RANGE; where none is given, the points of
 -- a section of an input that are all one, at the section's name
@@ -178,7 +181,8 @@ empty_range r = at_if (is_empty_range (ends_of r)) r.at
 
 abbrev pub bad_fuzzy_range : Bool → Fuzzify → Option Range → List ℕ
 bad_fuzzy_range is_input s (Some r) = empty_range r
-bad_fuzzy_range is_input s None = at_some (λ (e : Ends). at_if (is_input && is_empty_range e) s.name.at) (hull_of (abscissas s))
+bad_fuzzy_range is_input s None =
+    at_some (λ (e : Ends). at_if (is_input && is_empty_range e) s.name.at) (hull_of (abscissas s))
 
 abbrev pub bad_range : (Name → Bool) → Part → List ℕ
 bad_range is_input (part.Fuzzify s) = bad_fuzzy_range (is_input s.name) s (fuzzy_range s)
@@ -198,4 +202,5 @@ default_of s = first (filter_map default_line s.lines.items)
 
 abbrev pub incomplete : Part → List ℕ
 incomplete (part.Fuzzify s) = []
-incomplete (part.Defuzzify s) = at_if (is_none (first (filter_map method_line s.lines.items)) || is_none (default_of s)) s.end
+incomplete (part.Defuzzify s) =
+    at_if (is_none (first (filter_map method_line s.lines.items)) || is_none (default_of s)) s.end

@@ -1,4 +1,4 @@
--- What the passes over a tree keep on their way.
+-- What the checks of a tree keep on their way.
 use Rattle.std.proofs.Common.{zero}
 use Rattle.std.specs.Prelude.{ℕ, suc, Bool, false, List, Option, Some, None, option_map, ℤ}
 use Rattle.std.specs.List.{list_all}
@@ -6,7 +6,7 @@ use Rattle.fcl_syntax.specs.declared.tree.Direction.{Direction}
 use Rattle.fcl_syntax.specs.declared.tree.Direction.TheVariants.{Input, Output}
 use Rattle.fcl_syntax.specs.declared.tree.Operand.{Operand}
 use Rattle.fcl_syntax.specs.declared.tree.Point.{Point}
-use Rattle.fcl_check.specs.declared.passes.Room.{Room}
+use Rattle.fcl_check.specs.declared.checks.Room.{Room}
 use Rattle.fcl_check.specs.declared.sections.Course.{Course}
 use Rattle.fcl_check.specs.declared.sections.Course.TheVariants.{Rising, Top, Falling, Broken}
 use Rattle.fcl_check.specs.Faults.{Pair}

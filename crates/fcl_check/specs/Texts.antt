@@ -27,16 +27,22 @@ pub record HasLoadFault (text : List ℕ) (fault : LoadFault) : Type 0 where
 
 -- A tree that a text of at most 1048576 bytes spells and that has no load fault has only valid blocks.
 abbrev pub SpelledBlocksAreValid : Type 0
-SpelledBlocksAreValid = (text : List ℕ) (b : FunctionBlock) (block : Block) → length text ≤ 1048576 → SpellsTree text (view b) → first_fault (str_to_ascii_lowercase text) b ≡ None → IsBlockOf (str_to_ascii_lowercase text) b block → IsValid block
+SpelledBlocksAreValid = (text : List ℕ) (b : FunctionBlock) (block : Block) → length text ≤ 1048576
+    → SpellsTree text (view b) → first_fault (str_to_ascii_lowercase text) b ≡ None
+    → IsBlockOf (str_to_ascii_lowercase text) b block → IsValid block
 
 -- A tree that a text of at most 1048576 bytes spells and that has no load fault has a block.
 abbrev pub SpelledTreesHaveBlocks : Type 0
-SpelledTreesHaveBlocks = (text : List ℕ) (b : FunctionBlock) → length text ≤ 1048576 → SpellsTree text (view b) → first_fault (str_to_ascii_lowercase text) b ≡ None → (block : Block) × IsBlockOf (str_to_ascii_lowercase text) b block
+SpelledTreesHaveBlocks = (text : List ℕ) (b : FunctionBlock) → length text ≤ 1048576 → SpellsTree text (view b)
+    → first_fault (str_to_ascii_lowercase text) b ≡ None
+    → (block : Block) × IsBlockOf (str_to_ascii_lowercase text) b block
 
 -- A text has at most one load fault, and none where it spells a block.
 abbrev pub LoadFaultsAreOne : Type 0
-LoadFaultsAreOne = (text : List ℕ) → ((f g : LoadFault) → HasLoadFault text f → HasLoadFault text g → f ≡ g) × ((f : LoadFault) (block : Block) → HasLoadFault text f → SpellsBlock text block → ⊥)
+LoadFaultsAreOne = (text : List ℕ) → ((f g : LoadFault) → HasLoadFault text f → HasLoadFault text g → f ≡ g) ×
+    ((f : LoadFault) (block : Block) → HasLoadFault text f → SpellsBlock text block → ⊥)
 
 -- Each text of at most 1048576 bytes has a first fault, or a load fault, or spells a block.
 abbrev pub EachTextIsJudged : Type 0
-EachTextIsJudged = (text : List ℕ) → length text ≤ 1048576 → ((e : SyntaxFault) × IsFirstFault text e) ⊎ (((f : LoadFault) × HasLoadFault text f) ⊎ ((block : Block) × SpellsBlock text block))
+EachTextIsJudged = (text : List ℕ) → length text ≤ 1048576 → ((e : SyntaxFault) × IsFirstFault text e) ⊎
+    (((f : LoadFault) × HasLoadFault text f) ⊎ ((block : Block) × SpellsBlock text block))

@@ -32,7 +32,8 @@ fn weight(rule: &fcl_syntax::Rule) -> Option<Dec>
 }
 
 fn conclusion(source: &Source<'_, '_>, conclusion: &Conclusion) -> (u8, u8)
-    requires { IsKnown source.now.tree.now.text.items source.now.tree.now.block OutputSide conclusion.now.variable conclusion.now.term }
+    requires { IsKnown source.now.tree.now.text.items source.now.tree.now.block OutputSide conclusion.now.variable
+        conclusion.now.term }
     ensures same { result ≡ conclusion_of source.now.tree.now.text.items source.now.tree.now.block conclusion.now }
 {
     numbers(
@@ -48,7 +49,8 @@ fn conclusions(
     rule: &fcl_syntax::Rule,
 ) -> Result<Vec<(u8, u8)>, AllocError>
     requires { AreConcluded source.now.tree.now.text.items source.now.tree.now.block (conclusions_of rule.now) }
-    ensures same { IfOk result (λ v. v.items ≡ map (conclusion_of source.now.tree.now.text.items source.now.tree.now.block) (conclusions_of rule.now)) }
+    ensures same { IfOk result (λ v. v.items ≡ map
+        (conclusion_of source.now.tree.now.text.items source.now.tree.now.block) (conclusions_of rule.now)) }
 {
     let mut places = Vec::new(source.alloc);
     places.push(conclusion(source, &rule.first))?;
@@ -72,7 +74,8 @@ fn rule(source: &Source<'_, '_>, rule: &fcl_syntax::Rule) -> Result<fuzzy_meanin
 }
 
 fn rules(source: &Source<'_, '_>) -> Result<Vec<fuzzy_meaning::Rule>, AllocError>
-    ensures { IfOk result (λ v. AllZip (IsRuleOf source.now.tree.now.text.items source.now.tree.now.block) source.now.tree.now.block.rules.rules.items v.items) }
+    ensures { IfOk result (λ v. AllZip (IsRuleOf source.now.tree.now.text.items source.now.tree.now.block)
+        source.now.tree.now.block.rules.rules.items v.items) }
 {
     let mut rules = Vec::new(source.alloc);
     'each: for next in &source.tree.block.rules.rules {

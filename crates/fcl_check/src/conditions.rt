@@ -16,8 +16,10 @@ use fuzzy_meaning::Cond;
 use std::alloc::AllocError;
 
 fn literal(source: &Source<'_, '_>, operand: &Operand) -> Result<Cond, AllocError>
-    requires { IsKnown source.now.tree.now.text.items source.now.tree.now.block InputSide operand.now.variable operand.now.term }
-    ensures { IfOk result (λ c. condition_of c ≡ negated operand.now.not_at (literal_of source.now.tree.now.text.items source.now.tree.now.block operand.now.variable operand.now.term)) }
+    requires { IsKnown source.now.tree.now.text.items source.now.tree.now.block InputSide operand.now.variable
+        operand.now.term }
+    ensures { IfOk result (λ c. condition_of c ≡ negated operand.now.not_at
+        (literal_of source.now.tree.now.text.items source.now.tree.now.block operand.now.variable operand.now.term)) }
 {
     let (input, term) = numbers(source, Direction::Input, operand.variable, operand.term);
     let is = Cond::Is(input, term);
@@ -31,7 +33,8 @@ fn literal(source: &Source<'_, '_>, operand: &Operand) -> Result<Cond, AllocErro
 #[cycle(condition)]
 fn not(source: &Source<'_, '_>, not: &Not) -> Result<Cond, AllocError>
     requires { AreKnown source.now.tree.now.text.items source.now.tree.now.block (not_pairs (view_not not.now)) }
-    ensures { IfOk result (λ c. condition_of c ≡ not_condition (literal_of source.now.tree.now.text.items source.now.tree.now.block) (view_not not.now)) }
+    ensures { IfOk result (λ c. condition_of c ≡
+        not_condition (literal_of source.now.tree.now.text.items source.now.tree.now.block) (view_not not.now)) }
 {
     match not {
         Not::Is(operand) => literal(source, operand),
@@ -43,7 +46,8 @@ fn not(source: &Source<'_, '_>, not: &Not) -> Result<Cond, AllocError>
 #[cycle(condition)]
 fn negated(source: &Source<'_, '_>, part: &Not) -> Result<Cond, AllocError>
     requires { AreKnown source.now.tree.now.text.items source.now.tree.now.block (not_pairs (view_not part.now)) }
-    ensures { IfOk result (λ c. condition_of c ≡ negation (not_condition (literal_of source.now.tree.now.text.items source.now.tree.now.block) (view_not part.now))) }
+    ensures { IfOk result (λ c. condition_of c ≡ negation (not_condition
+        (literal_of source.now.tree.now.text.items source.now.tree.now.block) (view_not part.now))) }
 {
     let part = not(source, part)?;
     let part = Box::new(source.alloc, part)?;
@@ -53,7 +57,8 @@ fn negated(source: &Source<'_, '_>, part: &Not) -> Result<Cond, AllocError>
 #[cycle(condition)]
 fn and(source: &Source<'_, '_>, and: &And) -> Result<Cond, AllocError>
     requires { AreKnown source.now.tree.now.text.items source.now.tree.now.block (and_pairs (view_and and.now)) }
-    ensures { IfOk result (λ c. condition_of c ≡ and_condition (literal_of source.now.tree.now.text.items source.now.tree.now.block) (view_and and.now)) }
+    ensures { IfOk result (λ c. condition_of c ≡
+        and_condition (literal_of source.now.tree.now.text.items source.now.tree.now.block) (view_and and.now)) }
 {
     let first = not(source, &and.first)?;
     if and.more.is_empty() {
@@ -72,7 +77,8 @@ fn and(source: &Source<'_, '_>, and: &And) -> Result<Cond, AllocError>
 #[cycle(condition)]
 pub fn or(source: &Source<'_, '_>, or: &Or) -> Result<Cond, AllocError>
     requires { AreKnown source.now.tree.now.text.items source.now.tree.now.block (or_pairs (view_or or.now)) }
-    ensures { IfOk result (λ c. condition_of c ≡ or_condition (literal_of source.now.tree.now.text.items source.now.tree.now.block) (view_or or.now)) }
+    ensures { IfOk result (λ c. condition_of c ≡
+        or_condition (literal_of source.now.tree.now.text.items source.now.tree.now.block) (view_or or.now)) }
 {
     let first = and(source, &or.first)?;
     if or.more.is_empty() {

@@ -115,7 +115,8 @@ fn input(alloc: Global, section: &Fuzzify) -> Result<Input, AllocError>
 // The section of a declared input.
 fn section_of<'a>(tree: &'a Tree, names: &Names<'a>, name: Name) -> Option<&'a Fuzzify>
     requires { Knows tree.now names.now }
-    ensures { option_map (λ s. s.now) result ≡ fuzzify_of tree.now.text.items tree.now.block (letters tree.now.text.items name) }
+    ensures { option_map (λ s. s.now) result ≡ fuzzify_of tree.now.text.items tree.now.block
+        (letters tree.now.text.items name) }
 {
     match names.sections.get(tree.letters(name))?.part {
         Part::Fuzzify(section) => Some(section),
@@ -131,7 +132,8 @@ pub fn inputs<'a>(
 ) -> Result<Vec<Input>, AllocError>
     requires known { Knows tree.now names.now }
     requires sound { first_fault tree.now.text.items tree.now.block ≡ None }
-    ensures same { IfOk result (λ v. AllZip (IsInputNamed tree.now.text.items tree.now.block) (declared_as side.Input tree.now.block) v.items) }
+    ensures same { IfOk result (λ v. AllZip (IsInputNamed tree.now.text.items tree.now.block)
+        (declared_as side.Input tree.now.block) v.items) }
 {
     let mut inputs = Vec::new(alloc);
     'each: for (direction, name) in &names.declared {

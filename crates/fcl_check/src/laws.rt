@@ -2,10 +2,11 @@
 //! a law that it rests on.
 ghost use Rattle.fcl_check.specs.Alike.{BlocksAreAlike, SpelledBlocksAreAlike};
 ghost use Rattle.fcl_check.specs.Courses.{CourseLaw};
+ghost use Rattle.fcl_check.specs.Kept.{NumbersAreKept};
 ghost use Rattle.fcl_check.specs.Order.{PlacesAscend};
 ghost use Rattle.fcl_check.specs.Texts.{EachTextIsJudged, LoadFaultsAreOne, SpelledBlocksAreValid, SpelledTreesHaveBlocks};
 
-use fcl_syntax::{each_text_is_read, offsets_ascend, trees_are_one};
+use fcl_syntax::{each_text_is_read, numbers_in_scale, offsets_ascend, trees_are_one};
 
 /// In a tree that a text spells, the places of each kind of load fault ascend, so that the first
 /// place, which [`load`](crate::load) answers, is the least offset in the text.
@@ -30,6 +31,14 @@ pub fn spelled_trees_have_blocks()
     ensures { SpelledTreesHaveBlocks }
 {
     offsets_ascend()
+}
+
+/// A loaded number is the token's number with its sign: no text has one beyond the scale, where it
+/// would be taken for the end of the scale.
+pub fn numbers_are_kept()
+    ensures { NumbersAreKept }
+{
+    numbers_in_scale()
 }
 
 /// A tree has at most one block: two that it has are the same but for where they lie in memory.

@@ -7,6 +7,7 @@
 #![tactic(auto)]
 
 mod block;
+mod checks;
 mod conditions;
 mod fault;
 mod inputs;
@@ -16,7 +17,6 @@ mod names;
 mod numbers;
 mod operands;
 mod outputs;
-mod passes;
 mod rules;
 mod sections;
 mod source;
@@ -24,8 +24,8 @@ mod walk;
 
 pub use fault::LoadFault;
 pub use laws::{
-    blocks_are_alike, course_law, each_text_is_judged, load_faults_are_one, places_ascend,
-    spelled_blocks_are_alike, spelled_blocks_are_valid, spelled_trees_have_blocks,
+    blocks_are_alike, course_law, each_text_is_judged, load_faults_are_one, numbers_are_kept,
+    places_ascend, spelled_blocks_are_alike, spelled_blocks_are_valid, spelled_trees_have_blocks,
 };
 pub use loading::load;
 

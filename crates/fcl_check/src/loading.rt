@@ -8,14 +8,14 @@ ghost use Rattle.fcl_check.specs.Loaded.{IsBlockOf};
 ghost use Rattle.fcl_check.specs.declared.operands.RuleNames.{RuleNames};
 
 use crate::block::block;
+use crate::checks::{
+    bad_ranges, missing_part, no_terms, points_not_ascending, singletons_outside, term_outside,
+    term_shape, too_many, unknown, weights_outside, wrong_side,
+};
 use crate::fault::LoadFault;
 use crate::laws::spelled_blocks_are_valid;
 use crate::names::Names;
 use crate::operands::RuleNames;
-use crate::passes::{
-    bad_ranges, missing_part, no_terms, points_not_ascending, singletons_outside, term_outside,
-    term_shape, too_many, unknown, weights_outside, wrong_side,
-};
 use crate::rules::operands;
 use fcl_syntax::Tree;
 use fuzzy_meaning::Block;
@@ -31,7 +31,7 @@ macro_rules! refuse {
 }
 
 // The first fault, where nothing is given twice.
-#[tactic(auto, using(crate::proofs::FaultKinds::first_fault_by_kinds))]
+#[tactic(auto, using(crate::proofs::faultless::FaultKinds::first_fault_by_kinds))]
 fn first_fault(names: &Names<'_>, tree: &Tree, rules: &[RuleNames<'_>]) -> Option<LoadFault>
     requires known { Knows tree.now names.now }
     requires rules { map (λ (n : RuleNames). n.rule.now) rules.now ≡ tree.now.block.rules.rules.items }

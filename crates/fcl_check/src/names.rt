@@ -62,14 +62,16 @@ impl<'a> Names<'a> {
 
     /// A declared variable, by its letters.
     pub fn variable(&self, letters: &[u8]) -> Option<Variable>
-        ensures { (tree : Tree) → Knows tree self.now → result ≡ variable_in tree.text.items (declared_in tree.block) letters.now }
+        ensures { (tree : Tree) → Knows tree self.now → result ≡
+            variable_in tree.text.items (declared_in tree.block) letters.now }
     {
         self.variables.get(letters).copied()
     }
 
     /// Whether a variable of these letters has a section.
     pub fn has_section(&self, letters: &[u8]) -> bool
-        ensures { (tree : Tree) → Knows tree self.now → result ≡ is_some (section_of tree.text.items tree.block letters.now) }
+        ensures { (tree : Tree) → Knows tree self.now → result ≡
+            is_some (section_of tree.text.items tree.block letters.now) }
     {
         self.sections.contains_key(letters)
     }
@@ -77,7 +79,8 @@ impl<'a> Names<'a> {
     /// The number of a term, looked for in the section of its variable that a variable of this
     /// direction has.
     pub fn term(&self, direction: Direction, variable: &[u8], term: &[u8]) -> Option<usize>
-        ensures { (tree : Tree) → Knows tree self.now → result ≡ term_number tree.text.items tree.block direction variable.now term.now }
+        ensures { (tree : Tree) → Knows tree self.now → result ≡
+            term_number tree.text.items tree.block direction variable.now term.now }
     {
         let section = self.sections.get(variable)?;
         match (direction, section.part) {
@@ -104,7 +107,8 @@ fn push_decl(
     direction: Direction,
     decl: &Decl,
 ) -> Result<(), AllocError>
-    ensures { OnOk result (into.new.items ≡ into.old.items ++ map (λ n. (direction, n)) (decl.now.first ∷ decl.now.more.items)) }
+    ensures { OnOk result (into.new.items ≡ into.old.items ++ map
+        (λ n. (direction, n)) (decl.now.first ∷ decl.now.more.items)) }
 {
     into.push((direction, decl.first))?;
     'each: for name in &decl.more {
@@ -140,8 +144,10 @@ fn add<'a, V: Drop>(
     name: Name,
     value: V,
 ) -> Result<(), LoadFault>
-    ensures fault { Answers result (option_map load.Twice (first (at_if (is_some (at_letters values.old (letters tree.now.text.items name))) name.at))) }
-    ensures added { OnOk result ((ls : List ℕ) → at_letters values.new ls ≡ option_or (at_letters values.old ls) (cond (is_named tree.now.text.items ls name) (Some value) None)) }
+    ensures fault { Answers result (option_map load.Twice (first (at_if (is_some (at_letters values.old
+        (letters tree.now.text.items name))) name.at))) }
+    ensures added { OnOk result ((ls : List ℕ) → at_letters values.new ls ≡
+        option_or (at_letters values.old ls) (cond (is_named tree.now.text.items ls name) (Some value) None)) }
     ensures len { OnOk result (btree_map_len values.new ≡ btree_map_len values.old + 1) }
 {
     if values.insert(tree.letters(name), value)?.is_some() {
@@ -163,7 +169,8 @@ impl Counts {
         requires inputs { self.old.inputs < 2 ^ 63 }
         requires outputs { self.old.outputs < 2 ^ 63 }
         ensures number { result ≡ count_of direction self.old + 1 }
-        ensures counts { (d : Direction) → count_of d self.new ≡ cond (is_direction d direction) (count_of d self.old + 1) (count_of d self.old) }
+        ensures counts { (d : Direction) → count_of d self.new ≡
+            cond (is_direction d direction) (count_of d self.old + 1) (count_of d self.old) }
     {
         match direction {
             Direction::Input => {
@@ -184,8 +191,10 @@ fn variables<'a>(
     tree: &'a Tree,
     declared: &[(Direction, Name)],
 ) -> Result<BTreeMap<&'a [u8], Variable>, LoadFault>
-    ensures variables { IfOk result (λ m. (ls : List ℕ) → at_letters m ls ≡ variable_in tree.now.text.items declared.now ls) }
-    ensures fault { Answers result (option_map load.Twice (first (repeated (same_declared tree.now.text.items tree.now.block) (λ d. d.1.at) declared.now))) }
+    ensures variables { IfOk result (λ m. (ls : List ℕ) → at_letters m ls ≡
+        variable_in tree.now.text.items declared.now ls) }
+    ensures fault { Answers result (option_map load.Twice (first (repeated
+        (same_declared tree.now.text.items tree.now.block) (λ d. d.1.at) declared.now))) }
 {
     let mut variables = BTreeMap::new(alloc);
     let mut counts = Counts {
@@ -208,8 +217,10 @@ fn add_term<'a>(
     tree: &'a Tree,
     name: Name,
 ) -> Result<(), LoadFault>
-    ensures fault { Answers result (option_map load.Twice (first (at_if (is_some (at_letters terms.old (letters tree.now.text.items name))) name.at))) }
-    ensures added { OnOk result ((ls : List ℕ) → at_letters terms.new ls ≡ option_or (at_letters terms.old ls) (cond (is_named tree.now.text.items ls name) (Some (btree_map_len terms.old + 1)) None)) }
+    ensures fault { Answers result (option_map load.Twice (first (at_if (is_some (at_letters terms.old
+        (letters tree.now.text.items name))) name.at))) }
+    ensures added { OnOk result ((ls : List ℕ) → at_letters terms.new ls ≡ option_or (at_letters terms.old ls)
+        (cond (is_named tree.now.text.items ls name) (Some (btree_map_len terms.old + 1)) None)) }
     ensures len { OnOk result (btree_map_len terms.new ≡ btree_map_len terms.old + 1) }
 {
     let number = terms.len() + 1;
@@ -222,8 +233,10 @@ fn fuzzy_terms<'a>(
     tree: &'a Tree,
     section: &Fuzzify,
 ) -> Result<BTreeMap<&'a [u8], usize>, LoadFault>
-    ensures terms { IfOk result (λ m. (ls : List ℕ) → at_letters m ls ≡ number_in tree.now.text.items (term_names section.now) ls) }
-    ensures fault { Answers result (option_map load.Twice (first (repeated_lines tree.now.text.items tree.now.block (part.Fuzzify section.now)))) }
+    ensures terms { IfOk result (λ m. (ls : List ℕ) → at_letters m ls ≡
+        number_in tree.now.text.items (term_names section.now) ls) }
+    ensures fault { Answers result (option_map load.Twice (first
+        (repeated_lines tree.now.text.items tree.now.block (part.Fuzzify section.now)))) }
 {
     let mut terms = BTreeMap::new(alloc);
     let mut has_range = false;
@@ -276,8 +289,10 @@ fn defuzzy_terms<'a>(
     tree: &'a Tree,
     section: &Defuzzify,
 ) -> Result<BTreeMap<&'a [u8], usize>, LoadFault>
-    ensures terms { IfOk result (λ m. (ls : List ℕ) → at_letters m ls ≡ number_in tree.now.text.items (singleton_names section.now) ls) }
-    ensures fault { Answers result (option_map load.Twice (first (repeated_lines tree.now.text.items tree.now.block (part.Defuzzify section.now)))) }
+    ensures terms { IfOk result (λ m. (ls : List ℕ) → at_letters m ls ≡
+        number_in tree.now.text.items (singleton_names section.now) ls) }
+    ensures fault { Answers result (option_map load.Twice (first
+        (repeated_lines tree.now.text.items tree.now.block (part.Defuzzify section.now)))) }
 {
     let mut terms = BTreeMap::new(alloc);
     // The other lines, at most one of each kind.
@@ -300,8 +315,10 @@ fn terms<'a>(
     tree: &'a Tree,
     part: &Part,
 ) -> Result<BTreeMap<&'a [u8], usize>, LoadFault>
-    ensures terms { IfOk result (λ m. (ls : List ℕ) → at_letters m ls ≡ number_in tree.now.text.items (names_in part.now) ls) }
-    ensures fault { Answers result (option_map load.Twice (first (repeated_lines tree.now.text.items tree.now.block part.now))) }
+    ensures terms { IfOk result (λ m. (ls : List ℕ) → at_letters m ls ≡
+        number_in tree.now.text.items (names_in part.now) ls) }
+    ensures fault { Answers result (option_map load.Twice (first
+        (repeated_lines tree.now.text.items tree.now.block part.now))) }
 {
     match part {
         Part::Fuzzify(section) => fuzzy_terms(alloc, tree, section),
@@ -312,7 +329,8 @@ fn terms<'a>(
 // The sections by the letters of their names.
 fn sections(alloc: Global, tree: &Tree) -> Result<BTreeMap<&[u8], Section<'_>>, LoadFault>
     ensures sections { IfOk result (HoldsSections tree.now.text.items tree.now.block.parts.items) }
-    ensures fault { Answers result (option_map load.Twice (first (at_each (repeated_section tree.now.text.items tree.now.block) [] tree.now.block.parts.items))) }
+    ensures fault { Answers result (option_map load.Twice (first (at_each
+        (repeated_section tree.now.text.items tree.now.block) [] tree.now.block.parts.items))) }
 {
     let mut sections = BTreeMap::new(alloc);
     'each: for part in &tree.block.parts {

@@ -7,10 +7,10 @@ ghost use Rattle.fcl_syntax.specs.declared.tree.Part.TheVariants as part;
 ghost use Rattle.fcl_check.specs.Spans.{ends_in};
 ghost use Rattle.fcl_check.specs.Faults.{first_fault};
 ghost use Rattle.fcl_check.specs.Known.{Knows};
-ghost use Rattle.fcl_check.specs.Loaded.{IsOutputNamed, IsOutputOf, default_number, given_or, number_of};
+ghost use Rattle.fcl_check.specs.Loaded.{IsOutputNamed, IsOutputOf, default_number, number_of, output_hull, output_range, widened};
 ghost use Rattle.fcl_check.specs.Names.{declared_as, defuzzify_of, letters, singletons_of};
 ghost use Rattle.fcl_check.specs.Places.{first};
-ghost use Rattle.fcl_check.specs.Sections.{default_of, defuzzy_range, fallback_number, hull_of, incomplete, method_line, number_line, output_numbers, value, without_terms};
+ghost use Rattle.fcl_check.specs.Sections.{default_of, fallback_number, incomplete, method_line, number_line, value, without_terms};
 
 use crate::names::Names;
 use crate::numbers::{Span, value};
@@ -46,7 +46,8 @@ fn has_method(section: &Defuzzify) -> bool
 
 /// Whether a section has the lines that it needs beside its terms.
 pub fn is_complete(section: &Defuzzify) -> bool
-    ensures { not result ≡ (is_none (first (filter_map method_line section.now.lines.items)) || is_none (default_of section.now)) }
+    ensures { not result ≡ (is_none (first (filter_map method_line section.now.lines.items)) || is_none
+        (default_of section.now)) }
 {
     has_method(section) && fallback(section).is_some()
 }
@@ -74,7 +75,7 @@ fn number_in(line: &DefuzzyLine) -> Option<Dec>
 
 // From the least to the greatest number of a section; none where it has no number.
 fn hull(section: &Defuzzify) -> Option<Span>
-    ensures { option_map ends_in result ≡ hull_of (map (λ n. n.0) (output_numbers section.now)) }
+    ensures { option_map ends_in result ≡ output_hull section.now }
 {
     let mut hull: Option<Span> = None;
     for line in &section.lines {
@@ -88,13 +89,23 @@ fn hull(section: &Defuzzify) -> Option<Span>
     hull
 }
 
-// The RANGE of a section, or from the least to the greatest of its numbers.
+// From the least to the greatest number of a section, and to 1 more where they are one.
+fn wide_hull(section: &Defuzzify) -> Option<Span>
+    ensures { option_map ends_in result ≡ option_map widened (output_hull section.now) }
+{
+    match hull(section) {
+        Some(span) => Some(span.widened()),
+        None => None,
+    }
+}
+
+// The RANGE of a section as it stands, or what its numbers reach.
 fn range(section: &Defuzzify) -> Option<Span>
-    ensures { option_map ends_in result ≡ given_or (hull_of (map (λ n. n.0) (output_numbers section.now))) (defuzzy_range section.now) }
+    ensures { option_map ends_in result ≡ output_range section.now }
 {
     match defuzzy_range(section) {
         Some(range) => Some(Span::of(range)),
-        None => hull(section),
+        None => wide_hull(section),
     }
 }
 
@@ -122,7 +133,7 @@ fn output(alloc: Global, section: &Defuzzify) -> Result<Output, AllocError>
     requires complete { incomplete (part.Defuzzify section.now) ≡ [] }
     ensures same { IfOk result (IsOutputOf section.now) }
 {
-    let span = range(section).unwrap().widened();
+    let span = range(section).unwrap();
     let singletons = singletons(alloc, section)?;
     Ok(Output {
         lo: span.lo,
@@ -135,7 +146,8 @@ fn output(alloc: Global, section: &Defuzzify) -> Result<Output, AllocError>
 // The section of a declared output.
 fn section_of<'a>(tree: &'a Tree, names: &Names<'a>, name: Name) -> Option<&'a Defuzzify>
     requires { Knows tree.now names.now }
-    ensures { option_map (λ s. s.now) result ≡ defuzzify_of tree.now.text.items tree.now.block (letters tree.now.text.items name) }
+    ensures { option_map (λ s. s.now) result ≡ defuzzify_of tree.now.text.items tree.now.block
+        (letters tree.now.text.items name) }
 {
     match names.sections.get(tree.letters(name))?.part {
         Part::Defuzzify(section) => Some(section),
@@ -151,7 +163,8 @@ pub fn outputs<'a>(
 ) -> Result<Vec<Output>, AllocError>
     requires known { Knows tree.now names.now }
     requires sound { first_fault tree.now.text.items tree.now.block ≡ None }
-    ensures same { IfOk result (λ v. AllZip (IsOutputNamed tree.now.text.items tree.now.block) (declared_as side.Output tree.now.block) v.items) }
+    ensures same { IfOk result (λ v. AllZip (IsOutputNamed tree.now.text.items tree.now.block)
+        (declared_as side.Output tree.now.block) v.items) }
 {
     let mut outputs = Vec::new(alloc);
     'each: for (direction, name) in &names.declared {

@@ -75,7 +75,9 @@ fn unknown_pair(
 
 fn unknown_operand(names: &Names<'_>, tree: &Tree, operands: &[Operand]) -> Option<u32>
     requires { Knows tree.now names.now }
-    ensures { result ≡ first (flat_map (λ (p : Pair). unknown_pair tree.now.text.items tree.now.block side.Input p.variable p.term) (map pair_of operands.now)) }
+    ensures { result ≡ first (flat_map
+        (λ (p : Pair). unknown_pair tree.now.text.items tree.now.block side.Input p.variable p.term)
+        (map pair_of operands.now)) }
 {
     first_at(operands, |operand| {
         let (variable, term) = (operand.variable, operand.term);
@@ -85,16 +87,19 @@ fn unknown_operand(names: &Names<'_>, tree: &Tree, operands: &[Operand]) -> Opti
 
 fn unknown_conclusion(names: &Names<'_>, tree: &Tree, conclusion: &Conclusion) -> Option<u32>
     requires { Knows tree.now names.now }
-    ensures { result ≡ first (unknown_pair tree.now.text.items tree.now.block side.Output conclusion.now.variable conclusion.now.term) }
+    ensures { result ≡ first (unknown_pair tree.now.text.items tree.now.block side.Output conclusion.now.variable
+        conclusion.now.term) }
 {
     let (variable, term) = (conclusion.variable, conclusion.term);
     unknown_pair(names, tree, Direction::Output, variable, term)
 }
 
-#[tactic(auto, using(crate::proofs::Places::firsts))]
+#[tactic(auto, using(crate::proofs::places::Places::firsts))]
 fn unknown_conclusions(names: &Names<'_>, tree: &Tree, rule: &Rule) -> Option<u32>
     requires { Knows tree.now names.now }
-    ensures { result ≡ first (flat_map (λ (c : Conclusion). unknown_pair tree.now.text.items tree.now.block side.Output c.variable c.term) (conclusions_of rule.now)) }
+    ensures { result ≡ first (flat_map
+        (λ (c : Conclusion). unknown_pair tree.now.text.items tree.now.block side.Output c.variable c.term)
+        (conclusions_of rule.now)) }
 {
     if let Some(at) = unknown_conclusion(names, tree, &rule.first) {
         return Some(at);
@@ -105,7 +110,7 @@ fn unknown_conclusions(names: &Names<'_>, tree: &Tree, rule: &Rule) -> Option<u3
 }
 
 /// The first name of a rule that is unknown.
-#[tactic(auto, using(crate::proofs::Places::firsts))]
+#[tactic(auto, using(crate::proofs::places::Places::firsts))]
 pub fn unknown_name(names: &Names<'_>, tree: &Tree, rule: &RuleNames<'_>) -> Option<u32>
     requires { Knows tree.now names.now }
     ensures { result ≡ first (unknown_in tree.now.text.items tree.now.block rule.now.rule.now) }
@@ -154,17 +159,21 @@ pub fn mistaken_section(names: &Names<'_>, tree: &Tree, part: &Part) -> Option<u
 
 fn mistaken_operand(names: &Names<'_>, tree: &Tree, operands: &[Operand]) -> Option<u32>
     requires { Knows tree.now names.now }
-    ensures { result ≡ first (flat_map (λ (p : Pair). mistaken tree.now.text.items tree.now.block side.Input p.variable) (map pair_of operands.now)) }
+    ensures { result ≡ first (flat_map
+        (λ (p : Pair). mistaken tree.now.text.items tree.now.block side.Input p.variable)
+        (map pair_of operands.now)) }
 {
     first_at(operands, |operand| {
         mistaken(names, tree, Direction::Input, operand.variable)
     })
 }
 
-#[tactic(auto, using(crate::proofs::Places::firsts))]
+#[tactic(auto, using(crate::proofs::places::Places::firsts))]
 fn mistaken_conclusion(names: &Names<'_>, tree: &Tree, rule: &Rule) -> Option<u32>
     requires { Knows tree.now names.now }
-    ensures { result ≡ first (flat_map (λ (c : Conclusion). mistaken tree.now.text.items tree.now.block side.Output c.variable) (conclusions_of rule.now)) }
+    ensures { result ≡ first (flat_map
+        (λ (c : Conclusion). mistaken tree.now.text.items tree.now.block side.Output c.variable)
+        (conclusions_of rule.now)) }
 {
     if let Some(at) = mistaken(names, tree, Direction::Output, rule.first.variable) {
         return Some(at);
@@ -175,7 +184,7 @@ fn mistaken_conclusion(names: &Names<'_>, tree: &Tree, rule: &Rule) -> Option<u3
 }
 
 /// The first variable of a rule that stands on the wrong side.
-#[tactic(auto, using(crate::proofs::Places::firsts))]
+#[tactic(auto, using(crate::proofs::places::Places::firsts))]
 pub fn mistaken_name(names: &Names<'_>, tree: &Tree, rule: &RuleNames<'_>) -> Option<u32>
     requires { Knows tree.now names.now }
     ensures { result ≡ first (mistaken_in tree.now.text.items tree.now.block rule.now.rule.now) }

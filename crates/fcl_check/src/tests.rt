@@ -156,12 +156,14 @@ const ROWS: [(&[u8], &[u8], Want); 24] = [
         Want::SingletonOutside,
     ),
     (
-        b"VAR_INPUT x : REAL; END_VAR VAR_OUTPUT y : REAL; END_VAR FUZZIFY x TERM t := (0,1) (1,0); END_FUZZIFY DEFUZZIFY y TERM t := 0; END_DEFUZZIFY RULEBLOCK r RULE 1 : IF x IS t THEN y IS t ",
+        b"VAR_INPUT x : REAL; END_VAR VAR_OUTPUT y : REAL; END_VAR FUZZIFY x TERM t := (0,1) (1,0); END_FUZZIFY \
+          DEFUZZIFY y TERM t := 0; END_DEFUZZIFY RULEBLOCK r RULE 1 : IF x IS t THEN y IS t ",
         b"WITH 1.0001;",
         Want::WeightOutside,
     ),
     (
-        b"VAR_INPUT x : REAL; END_VAR VAR_OUTPUT y : REAL; END_VAR FUZZIFY x TERM t := (0,1) (1,0); END_FUZZIFY DEFUZZIFY y TERM t := 0; END_DEFUZZIFY RULEBLOCK r RULE 1 : IF ",
+        b"VAR_INPUT x : REAL; END_VAR VAR_OUTPUT y : REAL; END_VAR FUZZIFY x TERM t := (0,1) (1,0); END_FUZZIFY \
+          DEFUZZIFY y TERM t := 0; END_DEFUZZIFY RULEBLOCK r RULE 1 : IF ",
         b"y IS t THEN x IS t;",
         Want::WrongSide,
     ),

@@ -5,18 +5,21 @@ use Rattle.fcl_syntax.specs.declared.fault.Fault.{Fault}
 use Rattle.fcl_syntax.specs.declared.fault.Kind.{Kind}
 use Rattle.fcl_syntax.specs.declared.fault.Kind.TheVariants.{Unsupported}
 use Rattle.fcl_syntax.specs.declared.token.Token.{Token}
-use Rattle.fcl_syntax.specs.Marks.{sort, Sym, tokens_of, plain, marked, mem}
-use Rattle.fcl_syntax.specs.Form.{◌>>=◌, disjoint, fault_at, Stops, Starts, starts, SameHead, first_mark, answer, one_at, Sound, Fails, Form}
-use Rattle.fcl_syntax.proofs.MarkedTexts.{bind_ok, bind_err, ok_is}
+use Rattle.fcl_syntax.specs.TokenClasses.{class_of, mem}
+use Rattle.fcl_syntax.specs.Annotations.{Sym, tokens_of, plain, annotated}
+use Rattle.fcl_syntax.specs.First.{SameHead}
+use Rattle.fcl_syntax.specs.Readers.{◌>>=◌, fault_at, starts, one_at}
+use Rattle.fcl_syntax.proofs.Form.{disjoint, Stops, Starts, first_annotation, answer, Sound, Fails, Form}
+use Rattle.fcl_syntax.proofs.AnnotatedTexts.{bind_ok, bind_err, ok_is}
 use Rattle.fcl_syntax.proofs.Seq.{Shows-in, Viable-in}
-use Rattle.fcl_syntax.proofs.Small.{Class, one_text, one_sound, one_fails, starts-not, starts-same}
+use Rattle.fcl_syntax.proofs.Small.{Single, one_text, one_sound, one_fails, starts-not, starts-same}
 use Rattle.fcl_syntax.proofs.Dead.{unless}
 
 pub record Ahead (Y : Type 0) : Type 0 where
   pub among : List ℕ
   pub token : Y → Token
-  pub sorts : (y : Y) → mem (sort (token y)) among ≡ true
-  pub cover : (x : Token) → mem (sort x) among ≡ true → (y : Y) × (token y ≡ x)
+  pub classes : (y : Y) → mem (class_of (token y)) among ≡ true
+  pub cover : (x : Token) → mem (class_of x) among ≡ true → (y : Y) × (token y ≡ x)
 
 abbrev pub refused : Kind
 refused = Unsupported 12
@@ -24,10 +27,10 @@ refused = Unsupported 12
 abbrev pub to_inl : {A B Y : Type 0} → A → Result (B × List Token) Fault → Result (((A × B) ⊎ (A × Y)) × List Token) Fault
 to_inl a r = r >>= λ b. Ok (inl (a, b.0), b.1)
 
-module _ {A B Y : Type 0} (c : Class A) (d : Ahead Y) (q : Form B) where
+module _ {A B Y : Type 0} (c : Single A) (d : Ahead Y) (q : Form B) where
   abbrev pub ahead_text : (A × B) ⊎ (A × Y) → List Sym
   ahead_text (inl t) = plain (c.make t.0) ∷ q.text t.1
-  ahead_text (inr t) = marked refused (c.make t.0) ∷ plain (d.token t.1) ∷ []
+  ahead_text (inr t) = annotated refused (c.make t.0) ∷ plain (d.token t.1) ∷ []
 
   abbrev pub ahead_rest : A × List Token → Result (((A × B) ⊎ (A × Y)) × List Token) Fault
   ahead_rest a = unless (starts d.among a.1) (fault_at refused (suc (length a.1))) (to_inl a.0 (q.read a.1))
@@ -35,16 +38,17 @@ module _ {A B Y : Type 0} (c : Class A) (d : Ahead Y) (q : Form B) where
   abbrev pub ahead_read : List Token → Result (((A × B) ⊎ (A × Y)) × List Token) Fault
   ahead_read ts = one_at c.want ts >>= ahead_rest
 
-module _ {A B Y : Type 0} (c : Class A) (d : Ahead Y) (q : Form B) (apart : disjoint d.among q.first ≡ true) where
+module _ {A B Y : Type 0} (c : Single A) (d : Ahead Y) (q : Form B) (apart : disjoint d.among q.first ≡ true) where
   pub ahead_begins : (t : (A × B) ⊎ (A × Y)) (rest : List Token) → Starts c.among (tokens_of (ahead_text c d q t) ++ rest)
-  ahead_begins (inl t) rest = c.sorts t.0
-  ahead_begins (inr t) rest = c.sorts t.0
+  ahead_begins (inl t) rest = c.classes t.0
+  ahead_begins (inr t) rest = c.classes t.0
 
   unless_ok : {T : Type 0} (b : Bool) (e : Fault) (r : Result T Fault) (y : T) → unless b e r ≡ Ok y → (b ≡ false) × (r ≡ Ok y)
   unless_ok true e r y h = absurd cc
   unless_ok false e r y h = (refl, h)
 
-  pub ahead_sound : (ts : List Token) (t : (A × B) ⊎ (A × Y)) (rest : List Token) → ahead_read c d q ts ≡ Ok (t, rest) → Sound (ahead_text c d q) q.goes ts t rest
+  pub ahead_sound : (ts : List Token) (t : (A × B) ⊎ (A × Y)) (rest : List Token) → ahead_read c d q ts ≡ Ok (t, rest)
+      → Sound (ahead_text c d q) q.goes ts t rest
   ahead_sound ts t rest e =
       let x = bind_ok (one_at c.want ts) (ahead_rest c d q) (t, rest) e in
       let u = unless_ok (starts d.among x.0.1) (fault_at refused (suc (length x.0.1))) (to_inl x.0.0 (q.read x.0.1)) (t, rest) x.2 in
@@ -66,18 +70,20 @@ module _ {A B Y : Type 0} (c : Class A) (d : Ahead Y) (q : Form B) (apart : disj
   read_one : (a : A) (l : List Token) → one_at c.want (c.make a ∷ l) ≡ Ok (a, l)
   read_one a l = rw (c.forth a) refl
 
-  pub ahead_again : (t : (A × B) ⊎ (A × Y)) (rest : List Token) → Stops q.goes rest → ahead_read c d q (tokens_of (ahead_text c d q t) ++ rest) ≡ answer (first_mark (ahead_text c d q t) (length rest)) t rest
+  pub ahead_again : (t : (A × B) ⊎ (A × Y)) (rest : List Token) → Stops q.goes rest
+      → ahead_read c d q (tokens_of (ahead_text c d q t) ++ rest) ≡ answer (first_annotation (ahead_text c d q t) (length rest)) t rest
   ahead_again (inl t) rest stops =
       let after : List Token = tokens_of (q.text t.1) ++ rest in
       ap (λ (r : Result (A × List Token) Fault). r >>= ahead_rest c d q) (read_one t.0 after)
-      ∙ ap (λ (b : Bool). unless b (fault_at refused (suc (length after))) (to_inl {Y = Y} t.0 (q.read after))) (starts-not d.among q.first after apart (q.begins t.1 rest))
+      ∙ ap (λ (b : Bool). unless b (fault_at refused (suc (length after))) (to_inl {Y = Y} t.0 (q.read after)))
+      (starts-not d.among q.first after apart (q.begins t.1 rest))
       ∙ ap (λ (r : Result (B × List Token) Fault). to_inl {Y = Y} t.0 r) (q.again t.1 rest stops)
-      ∙ step (first_mark (q.text t.1) (length rest)) t.0 t.1 rest
+      ∙ step (first_annotation (q.text t.1) (length rest)) t.0 t.1 rest
   ahead_again (inr t) rest stops =
       let after : List Token = d.token t.1 ∷ rest in
       let len : suc (length rest) ≡ 1 + length rest = omega arith in
       ap (λ (r : Result (A × List Token) Fault). r >>= ahead_rest c d q) (read_one t.0 after)
-      ∙ ap (λ (b : Bool). unless b (fault_at refused (suc (length after))) (to_inl {Y = Y} t.0 (q.read after))) (d.sorts t.1)
+      ∙ ap (λ (b : Bool). unless b (fault_at refused (suc (length after))) (to_inl {Y = Y} t.0 (q.read after))) (d.classes t.1)
       ∙ ap (λ (n : ℕ). Err (fault_at refused (suc n))) len
 
   ahead_first : (ts : List Token) (e : Fault) → Fails (one_text c) (one_at c.want) ts e → Fails (ahead_text c d q) (ahead_read c d q) ts e
@@ -91,7 +97,8 @@ module _ {A B Y : Type 0} (c : Class A) (d : Ahead Y) (q : Form B) (apart : disj
     local = λ b same. ap (λ (r : Result (A × List Token) Fault). r >>= ahead_rest c d q) (f.local b same);
   }
 
-  ahead_here : (a : A) (rest : List Token) → starts d.among rest ≡ true → Fails (ahead_text c d q) (ahead_read c d q) (c.make a ∷ rest) (fault_at refused (suc (length rest)))
+  ahead_here : (a : A) (rest : List Token) → starts d.among rest ≡ true → Fails (ahead_text c d q) (ahead_read c d q) (c.make a ∷ rest)
+      (fault_at refused (suc (length rest)))
   ahead_here a [] h = absurd cc
   ahead_here a (x ∷ rest) h =
       let y = d.cover x h in
@@ -101,7 +108,15 @@ module _ {A B Y : Type 0} (c : Class A) (d : Ahead Y) (q : Form B) (apart : disj
         parts = refl;
         left = refl;
         viable = record { tree = inl (a, q.some); more = c.make a ∷ tokens_of (q.text q.some); clean = (refl, q.some_clean); parts = refl };
-        shows = record { tree = inr (a, y.0); before = []; token = c.make a; after = plain (d.token y.0) ∷ []; split = refl; fronts = refl; same = (refl, y.1) };
+        shows = record {
+          tree = inr (a, y.0);
+          before = [];
+          token = c.make a;
+          after = plain (d.token y.0) ∷ [];
+          split = refl;
+          fronts = refl;
+          same = (refl, y.1);
+        };
         local = at;
       }
     where
@@ -111,20 +126,25 @@ module _ {A B Y : Type 0} (c : Class A) (d : Ahead Y) (q : Form B) (apart : disj
       at (z ∷ w ∷ b) s =
           ap (λ (v : Token). ahead_read c d q (v ∷ w ∷ b)) (sym s.0)
           ∙ ap (λ (r : Result (A × List Token) Fault). r >>= ahead_rest c d q) (read_one a (w ∷ b))
-          ∙ ap (λ (t : Bool). unless t (fault_at refused (suc (length (w ∷ b)))) (to_inl {Y = Y} a (q.read (w ∷ b)))) (subst (λ (v : Token). mem (sort v) d.among ≡ true) s.1 h)
+          ∙ ap (λ (t : Bool). unless t (fault_at refused (suc (length (w ∷ b)))) (to_inl {Y = Y} a (q.read (w ∷ b))))
+          (subst (λ (v : Token). mem (class_of v) d.among ≡ true) s.1 h)
 
-  ahead_second : (ts : List Token) (e : Fault) (a : A) (rest : List Token) → Sound (one_text c) [] ts a rest → starts d.among rest ≡ false → Fails q.text q.read rest e → Fails (ahead_text c d q) (ahead_read c d q) ts e
+  ahead_second : (ts : List Token) (e : Fault) (a : A) (rest : List Token) → Sound (one_text c) [] ts a rest → starts d.among rest ≡ false
+      → Fails q.text q.read rest e → Fails (ahead_text c d q) (ahead_read c d q) ts e
   ahead_second ts e a rest s not_so f = record {
     front = c.make a ∷ f.front;
     bad = f.bad;
     parts = s.parts ∙ ap (λ (l : List Token). c.make a ∷ l) f.parts;
     left = f.left;
-    viable = Viable-in q.text (ahead_text c d q) f.front (plain (c.make a) ∷ []) (λ b. inl (a, b)) (λ b. []) (λ b. ap (λ (l : List Sym). plain (c.make a) ∷ l) (sym (append-nil (q.text b)))) (refl, tt) (λ b. tt) f.viable;
-    shows = Shows-in q.text (ahead_text c d q) e.kind f.front f.bad (plain (c.make a) ∷ []) (λ b. inl (a, b)) (λ b. []) (λ b. ap (λ (l : List Sym). plain (c.make a) ∷ l) (sym (append-nil (q.text b)))) f.shows;
+    viable = Viable-in q.text (ahead_text c d q) f.front (plain (c.make a) ∷ []) (λ b. inl (a, b)) (λ b. [])
+        (λ b. ap (λ (l : List Sym). plain (c.make a) ∷ l) (sym (append-nil (q.text b)))) (refl, tt) (λ b. tt) f.viable;
+    shows = Shows-in q.text (ahead_text c d q) e.kind f.front f.bad (plain (c.make a) ∷ []) (λ b. inl (a, b)) (λ b. [])
+        (λ b. ap (λ (l : List Sym). plain (c.make a) ∷ l) (sym (append-nil (q.text b)))) f.shows;
     local = λ b same.
         let after : List Token = f.front ++ b in
         ap (λ (r : Result (A × List Token) Fault). r >>= ahead_rest c d q) (read_one a after)
-        ∙ ap (λ (t : Bool). unless t (fault_at refused (suc (length after))) (to_inl {Y = Y} a (q.read after))) (starts-same d.among e.kind f.front f.bad b same ∙ ap (starts d.among) (sym f.parts) ∙ not_so)
+        ∙ ap (λ (t : Bool). unless t (fault_at refused (suc (length after))) (to_inl {Y = Y} a (q.read after)))
+        (starts-same d.among e.kind f.front f.bad b same ∙ ap (starts d.among) (sym f.parts) ∙ not_so)
         ∙ ap (λ (r : Result (B × List Token) Fault). to_inl {Y = Y} a r) (f.local b same);
   }
 
@@ -139,10 +159,12 @@ module _ {A B Y : Type 0} (c : Class A) (d : Ahead Y) (q : Form B) (apart : disj
         | inr x ↦ second x.0.0 x.0.1 (one_sound c ts x.0.0 x.0.1 x.1) (starts d.among x.0.1) refl x.2
       ]
     where
-      second : (a : A) (rest : List Token) → Sound (one_text c) [] ts a rest → (b : Bool) → starts d.among rest ≡ b → unless b (fault_at refused (suc (length rest))) (to_inl {Y = Y} a (q.read rest)) ≡ Err e → Fails (ahead_text c d q) (ahead_read c d q) ts e
+      second : (a : A) (rest : List Token) → Sound (one_text c) [] ts a rest → (b : Bool) → starts d.among rest ≡ b
+          → unless b (fault_at refused (suc (length rest))) (to_inl {Y = Y} a (q.read rest)) ≡ Err e → Fails (ahead_text c d q) (ahead_read c d q) ts e
       second a rest s true w h =
           let is : fault_at refused (suc (length rest)) ≡ e = cc in
-          subst (Fails (ahead_text c d q) (ahead_read c d q) ts) is (subst (λ (l : List Token). Fails (ahead_text c d q) (ahead_read c d q) l (fault_at refused (suc (length rest)))) (sym s.parts) (ahead_here a rest w))
+          subst (Fails (ahead_text c d q) (ahead_read c d q) ts) is (subst (λ (l : List Token). Fails (ahead_text c d q) (ahead_read c d q) l
+          (fault_at refused (suc (length rest)))) (sym s.parts) (ahead_here a rest w))
       second a rest s false w h = ahead_second ts e a rest s w (q.fails rest e (inner_err (q.read rest) a e h))
 
   abbrev pub ahead : Form ((A × B) ⊎ (A × Y))

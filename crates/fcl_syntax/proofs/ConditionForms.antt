@@ -7,14 +7,16 @@ use Rattle.fcl_syntax.specs.declared.token.Token.{Token}
 use Rattle.fcl_syntax.specs.declared.token.Token.TheVariants as tok
 use Rattle.fcl_syntax.specs.declared.token.Word.TheVariants as word
 use Rattle.fcl_syntax.specs.declared.tree.Name.{Name}
-use Rattle.fcl_syntax.specs.Marks.{sort, mem, follow_sorts, Among, Sym, plain, marked}
-use Rattle.fcl_syntax.specs.Form.{◌>>=◌, loop, disjoint, Form}
+use Rattle.fcl_syntax.specs.TokenClasses.{class_of, mem, follow_classes, Among, keyword_class, opener_classes}
+use Rattle.fcl_syntax.specs.Annotations.{Sym, plain, annotated}
+use Rattle.fcl_syntax.specs.Readers.{◌>>=◌, loop}
+use Rattle.fcl_syntax.proofs.Form.{disjoint, Form}
 use Rattle.fcl_syntax.specs.Grammar.{TNot, neg, group, is, lone, TNots, no_nots, more_nots, TAnd, and_of, TAnds, no_ands, more_ands, TOr, or_of, not_text, nots_text, and_text, ands_text, or_text}
 use Rattle.fcl_syntax.specs.Reading.{key_at, name_at, not_word_at, operand_at, conjunct_in, and_in, alternative_in, or_in, neg_in, group_in, opened_in, not_at}
 use Rattle.fcl_syntax.specs.View.{nots_of, ands_of}
 use Rattle.fcl_syntax.proofs.Ahead.{Ahead, ahead}
 use Rattle.fcl_syntax.proofs.Chains.{bind_assoc, bind_cond, chain2}
-use Rattle.fcl_syntax.proofs.Classes.{name_class}
+use Rattle.fcl_syntax.proofs.SingleTokens.{name_single}
 use Rattle.fcl_syntax.proofs.Dead.{via, Dead, dead_or}
 use Rattle.fcl_syntax.proofs.Forms.{bare_form, key_form, open_form, name_form}
 use Rattle.fcl_syntax.proofs.Loop.{texts}
@@ -24,8 +26,8 @@ use Rattle.fcl_syntax.proofs.Seq.{seq}
 
 -- ---- name IS [NOT] name
 
-abbrev pub follow_ahead : Ahead (Among follow_sorts)
-follow_ahead = record { among = follow_sorts; token = λ f. f.token; sorts = λ f. f.is; cover = λ y h. (record { token = y; is = h }, refl) }
+abbrev pub follow_ahead : Ahead (Among follow_classes)
+follow_ahead = record { among = follow_classes; token = λ f. f.token; classes = λ f. f.is; cover = λ y h. (record { token = y; is = h }, refl) }
 
 abbrev pub TermRaw : Type 0
 TermRaw = (ℕ × Name) ⊎ Name
@@ -34,10 +36,10 @@ abbrev pub term_form : Form TermRaw
 term_form = either (seq (key_form key.Not) name_form refl) name_form refl refl
 
 abbrev pub OperandRaw : Type 0
-OperandRaw = (Name × (ℕ × TermRaw)) ⊎ (Name × Among follow_sorts)
+OperandRaw = (Name × (ℕ × TermRaw)) ⊎ (Name × Among follow_classes)
 
 abbrev pub operand_raw : Form OperandRaw
-operand_raw = ahead name_class follow_ahead (seq (key_form key.Is) term_form refl) refl
+operand_raw = ahead name_single follow_ahead (seq (key_form key.Is) term_form refl) refl
 
 abbrev pub to_is : Name → ℕ → TermRaw → TNot
 to_is v i (inl t) = is v i (Some t.0) t.1
@@ -105,7 +107,8 @@ module _ (n : ℕ) (p : Part n) where
   conjunct_text t = plain (tok.Word t.0 key.And) ∷ not_text t.1 n
 
   abbrev pub conjunct_raw : Form (ℕ × TNot)
-  conjunct_raw = via (seq (key_form key.And) inner refl) (λ t. t) (λ t. t) conjunct_text (λ t. refl) (λ t. ap (λ (l : List Sym). plain (tok.Word t.0 key.And) ∷ l) (sym (p.text t.1)))
+  conjunct_raw = via (seq (key_form key.And) inner refl) (λ t. t) (λ t. t) conjunct_text (λ t. refl)
+      (λ t. ap (λ (l : List Sym). plain (tok.Word t.0 key.And) ∷ l) (sym (p.text t.1)))
 
   pub conjunct_is : (ts : List Token) → conjunct_in (not_at n) ts ≡ conjunct_raw.read ts
   unfolding conjunct_in
@@ -132,7 +135,7 @@ module _ (n : ℕ) (p : Part n) where
 
   pub and_is : (ts : List Token) → and_in (not_at n) ts ≡ and_raw.read ts
   unfolding and_in
-  and_is ts = chain2 (not_at n) (λ l. loop (23 ∷ []) (conjunct_in (not_at n)) (length l) l) to_and ts
+  and_is ts = chain2 (not_at n) (λ l. loop (keyword_class key.And ∷ []) (conjunct_in (not_at n)) (length l) l) to_and ts
 
   abbrev pub and_form : Form TAnd
   and_form = named and_raw (and_in (not_at n)) and_is
@@ -168,7 +171,7 @@ module _ (n : ℕ) (p : Part n) where
 
   pub or_is : (ts : List Token) → or_in (not_at n) ts ≡ or_raw.read ts
   unfolding or_in
-  or_is ts = chain2 (and_in (not_at n)) (λ l. loop (24 ∷ []) (alternative_in (not_at n)) (length l) l) to_or ts
+  or_is ts = chain2 (and_in (not_at n)) (λ l. loop (keyword_class key.Or ∷ []) (alternative_in (not_at n)) (length l) l) to_or ts
 
   abbrev pub or_form : Form TOr
   or_form = named or_raw (or_in (not_at n)) or_is
@@ -240,13 +243,13 @@ abbrev pub deep_tail : (ℕ × TNot) ⊎ (ℕ × TOr) → List Sym
 deep_tail (inl t) = not_text t.1 0
 deep_tail (inr o) = or_text o.1 0 ++ plain tok.Close ∷ []
 
-pub deep_split : (x : (ℕ × TNot) ⊎ (ℕ × TOr)) → deep_text x ≡ marked Deep (deep_head x) ∷ deep_tail x
+pub deep_split : (x : (ℕ × TNot) ⊎ (ℕ × TOr)) → deep_text x ≡ annotated Deep (deep_head x) ∷ deep_tail x
 deep_split (inl t) = refl
 deep_split (inr o) = refl
 
-pub deep_sorts : (x : (ℕ × TNot) ⊎ (ℕ × TOr)) → mem (sort (deep_head x)) (22 ∷ 60 ∷ []) ≡ true
-deep_sorts (inl t) = refl
-deep_sorts (inr o) = refl
+pub deep_classes : (x : (ℕ × TNot) ⊎ (ℕ × TOr)) → mem (class_of (deep_head x)) opener_classes ≡ true
+deep_classes (inl t) = refl
+deep_classes (inr o) = refl
 
 abbrev pub some_name : Name
 some_name = record { at = 0; word = word.Other }
@@ -254,7 +257,7 @@ some_name = record { at = 0; word = word.Other }
 abbrev pub some_not : TNot
 some_not = is some_name 0 None some_name
 
-pub deep_cover : (y : Token) → mem (sort y) (22 ∷ 60 ∷ []) ≡ true → (x : (ℕ × TNot) ⊎ (ℕ × TOr)) × (deep_head x ≡ y)
+pub deep_cover : (y : Token) → mem (class_of y) opener_classes ≡ true → (x : (ℕ × TNot) ⊎ (ℕ × TOr)) × (deep_head x ≡ y)
 deep_cover (tok.Open at) h = (inr (at, or_of (and_of some_not no_nots) no_ands), refl)
 deep_cover (tok.Word at key.FunctionBlock) h = absurd cc
 deep_cover (tok.Word at key.EndFunctionBlock) h = absurd cc
@@ -306,10 +309,21 @@ deep_cover (tok.Number at (amount.Other n) false) h = absurd cc
 deep_cover _ h = absurd cc
 
 abbrev pub deep_dead : Dead ((ℕ × TNot) ⊎ (ℕ × TOr))
-deep_dead = record { text = deep_text; kind = Deep; among = 22 ∷ 60 ∷ []; head = deep_head; tail = deep_tail; is = deep_split; sorts = deep_sorts; cover = deep_cover; here = refl }
+deep_dead = record {
+  text = deep_text;
+  kind = Deep;
+  among = opener_classes;
+  head = deep_head;
+  tail = deep_tail;
+  is = deep_split;
+  classes = deep_classes;
+  cover = deep_cover;
+  here = refl;
+}
 
 abbrev pub last_raw : Form (((ℕ × TNot) ⊎ (ℕ × TOr)) ⊎ OperandRaw)
-last_raw = dead_or deep_dead operand_raw refl (22 ∷ 60 ∷ operand_raw.first) (in_left (22 ∷ 60 ∷ []) operand_raw.first) (in_right (22 ∷ 60 ∷ []) operand_raw.first)
+last_raw = dead_or deep_dead operand_raw refl (keyword_class key.Not ∷ class_of (tok.Open 0) ∷ operand_raw.first) (in_left opener_classes operand_raw.first)
+    (in_right opener_classes operand_raw.first)
 
 abbrev pub to_last : ((ℕ × TNot) ⊎ (ℕ × TOr)) ⊎ OperandRaw → TNot
 to_last (inl (inl t)) = neg t.0 t.1

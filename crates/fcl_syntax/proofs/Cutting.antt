@@ -10,7 +10,8 @@ use Rattle.fcl_syntax.specs.declared.lexer.LexKind.{LexKind}
 use Rattle.fcl_syntax.specs.declared.lexer.Piece.{Piece}
 use Rattle.fcl_syntax.specs.declared.lexer.Piece.TheVariants as piece
 use Rattle.fcl_syntax.specs.declared.token.Token.{Token}
-use Rattle.fcl_syntax.specs.Lexing.{piece_of, run, starts_name, is_name_byte, is_name_start, lexed, Lexed, in_front, next_piece}
+use Rattle.fcl_syntax.specs.Tokens.{starts_name, is_name_byte, is_name_start}
+use Rattle.fcl_syntax.specs.Lexing.{piece_of, run, lexed, Lexed, in_front, next_piece}
 
 abbrev pub fronted : List Token → List ℕ → Lexed → Lexed
 fronted ts ats (Ok l) = Ok (ts ++ l.0, ats ++ l.1)
@@ -28,29 +29,43 @@ cut_begun bytes = record { fuel = length bytes; enough = omega arith; so_far = g
     go (Ok l) = refl
     go (Err e) = refl
 
-pub cut_skips : (ts : List Token) (ats : List ℕ) (at n : ℕ) (bytes : List ℕ) (total : Lexed) → 0 < length bytes → piece.Skip n ≡ piece_of at bytes → 0 < n → Cutting ts ats at bytes total → Cutting ts ats (at + n) (drop n bytes) total
+pub cut_skips : (ts : List Token) (ats : List ℕ) (at n : ℕ) (bytes : List ℕ) (total : Lexed) → 0 < length bytes → piece.Skip n ≡ piece_of at bytes → 0 < n
+    → Cutting ts ats at bytes total → Cutting ts ats (at + n) (drop n bytes) total
 unfolding lexed
 cut_skips ts ats at n [] total long h pos c = absurd (omega arith)
 cut_skips ts ats at n (b ∷ bytes) total long h pos c = go c.fuel c.enough c.so_far
   where
     go : (fuel : ℕ) → length (b ∷ bytes) ≤ fuel → fronted ts ats (lexed fuel at (b ∷ bytes)) ≡ total → Cutting ts ats (at + n) (drop n (b ∷ bytes)) total
     go zero enough e = absurd (omega arith)
-    go (suc fuel) enough e = record { fuel = fuel; enough = omega (arith, length-drop n (b ∷ bytes)); so_far = ap (λ (p : Piece). fronted ts ats (next_piece at p (λ n. lexed fuel (at + n) (drop n (b ∷ bytes))))) h ∙ e }
+    go (suc fuel) enough e = record {
+      fuel = fuel;
+      enough = omega (arith, length-drop n (b ∷ bytes));
+      so_far = ap (λ (p : Piece). fronted ts ats (next_piece at p (λ n. lexed fuel (at + n) (drop n (b ∷ bytes))))) h ∙ e;
+    }
 
-pub cut_takes : (ts : List Token) (ats : List ℕ) (at n : ℕ) (t : Token) (bytes : List ℕ) (total : Lexed) → 0 < length bytes → piece.Token t n ≡ piece_of at bytes → 0 < n → Cutting ts ats at bytes total → Cutting (ts ++ t ∷ []) (ats ++ at ∷ []) (at + n) (drop n bytes) total
+pub cut_takes : (ts : List Token) (ats : List ℕ) (at n : ℕ) (t : Token) (bytes : List ℕ) (total : Lexed) → 0 < length bytes
+    → piece.Token t n ≡ piece_of at bytes → 0 < n → Cutting ts ats at bytes total → Cutting (ts ++ t ∷ []) (ats ++ at ∷ []) (at + n) (drop n bytes) total
 unfolding lexed
 cut_takes ts ats at n t [] total long h pos c = absurd (omega arith)
 cut_takes ts ats at n t (b ∷ bytes) total long h pos c = go c.fuel c.enough c.so_far
   where
     regroup : (l : Lexed) → fronted (ts ++ t ∷ []) (ats ++ at ∷ []) l ≡ fronted ts ats (in_front t at l)
-    regroup (Ok l) = ap (λ (s : List Token). Ok (s, (ats ++ at ∷ []) ++ l.1)) (append_assoc ts (t ∷ []) l.0) ∙ ap (λ (s : List ℕ). Ok (ts ++ t ∷ l.0, s)) (append_assoc ats (at ∷ []) l.1)
+    regroup (Ok l) = ap (λ (s : List Token). Ok (s, (ats ++ at ∷ []) ++ l.1)) (append_assoc ts (t ∷ []) l.0)
+        ∙ ap (λ (s : List ℕ). Ok (ts ++ t ∷ l.0, s)) (append_assoc ats (at ∷ []) l.1)
     regroup (Err e) = refl
 
-    go : (fuel : ℕ) → length (b ∷ bytes) ≤ fuel → fronted ts ats (lexed fuel at (b ∷ bytes)) ≡ total → Cutting (ts ++ t ∷ []) (ats ++ at ∷ []) (at + n) (drop n (b ∷ bytes)) total
+    go : (fuel : ℕ) → length (b ∷ bytes) ≤ fuel → fronted ts ats (lexed fuel at (b ∷ bytes)) ≡ total
+        → Cutting (ts ++ t ∷ []) (ats ++ at ∷ []) (at + n) (drop n (b ∷ bytes)) total
     go zero enough e = absurd (omega arith)
-    go (suc fuel) enough e = record { fuel = fuel; enough = omega (arith, length-drop n (b ∷ bytes)); so_far = regroup (lexed fuel (at + n) (drop n (b ∷ bytes))) ∙ ap (λ (p : Piece). fronted ts ats (next_piece at p (λ n. lexed fuel (at + n) (drop n (b ∷ bytes))))) h ∙ e }
+    go (suc fuel) enough e = record {
+      fuel = fuel;
+      enough = omega (arith, length-drop n (b ∷ bytes));
+      so_far = regroup (lexed fuel (at + n) (drop n (b ∷ bytes))) ∙ ap (λ (p : Piece). fronted ts ats
+          (next_piece at p (λ n. lexed fuel (at + n) (drop n (b ∷ bytes))))) h ∙ e;
+    }
 
-pub cut_fails : (ts : List Token) (ats : List ℕ) (at : ℕ) (k : LexKind) (bytes : List ℕ) (total : Lexed) → 0 < length bytes → piece.Fault k ≡ piece_of at bytes → Cutting ts ats at bytes total → total ≡ Err (record { kind = k; at = at })
+pub cut_fails : (ts : List Token) (ats : List ℕ) (at : ℕ) (k : LexKind) (bytes : List ℕ) (total : Lexed) → 0 < length bytes → piece.Fault k ≡ piece_of at bytes
+    → Cutting ts ats at bytes total → total ≡ Err (record { kind = k; at = at })
 unfolding lexed
 cut_fails ts ats at k [] total long h c = absurd (omega arith)
 cut_fails ts ats at k (b ∷ bytes) total long h c = go c.fuel c.enough c.so_far
@@ -59,7 +74,8 @@ cut_fails ts ats at k (b ∷ bytes) total long h c = go c.fuel c.enough c.so_far
     go zero enough e = absurd (omega arith)
     go (suc fuel) enough e = sym e ∙ ap (λ (p : Piece). fronted ts ats (next_piece at p (λ n. lexed fuel (at + n) (drop n (b ∷ bytes))))) (sym h)
 
-pub cut_done : (ts : List Token) (ats : List ℕ) (at : ℕ) (bytes : List ℕ) (total : Lexed) → length bytes ≡ 0 → Cutting ts ats at bytes total → total ≡ Ok (ts, ats)
+pub cut_done : (ts : List Token) (ats : List ℕ) (at : ℕ) (bytes : List ℕ) (total : Lexed) → length bytes ≡ 0 → Cutting ts ats at bytes total
+    → total ≡ Ok (ts, ats)
 unfolding lexed
 cut_done ts ats at (b ∷ bytes) total nothing c = absurd (omega arith)
 cut_done ts ats at [] total nothing c = go c.fuel c.so_far

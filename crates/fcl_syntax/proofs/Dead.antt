@@ -1,13 +1,16 @@
--- Marked choices, and a form seen as another type.
+-- Annotated choices, and a form seen as another type.
 use Rattle.std.proofs.Common.{◌≡◌, ℕ, ◌+◌, Bool, true, false, List, [], ◌∷◌, ◌++◌, length, Option, Some, None, Result, Ok, Err, refl, sym, ap, subst, ◌∙◌, arith, inl, inr, ◌⊎◌}
 use Rattle.std.proofs.lemmas.List.{append-nil, length-append}
 use Rattle.fcl_syntax.specs.declared.fault.Fault.{Fault}
 use Rattle.fcl_syntax.specs.declared.fault.Kind.{Kind}
 use Rattle.fcl_syntax.specs.declared.fault.Kind.TheVariants.{Expected, Deep, Unsupported}
 use Rattle.fcl_syntax.specs.declared.token.Token.{Token}
-use Rattle.fcl_syntax.specs.Marks.{either_text, sort, Sym, tokens_of, IsClean, marked, mem}
-use Rattle.fcl_syntax.specs.Form.{cond_read, ◌>>=◌, disjoint, fault_at, Stops, Starts, starts, looks_on, SameNext, SameHead, first_mark, answer, Sound, Shown, Shows, Fails, Form}
-use Rattle.fcl_syntax.proofs.MarkedTexts.{bind_ok, bind_err, ok_is, length-tokens}
+use Rattle.fcl_syntax.specs.TokenClasses.{class_of, mem}
+use Rattle.fcl_syntax.specs.Annotations.{either_text, Sym, tokens_of, IsClean, annotated}
+use Rattle.fcl_syntax.specs.First.{looks_on, SameNext, SameHead, Shown}
+use Rattle.fcl_syntax.specs.Readers.{cond_read, ◌>>=◌, fault_at, starts}
+use Rattle.fcl_syntax.proofs.Form.{disjoint, Stops, Starts, first_annotation, answer, Sound, Shows, Fails, Form}
+use Rattle.fcl_syntax.proofs.AnnotatedTexts.{bind_ok, bind_err, ok_is, length-tokens}
 use Rattle.fcl_syntax.proofs.Seq.{Shows-in, Viable-in}
 use Rattle.fcl_syntax.proofs.Small.{to_right, starts-not, starts-same, bool_cases}
 
@@ -16,7 +19,8 @@ use Rattle.fcl_syntax.proofs.Small.{to_right, starts-not, starts-same, bool_case
 abbrev pub seen_as : {A B : Type 0} → (A → B) → Result (A × List Token) Fault → Result (B × List Token) Fault
 seen_as to r = r >>= λ a. Ok (to a.0, a.1)
 
-module _ {A B : Type 0} (p : Form A) (to : A → B) (from : B → A) (text : B → List Sym) (round : (b : B) → to (from b) ≡ b) (same_text : (a : A) → text (to a) ≡ p.text a) where
+module _ {A B : Type 0} (p : Form A) (to : A → B) (from : B → A) (text : B → List Sym) (round : (b : B) → to (from b) ≡ b)
+    (same_text : (a : A) → text (to a) ≡ p.text a) where
   abbrev pub via_read : List Token → Result (B × List Token) Fault
   via_read ts = seen_as to (p.read ts)
 
@@ -31,18 +35,23 @@ module _ {A B : Type 0} (p : Form A) (to : A → B) (from : B → A) (text : B �
       let x = bind_ok (p.read ts) (λ a. Ok (to a.0, a.1)) (t, rest) e in
       let s = p.sound ts x.0.0 x.0.1 x.1 in
       let made : B × List Token = (to x.0.0, x.0.1) in
-      let whole : Sound text p.goes ts made.0 made.1 = record { parts = s.parts ∙ ap (λ (l : List Sym). tokens_of l ++ x.0.1) (sym (same_text x.0.0)); clean = subst IsClean (sym (same_text x.0.0)) s.clean; stops = s.stops } in
+      let whole : Sound text p.goes ts made.0 made.1 = record {
+        parts = s.parts ∙ ap (λ (l : List Sym). tokens_of l ++ x.0.1) (sym (same_text x.0.0));
+        clean = subst IsClean (sym (same_text x.0.0)) s.clean;
+        stops = s.stops;
+      } in
       subst (λ (z : B × List Token). Sound text p.goes ts z.0 z.1) (ok_is made (t, rest) x.2) whole
 
   answer-seen : (m : Option Fault) (a : A) (rest : List Token) → seen_as to (answer m a rest) ≡ answer m (to a) rest
   answer-seen None a rest = refl
   answer-seen (Some e) a rest = refl
 
-  pub via_again : (b : B) (rest : List Token) → Stops p.goes rest → via_read (tokens_of (text b) ++ rest) ≡ answer (first_mark (text b) (length rest)) b rest
+  pub via_again : (b : B) (rest : List Token) → Stops p.goes rest → via_read (tokens_of (text b) ++ rest) ≡ answer
+      (first_annotation (text b) (length rest)) b rest
   via_again b rest stops =
-      subst (λ (l : List Sym). via_read (tokens_of l ++ rest) ≡ answer (first_mark l (length rest)) b rest) (from_text b)
-      (ap (seen_as to) (p.again (from b) rest stops) ∙ answer-seen (first_mark (p.text (from b)) (length rest)) (from b) rest
-      ∙ ap (λ (y : B). answer (first_mark (p.text (from b)) (length rest)) y rest) (round b))
+      subst (λ (l : List Sym). via_read (tokens_of l ++ rest) ≡ answer (first_annotation l (length rest)) b rest) (from_text b)
+      (ap (seen_as to) (p.again (from b) rest stops) ∙ answer-seen (first_annotation (p.text (from b)) (length rest)) (from b) rest
+      ∙ ap (λ (y : B). answer (first_annotation (p.text (from b)) (length rest)) y rest) (round b))
 
   seen_err : (r : Result (A × List Token) Fault) (e : Fault) → seen_as to r ≡ Err e → r ≡ Err e
   seen_err (Ok x) e h = absurd cc
@@ -83,9 +92,9 @@ pub record Dead (X : Type 0) : Type 0 where
   pub among : List ℕ
   pub head : X → Token
   pub tail : X → List Sym
-  pub is : (x : X) → text x ≡ marked kind (head x) ∷ tail x
-  pub sorts : (x : X) → mem (sort (head x)) among ≡ true
-  pub cover : (y : Token) → mem (sort y) among ≡ true → (x : X) × (head x ≡ y)
+  pub is : (x : X) → text x ≡ annotated kind (head x) ∷ tail x
+  pub classes : (x : X) → mem (class_of (head x)) among ≡ true
+  pub cover : (y : Token) → mem (class_of y) among ≡ true → (x : X) × (head x ≡ y)
   pub here : looks_on kind ≡ false
 
 abbrev pub unless : {A : Type 0} → Bool → Fault → Result A Fault → Result A Fault
@@ -108,13 +117,14 @@ module _ {X A : Type 0} (d : Dead X) (p : Form A) where
   dead_read ts = unless (starts d.among ts) (fault_at d.kind (length ts)) (to_right (p.read ts))
 
 module _ {X A : Type 0} (d : Dead X) (p : Form A) (apart : disjoint d.among p.first ≡ true) (first : List ℕ)
-    (first_dead : (x : Token) → mem (sort x) d.among ≡ true → mem (sort x) first ≡ true) (first_right : (x : Token) → mem (sort x) p.first ≡ true → mem (sort x) first ≡ true) where
-  widen : (f : List ℕ) (ts : List Token) → ((x : Token) → mem (sort x) f ≡ true → mem (sort x) first ≡ true) → Starts f ts → Starts first ts
+    (first_dead : (x : Token) → mem (class_of x) d.among ≡ true → mem (class_of x) first ≡ true)
+    (first_right : (x : Token) → mem (class_of x) p.first ≡ true → mem (class_of x) first ≡ true) where
+  widen : (f : List ℕ) (ts : List Token) → ((x : Token) → mem (class_of x) f ≡ true → mem (class_of x) first ≡ true) → Starts f ts → Starts first ts
   widen f [] w h = absurd h
   widen f (x ∷ xs) w h = w x h
 
   pub dead_begins : (t : X ⊎ A) (rest : List Token) → Starts first (tokens_of (dead_text d p t) ++ rest)
-  dead_begins (inl x) rest = subst (λ (l : List Sym). Starts first (tokens_of l ++ rest)) (sym (d.is x)) (first_dead (d.head x) (d.sorts x))
+  dead_begins (inl x) rest = subst (λ (l : List Sym). Starts first (tokens_of l ++ rest)) (sym (d.is x)) (first_dead (d.head x) (d.classes x))
   dead_begins (inr a) rest = widen p.first (tokens_of (p.text a) ++ rest) first_right (p.begins a rest)
 
   right_sound : (ts : List Token) (t : X ⊎ A) (rest : List Token) → to_right {A = X} (p.read ts) ≡ Ok (t, rest) → Sound (dead_text d p) p.goes ts t rest
@@ -136,16 +146,18 @@ module _ {X A : Type 0} (d : Dead X) (p : Form A) (apart : disjoint d.among p.fi
   answer-right None b rest = refl
   answer-right (Some e) b rest = refl
 
-  pub dead_again : (t : X ⊎ A) (rest : List Token) → Stops p.goes rest → dead_read d p (tokens_of (dead_text d p t) ++ rest) ≡ answer (first_mark (dead_text d p t) (length rest)) t rest
+  pub dead_again : (t : X ⊎ A) (rest : List Token) → Stops p.goes rest → dead_read d p (tokens_of (dead_text d p t) ++ rest) ≡ answer
+      (first_annotation (dead_text d p t) (length rest)) t rest
   dead_again (inl x) rest stops =
-      subst (λ (l : List Sym). dead_read d p (tokens_of l ++ rest) ≡ answer (first_mark l (length rest)) (inl x) rest) (sym (d.is x))
-      (let len : length (tokens_of (d.tail x) ++ rest) ≡ length (d.tail x) + length rest = omega (arith, length-append (tokens_of (d.tail x)) rest, length-tokens (d.tail x)) in
-      rw (d.sorts x, len) refl)
+      subst (λ (l : List Sym). dead_read d p (tokens_of l ++ rest) ≡ answer (first_annotation l (length rest)) (inl x) rest) (sym (d.is x))
+      (let len : length (tokens_of (d.tail x) ++ rest) ≡ length (d.tail x) + length rest = omega
+      (arith, length-append (tokens_of (d.tail x)) rest, length-tokens (d.tail x)) in
+      rw (d.classes x, len) refl)
   dead_again (inr a) rest stops =
       let ts : List Token = tokens_of (p.text a) ++ rest in
       ap (λ (b : Bool). unless b (fault_at d.kind (length ts)) (to_right {A = X} (p.read ts))) (starts-not d.among p.first ts apart (p.begins a rest))
       ∙ ap (λ (r : Result (A × List Token) Fault). to_right {A = X} r) (p.again a rest stops)
-      ∙ answer-right (first_mark (p.text a) (length rest)) a rest
+      ∙ answer-right (first_annotation (p.text a) (length rest)) a rest
 
   dead_here : (ts : List Token) → starts d.among ts ≡ true → Fails (dead_text d p) (dead_read d p) ts (fault_at d.kind (length ts))
   dead_here [] h = absurd cc
@@ -157,13 +169,21 @@ module _ {X A : Type 0} (d : Dead X) (p : Form A) (apart : disjoint d.among p.fi
         parts = refl;
         left = refl;
         viable = record { tree = inr p.some; more = tokens_of (p.text p.some); clean = p.some_clean; parts = refl };
-        shows = to_shows (dead_text d p) d.kind [] (y ∷ ts) (record { tree = inl c.0; before = []; token = d.head c.0; after = d.tail c.0; split = d.is c.0; fronts = refl; same = (c.1, next-same (looks_on d.kind) (tokens_of (d.tail c.0)) ts d.here) });
+        shows = to_shows (dead_text d p) d.kind [] (y ∷ ts) (record {
+          tree = inl c.0;
+          before = [];
+          token = d.head c.0;
+          after = d.tail c.0;
+          split = d.is c.0;
+          fronts = refl;
+          same = (c.1, next-same (looks_on d.kind) (tokens_of (d.tail c.0)) ts d.here);
+        });
         local = at;
       }
     where
       at : (b : List Token) → SameHead d.kind (y ∷ ts) b → dead_read d p b ≡ Err (fault_at d.kind (length b))
       at [] s = absurd s
-      at (z ∷ b) s = rw (subst (λ (w : Token). mem (sort w) d.among ≡ true) s.0 h) refl
+      at (z ∷ b) s = rw (subst (λ (w : Token). mem (class_of w) d.among ≡ true) s.0 h) refl
 
   right_fails : (ts : List Token) (e : Fault) → starts d.among ts ≡ false → Fails p.text p.read ts e → Fails (dead_text d p) (dead_read d p) ts e
   right_fails ts e not_so f = record {
@@ -174,7 +194,8 @@ module _ {X A : Type 0} (d : Dead X) (p : Form A) (apart : disjoint d.among p.fi
     viable = Viable-in p.text (dead_text d p) f.front [] (λ b. inr b) (λ b. []) (λ b. sym (append-nil (p.text b))) tt (λ b. tt) f.viable;
     shows = Shows-in p.text (dead_text d p) e.kind f.front f.bad [] (λ b. inr b) (λ b. []) (λ b. sym (append-nil (p.text b))) f.shows;
     local = λ b same.
-        ap (λ (c : Bool). unless c (fault_at d.kind (length (f.front ++ b))) (to_right {A = X} (p.read (f.front ++ b)))) (starts-same d.among e.kind f.front f.bad b same ∙ ap (starts d.among) (sym f.parts) ∙ not_so)
+        ap (λ (c : Bool). unless c (fault_at d.kind (length (f.front ++ b))) (to_right {A = X} (p.read (f.front ++ b))))
+        (starts-same d.among e.kind f.front f.bad b same ∙ ap (starts d.among) (sym f.parts) ∙ not_so)
         ∙ ap (λ (r : Result (A × List Token) Fault). to_right {A = X} r) (f.local b same);
   }
 
@@ -187,8 +208,10 @@ module _ {X A : Type 0} (d : Dead X) (p : Form A) (apart : disjoint d.among p.fi
   pub dead_fails : (ts : List Token) (e : Fault) → dead_read d p ts ≡ Err e → Fails (dead_text d p) (dead_read d p) ts e
   dead_fails ts e h =
       elim (bool_cases (starts d.among ts)) [
-        | inl is_so ↦ subst (Fails (dead_text d p) (dead_read d p) ts) (same_err (fault_at d.kind (length ts)) e (subst (λ (b : Bool). unless b (fault_at d.kind (length ts)) (to_right {A = X} (p.read ts)) ≡ Err e) is_so h)) (dead_here ts is_so)
-        | inr not_so ↦ right_fails ts e not_so (p.fails ts e (right_err ts e (subst (λ (b : Bool). unless b (fault_at d.kind (length ts)) (to_right {A = X} (p.read ts)) ≡ Err e) not_so h)))
+        | inl is_so ↦ subst (Fails (dead_text d p) (dead_read d p) ts) (same_err (fault_at d.kind (length ts)) e
+            (subst (λ (b : Bool). unless b (fault_at d.kind (length ts)) (to_right {A = X} (p.read ts)) ≡ Err e) is_so h)) (dead_here ts is_so)
+        | inr not_so ↦ right_fails ts e not_so (p.fails ts e (right_err ts e (subst
+            (λ (b : Bool). unless b (fault_at d.kind (length ts)) (to_right {A = X} (p.read ts)) ≡ Err e) not_so h)))
       ]
 
   abbrev pub dead_or : Form (X ⊎ A)

@@ -12,12 +12,14 @@ use Rattle.fcl_syntax.specs.declared.tree.Name.{Name}
 use Rattle.fcl_syntax.specs.declared.tree.Number.{Number}
 use Rattle.fcl_syntax.specs.declared.tree.UnitNumber.{UnitNumber}
 use Rattle.fcl_syntax.specs.declared.tree.ZeroNumber.{ZeroNumber}
-use Rattle.fcl_syntax.specs.Marks.{Sym, plain, name_sorts, other_type_sorts, beyond_unit_sorts, beyond_zero_sorts}
-use Rattle.fcl_syntax.specs.Form.{loop, disjoint, Form}
-use Rattle.fcl_syntax.specs.Grammar.{behind, each, key_text, name_text, names_text, TSigned, plus, minus, bare, signed_text, TNum, TType, TDecl, decl_text, direction_key, TVars, vars_text, var_sorts, TSection, TCoordinate, TUnit, TZero}
+use Rattle.fcl_syntax.specs.TokenClasses.{name_classes, other_type_classes, beyond_unit_classes, beyond_zero_classes, class_of, comma_classes}
+use Rattle.fcl_syntax.specs.Annotations.{Sym, plain}
+use Rattle.fcl_syntax.specs.Readers.{loop}
+use Rattle.fcl_syntax.proofs.Form.{disjoint, Form}
+use Rattle.fcl_syntax.specs.Grammar.{behind, each, key_text, name_text, names_text, TSigned, plus, minus, bare, signed_text, TNum, TType, TDecl, decl_text, direction_key, TVars, vars_text, var_classes, TSection, TCoordinate, TUnit, TZero}
 use Rattle.fcl_syntax.specs.Reading.{IsBare, expect_at, key_at, word_at, open_at, name_at, number_at, unit_number_at, zero_number_at, direction_at, signed_at, coordinate_number_at, unit_at, zero_at, comma_name_at, names_at, type_at, decl_at, decls_at, vars_at, section_at}
 use Rattle.fcl_syntax.proofs.Chains.{bind_assoc, bind_cond, second, chain2, chain3, chain4}
-use Rattle.fcl_syntax.proofs.Classes as class
+use Rattle.fcl_syntax.proofs.SingleTokens as single
 use Rattle.fcl_syntax.proofs.Dead.{via}
 use Rattle.fcl_syntax.proofs.Loop.{texts}
 use Rattle.fcl_syntax.proofs.Named.{named, either, refuse, many_then}
@@ -27,68 +29,68 @@ use Rattle.fcl_syntax.proofs.Small.{one}
 
 -- ---- single tokens
 
-pub bare_is : (x : Token) (b : IsBare x) (ts : List Token) → expect_at x ts ≡ (one (class.bare x b)).read ts
+pub bare_is : (x : Token) (b : IsBare x) (ts : List Token) → expect_at x ts ≡ (one (single.bare x b)).read ts
 unfolding expect_at
 bare_is x b ts = refl
 
 abbrev pub bare_form : (x : Token) → IsBare x → Form (Unit {0})
-bare_form x b = named (one (class.bare x b)) (expect_at x) (bare_is x b)
+bare_form x b = named (one (single.bare x b)) (expect_at x) (bare_is x b)
 
-pub key_is : (k : Keyword) (ts : List Token) → key_at k ts ≡ (one (class.key_class k)).read ts
+pub key_is : (k : Keyword) (ts : List Token) → key_at k ts ≡ (one (single.key_single k)).read ts
 unfolding key_at
 key_is k ts = refl
 
 abbrev pub key_form : Keyword → Form ℕ
-key_form k = named (one (class.key_class k)) (key_at k) (key_is k)
+key_form k = named (one (single.key_single k)) (key_at k) (key_is k)
 
-pub word_is : (w : Word) (ts : List Token) → word_at w ts ≡ (one (class.word_class w)).read ts
+pub word_is : (w : Word) (ts : List Token) → word_at w ts ≡ (one (single.word_single w)).read ts
 unfolding word_at
 word_is w ts = refl
 
 abbrev pub word_form : Word → Form ℕ
-word_form w = named (one (class.word_class w)) (word_at w) (word_is w)
+word_form w = named (one (single.word_single w)) (word_at w) (word_is w)
 
-pub open_is : (ts : List Token) → open_at ts ≡ (one class.open_class).read ts
+pub open_is : (ts : List Token) → open_at ts ≡ (one single.open_single).read ts
 unfolding open_at
 open_is ts = refl
 
 abbrev pub open_form : Form ℕ
-open_form = named (one class.open_class) open_at open_is
+open_form = named (one single.open_single) open_at open_is
 
-pub name_is : (ts : List Token) → name_at ts ≡ (one class.name_class).read ts
+pub name_is : (ts : List Token) → name_at ts ≡ (one single.name_single).read ts
 unfolding name_at
 name_is ts = refl
 
 abbrev pub name_form : Form Name
-name_form = named (one class.name_class) name_at name_is
+name_form = named (one single.name_single) name_at name_is
 
-pub number_is : (ts : List Token) → number_at ts ≡ (one class.number_class).read ts
+pub number_is : (ts : List Token) → number_at ts ≡ (one single.number_single).read ts
 unfolding number_at
 number_is ts = refl
 
 abbrev pub number_form : Form Number
-number_form = named (one class.number_class) number_at number_is
+number_form = named (one single.number_single) number_at number_is
 
-pub unit_number_is : (ts : List Token) → unit_number_at ts ≡ (one class.unit_class).read ts
+pub unit_number_is : (ts : List Token) → unit_number_at ts ≡ (one single.unit_single).read ts
 unfolding unit_number_at
 unit_number_is ts = refl
 
 abbrev pub unit_number_form : Form UnitNumber
-unit_number_form = named (one class.unit_class) unit_number_at unit_number_is
+unit_number_form = named (one single.unit_single) unit_number_at unit_number_is
 
-pub zero_number_is : (ts : List Token) → zero_number_at ts ≡ (one class.zero_class).read ts
+pub zero_number_is : (ts : List Token) → zero_number_at ts ≡ (one single.zero_single).read ts
 unfolding zero_number_at
 zero_number_is ts = refl
 
 abbrev pub zero_number_form : Form ZeroNumber
-zero_number_form = named (one class.zero_class) zero_number_at zero_number_is
+zero_number_form = named (one single.zero_single) zero_number_at zero_number_is
 
-pub direction_is : (ts : List Token) → direction_at ts ≡ (one class.direction_class).read ts
+pub direction_is : (ts : List Token) → direction_at ts ≡ (one single.direction_single).read ts
 unfolding direction_at
 direction_is ts = refl
 
 abbrev pub direction_form : Form (ℕ × Direction)
-direction_form = named (one class.direction_class) direction_at direction_is
+direction_form = named (one single.direction_single) direction_at direction_is
 
 -- ---- one with or without a sign
 
@@ -110,7 +112,8 @@ signed_round (plus a) = refl
 signed_round (minus b) = refl
 signed_round (bare a) = refl
 
-module _ {A B : Type 0} (p : Form A) (q : Form B) (apart_plus : disjoint (67 ∷ []) (68 ∷ p.first) ≡ true) (apart_minus : disjoint (68 ∷ []) p.first ≡ true) (same : q.goes ≡ p.goes) where
+module _ {A B : Type 0} (p : Form A) (q : Form B) (apart_plus : disjoint (class_of tok.Plus ∷ []) (class_of tok.Minus ∷ p.first) ≡ true)
+    (apart_minus : disjoint (class_of tok.Minus ∷ []) p.first ≡ true) (same : q.goes ≡ p.goes) where
   abbrev pub signed_raw : Form (SignedRaw A B)
   signed_raw = either (seq (bare_form tok.Plus refl) p refl) (either (seq (bare_form tok.Minus refl) q refl) p apart_minus same) apart_plus refl
 
@@ -119,7 +122,8 @@ module _ {A B : Type 0} (p : Form A) (q : Form B) (apart_plus : disjoint (67 ∷
   signed_same (inr (inl t)) = refl
   signed_same (inr (inr a)) = refl
 
-  pub signed_is : (ts : List Token) → signed_at p.read q.read ts ≡ (via signed_raw to_signed from_signed (signed_text p.text q.text) signed_round signed_same).read ts
+  pub signed_is : (ts : List Token) → signed_at p.read q.read ts ≡ (via signed_raw to_signed from_signed
+      (signed_text p.text q.text) signed_round signed_same).read ts
   unfolding signed_at
   signed_is ts = simp (bind_cond, bind_assoc)
 
@@ -129,18 +133,18 @@ module _ {A B : Type 0} (p : Form A) (q : Form B) (apart_plus : disjoint (67 ∷
 abbrev pub num_form : Form TNum
 num_form = signed_form number_form number_form refl refl refl
 
-pub coordinate_number_is : (ts : List Token) → coordinate_number_at ts ≡ (refuse (Unsupported 10) name_sorts number_form refl refl).read ts
+pub coordinate_number_is : (ts : List Token) → coordinate_number_at ts ≡ (refuse (Unsupported 10) name_classes number_form refl refl).read ts
 unfolding coordinate_number_at
 coordinate_number_is ts = refl
 
 abbrev pub coordinate_number_form : Form TCoordinate
-coordinate_number_form = named (refuse (Unsupported 10) name_sorts number_form refl refl) coordinate_number_at coordinate_number_is
+coordinate_number_form = named (refuse (Unsupported 10) name_classes number_form refl refl) coordinate_number_at coordinate_number_is
 
 abbrev pub coordinate_form : Form (TSigned TCoordinate TCoordinate)
 coordinate_form = signed_form coordinate_number_form coordinate_number_form refl refl refl
 
 abbrev pub unit_raw : Form TUnit
-unit_raw = refuse (Unsupported 10) name_sorts (refuse (Unsupported 11) beyond_unit_sorts unit_number_form refl refl) refl refl
+unit_raw = refuse (Unsupported 10) name_classes (refuse (Unsupported 11) beyond_unit_classes unit_number_form refl refl) refl refl
 
 pub unit_is : (ts : List Token) → unit_at ts ≡ unit_raw.read ts
 unfolding unit_at
@@ -150,7 +154,7 @@ abbrev pub unit_form : Form TUnit
 unit_form = named unit_raw unit_at unit_is
 
 abbrev pub zero_raw : Form TZero
-zero_raw = refuse (Unsupported 10) name_sorts (refuse (Unsupported 11) beyond_zero_sorts zero_number_form refl refl) refl refl
+zero_raw = refuse (Unsupported 10) name_classes (refuse (Unsupported 11) beyond_zero_classes zero_number_form refl refl) refl refl
 
 pub zero_is : (ts : List Token) → zero_at ts ≡ zero_raw.read ts
 unfolding zero_at
@@ -174,9 +178,11 @@ comma_name_is ts = second (expect_at tok.Comma) name_at ts
 abbrev pub comma_name_form : Form Name
 comma_name_form = named comma_name_raw comma_name_at comma_name_is
 
-pub behind_texts : {A : Type 0} (x : Token) (text : A → List Sym) (q : Form A) → ((a : A) → plain x ∷ text a ≡ q.text a) → (items : List A) → behind x text items ≡ texts q items
+pub behind_texts : {A : Type 0} (x : Token) (text : A → List Sym) (q : Form A) → ((a : A) → plain x ∷ text a ≡ q.text a) → (items : List A)
+    → behind x text items ≡ texts q items
 behind_texts x text q same [] = refl
-behind_texts x text q same (a ∷ items) = ap (λ (l : List Sym). plain x ∷ (text a ++ l)) (behind_texts x text q same items) ∙ ap (λ (l : List Sym). l ++ texts q items) (same a)
+behind_texts x text q same (a ∷ items) =
+    ap (λ (l : List Sym). plain x ∷ (text a ++ l)) (behind_texts x text q same items) ∙ ap (λ (l : List Sym). l ++ texts q items) (same a)
 
 pub each_texts : {A : Type 0} (p : Form A) (items : List A) → each p.text items ≡ texts p items
 each_texts p [] = refl
@@ -190,17 +196,17 @@ names_raw = via (then_rep name_form comma_name_form refl refl) (λ t. t) (λ t. 
 
 pub names_is : (ts : List Token) → names_at ts ≡ names_raw.read ts
 unfolding names_at
-names_is ts = chain2 name_at (λ l. loop (66 ∷ []) comma_name_at (length l) l) (λ t. t) ts
+names_is ts = chain2 name_at (λ l. loop comma_classes comma_name_at (length l) l) (λ t. t) ts
 
 abbrev pub names_form : Form (Name × List Name)
 names_form = named names_raw names_at names_is
 
-pub type_is : (ts : List Token) → type_at ts ≡ (refuse (Unsupported 5) other_type_sorts (word_form word.Real) refl refl).read ts
+pub type_is : (ts : List Token) → type_at ts ≡ (refuse (Unsupported 5) other_type_classes (word_form word.Real) refl refl).read ts
 unfolding type_at
 type_is ts = refl
 
 abbrev pub type_form : Form TType
-type_form = named (refuse (Unsupported 5) other_type_sorts (word_form word.Real) refl refl) type_at type_is
+type_form = named (refuse (Unsupported 5) other_type_classes (word_form word.Real) refl refl) type_at type_is
 
 abbrev pub decl_raw : Form TDecl
 decl_raw = via (seq names_form (seq (bare_form tok.Colon refl) (seq type_form (bare_form tok.Semicolon refl) refl) refl) refl)
@@ -216,11 +222,13 @@ decl_form = named decl_raw decl_at decl_is
 abbrev pub to_vars : (ℕ × Direction) × (List TDecl × ℕ) → TVars
 to_vars t = record { at = t.0.0; direction = t.0.1; decls = t.1.0; end = t.1.1 }
 
-pub vars_same : (t : (ℕ × Direction) × (List TDecl × ℕ)) → vars_text (to_vars t) ≡ plain (tok.Word t.0.0 (direction_key t.0.1)) ∷ (texts decl_form t.1.0 ++ key_text key.EndVar t.1.1)
+pub vars_same : (t : (ℕ × Direction) × (List TDecl × ℕ)) → vars_text (to_vars t) ≡ plain (tok.Word t.0.0 (direction_key t.0.1)) ∷
+    (texts decl_form t.1.0 ++ key_text key.EndVar t.1.1)
 vars_same t = ap (λ (l : List Sym). plain (tok.Word t.0.0 (direction_key t.0.1)) ∷ (l ++ key_text key.EndVar t.1.1)) (each_texts decl_form t.1.0)
 
 abbrev pub vars_raw : Form TVars
-vars_raw = via (seq direction_form (many_then decl_form (key_form key.EndVar) refl refl refl) refl) to_vars (λ v. ((v.at, v.direction), (v.decls, v.end))) vars_text (λ v. refl) vars_same
+vars_raw = via (seq direction_form (many_then decl_form (key_form key.EndVar) refl refl refl) refl) to_vars
+    (λ v. ((v.at, v.direction), (v.decls, v.end))) vars_text (λ v. refl) vars_same
 
 pub vars_is : (ts : List Token) → vars_at ts ≡ vars_raw.read ts
 unfolding vars_at
@@ -229,9 +237,9 @@ vars_is ts = chain3 direction_at decls_at (key_at key.EndVar) to_vars ts
 abbrev pub vars_form : Form TVars
 vars_form = named vars_raw vars_at vars_is
 
-pub section_is : (ts : List Token) → section_at ts ≡ (refuse (Unsupported 6) var_sorts vars_form refl refl).read ts
+pub section_is : (ts : List Token) → section_at ts ≡ (refuse (Unsupported 6) var_classes vars_form refl refl).read ts
 unfolding section_at
 section_is ts = refl
 
 abbrev pub section_form : Form TSection
-section_form = named (refuse (Unsupported 6) var_sorts vars_form refl refl) section_at section_is
+section_form = named (refuse (Unsupported 6) var_classes vars_form refl refl) section_at section_is

@@ -10,14 +10,16 @@ use Rattle.fcl_syntax.specs.declared.tree.Conclusion.{Conclusion}
 use Rattle.fcl_syntax.specs.declared.tree.FunctionBlock.{FunctionBlock}
 use Rattle.fcl_syntax.specs.declared.tree.Name.{Name}
 use Rattle.fcl_syntax.specs.declared.tree.RuleLine.TheVariants as line
-use Rattle.fcl_syntax.specs.Grammar.{TDecl, names_text, name_text, behind, each, type_text, word_text, decl_text, TVars, vars_text, key_text, TSection, section_text, or_text, TRule, rule_text, conclusion_text, conclusions_text, TWeight, weight_text, semicolon_text, num_text, TRuleItem, rule_item_text, TAct, TRuleLine, rule_line_text, and_sorts, or_sorts, accu_sorts, TRulebase, rulebase_text, TEnd, end_text, part_text, TBlock, block_text}
-use Rattle.fcl_syntax.specs.Marks.{plain, either_text, or_refused, name_sorts, other_type_sorts}
+use Rattle.fcl_syntax.specs.Grammar.{TDecl, names_text, name_text, behind, each, type_text, word_text, decl_text, TVars, vars_text, key_text, TSection, section_text, or_text, TRule, rule_text, conclusion_text, conclusions_text, TWeight, weight_text, semicolon_text, num_text, TRuleItem, rule_item_text, TAct, TRuleLine, rule_line_text, and_classes, or_classes, accu_classes, TRulebase, rulebase_text, TEnd, end_text, part_text, TBlock, block_text}
+use Rattle.fcl_syntax.specs.TokenClasses.{name_classes, other_type_classes}
+use Rattle.fcl_syntax.specs.Annotations.{plain, either_text, or_refused}
+use Rattle.fcl_syntax.specs.Text.{SpellsTree, IsFirstFault}
+use Rattle.fcl_syntax.specs.TextReading.{read_text}
 use Rattle.fcl_syntax.specs.Offsets.{offsets}
 use Rattle.fcl_syntax.specs.Readings.{EachTextIsRead}
-use Rattle.fcl_syntax.specs.Text.{SpellsTree, IsFirstFault, read_text}
 use Rattle.fcl_syntax.specs.View.{view_num, view_decl, view_vars, view_section, view_part, view_weight, view_rule, view_rule_item, view_act_word, view_act, view_rule_line, view_rulebase, view}
 use Rattle.fcl_syntax.proofs.KeptConditions.{or_tree}
-use Rattle.fcl_syntax.proofs.KeptLists.{HasTree, IsShort, accepted, behind_tree, count, each_tree, few_within, no_mark, short_back, short_front, short_rest}
+use Rattle.fcl_syntax.proofs.KeptLists.{HasTree, IsShort, accepted, behind_tree, count, each_tree, few_within, no_annotation, short_back, short_front, short_rest}
 use Rattle.fcl_syntax.proofs.KeptTerms.{num_tree, part_tree, setting_tree, some_part}
 use Rattle.fcl_syntax.proofs.Offsets.{offsets_ascend_lem}
 use Rattle.fcl_syntax.proofs.Theorem.{read_faults, read_spells}
@@ -44,7 +46,8 @@ module _ {n : ℕ} (room : n < 2 ^ 63) where
   decl_tree d h =
       let rest = plain tok.Colon ∷ (type_text d.type ++ plain tok.Semicolon ∷ []) in
       let more = behind_tree room tok.Comma name_text some_name d.names.1 (short_rest (short_front (names_text d.names) rest h)) in
-      let real = accepted (Unsupported 5) other_type_sorts (word_text word.Real) d.type (short_front (type_text d.type) (plain tok.Semicolon ∷ []) (short_rest (short_back (names_text d.names) rest h))) in
+      let real = accepted (Unsupported 5) other_type_classes (word_text word.Real) d.type
+      (short_front (type_text d.type) (plain tok.Semicolon ∷ []) (short_rest (short_back (names_text d.names) rest h))) in
       (record { first = d.names.0; more = more.0; real = real.0 }, λ i. record { names = (d.names.0, more.1 i); type = real.1 i })
 
   some_decl : (d : TDecl) → IsShort n (decl_text d) → 0 < count (decl_text d)
@@ -52,22 +55,26 @@ module _ {n : ℕ} (room : n < 2 ^ 63) where
 
   vars_tree : (v : TVars) → IsShort n (vars_text v) → HasTree view_vars v
   vars_tree v h =
-      let decls = each_tree room view_decl decl_text some_decl decl_tree v.decls (short_front (each decl_text v.decls) (key_text key.EndVar v.end) (short_rest h)) in
-      (record { at = v.at; direction = v.direction; decls = decls.0; end = v.end }, λ i. record { at = v.at; direction = v.direction; decls = decls.1 i; end = v.end })
+      let decls = each_tree room view_decl decl_text some_decl decl_tree v.decls (short_front (each decl_text v.decls) (key_text key.EndVar v.end)
+      (short_rest h)) in (
+        record { at = v.at; direction = v.direction; decls = decls.0; end = v.end },
+        λ i. record { at = v.at; direction = v.direction; decls = decls.1 i; end = v.end },
+      )
 
   section_tree : (s : TSection) → IsShort n (section_text s) → HasTree view_section s
-  section_tree (inl x) h = absurd (no_mark (Unsupported 6) h.clean.0)
+  section_tree (inl x) h = absurd (no_annotation (Unsupported 6) h.clean.0)
   section_tree (inr v) h = let found = vars_tree v h in (found.0, ap inr found.1)
 
   some_section : (s : TSection) → IsShort n (section_text s) → 0 < count (section_text s)
-  some_section (inl x) h = absurd (no_mark (Unsupported 6) h.clean.0)
+  some_section (inl x) h = absurd (no_annotation (Unsupported 6) h.clean.0)
   some_section (inr v) h = omega arith
 
   -- ---- rules
 
   weight_tree : (w : TWeight ⊎ Unit {0}) → IsShort n (either_text weight_text semicolon_text w) → HasTree view_weight w
   weight_tree (inl w) h =
-      let found = accepted (Unsupported 15) name_sorts num_text w.value (short_front (or_refused (Unsupported 15) name_sorts num_text w.value) (plain tok.Semicolon ∷ []) (short_rest h)) in
+      let found = accepted (Unsupported 15) name_classes num_text w.value (short_front (or_refused (Unsupported 15) name_classes num_text w.value)
+      (plain tok.Semicolon ∷ []) (short_rest h)) in
       let num = num_tree found.0 in
       let is : inr (view_num num.0) ≡ w.value = ap inr num.1 ∙ found.1 in
       (Some (record { at = w.at; num = num.0 }), λ i. inl (record { at = w.at; value = is i }))
@@ -81,25 +88,43 @@ module _ {n : ℕ} (room : n < 2 ^ 63) where
       let condition = or_tree room r.condition 64 (short_front (or_text r.condition 64) then content) in
       let behind_then = short_rest (short_back (or_text r.condition 64) then content) in
       let conclusions = short_front (conclusions_text r.conclusions) (either_text weight_text semicolon_text r.weight) behind_then in
-      let more = behind_tree room tok.Comma conclusion_text some_conclusion r.conclusions.1 (short_back (conclusion_text r.conclusions.0) (behind tok.Comma conclusion_text r.conclusions.1) conclusions) in
+      let more = behind_tree room tok.Comma conclusion_text some_conclusion r.conclusions.1
+      (short_back (conclusion_text r.conclusions.0) (behind tok.Comma conclusion_text r.conclusions.1) conclusions) in
       let weight = weight_tree r.weight (short_back (conclusions_text r.conclusions) (either_text weight_text semicolon_text r.weight) behind_then) in (
-        record { at = r.at; label = r.label; if_at = r.if_at; condition = condition.0; then_at = r.then_at; first = r.conclusions.0; more = more.0; weight = weight.0 },
-        λ i. record { at = r.at; label = r.label; if_at = r.if_at; condition = condition.1 i; then_at = r.then_at; conclusions = (r.conclusions.0, more.1 i); weight = weight.1 i },
+        record {
+          at = r.at;
+          label = r.label;
+          if_at = r.if_at;
+          condition = condition.0;
+          then_at = r.then_at;
+          first = r.conclusions.0;
+          more = more.0;
+          weight = weight.0;
+        },
+        λ i. record {
+          at = r.at;
+          label = r.label;
+          if_at = r.if_at;
+          condition = condition.1 i;
+          then_at = r.then_at;
+          conclusions = (r.conclusions.0, more.1 i);
+          weight = weight.1 i;
+        },
       )
 
   rule_item_tree : (r : TRuleItem) → IsShort n (rule_item_text r) → HasTree view_rule_item r
-  rule_item_tree (inl x) h = absurd (no_mark (Unsupported 7) h.clean.0)
+  rule_item_tree (inl x) h = absurd (no_annotation (Unsupported 7) h.clean.0)
   rule_item_tree (inr r) h = let found = rule_tree r h in (found.0, ap inr found.1)
 
   some_rule_item : (r : TRuleItem) → IsShort n (rule_item_text r) → 0 < count (rule_item_text r)
-  some_rule_item (inl x) h = absurd (no_mark (Unsupported 7) h.clean.0)
+  some_rule_item (inl x) h = absurd (no_annotation (Unsupported 7) h.clean.0)
   some_rule_item (inr r) h = omega arith
 
   rule_line_tree : (l : TRuleLine) → IsShort n (rule_line_text l) → HasTree view_rule_line l
-  rule_line_tree (inl s) h = let found = setting_tree key.And word.Min and_sorts 2 s h in (line.And found.0, ap inl found.1)
-  rule_line_tree (inr (inl s)) h = let found = setting_tree key.Or word.Max or_sorts 3 s h in (line.Or found.0, λ i. inr (inl (found.1 i)))
+  rule_line_tree (inl s) h = let found = setting_tree key.And word.Min and_classes 2 s h in (line.And found.0, ap inl found.1)
+  rule_line_tree (inr (inl s)) h = let found = setting_tree key.Or word.Max or_classes 3 s h in (line.Or found.0, λ i. inr (inl (found.1 i)))
   rule_line_tree (inr (inr (inl a))) h = let found = act_tree a in (line.Act found.0, λ i. inr (inr (inl (found.1 i))))
-  rule_line_tree (inr (inr (inr s))) h = let found = setting_tree key.Accu word.Max accu_sorts 4 s h in (line.Accu found.0, λ i. inr (inr (inr (found.1 i))))
+  rule_line_tree (inr (inr (inr s))) h = let found = setting_tree key.Accu word.Max accu_classes 4 s h in (line.Accu found.0, λ i. inr (inr (inr (found.1 i))))
 
   some_rule_line : (l : TRuleLine) → IsShort n (rule_line_text l) → 0 < count (rule_line_text l)
   some_rule_line (inl s) h = omega arith
@@ -113,14 +138,17 @@ module _ {n : ℕ} (room : n < 2 ^ 63) where
       let content = short_rest (short_rest h) in
       let lines = each_tree room view_rule_line rule_line_text some_rule_line rule_line_tree r.lines (short_front (each rule_line_text r.lines) rest content) in
       let behind_lines = short_back (each rule_line_text r.lines) rest content in
-      let rules = each_tree room view_rule_item rule_item_text some_rule_item rule_item_tree r.rules (short_front (each rule_item_text r.rules) (key_text key.EndRuleblock r.end) behind_lines) in
-      (record { at = r.at; name = r.name; lines = lines.0; rules = rules.0; end = r.end }, λ i. record { at = r.at; name = r.name; lines = lines.1 i; rules = rules.1 i; end = r.end })
+      let rules = each_tree room view_rule_item rule_item_text some_rule_item rule_item_tree r.rules
+      (short_front (each rule_item_text r.rules) (key_text key.EndRuleblock r.end) behind_lines) in (
+        record { at = r.at; name = r.name; lines = lines.0; rules = rules.0; end = r.end },
+        λ i. record { at = r.at; name = r.name; lines = lines.1 i; rules = rules.1 i; end = r.end },
+      )
 
   -- ---- blocks
 
   end_tree : (e : TEnd) → IsShort n (end_text e) → (at : ℕ) × (inr (inr at) ≡ e)
-  end_tree (inl x) h = absurd (no_mark (Unsupported 7) h.clean.0)
-  end_tree (inr (inl x)) h = absurd (no_mark (Unsupported 8) h.clean.0)
+  end_tree (inl x) h = absurd (no_annotation (Unsupported 7) h.clean.0)
+  end_tree (inr (inl x)) h = absurd (no_annotation (Unsupported 8) h.clean.0)
   end_tree (inr (inr at)) h = (at, refl)
 
   block_tree : (b : TBlock) → IsShort n (block_text b) → HasTree view b

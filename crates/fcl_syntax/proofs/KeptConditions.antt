@@ -10,9 +10,9 @@ use Rattle.fcl_syntax.specs.declared.tree.Not.TheOpen as open_not
 use Rattle.fcl_syntax.specs.declared.tree.Operand.{Operand}
 use Rattle.fcl_syntax.specs.declared.tree.Or.{Or, roll-Or}
 use Rattle.fcl_syntax.specs.Grammar.{TNot, neg, group, is, lone, TNots, no_nots, more_nots, TAnd, and_of, TAnds, no_ands, more_ands, TOr, or_of, not_text, nots_text, and_text, ands_text, or_text, less}
-use Rattle.fcl_syntax.specs.Marks.{plain}
+use Rattle.fcl_syntax.specs.Annotations.{plain}
 use Rattle.fcl_syntax.specs.View.{ands_of, nots_of, view_alternative, view_and, view_conjunct, view_not, view_or}
-use Rattle.fcl_syntax.proofs.KeptLists.{HasTree, IsShort, boxed, count, count-append, listed, no_mark, short_back, short_front, short_rest}
+use Rattle.fcl_syntax.proofs.KeptLists.{HasTree, IsShort, boxed, count, count-append, listed, no_annotation, short_back, short_front, short_rest}
 
 -- ---- one layer
 
@@ -28,13 +28,15 @@ view_not-Is o = search (rules, the_lemmas)
 view_conjunct_lem : (at : ℕ) (t : Not) → view_conjunct (roll-Conjunct (record { at = at; not = t })) ≡ (at, view_not t)
 view_conjunct_lem at t = search (rules, the_lemmas)
 
-view_and_lem : (t : Not) (more : List Conjunct) (small : length more < 2 ^ 63) → view_and (roll-And (record { first = t; more = listed more small })) ≡ and_of (view_not t) (nots_of (map view_conjunct more))
+view_and_lem : (t : Not) (more : List Conjunct) (small : length more < 2 ^ 63) → view_and (roll-And (record { first = t; more = listed more small })) ≡ and_of
+    (view_not t) (nots_of (map view_conjunct more))
 view_and_lem t more small = search (rules, the_lemmas)
 
 view_alternative_lem : (at : ℕ) (a : And) → view_alternative (roll-Alternative (record { at = at; and = a })) ≡ (at, view_and a)
 view_alternative_lem at a = search (rules, the_lemmas)
 
-view_or_lem : (a : And) (more : List Alternative) (small : length more < 2 ^ 63) → view_or (roll-Or (record { first = a; more = listed more small })) ≡ or_of (view_and a) (ands_of (map view_alternative more))
+view_or_lem : (a : And) (more : List Alternative) (small : length more < 2 ^ 63) → view_or (roll-Or (record { first = a; more = listed more small })) ≡ or_of
+    (view_and a) (ands_of (map view_alternative more))
 view_or_lem a more small = search (rules, the_lemmas)
 
 -- ---- whole conditions
@@ -82,7 +84,7 @@ module _ {n : ℕ} (room : n < 2 ^ 63) where
     not_tree (is v i b t) k h =
         let o : Operand = record { variable = v; is_at = i; not_at = b; term = t } in
         (roll-Not (open_not.Is o), view_not-Is o)
-    not_tree (lone v f) k h = absurd (no_mark (Unsupported 12) h.clean.0)
+    not_tree (lone v f) k h = absurd (no_annotation (Unsupported 12) h.clean.0)
 
     nots_trees : (ts : TNots) (k : ℕ) → IsShort n (nots_text ts k) → HasConjuncts ts (count (nots_text ts k))
     nots_trees no_nots k h = ([], refl, omega arith)
@@ -108,4 +110,5 @@ module _ {n : ℕ} (room : n < 2 ^ 63) where
     pub or_tree : (o : TOr) (k : ℕ) → IsShort n (or_text o k) → HasTree view_or o
     or_tree (or_of a items) k h =
         let back = short_back (and_text a k) (ands_text items k) h in
-        or_tree_of a items (count (ands_text items k)) (omega (arith, room)) (and_tree a k (short_front (and_text a k) (ands_text items k) h)) (ands_trees items k back)
+        or_tree_of a items (count (ands_text items k)) (omega (arith, room)) (and_tree a k (short_front (and_text a k) (ands_text items k) h))
+        (ands_trees items k back)

@@ -7,7 +7,8 @@ use denote.RawPtr.{null_ptr}
 use Rattle.fcl_syntax.specs.declared.fault.Kind.{Kind}
 use Rattle.fcl_syntax.specs.declared.token.Token.{Token}
 use Rattle.fcl_syntax.specs.Grammar.{behind, each}
-use Rattle.fcl_syntax.specs.Marks.{Among, IsClean, Sym, or_refused, plain}
+use Rattle.fcl_syntax.specs.TokenClasses.{Among}
+use Rattle.fcl_syntax.specs.Annotations.{IsClean, Sym, or_refused, plain}
 use Rattle.fcl_syntax.specs.Offsets.{AscendWithin, offset_of, offsets}
 
 -- ---- values that have no block of memory
@@ -64,26 +65,35 @@ short_rest {s = s} {symbols = symbols} h = record { clean = h.clean.1; few = ome
 abbrev pub HasTree : {A T : Type 0} → (A → T) → T → Type 0
 HasTree {A} view t = (a : A) × (view a ≡ t)
 
-pub no_mark : (k : Kind) → Some k ≡ None → ⊥
-no_mark k h = cc
+pub no_annotation : (k : Kind) → Some k ≡ None → ⊥
+no_annotation k h = cc
 
 -- what is refused stands in no clean text
-pub accepted : {n : ℕ} {A : Type 0} (k : Kind) (sorts : List ℕ) (text : A → List Sym) (x : Among sorts ⊎ A) → IsShort n (or_refused k sorts text x) → (a : A) × (inr a ≡ x) × IsShort n (text a)
-accepted k sorts text (inl x) h = absurd (no_mark k h.clean.0)
-accepted k sorts text (inr a) h = (a, refl, h)
+pub accepted : {n : ℕ} {A : Type 0} (k : Kind) (classes : List ℕ) (text : A → List Sym) (x : Among classes ⊎ A) → IsShort n (or_refused k classes text x)
+    → (a : A) × (inr a ≡ x) × IsShort n (text a)
+accepted k classes text (inl x) h = absurd (no_annotation k h.clean.0)
+accepted k classes text (inr a) h = (a, refl, h)
 
 -- each item has an offset, so there are no more items than offsets
 few_behind : {A : Type 0} (sep : Token) (text : A → List Sym) → ((a : A) → 0 < count (text a)) → (items : List A) → length items ≤ count (behind sep text items)
 few_behind sep text some [] = omega arith
 few_behind sep text some (a ∷ items) =
-    omega (arith, few_behind sep text some items, some a, count-append (text a) (behind sep text items), count-cons (plain sep) (text a ++ behind sep text items))
+    omega (
+      arith,
+      few_behind sep text some items,
+      some a,
+      count-append (text a) (behind sep text items),
+      count-cons (plain sep) (text a ++ behind sep text items),
+    )
 
 module _ {n : ℕ} (room : n < 2 ^ 63) where
-  pub behind_tree : {A : Type 0} (sep : Token) (text : A → List Sym) → ((a : A) → 0 < count (text a)) → (items : List A) → IsShort n (behind sep text items) → HasTree (λ (v : Vec A). v.items) items
+  pub behind_tree : {A : Type 0} (sep : Token) (text : A → List Sym) → ((a : A) → 0 < count (text a)) → (items : List A) → IsShort n (behind sep text items)
+      → HasTree (λ (v : Vec A). v.items) items
   behind_tree sep text some items h = (listed items (omega (arith, few_behind sep text some items)), refl)
 
   -- likewise, where each item has a tree
-  module _ {A T : Type 0} (view : A → T) (text : T → List Sym) (some : (t : T) → IsShort n (text t) → 0 < count (text t)) (tree : (t : T) → IsShort n (text t) → HasTree view t) where
+  module _ {A T : Type 0} (view : A → T) (text : T → List Sym) (some : (t : T) → IsShort n (text t) → 0 < count (text t))
+      (tree : (t : T) → IsShort n (text t) → HasTree view t) where
     each_items : (ts : List T) → IsShort n (each text ts) → (items : List A) × (map view items ≡ ts) × (length items ≤ count (each text ts))
     each_items [] h = ([], refl, omega arith)
     each_items (t ∷ ts) h =

@@ -16,10 +16,11 @@ use Rattle.fcl_syntax.specs.declared.tree.Part.TheVariants as part
 use Rattle.fcl_syntax.specs.declared.tree.Point.{Point}
 use Rattle.fcl_syntax.specs.declared.tree.UnitNumber.{UnitNumber}
 use Rattle.fcl_syntax.specs.declared.tree.ZeroNumber.{ZeroNumber}
-use Rattle.fcl_syntax.specs.Grammar.{TSigned, plus, minus, bare, TNum, num_text, number_text, each, TCoordinate, coordinate_text, signed_text, unit_text, zero_text, TUnit, TZero, degree_text, TPoint, point_text, TPoints, points_text, TTerm, term_text, TRange, range_text, TFuzzify, fuzzify_text, TSetting, setting_text, accu_sorts, method_sorts, open_sorts, TSingleton, singleton_text, TFallback, word_text, TDefuzzyLine, defuzzy_line_text, TDefuzzify, defuzzify_text, key_text, TPart, part_text}
-use Rattle.fcl_syntax.specs.Marks.{plain, either_text, or_refused, name_sorts, beyond_unit_sorts, beyond_zero_sorts}
+use Rattle.fcl_syntax.specs.Grammar.{TSigned, plus, minus, bare, TNum, num_text, number_text, each, TCoordinate, coordinate_text, signed_text, unit_text, zero_text, TUnit, TZero, degree_text, TPoint, point_text, TPoints, points_text, TTerm, term_text, TRange, range_text, TFuzzify, fuzzify_text, TSetting, setting_text, accu_classes, method_classes, TSingleton, singleton_text, TFallback, word_text, TDefuzzyLine, defuzzy_line_text, TDefuzzify, defuzzify_text, key_text, TPart, part_text}
+use Rattle.fcl_syntax.specs.TokenClasses.{name_classes, beyond_unit_classes, beyond_zero_classes, open_classes}
+use Rattle.fcl_syntax.specs.Annotations.{plain, either_text, or_refused}
 use Rattle.fcl_syntax.specs.View.{view_num, view_coordinate, view_degree, view_point, view_term, view_range, view_fuzzy_line, view_fuzzify, view_setting, view_singleton, view_value, view_fallback, view_defuzzy_line, view_defuzzify, view_part}
-use Rattle.fcl_syntax.proofs.KeptLists.{HasTree, IsShort, accepted, count, each_tree, no_mark, short_back, short_front, short_rest}
+use Rattle.fcl_syntax.proofs.KeptLists.{HasTree, IsShort, accepted, count, each_tree, no_annotation, short_back, short_front, short_rest}
 
 -- ---- numbers
 
@@ -32,16 +33,20 @@ value_tree : (x : TNum ⊎ ℕ) → HasTree view_value x
 value_tree (inl x) = let one = num_tree x in (fallback.Number one.0, ap inl one.1)
 value_tree (inr at) = (fallback.Nc at, refl)
 
-pub setting_tree : {n : ℕ} (k : Keyword) (w : Word) (sorts : List ℕ) (code : ℕ) (s : TSetting sorts) → IsShort n (setting_text k w sorts code s) → HasTree (view_setting {sorts = sorts}) s
-setting_tree k w sorts code s h =
-    let found = accepted (Unsupported code) sorts (word_text w) s.word (short_front (or_refused (Unsupported code) sorts (word_text w) s.word) (plain tok.Semicolon ∷ []) (short_rest (short_rest h))) in
+pub setting_tree : {n : ℕ} (k : Keyword) (w : Word) (classes : List ℕ) (code : ℕ) (s : TSetting classes) → IsShort n (setting_text k w classes code s)
+    → HasTree (view_setting {classes = classes}) s
+setting_tree k w classes code s h =
+    let found = accepted (Unsupported code) classes (word_text w) s.word (short_front (or_refused (Unsupported code) classes (word_text w) s.word)
+    (plain tok.Semicolon ∷ []) (short_rest (short_rest h))) in
     (record { at = s.at; word = found.0 }, λ i. record { at = s.at; word = found.1 i })
 
 range_tree : (r : TRange) → HasTree view_range r
 range_tree r =
     let low = num_tree r.low in
-    let high = num_tree r.high in
-    (record { at = r.at; assigned = r.assigned; open_at = r.open_at; low = low.0; high = high.0 }, λ i. record { at = r.at; assigned = r.assigned; open_at = r.open_at; low = low.1 i; high = high.1 i })
+    let high = num_tree r.high in (
+      record { at = r.at; assigned = r.assigned; open_at = r.open_at; low = low.0; high = high.0 },
+      λ i. record { at = r.at; assigned = r.assigned; open_at = r.open_at; low = low.1 i; high = high.1 i },
+    )
 
 fallback_tree : (d : TFallback) → HasTree view_fallback d
 fallback_tree d =
@@ -62,20 +67,22 @@ module _ {n : ℕ} (room : n < 2 ^ 63) where
   -- ---- points
 
   coordinate_tree : (x : TSigned TCoordinate TCoordinate) → IsShort n (signed_text coordinate_text coordinate_text x) → HasTree view_coordinate x
-  coordinate_tree (plus c) h = let found = accepted (Unsupported 10) name_sorts number_text c (short_rest h) in (num.Plus found.0, ap plus found.1)
-  coordinate_tree (minus c) h = let found = accepted (Unsupported 10) name_sorts number_text c (short_rest h) in (num.Minus found.0, ap minus found.1)
-  coordinate_tree (bare c) h = let found = accepted (Unsupported 10) name_sorts number_text c h in (num.Bare found.0, ap bare found.1)
+  coordinate_tree (plus c) h = let found = accepted (Unsupported 10) name_classes number_text c (short_rest h) in (num.Plus found.0, ap plus found.1)
+  coordinate_tree (minus c) h = let found = accepted (Unsupported 10) name_classes number_text c (short_rest h) in (num.Minus found.0, ap minus found.1)
+  coordinate_tree (bare c) h = let found = accepted (Unsupported 10) name_classes number_text c h in (num.Bare found.0, ap bare found.1)
 
-  unit_tree : (u : TUnit) → IsShort n (or_refused (Unsupported 10) name_sorts (or_refused (Unsupported 11) beyond_unit_sorts unit_text) u) → HasTree view_unit u
+  unit_tree : (u : TUnit) → IsShort n (or_refused (Unsupported 10) name_classes (or_refused (Unsupported 11) beyond_unit_classes unit_text) u)
+      → HasTree view_unit u
   unit_tree u h =
-      let in_place = accepted (Unsupported 10) name_sorts (or_refused (Unsupported 11) beyond_unit_sorts unit_text) u h in
-      let found = accepted (Unsupported 11) beyond_unit_sorts unit_text in_place.0 in_place.2 in
+      let in_place = accepted (Unsupported 10) name_classes (or_refused (Unsupported 11) beyond_unit_classes unit_text) u h in
+      let found = accepted (Unsupported 11) beyond_unit_classes unit_text in_place.0 in_place.2 in
       (found.0, ap inr found.1 ∙ in_place.1)
 
-  zero_tree : (z : TZero) → IsShort n (or_refused (Unsupported 10) name_sorts (or_refused (Unsupported 11) beyond_zero_sorts zero_text) z) → HasTree view_zero z
+  zero_tree : (z : TZero) → IsShort n (or_refused (Unsupported 10) name_classes (or_refused (Unsupported 11) beyond_zero_classes zero_text) z)
+      → HasTree view_zero z
   zero_tree z h =
-      let in_place = accepted (Unsupported 10) name_sorts (or_refused (Unsupported 11) beyond_zero_sorts zero_text) z h in
-      let found = accepted (Unsupported 11) beyond_zero_sorts zero_text in_place.0 in_place.2 in
+      let in_place = accepted (Unsupported 10) name_classes (or_refused (Unsupported 11) beyond_zero_classes zero_text) z h in
+      let found = accepted (Unsupported 11) beyond_zero_classes zero_text in_place.0 in_place.2 in
       (found.0, ap inr found.1 ∙ in_place.1)
 
   degree_tree : (d : TSigned TUnit TZero) → IsShort n (degree_text d) → HasTree view_degree d
@@ -95,7 +102,7 @@ module _ {n : ℕ} (room : n < 2 ^ 63) where
   some_point p h = omega arith
 
   points_tree : (x : TPoints) → IsShort n (points_text x) → HasTree view_points x
-  points_tree (inl x) h = absurd (no_mark (Unsupported 14) h.clean.0)
+  points_tree (inl x) h = absurd (no_annotation (Unsupported 14) h.clean.0)
   points_tree (inr t) h =
       let first = point_tree t.0 (short_front (point_text t.0) (each point_text t.1) h) in
       let more = each_tree room view_point point_text some_point point_tree t.1 (short_back (point_text t.0) (each point_text t.1) h) in
@@ -118,22 +125,25 @@ module _ {n : ℕ} (room : n < 2 ^ 63) where
 
   fuzzify_tree : (f : TFuzzify) → IsShort n (fuzzify_text f) → HasTree view_fuzzify f
   fuzzify_tree f h =
-      let lines = each_tree room view_fuzzy_line (either_text term_text range_text) some_fuzzy_line fuzzy_line_tree f.lines (short_front (each (either_text term_text range_text) f.lines) (key_text key.EndFuzzify f.end) (short_rest (short_rest h))) in
+      let lines = each_tree room view_fuzzy_line (either_text term_text range_text) some_fuzzy_line fuzzy_line_tree f.lines
+      (short_front (each (either_text term_text range_text) f.lines) (key_text key.EndFuzzify f.end) (short_rest (short_rest h))) in
       (record { at = f.at; name = f.name; lines = lines.0; end = f.end }, λ i. record { at = f.at; name = f.name; lines = lines.1 i; end = f.end })
 
   -- ---- outputs
 
   singleton_tree : (s : TSingleton) → IsShort n (singleton_text s) → HasTree view_singleton s
   singleton_tree s h =
-      let found = accepted (Unsupported 13) open_sorts num_text s.value (short_front (or_refused (Unsupported 13) open_sorts num_text s.value) (plain tok.Semicolon ∷ []) (short_rest (short_rest (short_rest h)))) in
+      let found = accepted (Unsupported 13) open_classes num_text s.value (short_front (or_refused (Unsupported 13) open_classes num_text s.value)
+      (plain tok.Semicolon ∷ []) (short_rest (short_rest (short_rest h)))) in
       let value = num_tree found.0 in
       let is : inr (view_num value.0) ≡ s.value = ap inr value.1 ∙ found.1 in
       (record { at = s.at; name = s.name; value = value.0 }, λ i. record { at = s.at; name = s.name; value = is i })
 
   defuzzy_line_tree : (l : TDefuzzyLine) → IsShort n (defuzzy_line_text l) → HasTree view_defuzzy_line l
   defuzzy_line_tree (inl s) h = let found = singleton_tree s h in (defuzzy.Singleton found.0, ap inl found.1)
-  defuzzy_line_tree (inr (inl s)) h = let found = setting_tree key.Accu word.Max accu_sorts 4 s h in (defuzzy.Accu found.0, λ i. inr (inl (found.1 i)))
-  defuzzy_line_tree (inr (inr (inl s))) h = let found = setting_tree key.Method word.Cogs method_sorts 1 s h in (defuzzy.Method found.0, λ i. inr (inr (inl (found.1 i))))
+  defuzzy_line_tree (inr (inl s)) h = let found = setting_tree key.Accu word.Max accu_classes 4 s h in (defuzzy.Accu found.0, λ i. inr (inl (found.1 i)))
+  defuzzy_line_tree (inr (inr (inl s))) h = let found =
+      setting_tree key.Method word.Cogs method_classes 1 s h in (defuzzy.Method found.0, λ i. inr (inr (inl (found.1 i))))
   defuzzy_line_tree (inr (inr (inr (inl d)))) h = let found = fallback_tree d in (defuzzy.Default found.0, λ i. inr (inr (inr (inl (found.1 i)))))
   defuzzy_line_tree (inr (inr (inr (inr r)))) h = let found = range_tree r in (defuzzy.Range found.0, λ i. inr (inr (inr (inr (found.1 i)))))
 
@@ -146,17 +156,18 @@ module _ {n : ℕ} (room : n < 2 ^ 63) where
 
   defuzzify_tree : (d : TDefuzzify) → IsShort n (defuzzify_text d) → HasTree view_defuzzify d
   defuzzify_tree d h =
-      let lines = each_tree room view_defuzzy_line defuzzy_line_text some_defuzzy_line defuzzy_line_tree d.lines (short_front (each defuzzy_line_text d.lines) (key_text key.EndDefuzzify d.end) (short_rest (short_rest h))) in
+      let lines = each_tree room view_defuzzy_line defuzzy_line_text some_defuzzy_line defuzzy_line_tree d.lines
+      (short_front (each defuzzy_line_text d.lines) (key_text key.EndDefuzzify d.end) (short_rest (short_rest h))) in
       (record { at = d.at; name = d.name; lines = lines.0; end = d.end }, λ i. record { at = d.at; name = d.name; lines = lines.1 i; end = d.end })
 
   -- ---- parts
 
   pub part_tree : (p : TPart) → IsShort n (part_text p) → HasTree view_part p
-  part_tree (inl x) h = absurd (no_mark (Unsupported 7) h.clean.0)
+  part_tree (inl x) h = absurd (no_annotation (Unsupported 7) h.clean.0)
   part_tree (inr (inl f)) h = let found = fuzzify_tree f h in (part.Fuzzify found.0, λ i. inr (inl (found.1 i)))
   part_tree (inr (inr d)) h = let found = defuzzify_tree d h in (part.Defuzzify found.0, λ i. inr (inr (found.1 i)))
 
   pub some_part : (p : TPart) → IsShort n (part_text p) → 0 < count (part_text p)
-  some_part (inl x) h = absurd (no_mark (Unsupported 7) h.clean.0)
+  some_part (inl x) h = absurd (no_annotation (Unsupported 7) h.clean.0)
   some_part (inr (inl f)) h = omega arith
   some_part (inr (inr d)) h = omega arith

@@ -1,4 +1,5 @@
-pub mod MarkedTexts
+pub mod Form
+pub mod AnnotatedTexts
 pub mod Seq
 pub mod Small
 pub mod Dead
@@ -10,12 +11,16 @@ pub mod Run
 pub mod Tags
 pub mod Chains
 pub mod Named
-pub mod Classes
+pub mod SingleTokens
 pub mod Forms
 pub mod TermForms
 pub mod ConditionForms
 pub mod RuleForms
 pub mod Rooms
+pub mod CutLists
+pub mod CutPieces
+pub mod CutSpellings
+pub mod CutTexts
 pub mod Theorem
 pub mod Cutting
 pub mod Scale

@@ -3,9 +3,10 @@ use Rattle.std.proofs.Common.{◌≡◌, ℕ, zero, suc, ◌+◌, ◌≤◌, Boo
 use Rattle.std.proofs.lemmas.List.{append-nil, length-append}
 use Rattle.fcl_syntax.specs.declared.fault.Fault.{Fault}
 use Rattle.fcl_syntax.specs.declared.token.Token.{Token}
-use Rattle.fcl_syntax.specs.Marks.{Sym, tokens_of, IsClean}
-use Rattle.fcl_syntax.specs.Form.{◌>>=◌, disjoint, Stops, Starts, starts, first_mark, or_else, answer, with_front, turn, loop, Fails, Form}
-use Rattle.fcl_syntax.proofs.MarkedTexts.{bind_ok, bind_err, ok_is, tokens_of-append, length-tokens, IsClean-append, first_mark-append, first_mark-clean, starts-stops}
+use Rattle.fcl_syntax.specs.Annotations.{Sym, tokens_of, IsClean}
+use Rattle.fcl_syntax.specs.Readers.{◌>>=◌, starts, with_front, turn, loop}
+use Rattle.fcl_syntax.proofs.Form.{disjoint, Stops, Starts, first_annotation, or_else, answer, Fails, Form}
+use Rattle.fcl_syntax.proofs.AnnotatedTexts.{bind_ok, bind_err, ok_is, tokens_of-append, length-tokens, IsClean-append, first_annotation-append, first_annotation-clean, starts-stops}
 use Rattle.fcl_syntax.proofs.Small.{starts-is}
 
 module _ {A : Type 0} (p : Form A) where
@@ -63,7 +64,8 @@ module _ {A : Type 0} (p : Form A) (apart : disjoint p.goes p.first ≡ true) wh
   shorter : (a : A) (rest : List Token) (n : ℕ) → length (tokens_of (p.text a) ++ rest) ≤ suc n → length rest ≤ n
   shorter a rest n h = omega (arith, longer p.first (tokens_of (p.text a)) rest (begins_alone a))
 
-  with_front_ok : (a : A) (r : Result (List A × List Token) Fault) (items : List A) (rest : List Token) → with_front a r ≡ Ok (items, rest) → (bs : List A) × (r ≡ Ok (bs, rest)) × (items ≡ a ∷ bs)
+  with_front_ok : (a : A) (r : Result (List A × List Token) Fault) (items : List A) (rest : List Token) → with_front a r ≡ Ok (items, rest) → (bs : List A) ×
+      (r ≡ Ok (bs, rest)) × (items ≡ a ∷ bs)
   with_front_ok a (Ok x) items rest h =
       let e = ok_is (a ∷ x.0, x.1) (items, rest) h in
       (x.0, ap (λ (l : List Token). Ok (x.0, l)) (ap (λ (z : List A × List Token). z.1) e), sym (ap (λ (z : List A × List Token). z.0) e))
@@ -79,7 +81,8 @@ module _ {A : Type 0} (p : Form A) (apart : disjoint p.goes p.first ≡ true) wh
       subst (λ (z : List A × List Token). Ran p ts z.0 z.1) e (record { parts = refl; clean = tt; ends = starts-nil p.first ts len; stops = tt })
   rep_runs (suc n) ts items rest len h = go (rep_runs n) (starts p.first ts) refl h
     where
-      go : ((ts : List Token) (items : List A) (rest : List Token) → length ts ≤ n → rep p n ts ≡ Ok (items, rest) → Ran p ts items rest) → (b : Bool) → starts p.first ts ≡ b → turn b (p.read ts >>= λ a. with_front a.0 (rep p n a.1)) ts ≡ Ok (items, rest) → Ran p ts items rest
+      go : ((ts : List Token) (items : List A) (rest : List Token) → length ts ≤ n → rep p n ts ≡ Ok (items, rest) → Ran p ts items rest) → (b : Bool)
+          → starts p.first ts ≡ b → turn b (p.read ts >>= λ a. with_front a.0 (rep p n a.1)) ts ≡ Ok (items, rest) → Ran p ts items rest
       go again false w h =
           let e = ok_is ([], ts) (items, rest) h in
           subst (λ (z : List A × List Token). Ran p ts z.0 z.1) e (record { parts = refl; clean = tt; ends = w; stops = tt })
@@ -90,7 +93,9 @@ module _ {A : Type 0} (p : Form A) (apart : disjoint p.goes p.first ≡ true) wh
           let len' : length x.0.1 ≤ n = shorter x.0.0 x.0.1 n (subst (λ (l : List Token). length l ≤ suc n) s.parts len) in
           let r = again x.0.1 y.0 rest len' y.1 in
           let whole : Ran p ts (x.0.0 ∷ y.0) rest = record {
-            parts = s.parts ∙ ap (λ (l : List Token). tokens_of (p.text x.0.0) ++ l) r.parts ∙ sym (append_assoc (tokens_of (p.text x.0.0)) (tokens_of (texts p y.0)) rest) ∙ ap (λ (l : List Token). l ++ rest) (sym (tokens_of-append (p.text x.0.0) (texts p y.0)));
+            parts = s.parts ∙ ap (λ (l : List Token). tokens_of (p.text x.0.0) ++ l) r.parts
+                ∙ sym (append_assoc (tokens_of (p.text x.0.0)) (tokens_of (texts p y.0)) rest)
+                ∙ ap (λ (l : List Token). l ++ rest) (sym (tokens_of-append (p.text x.0.0) (texts p y.0)));
             clean = IsClean-append (p.text x.0.0) (texts p y.0) s.clean r.clean;
             ends = r.ends;
             stops = settle y.0 x.0.1 rest r.parts s.stops r.stops;
@@ -102,26 +107,34 @@ module _ {A : Type 0} (p : Form A) (apart : disjoint p.goes p.first ≡ true) wh
   rep_ends (suc n) rest h = rw h refl
 
   -- the items of a text, and then anything
-  pub rep_again : (n : ℕ) (items : List A) (rest : List Token) → length (tokens_of (texts p items) ++ rest) ≤ n → starts p.first rest ≡ false → Settled p.goes items rest
-      → rep p n (tokens_of (texts p items) ++ rest) ≡ answer (first_mark (texts p items) (length rest)) items rest
+  pub rep_again : (n : ℕ) (items : List A) (rest : List Token) → length (tokens_of (texts p items) ++ rest) ≤ n → starts p.first rest ≡ false
+      → Settled p.goes items rest
+      → rep p n (tokens_of (texts p items) ++ rest) ≡ answer (first_annotation (texts p items) (length rest)) items rest
   rep_again n [] rest len ends stops = rep_ends n rest ends
   rep_again zero (a ∷ items) rest len ends stops =
       let after : List Token = tokens_of (texts p items) ++ rest in
-      let regrouped : tokens_of (texts p (a ∷ items)) ++ rest ≡ tokens_of (p.text a) ++ after = ap (λ (l : List Token). l ++ rest) (tokens_of-append (p.text a) (texts p items)) ∙ append_assoc (tokens_of (p.text a)) (tokens_of (texts p items)) rest in
+      let regrouped : tokens_of (texts p (a ∷ items)) ++ rest ≡ tokens_of (p.text a) ++
+      after = ap (λ (l : List Token). l ++ rest) (tokens_of-append (p.text a) (texts p items))
+      ∙ append_assoc (tokens_of (p.text a)) (tokens_of (texts p items)) rest in
       absurd (omega (arith, ap length regrouped, longer p.first (tokens_of (p.text a)) after (begins_alone a), len))
   rep_again (suc n) (a ∷ items) rest len ends stops =
       let after : List Token = tokens_of (texts p items) ++ rest in
-      let regrouped : tokens_of (texts p (a ∷ items)) ++ rest ≡ tokens_of (p.text a) ++ after = ap (λ (l : List Token). l ++ rest) (tokens_of-append (p.text a) (texts p items)) ∙ append_assoc (tokens_of (p.text a)) (tokens_of (texts p items)) rest in
+      let regrouped : tokens_of (texts p (a ∷ items)) ++ rest ≡ tokens_of (p.text a) ++
+      after = ap (λ (l : List Token). l ++ rest) (tokens_of-append (p.text a) (texts p items))
+      ∙ append_assoc (tokens_of (p.text a)) (tokens_of (texts p items)) rest in
       let len' : length after ≤ n = shorter a after n (subst (λ (l : List Token). length l ≤ suc n) regrouped len) in
       let hp = p.again a after (stops_after items) in
       let hr = rep_again n items rest len' ends (all_settled p.goes items rest stops) in
-      let marks : first_mark (texts p (a ∷ items)) (length rest) ≡ or_else (first_mark (p.text a) (length after)) (first_mark (texts p items) (length rest)) =
-      first_mark-append (p.text a) (texts p items) (length rest) ∙ ap (λ (n : ℕ). or_else (first_mark (p.text a) n) (first_mark (texts p items) (length rest))) (sym (lengths items)) in
+      let annotations : first_annotation (texts p (a ∷ items)) (length rest) ≡ or_else (first_annotation (p.text a) (length after))
+      (first_annotation (texts p items) (length rest)) =
+      first_annotation-append (p.text a) (texts p items) (length rest) ∙ ap (λ (n : ℕ). or_else (first_annotation (p.text a) n)
+      (first_annotation (texts p items) (length rest))) (sym (lengths items)) in
       ap (rep p (suc n)) regrouped
-      ∙ ap (λ (b : Bool). turn b (p.read (tokens_of (p.text a) ++ after) >>= λ a. with_front a.0 (rep p n a.1)) (tokens_of (p.text a) ++ after)) (starts-is p.first (tokens_of (p.text a) ++ after) (p.begins a after))
+      ∙ ap (λ (b : Bool). turn b (p.read (tokens_of (p.text a) ++ after) >>= λ a. with_front a.0 (rep p n a.1)) (tokens_of (p.text a) ++ after))
+      (starts-is p.first (tokens_of (p.text a) ++ after) (p.begins a after))
       ∙ ap (λ (r : Result (A × List Token) Fault). r >>= λ a. with_front a.0 (rep p n a.1)) hp
-      ∙ step (first_mark (p.text a) (length after)) (first_mark (texts p items) (length rest)) after hr
-      ∙ ap (λ (m : Option Fault). answer m (a ∷ items) rest) (sym marks)
+      ∙ step (first_annotation (p.text a) (length after)) (first_annotation (texts p items) (length rest)) after hr
+      ∙ ap (λ (m : Option Fault). answer m (a ∷ items) rest) (sym annotations)
     where
       lengths : (items : List A) → length (tokens_of (texts p items) ++ rest) ≡ length (texts p items) + length rest
       lengths items = omega (arith, length-append (tokens_of (texts p items)) rest, length-tokens (texts p items))
@@ -130,9 +143,11 @@ module _ {A : Type 0} (p : Form A) (apart : disjoint p.goes p.first ≡ true) wh
       stops_after [] = stops
       stops_after (b ∷ bs) =
           starts-stops p.goes p.first (tokens_of (texts p (b ∷ bs)) ++ rest) apart
-          (subst (Starts p.first) (sym (append_assoc (tokens_of (p.text b)) (tokens_of (texts p bs)) rest) ∙ ap (λ (l : List Token). l ++ rest) (sym (tokens_of-append (p.text b) (texts p bs)))) (p.begins b (tokens_of (texts p bs) ++ rest)))
+          (subst (Starts p.first) (sym (append_assoc (tokens_of (p.text b)) (tokens_of (texts p bs)) rest)
+          ∙ ap (λ (l : List Token). l ++ rest) (sym (tokens_of-append (p.text b) (texts p bs)))) (p.begins b (tokens_of (texts p bs) ++ rest)))
 
-      step : (m k : Option Fault) (r : List Token) → rep p n r ≡ answer k items rest → (answer m a r >>= λ a. with_front a.0 (rep p n a.1)) ≡ answer {T = List A} (or_else m k) (a ∷ items) rest
+      step : (m k : Option Fault) (r : List Token) → rep p n r ≡ answer k items rest
+          → (answer m a r >>= λ a. with_front a.0 (rep p n a.1)) ≡ answer {T = List A} (or_else m k) (a ∷ items) rest
       step None None r h = rw h refl
       step None (Some e) r h = rw h refl
       step (Some e) k r h = refl
@@ -141,26 +156,35 @@ module _ {A : Type 0} (p : Form A) (apart : disjoint p.goes p.first ≡ true) wh
   stops_before [] rest stops = stops
   stops_before (b ∷ bs) rest stops =
       starts-stops p.goes p.first (tokens_of (texts p (b ∷ bs)) ++ rest) apart
-      (subst (Starts p.first) (sym (append_assoc (tokens_of (p.text b)) (tokens_of (texts p bs)) rest) ∙ ap (λ (l : List Token). l ++ rest) (sym (tokens_of-append (p.text b) (texts p bs)))) (p.begins b (tokens_of (texts p bs) ++ rest)))
+      (subst (Starts p.first) (sym (append_assoc (tokens_of (p.text b)) (tokens_of (texts p bs)) rest)
+      ∙ ap (λ (l : List Token). l ++ rest) (sym (tokens_of-append (p.text b) (texts p bs)))) (p.begins b (tokens_of (texts p bs) ++ rest)))
 
   -- items, and then what fails
-  pub rep_local : (n : ℕ) (items : List A) (rest : List Token) (d : Fault) → length (tokens_of (texts p items) ++ rest) ≤ n → IsClean (texts p items) → starts p.first rest ≡ true → p.read rest ≡ Err d
+  pub rep_local : (n : ℕ) (items : List A) (rest : List Token) (d : Fault) → length (tokens_of (texts p items) ++ rest) ≤ n → IsClean (texts p items)
+      → starts p.first rest ≡ true → p.read rest ≡ Err d
       → rep p n (tokens_of (texts p items) ++ rest) ≡ Err d
   rep_local zero [] rest d len clean begun fails = absurd (let no = starts-nil p.first rest len in cc)
   rep_local (suc n) [] rest d len clean begun fails = rw (begun, fails) refl
   rep_local zero (a ∷ items) rest d len clean begun fails =
       let after : List Token = tokens_of (texts p items) ++ rest in
-      let regrouped : tokens_of (texts p (a ∷ items)) ++ rest ≡ tokens_of (p.text a) ++ after = ap (λ (l : List Token). l ++ rest) (tokens_of-append (p.text a) (texts p items)) ∙ append_assoc (tokens_of (p.text a)) (tokens_of (texts p items)) rest in
+      let regrouped : tokens_of (texts p (a ∷ items)) ++ rest ≡ tokens_of (p.text a) ++
+      after = ap (λ (l : List Token). l ++ rest) (tokens_of-append (p.text a) (texts p items))
+      ∙ append_assoc (tokens_of (p.text a)) (tokens_of (texts p items)) rest in
       absurd (omega (arith, ap length regrouped, longer p.first (tokens_of (p.text a)) after (begins_alone a), len))
   rep_local (suc n) (a ∷ items) rest d len clean begun fails =
       let after : List Token = tokens_of (texts p items) ++ rest in
-      let regrouped : tokens_of (texts p (a ∷ items)) ++ rest ≡ tokens_of (p.text a) ++ after = ap (λ (l : List Token). l ++ rest) (tokens_of-append (p.text a) (texts p items)) ∙ append_assoc (tokens_of (p.text a)) (tokens_of (texts p items)) rest in
+      let regrouped : tokens_of (texts p (a ∷ items)) ++ rest ≡ tokens_of (p.text a) ++
+      after = ap (λ (l : List Token). l ++ rest) (tokens_of-append (p.text a) (texts p items))
+      ∙ append_assoc (tokens_of (p.text a)) (tokens_of (texts p items)) rest in
       let len' : length after ≤ n = shorter a after n (subst (λ (l : List Token). length l ≤ suc n) regrouped len) in
       let parts = clean_parts (p.text a) (texts p items) clean in
-      let hp : p.read (tokens_of (p.text a) ++ after) ≡ Ok (a, after) = p.again a after (stops_before items rest (starts-stops p.goes p.first rest apart (starts-Starts rest begun))) ∙ ap (λ (m : Option Fault). answer m a after) (first_mark-clean (p.text a) (length after) parts.0) in
+      let hp : p.read (tokens_of (p.text a) ++ after) ≡ Ok (a, after) = p.again a after
+      (stops_before items rest (starts-stops p.goes p.first rest apart (starts-Starts rest begun)))
+      ∙ ap (λ (m : Option Fault). answer m a after) (first_annotation-clean (p.text a) (length after) parts.0) in
       let hr = rep_local n items rest d len' parts.1 begun fails in
       ap (rep p (suc n)) regrouped
-      ∙ ap (λ (b : Bool). turn b (p.read (tokens_of (p.text a) ++ after) >>= λ a. with_front a.0 (rep p n a.1)) (tokens_of (p.text a) ++ after)) (starts-is p.first (tokens_of (p.text a) ++ after) (p.begins a after))
+      ∙ ap (λ (b : Bool). turn b (p.read (tokens_of (p.text a) ++ after) >>= λ a. with_front a.0 (rep p n a.1)) (tokens_of (p.text a) ++ after))
+      (starts-is p.first (tokens_of (p.text a) ++ after) (p.begins a after))
       ∙ ap (λ (r : Result (A × List Token) Fault). r >>= λ a. with_front a.0 (rep p n a.1)) hp
       ∙ ap (λ (r : Result (List A × List Token) Fault). with_front a r) hr
 
@@ -182,12 +206,15 @@ module _ {A : Type 0} (p : Form A) (apart : disjoint p.goes p.first ≡ true) wh
             before = a ∷ f.before;
             clean = IsClean-append (p.text a) (texts p f.before) s.clean f.clean;
             ts' = f.ts';
-            parts = s.parts ∙ ap (λ (l : List Token). tokens_of (p.text a) ++ l) f.parts ∙ sym (append_assoc (tokens_of (p.text a)) (tokens_of (texts p f.before)) f.ts') ∙ ap (λ (l : List Token). l ++ f.ts') (sym (tokens_of-append (p.text a) (texts p f.before)));
+            parts = s.parts ∙ ap (λ (l : List Token). tokens_of (p.text a) ++ l) f.parts
+                ∙ sym (append_assoc (tokens_of (p.text a)) (tokens_of (texts p f.before)) f.ts')
+                ∙ ap (λ (l : List Token). l ++ f.ts') (sym (tokens_of-append (p.text a) (texts p f.before)));
             begun = f.begun;
             inner = f.inner;
           }
 
-      go : ((ts : List Token) (e : Fault) → rep p n ts ≡ Err e → FailsIn p ts e) → (b : Bool) → starts p.first ts ≡ b → turn b (p.read ts >>= λ a. with_front a.0 (rep p n a.1)) ts ≡ Err e → FailsIn p ts e
+      go : ((ts : List Token) (e : Fault) → rep p n ts ≡ Err e → FailsIn p ts e) → (b : Bool) → starts p.first ts ≡ b
+          → turn b (p.read ts >>= λ a. with_front a.0 (rep p n a.1)) ts ≡ Err e → FailsIn p ts e
       go again false w h = absurd cc
       go again true w h =
           elim (bind_err (p.read ts) (λ a. with_front a.0 (rep p n a.1)) e h) [

@@ -1,9 +1,12 @@
--- A form under another reader that answers the same, and choices with their sorts worked out.
+-- A form under another reader that answers the same, and choices with their classes worked out.
 use Rattle.std.proofs.Common.{◌≡◌, ℕ, Bool, true, false, cond, List, [], ◌++◌, refl, sym, ◌∙◌, ◌⊎◌}
 use Rattle.fcl_syntax.specs.declared.fault.Kind.{Kind}
 use Rattle.fcl_syntax.specs.declared.token.Token.{Token}
-use Rattle.fcl_syntax.specs.Marks.{sort, mem, Among, refused_text}
-use Rattle.fcl_syntax.specs.Form.{Read, disjoint, looks_on, Form}
+use Rattle.fcl_syntax.specs.TokenClasses.{class_of, mem, Among}
+use Rattle.fcl_syntax.specs.Annotations.{refused_text}
+use Rattle.fcl_syntax.specs.First.{looks_on}
+use Rattle.fcl_syntax.specs.Readers.{Read}
+use Rattle.fcl_syntax.proofs.Form.{disjoint, Form}
 use Rattle.fcl_syntax.proofs.Small.{alt}
 use Rattle.fcl_syntax.proofs.Dead.{Dead, dead_or}
 use Rattle.fcl_syntax.proofs.Repeat.{mem-append, many}
@@ -40,30 +43,31 @@ true_right : (b c : Bool) → c ≡ true → cond b true c ≡ true
 true_right true c e = refl
 true_right false c e = e
 
-pub in_left : (xs ys : List ℕ) (x : Token) → mem (sort x) xs ≡ true → mem (sort x) (xs ++ ys) ≡ true
-in_left xs ys x h = mem-append xs ys (sort x) ∙ true_left (mem (sort x) xs) (mem (sort x) ys) h
+pub in_left : (xs ys : List ℕ) (x : Token) → mem (class_of x) xs ≡ true → mem (class_of x) (xs ++ ys) ≡ true
+in_left xs ys x h = mem-append xs ys (class_of x) ∙ true_left (mem (class_of x) xs) (mem (class_of x) ys) h
 
-pub in_right : (xs ys : List ℕ) (x : Token) → mem (sort x) ys ≡ true → mem (sort x) (xs ++ ys) ≡ true
-in_right xs ys x h = mem-append xs ys (sort x) ∙ true_right (mem (sort x) xs) (mem (sort x) ys) h
+pub in_right : (xs ys : List ℕ) (x : Token) → mem (class_of x) ys ≡ true → mem (class_of x) (xs ++ ys) ≡ true
+in_right xs ys x h = mem-append xs ys (class_of x) ∙ true_right (mem (class_of x) xs) (mem (class_of x) ys) h
 
 abbrev pub either : {A B : Type 0} (p : Form A) (q : Form B) → disjoint p.first q.first ≡ true → p.goes ≡ q.goes → Form (A ⊎ B)
 either p q apart same = alt p q apart same (p.first ++ q.first) (in_left p.first q.first) (in_right p.first q.first)
 
-abbrev pub among_dead : (k : Kind) (sorts : List ℕ) → looks_on k ≡ false → Dead (Among sorts)
-among_dead k sorts here = record {
+abbrev pub among_dead : (k : Kind) (classes : List ℕ) → looks_on k ≡ false → Dead (Among classes)
+among_dead k classes here = record {
   text = refused_text k;
   kind = k;
-  among = sorts;
+  among = classes;
   head = λ x. x.token;
   tail = λ x. [];
   is = λ x. refl;
-  sorts = λ x. x.is;
+  classes = λ x. x.is;
   cover = λ y h. (record { token = y; is = h }, refl);
   here = here;
 }
 
-abbrev pub refuse : {A : Type 0} (k : Kind) (sorts : List ℕ) (p : Form A) → looks_on k ≡ false → disjoint sorts p.first ≡ true → Form (Among sorts ⊎ A)
-refuse k sorts p here apart = dead_or (among_dead k sorts here) p apart (sorts ++ p.first) (in_left sorts p.first) (in_right sorts p.first)
+abbrev pub refuse : {A : Type 0} (k : Kind) (classes : List ℕ) (p : Form A) → looks_on k ≡ false → disjoint classes p.first ≡ true → Form (Among classes ⊎ A)
+refuse k classes p here apart = dead_or (among_dead k classes here) p apart (classes ++ p.first) (in_left classes p.first) (in_right classes p.first)
 
-abbrev pub many_then : {A B : Type 0} (p : Form A) (q : Form B) → disjoint p.goes p.first ≡ true → disjoint p.goes q.first ≡ true → disjoint p.first q.first ≡ true → Form (List A × B)
+abbrev pub many_then : {A B : Type 0} (p : Form A) (q : Form B) → disjoint p.goes p.first ≡ true → disjoint p.goes q.first ≡ true
+    → disjoint p.first q.first ≡ true → Form (List A × B)
 many_then p q a b c = many p q a b c (p.first ++ q.first) (in_left p.first q.first) (in_right p.first q.first)

@@ -9,9 +9,11 @@ use Rattle.fz_num.specs.declared.dec.Dec.{Dec}
 use Rattle.fz_num.specs.declared.dec.DecFault.{DecFault}
 use Rattle.fz_num.specs.Decimals.{decimal}
 use Rattle.fcl_syntax.specs.Grammar.{block_text}
-use Rattle.fcl_syntax.specs.Lexing.{Lexed, colon_piece, comment_end, comment_piece, decimal_piece, has_fraction, in_front, is_blank, is_name_byte, is_name_start, lexed, mark_piece, meaning_in, next_piece, number_len, number_piece, open_piece, piece_of, point_piece, run, slash_piece, starts_name, token_of, word_token}
-use Rattle.fcl_syntax.specs.Marks.{Sym, tokens_of}
+use Rattle.fcl_syntax.specs.Annotations.{Sym, tokens_of}
+use Rattle.fcl_syntax.specs.Tokens.{is_blank, is_name_byte, is_name_start, meaning_in, starts_name}
+use Rattle.fcl_syntax.specs.Lexing.{Lexed, colon_piece, comment_end, comment_piece, decimal_piece, has_fraction, in_front, lexed, delimiter_piece, next_piece, number_len, number_piece, open_piece, piece_of, point_piece, run, slash_piece, token_of, word_token}
 use Rattle.fcl_syntax.specs.Meanings.{meanings}
+use Rattle.fcl_syntax.proofs.CutTexts.{tokens_are_cut}
 use Rattle.fcl_syntax.specs.Offsets.{AscendWithin, offset_of, offsets, OffsetsAscend}
 use Rattle.fcl_syntax.specs.declared.lexer.Piece.{Piece}
 use Rattle.fcl_syntax.specs.declared.lexer.Piece.TheVariants as piece
@@ -44,7 +46,8 @@ or_left false b h = absurd cc
 
 some_number : (b : ℕ) (bytes : List ℕ) → is_ascii_digit b ≡ true → 0 < number_len (b ∷ bytes)
 unfolding number_len
-some_number b bytes h = go (has_fraction (drop (run is_ascii_digit (b ∷ bytes)) (b ∷ bytes))) (run is_ascii_digit (b ∷ bytes)) _ (some_run is_ascii_digit b bytes h)
+some_number b bytes h =
+    go (has_fraction (drop (run is_ascii_digit (b ∷ bytes)) (b ∷ bytes))) (run is_ascii_digit (b ∷ bytes)) _ (some_run is_ascii_digit b bytes h)
   where
     go : (c : Bool) (n m : ℕ) → 0 < n → 0 < (if c then n + 1 + m else n)
     go true n m k = omega (arith, k)
@@ -94,9 +97,9 @@ unfolding colon_piece
 colon_at at [] = (one_byte, inl refl)
 colon_at at (b ∷ bytes) = either at (b == 61) _ _ (λ k. (two_bytes, inl refl)) (one_byte, inl refl)
 
-mark_at : (at b : ℕ) (bytes : List ℕ) → IsPieceAt at (mark_piece at b bytes)
-unfolding mark_piece
-mark_at at b bytes =
+delimiter_at : (at b : ℕ) (bytes : List ℕ) → IsPieceAt at (delimiter_piece at b bytes)
+unfolding delimiter_piece
+delimiter_at at b bytes =
     either at (b == 40) _ _ (λ k. open_at at bytes)
     (either at (b == 47) _ _ (λ k. slash_at at bytes)
     (either at (b == 46) _ _ (λ k. point_at at bytes)
@@ -112,9 +115,10 @@ unfolding word_token
 piece_at at b bytes =
     let n = run is_name_byte (b ∷ bytes) in
     either at (is_blank b) _ _ (λ k. one_byte)
-    (either at (is_name_start b) _ _ (λ k. word_at at n (meaning_in meanings (take n (b ∷ bytes))) (some_run is_name_byte b bytes (or_left (is_name_start b) (is_ascii_digit b) k)))
+    (either at (is_name_start b) _ _ (λ k. word_at at n (meaning_in meanings (take n (b ∷ bytes)))
+    (some_run is_name_byte b bytes (or_left (is_name_start b) (is_ascii_digit b) k)))
     (either at (is_ascii_digit b) _ _ (number_at at b bytes)
-    (mark_at at b bytes)))
+    (delimiter_at at b bytes)))
 
 -- ---- the cut
 
@@ -126,14 +130,17 @@ LexedWithin-lower : (low from end : ℕ) (l : Lexed) → low ≤ from → LexedW
 LexedWithin-lower low from end (Ok l) h up = AscendWithin-lower low from end (filter_map offset_of l.0) h up
 LexedWithin-lower low from end (Err e) h up = tt
 
-fronted_within : (t : Token) (at end : ℕ) (l : Lexed) → at < end → (offset_of t ≡ None) ⊎ (offset_of t ≡ Some at) → LexedWithin (suc at) end l → LexedWithin at end (in_front t at l)
+fronted_within : (t : Token) (at end : ℕ) (l : Lexed) → at < end → (offset_of t ≡ None) ⊎ (offset_of t ≡ Some at) → LexedWithin (suc at) end l
+    → LexedWithin at end (in_front t at l)
 fronted_within t at end (Ok l) h (inl none) up = rw none (AscendWithin-lower at (suc at) end (filter_map offset_of l.0) (omega arith) up)
 fronted_within t at end (Ok l) h (inr some) up = rw some (omega arith, (h, up))
 fronted_within t at end (Err e) h o up = tt
 
-next_within : (at end : ℕ) (p : Piece) (go : ℕ → Lexed) → at < end → IsPieceAt at p → ((n : ℕ) → LexedWithin (at + n) end (go n)) → LexedWithin at end (next_piece at p go)
+next_within : (at end : ℕ) (p : Piece) (go : ℕ → Lexed) → at < end → IsPieceAt at p → ((n : ℕ) → LexedWithin (at + n) end (go n))
+    → LexedWithin at end (next_piece at p go)
 next_within at end (piece.Skip n) go h is up = LexedWithin-lower at (at + n) end (go n) (omega arith) (up n)
-next_within at end (piece.Token t n) go h is up = fronted_within t at end (go n) h is.1 (LexedWithin-lower (suc at) (at + n) end (go n) (omega (arith, is.0)) (up n))
+next_within at end (piece.Token t n) go h is up =
+    fronted_within t at end (go n) h is.1 (LexedWithin-lower (suc at) (at + n) end (go n) (omega (arith, is.0)) (up n))
 next_within at end (piece.Fault k) go h is up = tt
 
 lexed_within : (fuel at end : ℕ) (bytes : List ℕ) → length bytes ≤ end - at → LexedWithin at end (lexed fuel at bytes)
@@ -150,5 +157,6 @@ offsets-tokens (s ∷ symbols) = ap (cons_option (offset_of s.token)) (offsets-t
 
 pub offsets_ascend_lem : OffsetsAscend
 offsets_ascend_lem text t s =
-    let cut : LexedWithin 0 (length text) (Ok (s.tokens, s.places)) = subst (LexedWithin 0 (length text)) s.cut (lexed_within (length text) 0 (length text) text (omega arith)) in
+    let cut : LexedWithin 0 (length text) (Ok (s.tokens, s.places)) =
+    subst (LexedWithin 0 (length text)) (tokens_are_cut text s.tokens s.places s.cut) (lexed_within (length text) 0 (length text) text (omega arith)) in
     subst (AscendWithin 0 (length text)) (ap (filter_map offset_of) s.spells.parts ∙ offsets-tokens (block_text t)) cut

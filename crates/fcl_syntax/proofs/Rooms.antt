@@ -2,20 +2,21 @@
 use Rattle.std.proofs.Common.{◌≡◌, ◌≢◌, ℕ, zero, suc, ◌-◌, true, false, List, [], ◌∷◌, length, Err, refl, arith}
 use Rattle.fcl_syntax.specs.declared.fault.Kind.TheVariants.{Deep}
 use Rattle.fcl_syntax.specs.declared.token.Token.{Token}
-use Rattle.fcl_syntax.specs.Form.{starts, fault_at}
+use Rattle.fcl_syntax.specs.TokenClasses.{opener_classes}
+use Rattle.fcl_syntax.specs.Readers.{starts, fault_at}
 use Rattle.fcl_syntax.specs.Reading.{not_at, opened_in, operand_at}
 
-pub not_at-leaf : (n : ℕ) (ts : List Token) → starts (22 ∷ 60 ∷ []) ts ≡ false → not_at n ts ≡ operand_at ts
+pub not_at-leaf : (n : ℕ) (ts : List Token) → starts opener_classes ts ≡ false → not_at n ts ≡ operand_at ts
 unfolding not_at
 not_at-leaf zero ts h = rw h refl
 not_at-leaf (suc n) ts h = rw h refl
 
-pub not_at-deep : (n : ℕ) (ts : List Token) → n ≡ 0 → starts (22 ∷ 60 ∷ []) ts ≡ true → not_at n ts ≡ Err (fault_at Deep (length ts))
+pub not_at-deep : (n : ℕ) (ts : List Token) → n ≡ 0 → starts opener_classes ts ≡ true → not_at n ts ≡ Err (fault_at Deep (length ts))
 unfolding not_at
 not_at-deep zero ts z h = rw h refl
 not_at-deep (suc n) ts z h = absurd (omega arith)
 
-pub not_at-opened : (n : ℕ) (ts : List Token) → n ≢ 0 → starts (22 ∷ 60 ∷ []) ts ≡ true → not_at n ts ≡ opened_in (not_at (n - 1)) ts
+pub not_at-opened : (n : ℕ) (ts : List Token) → n ≢ 0 → starts opener_classes ts ≡ true → not_at n ts ≡ opened_in (not_at (n - 1)) ts
 unfolding not_at
 not_at-opened zero ts z h = absurd (z refl)
 not_at-opened (suc n) ts z h = let e : suc n - 1 ≡ n = omega arith in rw (h, e) refl

@@ -8,12 +8,14 @@ use Rattle.fcl_syntax.specs.declared.token.Word.TheVariants as word
 use Rattle.fcl_syntax.specs.declared.tree.Conclusion.{Conclusion}
 use Rattle.fcl_syntax.specs.declared.tree.Label.{Label}
 use Rattle.fcl_syntax.specs.declared.tree.Name.{Name}
-use Rattle.fcl_syntax.specs.Marks.{Sym, plain, Among, name_sorts}
-use Rattle.fcl_syntax.specs.Form.{loop, disjoint, Form}
-use Rattle.fcl_syntax.specs.Grammar.{each, key_text, name_text, conclusion_text, conclusions_text, TNum, TWeight, weight_text, TOr, TRule, rule_text, option_sorts, TRuleItem, rule_item_text, and_sorts, or_sorts, TAct, act_text, TRuleLine, TRulebase, rulebase_text, ruleblock_sorts, TEnd, end_text, TSection, TPart, part_text, TBlock, block_text}
+use Rattle.fcl_syntax.specs.TokenClasses.{Among, name_classes, comma_classes, keyword_class}
+use Rattle.fcl_syntax.specs.Annotations.{Sym, plain}
+use Rattle.fcl_syntax.specs.Readers.{loop}
+use Rattle.fcl_syntax.proofs.Form.{disjoint, Form}
+use Rattle.fcl_syntax.specs.Grammar.{each, key_text, name_text, conclusion_text, conclusions_text, TNum, TWeight, weight_text, TOr, TRule, rule_text, option_classes, TRuleItem, rule_item_text, and_classes, or_classes, TAct, act_text, TRuleLine, TRulebase, rulebase_text, ruleblock_classes, TEnd, end_text, TSection, TPart, part_text, TBlock, block_text}
 use Rattle.fcl_syntax.specs.Reading.{expect_at, key_at, name_at, label_at, conclusion_at, comma_conclusion_at, conclusions_at, weight_value_at, with_at, weight_at, or_in, not_at, rule_at, rule_item_at, rules_at, act_word_at, act_at, rule_line_at, rule_lines_at, rulebase_at, end_at, sections_at, parts_at, block_at}
 use Rattle.fcl_syntax.proofs.Chains.{bind_assoc, bind_cond, second, chain2, chain3, chain4, chain5, chain6, chain8}
-use Rattle.fcl_syntax.proofs.Classes as class
+use Rattle.fcl_syntax.proofs.SingleTokens as single
 use Rattle.fcl_syntax.proofs.ConditionForms.{part, or_form}
 use Rattle.fcl_syntax.proofs.Dead.{via}
 use Rattle.fcl_syntax.proofs.Forms.{bare_form, key_form, word_form, name_form, num_form, section_form, behind_texts, each_texts}
@@ -24,12 +26,12 @@ use Rattle.fcl_syntax.proofs.Seq.{seq}
 use Rattle.fcl_syntax.proofs.Small.{one}
 use Rattle.fcl_syntax.proofs.TermForms.{setting_form, accu_form, part_form}
 
-pub label_is : (ts : List Token) → label_at ts ≡ (one class.label_class).read ts
+pub label_is : (ts : List Token) → label_at ts ≡ (one single.label_single).read ts
 unfolding label_at
 label_is ts = refl
 
 abbrev pub label_form : Form Label
-label_form = named (one class.label_class) label_at label_is
+label_form = named (one single.label_single) label_at label_is
 
 -- ---- conclusions and weights
 
@@ -37,7 +39,8 @@ abbrev pub to_conclusion : Name × (ℕ × Name) → Conclusion
 to_conclusion t = record { variable = t.0; is_at = t.1.0; term = t.1.1 }
 
 abbrev pub conclusion_raw : Form Conclusion
-conclusion_raw = via (seq name_form (seq (key_form key.Is) name_form refl) refl) to_conclusion (λ c. (c.variable, (c.is_at, c.term))) conclusion_text (λ c. refl) (λ t. refl)
+conclusion_raw =
+    via (seq name_form (seq (key_form key.Is) name_form refl) refl) to_conclusion (λ c. (c.variable, (c.is_at, c.term))) conclusion_text (λ c. refl) (λ t. refl)
 
 pub conclusion_is : (ts : List Token) → conclusion_at ts ≡ conclusion_raw.read ts
 unfolding conclusion_at
@@ -47,7 +50,8 @@ abbrev pub conclusion_form : Form Conclusion
 conclusion_form = named conclusion_raw conclusion_at conclusion_is
 
 abbrev pub comma_conclusion_raw : Form Conclusion
-comma_conclusion_raw = via (seq (bare_form tok.Comma refl) conclusion_form refl) (λ t. t.1) (λ c. (tt, c)) (λ c. plain tok.Comma ∷ conclusion_text c) (λ c. refl) (λ t. refl)
+comma_conclusion_raw =
+    via (seq (bare_form tok.Comma refl) conclusion_form refl) (λ t. t.1) (λ c. (tt, c)) (λ c. plain tok.Comma ∷ conclusion_text c) (λ c. refl) (λ t. refl)
 
 pub comma_conclusion_is : (ts : List Token) → comma_conclusion_at ts ≡ comma_conclusion_raw.read ts
 unfolding comma_conclusion_at
@@ -64,26 +68,27 @@ conclusions_raw = via (then_rep conclusion_form comma_conclusion_form refl refl)
 
 pub conclusions_is : (ts : List Token) → conclusions_at ts ≡ conclusions_raw.read ts
 unfolding conclusions_at
-conclusions_is ts = chain2 conclusion_at (λ l. loop (66 ∷ []) comma_conclusion_at (length l) l) (λ t. t) ts
+conclusions_is ts = chain2 conclusion_at (λ l. loop comma_classes comma_conclusion_at (length l) l) (λ t. t) ts
 
 abbrev pub conclusions_form : Form (Conclusion × List Conclusion)
 conclusions_form = named conclusions_raw conclusions_at conclusions_is
 
-abbrev pub weight_value_raw : Form (Among name_sorts ⊎ TNum)
-weight_value_raw = refuse (Unsupported 15) name_sorts num_form refl refl
+abbrev pub weight_value_raw : Form (Among name_classes ⊎ TNum)
+weight_value_raw = refuse (Unsupported 15) name_classes num_form refl refl
 
 pub weight_value_is : (ts : List Token) → weight_value_at ts ≡ weight_value_raw.read ts
 unfolding weight_value_at
 weight_value_is ts = refl
 
-abbrev pub weight_value_form : Form (Among name_sorts ⊎ TNum)
+abbrev pub weight_value_form : Form (Among name_classes ⊎ TNum)
 weight_value_form = named weight_value_raw weight_value_at weight_value_is
 
-abbrev pub to_with : ℕ × ((Among name_sorts ⊎ TNum) × Unit {0}) → TWeight
+abbrev pub to_with : ℕ × ((Among name_classes ⊎ TNum) × Unit {0}) → TWeight
 to_with t = record { at = t.0; value = t.1.0 }
 
 abbrev pub with_raw : Form TWeight
-with_raw = via (seq (key_form key.With) (seq weight_value_form (bare_form tok.Semicolon refl) refl) refl) to_with (λ w. (w.at, (w.value, tt))) weight_text (λ w. refl) (λ t. refl)
+with_raw = via (seq (key_form key.With) (seq weight_value_form (bare_form tok.Semicolon refl) refl) refl) to_with (λ w. (w.at, (w.value, tt))) weight_text
+    (λ w. refl) (λ t. refl)
 
 pub with_is : (ts : List Token) → with_at ts ≡ with_raw.read ts
 unfolding with_at
@@ -107,17 +112,26 @@ weight_form = named weight_raw weight_at weight_is
 abbrev pub condition_form : Form TOr
 condition_form = or_form 64 (part 64)
 
-pub condition_apart : disjoint condition_form.goes (19 ∷ []) ≡ true
+pub condition_apart : disjoint condition_form.goes (keyword_class key.Then ∷ []) ≡ true
 condition_apart = rw (part 64).goes refl
 
 abbrev pub RuleRaw : Type 0
 RuleRaw = ℕ × (Label × (Unit {0} × (ℕ × (TOr × (ℕ × ((Conclusion × List Conclusion) × (TWeight ⊎ Unit {0})))))))
 
 abbrev pub to_rule : RuleRaw → TRule
-to_rule t = record { at = t.0; label = t.1.0; if_at = t.1.1.1.0; condition = t.1.1.1.1.0; then_at = t.1.1.1.1.1.0; conclusions = t.1.1.1.1.1.1.0; weight = t.1.1.1.1.1.1.1 }
+to_rule t = record {
+  at = t.0;
+  label = t.1.0;
+  if_at = t.1.1.1.0;
+  condition = t.1.1.1.1.0;
+  then_at = t.1.1.1.1.1.0;
+  conclusions = t.1.1.1.1.1.1.0;
+  weight = t.1.1.1.1.1.1.1;
+}
 
 abbrev pub rule_seq : Form RuleRaw
-rule_seq = seq (key_form key.Rule) (seq label_form (seq (bare_form tok.Colon refl) (seq (key_form key.If) (seq condition_form (seq (key_form key.Then) (seq conclusions_form weight_form refl) refl) condition_apart) refl) refl) refl) refl
+rule_seq = seq (key_form key.Rule) (seq label_form (seq (bare_form tok.Colon refl)
+    (seq (key_form key.If) (seq condition_form (seq (key_form key.Then) (seq conclusions_form weight_form refl) refl) condition_apart) refl) refl) refl) refl
 
 pub rule_same : (t : RuleRaw) → rule_text (to_rule t) ≡ rule_seq.text t
 rule_same t = refl
@@ -133,7 +147,7 @@ abbrev pub rule_form : Form TRule
 rule_form = named rule_raw rule_at rule_is
 
 abbrev pub rule_item_raw : Form TRuleItem
-rule_item_raw = refuse (Unsupported 7) option_sorts rule_form refl refl
+rule_item_raw = refuse (Unsupported 7) option_classes rule_form refl refl
 
 pub rule_item_is : (ts : List Token) → rule_item_at ts ≡ rule_item_raw.read ts
 unfolding rule_item_at
@@ -158,7 +172,8 @@ abbrev pub to_act : ℕ × (Unit {0} × ((ℕ ⊎ ℕ) × Unit {0})) → TAct
 to_act t = record { at = t.0; word = t.1.1.0 }
 
 abbrev pub act_raw : Form TAct
-act_raw = via (seq (key_form key.Act) (seq (bare_form tok.Colon refl) (seq act_word_form (bare_form tok.Semicolon refl) refl) refl) refl) to_act (λ a. (a.at, (tt, (a.word, tt)))) act_text (λ a. refl) (λ t. refl)
+act_raw = via (seq (key_form key.Act) (seq (bare_form tok.Colon refl) (seq act_word_form (bare_form tok.Semicolon refl) refl) refl) refl) to_act
+    (λ a. (a.at, (tt, (a.word, tt)))) act_text (λ a. refl) (λ t. refl)
 
 pub act_is : (ts : List Token) → act_at ts ≡ act_raw.read ts
 unfolding act_at
@@ -168,7 +183,8 @@ abbrev pub act_form : Form TAct
 act_form = named act_raw act_at act_is
 
 abbrev pub rule_line_raw : Form TRuleLine
-rule_line_raw = either (setting_form key.And word.Min and_sorts 2 refl refl) (either (setting_form key.Or word.Max or_sorts 3 refl refl) (either act_form accu_form refl refl) refl refl) refl refl
+rule_line_raw = either (setting_form key.And word.Min and_classes 2 refl refl) (either (setting_form key.Or word.Max or_classes 3 refl refl)
+    (either act_form accu_form refl refl) refl refl) refl refl
 
 pub rule_line_is : (ts : List Token) → rule_line_at ts ≡ rule_line_raw.read ts
 unfolding rule_line_at
@@ -186,12 +202,15 @@ abbrev pub to_rulebase : RulebaseRaw → TRulebase
 to_rulebase t = record { at = t.0; name = t.1.0; lines = t.1.1.0; rules = t.1.1.1.0; end = t.1.1.1.1 }
 
 abbrev pub rulebase_seq : Form RulebaseRaw
-rulebase_seq = seq (key_form key.Ruleblock) (seq name_form (many_then rule_line_form (many_then rule_item_form (key_form key.EndRuleblock) refl refl refl) refl refl refl) refl) refl
+rulebase_seq = seq (key_form key.Ruleblock) (seq name_form (many_then rule_line_form
+    (many_then rule_item_form (key_form key.EndRuleblock) refl refl refl) refl refl refl) refl) refl
 
 pub rulebase_same : (t : RulebaseRaw) → rulebase_text (to_rulebase t) ≡ rulebase_seq.text t
 rulebase_same t =
-    ap (λ (l : List Sym). key_text key.Ruleblock t.0 ++ (name_text t.1.0 ++ (l ++ (each rule_item_text t.1.1.1.0 ++ key_text key.EndRuleblock t.1.1.1.1)))) (each_texts rule_line_form t.1.1.0)
-    ∙ ap (λ (l : List Sym). key_text key.Ruleblock t.0 ++ (name_text t.1.0 ++ (texts rule_line_form t.1.1.0 ++ (l ++ key_text key.EndRuleblock t.1.1.1.1)))) (each_texts rule_item_form t.1.1.1.0)
+    ap (λ (l : List Sym). key_text key.Ruleblock t.0 ++ (name_text t.1.0 ++ (l ++ (each rule_item_text t.1.1.1.0 ++ key_text key.EndRuleblock t.1.1.1.1))))
+    (each_texts rule_line_form t.1.1.0)
+    ∙ ap (λ (l : List Sym). key_text key.Ruleblock t.0 ++ (name_text t.1.0 ++ (texts rule_line_form t.1.1.0 ++ (l ++ key_text key.EndRuleblock t.1.1.1.1))))
+    (each_texts rule_item_form t.1.1.1.0)
 
 abbrev pub rulebase_raw : Form TRulebase
 rulebase_raw = via rulebase_seq to_rulebase (λ r. (r.at, (r.name, (r.lines, (r.rules, r.end))))) rulebase_text (λ r. refl) rulebase_same
@@ -206,7 +225,7 @@ rulebase_form = named rulebase_raw rulebase_at rulebase_is
 -- ---- the block
 
 abbrev pub end_raw : Form TEnd
-end_raw = refuse (Unsupported 7) option_sorts (refuse (Unsupported 8) ruleblock_sorts (key_form key.EndFunctionBlock) refl refl) refl refl
+end_raw = refuse (Unsupported 7) option_classes (refuse (Unsupported 8) ruleblock_classes (key_form key.EndFunctionBlock) refl refl) refl refl
 
 pub end_is : (ts : List Token) → end_at ts ≡ end_raw.read ts
 unfolding end_at
@@ -222,12 +241,15 @@ abbrev pub to_block : BlockRaw → TBlock
 to_block t = record { at = t.0; name = t.1.0; vars = t.1.1.0; parts = t.1.1.1.0; rules = t.1.1.1.1.0; end = t.1.1.1.1.1 }
 
 abbrev pub block_seq : Form BlockRaw
-block_seq = seq (key_form key.FunctionBlock) (seq name_form (many_then section_form (many_then part_form (seq rulebase_form end_form refl) refl refl refl) refl refl refl) refl) refl
+block_seq = seq (key_form key.FunctionBlock) (seq name_form (many_then section_form
+    (many_then part_form (seq rulebase_form end_form refl) refl refl refl) refl refl refl) refl) refl
 
 pub block_same : (t : BlockRaw) → block_text (to_block t) ≡ block_seq.text t
 block_same t =
-    ap (λ (l : List Sym). key_text key.FunctionBlock t.0 ++ (name_text t.1.0 ++ (l ++ (each part_text t.1.1.1.0 ++ (rulebase_text t.1.1.1.1.0 ++ end_text t.1.1.1.1.1))))) (each_texts section_form t.1.1.0)
-    ∙ ap (λ (l : List Sym). key_text key.FunctionBlock t.0 ++ (name_text t.1.0 ++ (texts section_form t.1.1.0 ++ (l ++ (rulebase_text t.1.1.1.1.0 ++ end_text t.1.1.1.1.1))))) (each_texts part_form t.1.1.1.0)
+    ap (λ (l : List Sym). key_text key.FunctionBlock t.0 ++ (name_text t.1.0 ++ (l ++
+    (each part_text t.1.1.1.0 ++ (rulebase_text t.1.1.1.1.0 ++ end_text t.1.1.1.1.1))))) (each_texts section_form t.1.1.0)
+    ∙ ap (λ (l : List Sym). key_text key.FunctionBlock t.0 ++ (name_text t.1.0 ++
+    (texts section_form t.1.1.0 ++ (l ++ (rulebase_text t.1.1.1.1.0 ++ end_text t.1.1.1.1.1))))) (each_texts part_form t.1.1.1.0)
 
 abbrev pub block_raw : Form TBlock
 block_raw = via block_seq to_block (λ b. (b.at, (b.name, (b.vars, (b.parts, (b.rules, b.end)))))) block_text (λ b. refl) block_same

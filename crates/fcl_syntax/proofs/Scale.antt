@@ -10,15 +10,17 @@ use Rattle.fz_num.specs.declared.dec.Dec.{Dec}
 use Rattle.fz_num.specs.declared.dec.DecFault.{DecFault}
 use Rattle.fz_num.specs.declared.dec.DecFault.TheVariants.{Shape, Places, Large}
 use Rattle.fcl_syntax.specs.Grammar.{block_text}
-use Rattle.fcl_syntax.specs.Marks.{tokens_of}
+use Rattle.fcl_syntax.specs.Annotations.{tokens_of}
+use Rattle.fcl_syntax.specs.Tokens.{amount_of, starts_name, meaning_in, is_blank, is_name_start, is_name_byte}
+use Rattle.fcl_syntax.specs.Lexing.{piece_of, next_piece, lexed, Lexed, decimal_piece, number_piece, number_len, open_piece, comment_piece, comment_end, slash_piece, point_piece, colon_piece, delimiter_piece, token_of, word_token, run, in_front}
 use Rattle.fcl_syntax.specs.declared.lexer.Piece.{Piece}
 use Rattle.fcl_syntax.specs.declared.lexer.Piece.TheVariants as piece
 use Rattle.fcl_syntax.specs.declared.token.Amount.TheVariants as amount
 use Rattle.fcl_syntax.specs.declared.token.Meaning.{Meaning}
 use Rattle.fcl_syntax.specs.declared.token.Meaning.TheVariants as meaning
 use Rattle.fcl_syntax.specs.declared.token.Token.{Token}
-use Rattle.fcl_syntax.specs.Lexing.{piece_of, next_piece, lexed, Lexed, decimal_piece, number_piece, number_len, amount_of, starts_name, open_piece, comment_piece, comment_end, slash_piece, point_piece, colon_piece, mark_piece, token_of, word_token, meaning_in, is_blank, is_name_start, is_name_byte, run, in_front}
 use Rattle.fcl_syntax.specs.Meanings.{meanings}
+use Rattle.fcl_syntax.proofs.CutTexts.{tokens_are_cut}
 use Rattle.fcl_syntax.specs.Scale.{IsAmountInScale, IsTokenInScale, NumbersInScale}
 
 abbrev PieceInScale : Piece → Type 0
@@ -99,9 +101,9 @@ unfolding colon_piece
 colon_scale [] = tt
 colon_scale (b ∷ bytes) = either (b == 61) _ _ tt tt
 
-mark_scale : (at b : ℕ) (bytes : List ℕ) → PieceInScale (mark_piece at b bytes)
-unfolding mark_piece
-mark_scale at b bytes =
+delimiter_scale : (at b : ℕ) (bytes : List ℕ) → PieceInScale (delimiter_piece at b bytes)
+unfolding delimiter_piece
+delimiter_scale at b bytes =
     either (b == 40) _ _ (open_scale at bytes)
     (either (b == 47) _ _ (slash_scale bytes)
     (either (b == 46) _ _ (point_scale bytes)
@@ -120,7 +122,7 @@ piece_scale at (b ∷ bytes) =
     either (is_blank b) _ _ tt
     (either (is_name_start b) _ _ (word_scale at n (meaning_in meanings (take n (b ∷ bytes))))
     (either (is_ascii_digit b) _ _ (number_scale at (b ∷ bytes))
-    (mark_scale at b bytes)))
+    (delimiter_scale at b bytes)))
 
 abbrev LexedInScale : Lexed → Type 0
 LexedInScale (Ok l) = All IsTokenInScale l.0
@@ -139,9 +141,10 @@ lexed_scale : (fuel at : ℕ) (bytes : List ℕ) → LexedInScale (lexed fuel at
 unfolding lexed
 lexed_scale zero at bytes = All-nil IsTokenInScale
 lexed_scale (suc fuel) at [] = All-nil IsTokenInScale
-lexed_scale (suc fuel) at (b ∷ bytes) = next_scale at (piece_of at (b ∷ bytes)) (λ n. lexed fuel (at + n) (drop n (b ∷ bytes))) (piece_scale at (b ∷ bytes)) (λ n. lexed_scale fuel (at + n) (drop n (b ∷ bytes)))
+lexed_scale (suc fuel) at (b ∷ bytes) = next_scale at (piece_of at (b ∷ bytes)) (λ n. lexed fuel (at + n) (drop n (b ∷ bytes))) (piece_scale at (b ∷ bytes))
+    (λ n. lexed_scale fuel (at + n) (drop n (b ∷ bytes)))
 
 pub numbers_in_scale_lem : NumbersInScale
 numbers_in_scale_lem text t s =
-    let cut : LexedInScale (Ok (s.tokens, s.places)) = subst LexedInScale s.cut (lexed_scale (length text) 0 text) in
+    let cut : LexedInScale (Ok (s.tokens, s.places)) = subst LexedInScale (tokens_are_cut text s.tokens s.places s.cut) (lexed_scale (length text) 0 text) in
     All-same IsTokenInScale (tokens_of (block_text t)) s.tokens (sym s.spells.parts) cut

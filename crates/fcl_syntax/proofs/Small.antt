@@ -1,27 +1,30 @@
--- One token, a choice, a marked choice, and a form seen as another type.
+-- One token, a choice, an annotated choice, and a form seen as another type.
 use Rattle.std.proofs.Common.{◌≡◌, ℕ, Bool, true, false, List, [], ◌∷◌, ◌++◌, length, Option, Some, None, Result, Ok, Err, refl, sym, ap, subst, ◌∙◌, inl, inr, ◌⊎◌}
 use Rattle.std.proofs.lemmas.List.{append-nil}
 use Rattle.fcl_syntax.specs.declared.fault.Fault.{Fault}
 use Rattle.fcl_syntax.specs.declared.fault.Kind.{Kind}
 use Rattle.fcl_syntax.specs.declared.fault.Kind.TheVariants.{Expected}
 use Rattle.fcl_syntax.specs.declared.token.Token.{Token}
-use Rattle.fcl_syntax.specs.Marks.{either_text, sort, Sym, tokens_of, plain, mem}
-use Rattle.fcl_syntax.specs.Form.{cond_read, ◌>>=◌, disjoint, fault_at, Stops, Starts, starts, SameHead, first_mark, answer, found, one_at, Sound, Shows, Fails, Form}
-use Rattle.fcl_syntax.proofs.MarkedTexts.{bind_ok, bind_err, ok_is, disjoint-mem}
+use Rattle.fcl_syntax.specs.TokenClasses.{class_of, mem}
+use Rattle.fcl_syntax.specs.Annotations.{either_text, Sym, tokens_of, plain}
+use Rattle.fcl_syntax.specs.First.{SameHead}
+use Rattle.fcl_syntax.specs.Readers.{cond_read, ◌>>=◌, fault_at, starts, found, one_at}
+use Rattle.fcl_syntax.proofs.Form.{disjoint, Stops, Starts, first_annotation, answer, Sound, Shows, Fails, Form}
+use Rattle.fcl_syntax.proofs.AnnotatedTexts.{bind_ok, bind_err, ok_is, disjoint-mem}
 use Rattle.fcl_syntax.proofs.Seq.{Shows-in, Viable-in}
 
 -- ---- one token of a class
 
-pub record Class (A : Type 0) : Type 0 where
+pub record Single (A : Type 0) : Type 0 where
   pub want : Token → Option A
   pub make : A → Token
   pub among : List ℕ
   pub example : A
   pub back : (x : Token) (a : A) → want x ≡ Some a → make a ≡ x
   pub forth : (a : A) → want (make a) ≡ Some a
-  pub sorts : (a : A) → mem (sort (make a)) among ≡ true
+  pub classes : (a : A) → mem (class_of (make a)) among ≡ true
 
-module _ {A : Type 0} (c : Class A) where
+module _ {A : Type 0} (c : Single A) where
   abbrev pub one_text : A → List Sym
   one_text a = plain (c.make a) ∷ []
 
@@ -86,7 +89,7 @@ module _ {A : Type 0} (c : Class A) where
     goes = [];
     some = c.example;
     some_clean = (refl, tt);
-    begins = λ a rest. c.sorts a;
+    begins = λ a rest. c.classes a;
     sound = one_sound;
     again = λ a rest stops. rw (c.forth a) refl;
     fails = one_fails;
@@ -109,13 +112,13 @@ starts-is first (x ∷ xs) h = h
 
 pub starts-not : (first other : List ℕ) (ts : List Token) → disjoint first other ≡ true → Starts other ts → starts first ts ≡ false
 starts-not first other [] d h = absurd h
-starts-not first other (x ∷ xs) d h = disjoint-mem first other (sort x) d h
+starts-not first other (x ∷ xs) d h = disjoint-mem first other (class_of x) d h
 
 pub starts-same : (first : List ℕ) (k : Kind) (front bad b : List Token) → SameHead k bad b → starts first (front ++ b) ≡ starts first (front ++ bad)
 starts-same first k [] [] [] s = refl
 starts-same first k [] [] (y ∷ b) s = absurd s
 starts-same first k [] (x ∷ a) [] s = absurd s
-starts-same first k [] (x ∷ a) (y ∷ b) s = ap (λ (z : Token). mem (sort z) first) (sym s.0)
+starts-same first k [] (x ∷ a) (y ∷ b) s = ap (λ (z : Token). mem (class_of z) first) (sym s.0)
 starts-same first k (f ∷ front) bad b s = refl
 
 pub bool_cases : (b : Bool) → (b ≡ true) ⊎ (b ≡ false)
@@ -130,8 +133,9 @@ module _ {A B : Type 0} (p : Form A) (q : Form B) where
   alt_read ts = choose (starts p.first ts) (p.read ts) (q.read ts)
 
 module _ {A B : Type 0} (p : Form A) (q : Form B) (apart : disjoint p.first q.first ≡ true) (same_goes : p.goes ≡ q.goes) (first : List ℕ)
-    (first_left : (x : Token) → mem (sort x) p.first ≡ true → mem (sort x) first ≡ true) (first_right : (x : Token) → mem (sort x) q.first ≡ true → mem (sort x) first ≡ true) where
-  widen : (f : List ℕ) (ts : List Token) → ((x : Token) → mem (sort x) f ≡ true → mem (sort x) first ≡ true) → Starts f ts → Starts first ts
+    (first_left : (x : Token) → mem (class_of x) p.first ≡ true → mem (class_of x) first ≡ true)
+    (first_right : (x : Token) → mem (class_of x) q.first ≡ true → mem (class_of x) first ≡ true) where
+  widen : (f : List ℕ) (ts : List Token) → ((x : Token) → mem (class_of x) f ≡ true → mem (class_of x) first ≡ true) → Starts f ts → Starts first ts
   widen f [] w h = absurd h
   widen f (x ∷ xs) w h = w x h
 
@@ -144,7 +148,8 @@ module _ {A B : Type 0} (p : Form A) (q : Form B) (apart : disjoint p.first q.fi
       let x = bind_ok (p.read ts) (λ a. Ok (inl a.0, a.1)) (t, rest) e in
       let s = p.sound ts x.0.0 x.0.1 x.1 in
       let made : (A ⊎ B) × List Token = (inl x.0.0, x.0.1) in
-      let whole : Sound (alt_text p q) q.goes ts made.0 made.1 = record { parts = s.parts; clean = s.clean; stops = subst (λ (g : List ℕ). Stops g x.0.1) same_goes s.stops } in
+      let whole : Sound (alt_text p q) q.goes ts made.0 made.1 =
+      record { parts = s.parts; clean = s.clean; stops = subst (λ (g : List ℕ). Stops g x.0.1) same_goes s.stops } in
       subst (λ (z : (A ⊎ B) × List Token). Sound (alt_text p q) q.goes ts z.0 z.1) (ok_is made (t, rest) x.2) whole
 
   right_sound : (ts : List Token) (t : A ⊎ B) (rest : List Token) → to_right {A = A} (q.read ts) ≡ Ok (t, rest) → Sound (alt_text p q) q.goes ts t rest
@@ -170,17 +175,18 @@ module _ {A B : Type 0} (p : Form A) (q : Form B) (apart : disjoint p.first q.fi
   answer-right None b rest = refl
   answer-right (Some e) b rest = refl
 
-  pub alt_again : (t : A ⊎ B) (rest : List Token) → Stops q.goes rest → alt_read p q (tokens_of (alt_text p q t) ++ rest) ≡ answer (first_mark (alt_text p q t) (length rest)) t rest
+  pub alt_again : (t : A ⊎ B) (rest : List Token) → Stops q.goes rest → alt_read p q (tokens_of (alt_text p q t) ++ rest) ≡ answer
+      (first_annotation (alt_text p q t) (length rest)) t rest
   alt_again (inl a) rest stops =
       let ts : List Token = tokens_of (p.text a) ++ rest in
       ap (λ (b : Bool). choose b (p.read ts) (q.read ts)) (starts-is p.first ts (p.begins a rest))
       ∙ ap (λ (r : Result (A × List Token) Fault). to_left {B = B} r) (p.again a rest (subst (λ (g : List ℕ). Stops g rest) (sym same_goes) stops))
-      ∙ answer-left (first_mark (p.text a) (length rest)) a rest
+      ∙ answer-left (first_annotation (p.text a) (length rest)) a rest
   alt_again (inr b) rest stops =
       let ts : List Token = tokens_of (q.text b) ++ rest in
       ap (λ (b : Bool). choose b (p.read ts) (q.read ts)) (starts-not p.first q.first ts apart (q.begins b rest))
       ∙ ap (λ (r : Result (B × List Token) Fault). to_right {A = A} r) (q.again b rest stops)
-      ∙ answer-right (first_mark (q.text b) (length rest)) b rest
+      ∙ answer-right (first_annotation (q.text b) (length rest)) b rest
 
   left_fails : (ts : List Token) (e : Fault) → starts p.first ts ≡ true → Fails p.text p.read ts e → Fails (alt_text p q) (alt_read p q) ts e
   left_fails ts e is_so f = record {
@@ -191,7 +197,8 @@ module _ {A B : Type 0} (p : Form A) (q : Form B) (apart : disjoint p.first q.fi
     viable = Viable-in p.text (alt_text p q) f.front [] (λ a. inl a) (λ a. []) (λ a. sym (append-nil (p.text a))) tt (λ a. tt) f.viable;
     shows = Shows-in p.text (alt_text p q) e.kind f.front f.bad [] (λ a. inl a) (λ a. []) (λ a. sym (append-nil (p.text a))) f.shows;
     local = λ b same.
-        ap (λ (c : Bool). choose c (p.read (f.front ++ b)) (q.read (f.front ++ b))) (starts-same p.first e.kind f.front f.bad b same ∙ ap (starts p.first) (sym f.parts) ∙ is_so)
+        ap (λ (c : Bool). choose c (p.read (f.front ++ b)) (q.read (f.front ++ b)))
+        (starts-same p.first e.kind f.front f.bad b same ∙ ap (starts p.first) (sym f.parts) ∙ is_so)
         ∙ ap (λ (r : Result (A × List Token) Fault). to_left {B = B} r) (f.local b same);
   }
 
@@ -204,7 +211,8 @@ module _ {A B : Type 0} (p : Form A) (q : Form B) (apart : disjoint p.first q.fi
     viable = Viable-in q.text (alt_text p q) f.front [] (λ b. inr b) (λ b. []) (λ b. sym (append-nil (q.text b))) tt (λ b. tt) f.viable;
     shows = Shows-in q.text (alt_text p q) e.kind f.front f.bad [] (λ b. inr b) (λ b. []) (λ b. sym (append-nil (q.text b))) f.shows;
     local = λ b same.
-        ap (λ (c : Bool). choose c (p.read (f.front ++ b)) (q.read (f.front ++ b))) (starts-same p.first e.kind f.front f.bad b same ∙ ap (starts p.first) (sym f.parts) ∙ not_so)
+        ap (λ (c : Bool). choose c (p.read (f.front ++ b)) (q.read (f.front ++ b)))
+        (starts-same p.first e.kind f.front f.bad b same ∙ ap (starts p.first) (sym f.parts) ∙ not_so)
         ∙ ap (λ (r : Result (B × List Token) Fault). to_right {A = A} r) (f.local b same);
   }
 

@@ -8,9 +8,12 @@ use Rattle.fcl_syntax.specs.declared.token.Token.TheVariants as tok
 use Rattle.fcl_syntax.specs.declared.token.Word.{Word}
 use Rattle.fcl_syntax.specs.declared.token.Word.TheVariants as word
 use Rattle.fcl_syntax.specs.declared.tree.Name.{Name}
-use Rattle.fcl_syntax.specs.Marks.{Sym, Among, word_sort, signed_sorts}
-use Rattle.fcl_syntax.specs.Form.{loop, disjoint, looks_on, Form}
-use Rattle.fcl_syntax.specs.Grammar.{each, key_text, name_text, TSigned, TNum, TCoordinate, TUnit, TZero, TPoint, point_text, TPoints, TTerm, term_text, TRange, range_text, opening_text, TFuzzify, fuzzify_text, TSetting, setting_text, accu_sorts, TAccu, method_sorts, TMethod, open_sorts, TSingleton, singleton_text, TFallback, fallback_text, TDefuzzyLine, TDefuzzify, defuzzify_text, option_sorts, TPart}
+use Rattle.fcl_syntax.specs.TokenClasses.{Among, word_class, signed_classes, open_classes}
+use Rattle.fcl_syntax.specs.Annotations.{Sym}
+use Rattle.fcl_syntax.specs.First.{looks_on}
+use Rattle.fcl_syntax.specs.Readers.{loop}
+use Rattle.fcl_syntax.proofs.Form.{disjoint, Form}
+use Rattle.fcl_syntax.specs.Grammar.{each, key_text, name_text, TSigned, TNum, TCoordinate, TUnit, TZero, TPoint, point_text, TPoints, TTerm, term_text, TRange, range_text, opening_text, TFuzzify, fuzzify_text, TSetting, setting_text, accu_classes, TAccu, method_classes, TMethod, TSingleton, singleton_text, TFallback, fallback_text, TDefuzzyLine, TDefuzzify, defuzzify_text, option_classes, TPart}
 use Rattle.fcl_syntax.specs.Reading.{expect_at, key_at, open_at, name_at, num_at, coordinate_at, degree_at, point_at, some_points_at, points_at, term_at, opening_at, range_at, fuzzy_line_at, fuzzy_lines_at, fuzzify_at, choice_at, setting_at, singleton_value_at, singleton_at, fallback_value_at, fallback_at, defuzzy_line_at, defuzzy_lines_at, defuzzify_at, part_at}
 use Rattle.fcl_syntax.proofs.Chains.{bind_assoc, bind_cond, chain2, chain4, chain5, chain7}
 use Rattle.fcl_syntax.proofs.Dead.{via}
@@ -26,7 +29,8 @@ abbrev pub to_point : ℕ × (TSigned TCoordinate TCoordinate × (Unit {0} × (T
 to_point t = record { open_at = t.0; x = t.1.0; degree = t.1.1.1.0 }
 
 abbrev pub point_raw : Form TPoint
-point_raw = via (seq open_form (seq coordinate_form (seq (bare_form tok.Comma refl) (seq degree_form (bare_form tok.Close refl) refl) refl) refl) refl) to_point (λ p. (p.open_at, (p.x, (tt, (p.degree, tt))))) point_text (λ p. refl) (λ t. refl)
+point_raw = via (seq open_form (seq coordinate_form (seq (bare_form tok.Comma refl) (seq degree_form (bare_form tok.Close refl) refl) refl) refl) refl) to_point
+    (λ p. (p.open_at, (p.x, (tt, (p.degree, tt))))) point_text (λ p. refl) (λ t. refl)
 
 pub point_is : (ts : List Token) → point_at ts ≡ point_raw.read ts
 unfolding point_at
@@ -43,23 +47,25 @@ some_points_raw = via (then_rep point_form point_form refl refl) (λ t. t) (λ t
 
 pub some_points_is : (ts : List Token) → some_points_at ts ≡ some_points_raw.read ts
 unfolding some_points_at
-some_points_is ts = chain2 point_at (λ l. loop (60 ∷ []) point_at (length l) l) (λ t. t) ts
+some_points_is ts = chain2 point_at (λ l. loop open_classes point_at (length l) l) (λ t. t) ts
 
 abbrev pub some_points_form : Form (TPoint × List TPoint)
 some_points_form = named some_points_raw some_points_at some_points_is
 
-pub points_is : (ts : List Token) → points_at ts ≡ (refuse (Unsupported 14) signed_sorts some_points_form refl refl).read ts
+pub points_is : (ts : List Token) → points_at ts ≡ (refuse (Unsupported 14) signed_classes some_points_form refl refl).read ts
 unfolding points_at
 points_is ts = refl
 
 abbrev pub points_form : Form TPoints
-points_form = named (refuse (Unsupported 14) signed_sorts some_points_form refl refl) points_at points_is
+points_form = named (refuse (Unsupported 14) signed_classes some_points_form refl refl) points_at points_is
 
 abbrev pub to_term : ℕ × (Name × (Unit {0} × (TPoints × Unit {0}))) → TTerm
 to_term t = record { at = t.0; name = t.1.0; points = t.1.1.1.0 }
 
 abbrev pub term_raw : Form TTerm
-term_raw = via (seq (key_form key.Term) (seq name_form (seq (bare_form tok.Assign refl) (seq points_form (bare_form tok.Semicolon refl) refl) refl) refl) refl) to_term (λ t. (t.at, (t.name, (tt, (t.points, tt))))) term_text (λ t. refl) (λ t. refl)
+term_raw = via (seq (key_form key.Term) (seq name_form (seq (bare_form tok.Assign refl)
+    (seq points_form (bare_form tok.Semicolon refl) refl) refl) refl) refl) to_term (λ t. (t.at, (t.name, (tt, (t.points, tt))))) term_text (λ t. refl)
+    (λ t. refl)
 
 pub term_is : (ts : List Token) → term_at ts ≡ term_raw.read ts
 unfolding term_at
@@ -106,7 +112,9 @@ abbrev pub to_range : ℕ × ((Bool × ℕ) × (TNum × (Unit {0} × (TNum × (U
 to_range t = record { at = t.0; assigned = t.1.0.0; open_at = t.1.0.1; low = t.1.1.0; high = t.1.1.1.1.0 }
 
 abbrev pub range_raw : Form TRange
-range_raw = via (seq (key_form key.Range) (seq opening_form (seq num_form (seq (bare_form tok.To refl) (seq num_form (seq (bare_form tok.Close refl) (bare_form tok.Semicolon refl) refl) refl) refl) refl) refl) refl) to_range (λ r. (r.at, ((r.assigned, r.open_at), (r.low, (tt, (r.high, (tt, tt))))))) range_text (λ r. refl) (λ t. refl)
+range_raw = via (seq (key_form key.Range) (seq opening_form (seq num_form (seq (bare_form tok.To refl)
+    (seq num_form (seq (bare_form tok.Close refl) (bare_form tok.Semicolon refl) refl) refl) refl) refl) refl) refl) to_range
+    (λ r. (r.at, ((r.assigned, r.open_at), (r.low, (tt, (r.high, (tt, tt))))))) range_text (λ r. refl) (λ t. refl)
 
 pub range_is : (ts : List Token) → range_at ts ≡ range_raw.read ts
 unfolding range_at
@@ -134,7 +142,8 @@ abbrev pub fuzzify_seq : Form (ℕ × (Name × (List (TTerm ⊎ TRange) × ℕ))
 fuzzify_seq = seq (key_form key.Fuzzify) (seq name_form (many_then fuzzy_line_form (key_form key.EndFuzzify) refl refl refl) refl) refl
 
 pub fuzzify_same : (t : ℕ × (Name × (List (TTerm ⊎ TRange) × ℕ))) → fuzzify_text (to_fuzzify t) ≡ fuzzify_seq.text t
-fuzzify_same t = ap (λ (l : List Sym). key_text key.Fuzzify t.0 ++ (name_text t.1.0 ++ (l ++ key_text key.EndFuzzify t.1.1.1))) (each_texts fuzzy_line_form t.1.1.0)
+fuzzify_same t =
+    ap (λ (l : List Sym). key_text key.Fuzzify t.0 ++ (name_text t.1.0 ++ (l ++ key_text key.EndFuzzify t.1.1.1))) (each_texts fuzzy_line_form t.1.1.0)
 
 abbrev pub fuzzify_raw : Form TFuzzify
 fuzzify_raw = via fuzzify_seq to_fuzzify (λ f. (f.at, (f.name, (f.lines, f.end)))) fuzzify_text (λ f. refl) fuzzify_same
@@ -148,53 +157,57 @@ fuzzify_form = named fuzzify_raw fuzzify_at fuzzify_is
 
 -- ---- settings
 
-module _ (k : Keyword) (w : Word) (sorts : List ℕ) (code : ℕ) (here : looks_on (Unsupported code) ≡ false) (apart : disjoint sorts (word_sort w ∷ []) ≡ true) where
-  abbrev pub choice_raw : Form (Among sorts ⊎ ℕ)
-  choice_raw = refuse (Unsupported code) sorts (word_form w) here apart
+module _ (k : Keyword) (w : Word) (classes : List ℕ) (code : ℕ) (here : looks_on (Unsupported code) ≡ false)
+    (apart : disjoint classes (word_class w ∷ []) ≡ true) where
+  abbrev pub choice_raw : Form (Among classes ⊎ ℕ)
+  choice_raw = refuse (Unsupported code) classes (word_form w) here apart
 
-  pub choice_is : (ts : List Token) → choice_at w sorts code ts ≡ choice_raw.read ts
+  pub choice_is : (ts : List Token) → choice_at w classes code ts ≡ choice_raw.read ts
   unfolding choice_at
   choice_is ts = refl
 
-  abbrev pub choice_form : Form (Among sorts ⊎ ℕ)
-  choice_form = named choice_raw (choice_at w sorts code) choice_is
+  abbrev pub choice_form : Form (Among classes ⊎ ℕ)
+  choice_form = named choice_raw (choice_at w classes code) choice_is
 
-  abbrev pub to_setting : ℕ × (Unit {0} × ((Among sorts ⊎ ℕ) × Unit {0})) → TSetting sorts
+  abbrev pub to_setting : ℕ × (Unit {0} × ((Among classes ⊎ ℕ) × Unit {0})) → TSetting classes
   to_setting t = record { at = t.0; word = t.1.1.0 }
 
-  abbrev pub setting_raw : Form (TSetting sorts)
-  setting_raw = via (seq (key_form k) (seq (bare_form tok.Colon refl) (seq choice_form (bare_form tok.Semicolon refl) refl) refl) refl) to_setting (λ s. (s.at, (tt, (s.word, tt)))) (setting_text k w sorts code) (λ s. refl) (λ t. refl)
+  abbrev pub setting_raw : Form (TSetting classes)
+  setting_raw = via (seq (key_form k) (seq (bare_form tok.Colon refl) (seq choice_form (bare_form tok.Semicolon refl) refl) refl) refl) to_setting
+      (λ s. (s.at, (tt, (s.word, tt)))) (setting_text k w classes code) (λ s. refl) (λ t. refl)
 
-  pub setting_is : (ts : List Token) → setting_at k w sorts code ts ≡ setting_raw.read ts
+  pub setting_is : (ts : List Token) → setting_at k w classes code ts ≡ setting_raw.read ts
   unfolding setting_at
-  setting_is ts = chain4 (key_at k) (expect_at tok.Colon) (choice_at w sorts code) (expect_at tok.Semicolon) to_setting ts
+  setting_is ts = chain4 (key_at k) (expect_at tok.Colon) (choice_at w classes code) (expect_at tok.Semicolon) to_setting ts
 
-  abbrev pub setting_form : Form (TSetting sorts)
-  setting_form = named setting_raw (setting_at k w sorts code) setting_is
+  abbrev pub setting_form : Form (TSetting classes)
+  setting_form = named setting_raw (setting_at k w classes code) setting_is
 
 abbrev pub accu_form : Form TAccu
-accu_form = setting_form key.Accu word.Max accu_sorts 4 refl refl
+accu_form = setting_form key.Accu word.Max accu_classes 4 refl refl
 
 abbrev pub method_form : Form TMethod
-method_form = setting_form key.Method word.Cogs method_sorts 1 refl refl
+method_form = setting_form key.Method word.Cogs method_classes 1 refl refl
 
 -- ---- DEFUZZIFY
 
-abbrev pub singleton_value_raw : Form (Among open_sorts ⊎ TNum)
-singleton_value_raw = refuse (Unsupported 13) open_sorts num_form refl refl
+abbrev pub singleton_value_raw : Form (Among open_classes ⊎ TNum)
+singleton_value_raw = refuse (Unsupported 13) open_classes num_form refl refl
 
 pub singleton_value_is : (ts : List Token) → singleton_value_at ts ≡ singleton_value_raw.read ts
 unfolding singleton_value_at
 singleton_value_is ts = refl
 
-abbrev pub singleton_value_form : Form (Among open_sorts ⊎ TNum)
+abbrev pub singleton_value_form : Form (Among open_classes ⊎ TNum)
 singleton_value_form = named singleton_value_raw singleton_value_at singleton_value_is
 
-abbrev pub to_singleton : ℕ × (Name × (Unit {0} × ((Among open_sorts ⊎ TNum) × Unit {0}))) → TSingleton
+abbrev pub to_singleton : ℕ × (Name × (Unit {0} × ((Among open_classes ⊎ TNum) × Unit {0}))) → TSingleton
 to_singleton t = record { at = t.0; name = t.1.0; value = t.1.1.1.0 }
 
 abbrev pub singleton_raw : Form TSingleton
-singleton_raw = via (seq (key_form key.Term) (seq name_form (seq (bare_form tok.Assign refl) (seq singleton_value_form (bare_form tok.Semicolon refl) refl) refl) refl) refl) to_singleton (λ t. (t.at, (t.name, (tt, (t.value, tt))))) singleton_text (λ t. refl) (λ t. refl)
+singleton_raw = via (seq (key_form key.Term) (seq name_form (seq (bare_form tok.Assign refl)
+    (seq singleton_value_form (bare_form tok.Semicolon refl) refl) refl) refl) refl) to_singleton (λ t. (t.at, (t.name, (tt, (t.value, tt))))) singleton_text
+    (λ t. refl) (λ t. refl)
 
 pub singleton_is : (ts : List Token) → singleton_at ts ≡ singleton_raw.read ts
 unfolding singleton_at
@@ -217,7 +230,8 @@ abbrev pub to_fallback : ℕ × (Unit {0} × ((TNum ⊎ ℕ) × Unit {0})) → T
 to_fallback t = record { at = t.0; value = t.1.1.0 }
 
 abbrev pub fallback_raw : Form TFallback
-fallback_raw = via (seq (key_form key.Default) (seq (bare_form tok.Assign refl) (seq fallback_value_form (bare_form tok.Semicolon refl) refl) refl) refl) to_fallback (λ d. (d.at, (tt, (d.value, tt)))) fallback_text (λ d. refl) (λ t. refl)
+fallback_raw = via (seq (key_form key.Default) (seq (bare_form tok.Assign refl) (seq fallback_value_form
+    (bare_form tok.Semicolon refl) refl) refl) refl) to_fallback (λ d. (d.at, (tt, (d.value, tt)))) fallback_text (λ d. refl) (λ t. refl)
 
 pub fallback_is : (ts : List Token) → fallback_at ts ≡ fallback_raw.read ts
 unfolding fallback_at
@@ -243,7 +257,8 @@ abbrev pub defuzzify_seq : Form (ℕ × (Name × (List TDefuzzyLine × ℕ)))
 defuzzify_seq = seq (key_form key.Defuzzify) (seq name_form (many_then defuzzy_line_form (key_form key.EndDefuzzify) refl refl refl) refl) refl
 
 pub defuzzify_same : (t : ℕ × (Name × (List TDefuzzyLine × ℕ))) → defuzzify_text (to_defuzzify t) ≡ defuzzify_seq.text t
-defuzzify_same t = ap (λ (l : List Sym). key_text key.Defuzzify t.0 ++ (name_text t.1.0 ++ (l ++ key_text key.EndDefuzzify t.1.1.1))) (each_texts defuzzy_line_form t.1.1.0)
+defuzzify_same t =
+    ap (λ (l : List Sym). key_text key.Defuzzify t.0 ++ (name_text t.1.0 ++ (l ++ key_text key.EndDefuzzify t.1.1.1))) (each_texts defuzzy_line_form t.1.1.0)
 
 abbrev pub defuzzify_raw : Form TDefuzzify
 defuzzify_raw = via defuzzify_seq to_defuzzify (λ d. (d.at, (d.name, (d.lines, d.end)))) defuzzify_text (λ d. refl) defuzzify_same
@@ -258,7 +273,7 @@ defuzzify_form = named defuzzify_raw defuzzify_at defuzzify_is
 -- ---- both
 
 abbrev pub part_raw : Form TPart
-part_raw = refuse (Unsupported 7) option_sorts (either fuzzify_form defuzzify_form refl refl) refl refl
+part_raw = refuse (Unsupported 7) option_classes (either fuzzify_form defuzzify_form refl refl) refl refl
 
 pub part_is : (ts : List Token) → part_at ts ≡ part_raw.read ts
 unfolding part_at

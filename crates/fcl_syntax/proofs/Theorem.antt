@@ -16,13 +16,16 @@ use Rattle.fcl_syntax.specs.declared.token.Token.{Token}
 use Rattle.fcl_syntax.specs.declared.tree.FunctionBlock.{FunctionBlock}
 use Rattle.fcl_syntax.specs.declared.tree.Tree.{Tree}
 use Rattle.fcl_syntax.specs.First.{Spells, FirstFault}
-use Rattle.fcl_syntax.specs.Grammar.{TBlock, block_text}
+use Rattle.fcl_syntax.specs.Tokens.{HasTokenFault}
 use Rattle.fcl_syntax.specs.Lexing.{piece_of, Placed, Lexed, lexed, in_front, next_piece, tokenization}
+use Rattle.fcl_syntax.specs.Text.{IsSpelled, SpellsTree, head_or, HasFault, IsFirstFault, OrMemory}
+use Rattle.fcl_syntax.specs.TextReading.{of_kind, token_fault, grammar_fault, place_of, located, read_lexed, read_text, Reads}
+use Rattle.fcl_syntax.specs.Parsed.{GivesTree, GivesFault}
+use Rattle.fcl_syntax.specs.Grammar.{TBlock, block_text}
 use Rattle.fcl_syntax.specs.Reading.{all_of}
 use Rattle.fcl_syntax.specs.Readings.{FirstFaultsAreOne, TreesAreOne}
-use Rattle.fcl_syntax.specs.Text.{IsSpelled, SpellsTree, head_or, HasFault, HasTokenFault, IsFirstFault, OrMemory, of_kind, token_fault, grammar_fault, place_of, located, read_lexed, read_text}
-use Rattle.fcl_syntax.specs.Parsed.{GivesTree, GivesFault, Reads}
 use Rattle.fcl_syntax.specs.View.{view}
+use Rattle.fcl_syntax.proofs.CutTexts.{cut_has_tokens, cut_has_fault, tokens_are_cut, fault_is_cut}
 use Rattle.fcl_syntax.proofs.Exact.{whole, whole_spells, spells_whole, whole_faults, faults_whole}
 use Rattle.fcl_syntax.proofs.RuleForms.{block_form}
 
@@ -72,13 +75,15 @@ lens (suc fuel) at (b ∷ bytes) l h = go (piece_of at (b ∷ bytes)) l (λ n l.
         subst (λ (l : Placed). length l.1 ≡ length l.0) e (ap suc (again k refl))
     front t (Err e) l again h = absurd cc
 
-    go : (p : Piece) (l : Placed) → ((n : ℕ) (l : Placed) → lexed fuel (at + n) (drop n (b ∷ bytes)) ≡ Ok l → length l.1 ≡ length l.0) → next_piece at p (λ n. lexed fuel (at + n) (drop n (b ∷ bytes))) ≡ Ok l → length l.1 ≡ length l.0
+    go : (p : Piece) (l : Placed) → ((n : ℕ) (l : Placed) → lexed fuel (at + n) (drop n (b ∷ bytes)) ≡ Ok l → length l.1 ≡ length l.0)
+        → next_piece at p (λ n. lexed fuel (at + n) (drop n (b ∷ bytes))) ≡ Ok l → length l.1 ≡ length l.0
     go (piece.Skip n) l again h = again n l h
     go (piece.Token t n) l again h = front t (lexed fuel (at + n) (drop n (b ∷ bytes))) l (again n) h
     go (piece.Fault k) l again h = absurd cc
 
 -- the place where so many tokens are left is that behind those before it
-place_behind : (places : List ℕ) (tokens front bad : List Token) (left end : ℕ) → length places ≡ length tokens → tokens ≡ front ++ bad → left ≡ length bad → place_of places left end ≡ head_or (drop (length front) places) end
+place_behind : (places : List ℕ) (tokens front bad : List Token) (left end : ℕ) → length places ≡ length tokens → tokens ≡ front ++ bad → left ≡ length bad
+    → place_of places left end ≡ head_or (drop (length front) places) end
 place_behind places tokens front bad left end len parts is =
     let n : length places - left ≡ length front = omega (arith, len, ap length parts, length-append front bad, is) in
     ap (λ (k : ℕ). head_or (drop k places) end) n
@@ -89,7 +94,8 @@ located_ok : (places : List ℕ) (end : ℕ) (r : Result TBlock Fault) (t : TBlo
 located_ok places end (Ok u) t h = cc
 located_ok places end (Err e) t h = absurd cc
 
-located_err : (places : List ℕ) (end : ℕ) (r : Result TBlock Fault) (e : SyntaxFault) → located places end r ≡ Err e → (f : Fault) × (r ≡ Err f) × (grammar_fault f.kind (place_of places f.left end) ≡ e)
+located_err : (places : List ℕ) (end : ℕ) (r : Result TBlock Fault) (e : SyntaxFault) → located places end r ≡ Err e → (f : Fault) × (r ≡ Err f) ×
+    (grammar_fault f.kind (place_of places f.left end) ≡ e)
 located_err places end (Ok u) e h = absurd cc
 located_err places end (Err f) e h = (f, refl, cc)
 
@@ -97,12 +103,13 @@ pub read_spells : (text : List ℕ) (t : TBlock) → read_text text ≡ Ok t →
 read_spells text t h = go (tokenization text) refl h
   where
     go : (l : Lexed) → tokenization text ≡ l → read_lexed (length text) l ≡ Ok t → SpellsTree text t
-    go (Ok l) w h = record { tokens = l.0; places = l.1; cut = w; spells = all_spells l.0 t (located_ok l.1 (length text) (all_of l.0) t h) }
+    go (Ok l) w h =
+        record { tokens = l.0; places = l.1; cut = cut_has_tokens text l.0 l.1 w; spells = all_spells l.0 t (located_ok l.1 (length text) (all_of l.0) t h) }
     go (Err e) w h = absurd cc
 
 pub spells_read : (text : List ℕ) (t : TBlock) → SpellsTree text t → read_text text ≡ Ok t
 spells_read text t s =
-    ap (read_lexed (length text)) s.cut ∙ ap (located s.places (length text)) (spells_all s.tokens t s.spells)
+    ap (read_lexed (length text)) (tokens_are_cut text s.tokens s.places s.cut) ∙ ap (located s.places (length text)) (spells_all s.tokens t s.spells)
 
 token_fault_is : (text : List ℕ) (k : LexKind) (at : ℕ) → HasTokenFault text k at → IsFirstFault text (of_kind k at)
 token_fault_is text kinds.BadByte at h = h
@@ -118,7 +125,7 @@ pub read_faults : (text : List ℕ) (e : SyntaxFault) → read_text text ≡ Err
 read_faults text e h = go (tokenization text) refl h
   where
     go : (l : Lexed) → tokenization text ≡ l → read_lexed (length text) l ≡ Err e → IsFirstFault text e
-    go (Err d) w h = let is : token_fault d ≡ e = cc in subst (IsFirstFault text) is (token_fault_is text d.kind d.at w)
+    go (Err d) w h = let is : token_fault d ≡ e = cc in subst (IsFirstFault text) is (token_fault_is text d.kind d.at (cut_has_fault text d.kind d.at w))
     go (Ok l) w h =
         let x = located_err l.1 (length text) (all_of l.0) e h in
         let f = all_faults l.0 x.0 x.1 in
@@ -126,7 +133,7 @@ read_faults text e h = go (tokenization text) refl h
           tokens = l.0;
           places = l.1;
           left = x.0.left;
-          cut = w;
+          cut = cut_has_tokens text l.0 l.1 w;
           fault = f;
           place = place_behind l.1 l.0 f.front f.bad x.0.left (length text) (lens (length text) 0 text l w) f.parts f.left;
         }))
@@ -135,11 +142,13 @@ has_fault_read : (text : List ℕ) (k : Kind) (at : ℕ) → HasFault text k at 
 has_fault_read text k at h =
     let f = h.fault in
     let e : Fault = record { kind = k; left = h.left } in
-    ap (read_lexed (length text)) h.cut ∙ ap (located h.places (length text)) (faults_all h.tokens e f)
-    ∙ ap (λ (n : ℕ). Err (grammar_fault k n)) (place_behind h.places h.tokens f.front f.bad h.left (length text) (lens (length text) 0 text (h.tokens, h.places) h.cut) f.parts f.left ∙ sym h.place)
+    let cut = tokens_are_cut text h.tokens h.places h.cut in
+    ap (read_lexed (length text)) cut ∙ ap (located h.places (length text)) (faults_all h.tokens e f)
+    ∙ ap (λ (n : ℕ). Err (grammar_fault k n)) (place_behind h.places h.tokens f.front f.bad h.left (length text)
+    (lens (length text) 0 text (h.tokens, h.places) cut) f.parts f.left ∙ sym h.place)
 
 token_fault_read : (text : List ℕ) (k : LexKind) (at : ℕ) → HasTokenFault text k at → read_text text ≡ Err (of_kind k at)
-token_fault_read text k at h = ap (read_lexed (length text)) h
+token_fault_read text k at h = ap (read_lexed (length text)) (fault_is_cut text k at h)
 
 pub faults_read : (text : List ℕ) (e : SyntaxFault) → IsFirstFault text e → read_text text ≡ Err e
 faults_read text (faults.BadByte at) h = token_fault_read text kinds.BadByte at h
@@ -190,10 +199,11 @@ first_faults_are_one_lem text = (
 
 -- ---- the tree that is kept
 
-pub kept_tree : (text letters : List ℕ) (tokens : List Token) (places : List ℕ) (b : FunctionBlock) → length text ≤ 1048576 → letters ≡ str_to_ascii_lowercase text → tokenization text ≡ Ok (tokens, places) → all_of tokens ≡ Ok (view b) → IsSpelled letters b
+pub kept_tree : (text letters : List ℕ) (tokens : List Token) (places : List ℕ) (b : FunctionBlock) → length text ≤ 1048576
+    → letters ≡ str_to_ascii_lowercase text → tokenization text ≡ Ok (tokens, places) → all_of tokens ≡ Ok (view b) → IsSpelled letters b
 kept_tree text letters tokens places b small is cut reads = record {
   text = text;
   small = small;
   letters_are = is;
-  spelled = record { tokens = tokens; places = places; cut = cut; spells = all_spells tokens (view b) reads };
+  spelled = record { tokens = tokens; places = places; cut = cut_has_tokens text tokens places cut; spells = all_spells tokens (view b) reads };
 }

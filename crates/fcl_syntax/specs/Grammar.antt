@@ -1,5 +1,5 @@
 -- The grammar: its trees, and the text of each. Where something is refused, a tree has the token
--- that is refused in its place, and the text has a mark there; what follows a mark is free.
+-- that is refused in its place, and the text has an annotation there; what follows an annotation is free.
 use Rattle.std.specs.Prelude.{ℕ, zero, suc, Bool, true, false, List, [], ◌∷◌, ◌++◌, Option, Some, None, ◌⊎◌}
 use Rattle.fcl_syntax.specs.declared.fault.Kind.TheVariants.{Deep, Unsupported}
 use Rattle.fcl_syntax.specs.declared.token.Amount.{Amount}
@@ -18,7 +18,8 @@ use Rattle.fcl_syntax.specs.declared.tree.Name.{Name}
 use Rattle.fcl_syntax.specs.declared.tree.Number.{Number}
 use Rattle.fcl_syntax.specs.declared.tree.UnitNumber.{UnitNumber}
 use Rattle.fcl_syntax.specs.declared.tree.ZeroNumber.{ZeroNumber}
-use Rattle.fcl_syntax.specs.Marks.{key_sort, word_sort, name_sorts, other_type_sorts, signed_sorts, beyond_unit_sorts, beyond_zero_sorts, follow_sorts, Among, Sym, plain, marked, either_text, or_refused}
+use Rattle.fcl_syntax.specs.TokenClasses.{keyword_class, word_class, name_classes, other_type_classes, signed_classes, beyond_unit_classes, beyond_zero_classes, follow_classes, Among, open_classes}
+use Rattle.fcl_syntax.specs.Annotations.{Sym, plain, annotated, either_text, or_refused}
 
 -- x y z .. as sep x, sep y, sep z ..
 abbrev pub behind : {A : Type 0} → Token → (A → List Sym) → List A → List Sym
@@ -75,10 +76,10 @@ names_text t = name_text t.0 ++ behind tok.Comma name_text t.1
 
 -- type = REAL; another name is refused, code 5
 abbrev pub TType : Type 0
-TType = Among other_type_sorts ⊎ ℕ
+TType = Among other_type_classes ⊎ ℕ
 
 abbrev pub type_text : TType → List Sym
-type_text = or_refused (Unsupported 5) other_type_sorts (word_text word.Real)
+type_text = or_refused (Unsupported 5) other_type_classes (word_text word.Real)
 
 -- decl = names ":" type ";"
 pub record TDecl : Type 0 where
@@ -104,23 +105,23 @@ abbrev pub vars_text : TVars → List Sym
 vars_text v = plain (tok.Word v.at (direction_key v.direction)) ∷ (each decl_text v.decls ++ key_text key.EndVar v.end)
 
 -- VAR in its place is refused, code 6
-abbrev pub var_sorts : List ℕ
-var_sorts = key_sort key.Var ∷ []
+abbrev pub var_classes : List ℕ
+var_classes = keyword_class key.Var ∷ []
 
 abbrev pub TSection : Type 0
-TSection = Among var_sorts ⊎ TVars
+TSection = Among var_classes ⊎ TVars
 
 abbrev pub section_text : TSection → List Sym
-section_text = or_refused (Unsupported 6) var_sorts vars_text
+section_text = or_refused (Unsupported 6) var_classes vars_text
 
 -- ---- terms and ranges
 
 -- a name where a number of a point stands is refused, code 10
 abbrev pub TCoordinate : Type 0
-TCoordinate = Among name_sorts ⊎ Number
+TCoordinate = Among name_classes ⊎ Number
 
 abbrev pub coordinate_text : TCoordinate → List Sym
-coordinate_text = or_refused (Unsupported 10) name_sorts number_text
+coordinate_text = or_refused (Unsupported 10) name_classes number_text
 
 -- a degree is 0 or 1; another number is refused, code 11
 abbrev pub unit_amount : Bool → Amount
@@ -140,13 +141,15 @@ abbrev pub zero_text : ZeroNumber → List Sym
 zero_text n = plain (zero_token n) ∷ []
 
 abbrev pub TUnit : Type 0
-TUnit = Among name_sorts ⊎ (Among beyond_unit_sorts ⊎ UnitNumber)
+TUnit = Among name_classes ⊎ (Among beyond_unit_classes ⊎ UnitNumber)
 
 abbrev pub TZero : Type 0
-TZero = Among name_sorts ⊎ (Among beyond_zero_sorts ⊎ ZeroNumber)
+TZero = Among name_classes ⊎ (Among beyond_zero_classes ⊎ ZeroNumber)
 
 abbrev pub degree_text : TSigned TUnit TZero → List Sym
-degree_text = signed_text (or_refused (Unsupported 10) name_sorts (or_refused (Unsupported 11) beyond_unit_sorts unit_text)) (or_refused (Unsupported 10) name_sorts (or_refused (Unsupported 11) beyond_zero_sorts zero_text))
+degree_text = signed_text
+    (or_refused (Unsupported 10) name_classes (or_refused (Unsupported 11) beyond_unit_classes unit_text))
+    (or_refused (Unsupported 10) name_classes (or_refused (Unsupported 11) beyond_zero_classes zero_text))
 
 -- point = "(" num "," num ")"
 pub record TPoint : Type 0 where
@@ -155,14 +158,15 @@ pub record TPoint : Type 0 where
   pub degree : TSigned TUnit TZero
 
 abbrev pub point_text : TPoint → List Sym
-point_text p = plain (tok.Open p.open_at) ∷ (signed_text coordinate_text coordinate_text p.x ++ (plain tok.Comma ∷ (degree_text p.degree ++ plain tok.Close ∷ [])))
+point_text p = plain (tok.Open p.open_at) ∷ (signed_text coordinate_text coordinate_text p.x ++
+    (plain tok.Comma ∷ (degree_text p.degree ++ plain tok.Close ∷ [])))
 
 -- point {point}; a number or a sign in their place is refused, code 14
 abbrev pub TPoints : Type 0
-TPoints = Among signed_sorts ⊎ (TPoint × List TPoint)
+TPoints = Among signed_classes ⊎ (TPoint × List TPoint)
 
 abbrev pub points_text : TPoints → List Sym
-points_text = or_refused (Unsupported 14) signed_sorts (λ t. point_text t.0 ++ each point_text t.1)
+points_text = or_refused (Unsupported 14) signed_classes (λ t. point_text t.0 ++ each point_text t.1)
 
 -- TERM name ":=" point {point} ";"
 pub record TTerm : Type 0 where
@@ -171,7 +175,8 @@ pub record TTerm : Type 0 where
   pub points : TPoints
 
 abbrev pub term_text : TTerm → List Sym
-term_text t = plain (tok.Word t.at key.Term) ∷ plain (name_token t.name) ∷ plain tok.Assign ∷ (points_text t.points ++ plain tok.Semicolon ∷ [])
+term_text t = plain (tok.Word t.at key.Term) ∷ plain (name_token t.name) ∷ plain tok.Assign ∷
+    (points_text t.points ++ plain tok.Semicolon ∷ [])
 
 -- range = RANGE [":="] "(" num ".." num ")" ";"
 pub record TRange : Type 0 where
@@ -186,7 +191,8 @@ opening_text true at = plain tok.Assign ∷ plain (tok.Open at) ∷ []
 opening_text false at = plain (tok.Open at) ∷ []
 
 abbrev pub range_text : TRange → List Sym
-range_text r = plain (tok.Word r.at key.Range) ∷ (opening_text r.assigned r.open_at ++ (num_text r.low ++ (plain tok.To ∷ (num_text r.high ++ plain tok.Close ∷ plain tok.Semicolon ∷ []))))
+range_text r = plain (tok.Word r.at key.Range) ∷ (opening_text r.assigned r.open_at ++
+    (num_text r.low ++ (plain tok.To ∷ (num_text r.high ++ plain tok.Close ∷ plain tok.Semicolon ∷ []))))
 
 -- FUZZIFY name {term | range} END_FUZZIFY
 pub record TFuzzify : Type 0 where
@@ -196,47 +202,47 @@ pub record TFuzzify : Type 0 where
   pub end : ℕ
 
 abbrev pub fuzzify_text : TFuzzify → List Sym
-fuzzify_text f = plain (tok.Word f.at key.Fuzzify) ∷ plain (name_token f.name) ∷ (each (either_text term_text range_text) f.lines ++ key_text key.EndFuzzify f.end)
+fuzzify_text f = plain (tok.Word f.at key.Fuzzify) ∷ plain (name_token f.name) ∷
+    (each (either_text term_text range_text) f.lines ++ key_text key.EndFuzzify f.end)
 
 -- keyword ":" word ";", where other words are refused with a code
-pub record TSetting (sorts : List ℕ) : Type 0 where
+pub record TSetting (classes : List ℕ) : Type 0 where
   pub at : ℕ
-  pub word : Among sorts ⊎ ℕ
+  pub word : Among classes ⊎ ℕ
 
-abbrev pub setting_text : Keyword → Word → (sorts : List ℕ) → ℕ → TSetting sorts → List Sym
-setting_text k w sorts code s = plain (tok.Word s.at k) ∷ plain tok.Colon ∷ (or_refused (Unsupported code) sorts (word_text w) s.word ++ plain tok.Semicolon ∷ [])
+abbrev pub setting_text : Keyword → Word → (classes : List ℕ) → ℕ → TSetting classes → List Sym
+setting_text k w classes code s = plain (tok.Word s.at k) ∷ plain tok.Colon ∷
+    (or_refused (Unsupported code) classes (word_text w) s.word ++ plain tok.Semicolon ∷ [])
 
 -- ACCU ":" MAX ";", where BSUM and NSUM are refused, code 4
-abbrev pub accu_sorts : List ℕ
-accu_sorts = word_sort word.Bsum ∷ word_sort word.Nsum ∷ []
+abbrev pub accu_classes : List ℕ
+accu_classes = word_class word.Bsum ∷ word_class word.Nsum ∷ []
 
 abbrev pub TAccu : Type 0
-TAccu = TSetting accu_sorts
+TAccu = TSetting accu_classes
 
 abbrev pub accu_text : TAccu → List Sym
-accu_text = setting_text key.Accu word.Max accu_sorts 4
+accu_text = setting_text key.Accu word.Max accu_classes 4
 
 -- METHOD ":" COGS ";", where COG, COA, LM and RM are refused, code 1
-abbrev pub method_sorts : List ℕ
-method_sorts = word_sort word.Centre ∷ word_sort word.Extreme ∷ []
+abbrev pub method_classes : List ℕ
+method_classes = word_class word.Centre ∷ word_class word.Extreme ∷ []
 
 abbrev pub TMethod : Type 0
-TMethod = TSetting method_sorts
+TMethod = TSetting method_classes
 
 abbrev pub method_text : TMethod → List Sym
-method_text = setting_text key.Method word.Cogs method_sorts 1
+method_text = setting_text key.Method word.Cogs method_classes 1
 
 -- TERM name ":=" num ";"; "(" in the place of the number is refused, code 13
-abbrev pub open_sorts : List ℕ
-open_sorts = 60 ∷ []
-
 pub record TSingleton : Type 0 where
   pub at : ℕ
   pub name : Name
-  pub value : Among open_sorts ⊎ TNum
+  pub value : Among open_classes ⊎ TNum
 
 abbrev pub singleton_text : TSingleton → List Sym
-singleton_text t = plain (tok.Word t.at key.Term) ∷ plain (name_token t.name) ∷ plain tok.Assign ∷ (or_refused (Unsupported 13) open_sorts num_text t.value ++ plain tok.Semicolon ∷ [])
+singleton_text t = plain (tok.Word t.at key.Term) ∷ plain (name_token t.name) ∷ plain tok.Assign ∷
+    (or_refused (Unsupported 13) open_classes num_text t.value ++ plain tok.Semicolon ∷ [])
 
 -- DEFAULT ":=" (num | NC) ";"
 pub record TFallback : Type 0 where
@@ -244,14 +250,16 @@ pub record TFallback : Type 0 where
   pub value : TNum ⊎ ℕ
 
 abbrev pub fallback_text : TFallback → List Sym
-fallback_text d = plain (tok.Word d.at key.Default) ∷ plain tok.Assign ∷ (either_text num_text (word_text word.Nc) d.value ++ plain tok.Semicolon ∷ [])
+fallback_text d = plain (tok.Word d.at key.Default) ∷ plain tok.Assign ∷
+    (either_text num_text (word_text word.Nc) d.value ++ plain tok.Semicolon ∷ [])
 
 -- DEFUZZIFY name {singleton | accu | method | default | range} END_DEFUZZIFY
 abbrev pub TDefuzzyLine : Type 0
 TDefuzzyLine = TSingleton ⊎ (TAccu ⊎ (TMethod ⊎ (TFallback ⊎ TRange)))
 
 abbrev pub defuzzy_line_text : TDefuzzyLine → List Sym
-defuzzy_line_text = either_text singleton_text (either_text accu_text (either_text method_text (either_text fallback_text range_text)))
+defuzzy_line_text =
+    either_text singleton_text (either_text accu_text (either_text method_text (either_text fallback_text range_text)))
 
 pub record TDefuzzify : Type 0 where
   pub at : ℕ
@@ -260,17 +268,18 @@ pub record TDefuzzify : Type 0 where
   pub end : ℕ
 
 abbrev pub defuzzify_text : TDefuzzify → List Sym
-defuzzify_text d = plain (tok.Word d.at key.Defuzzify) ∷ plain (name_token d.name) ∷ (each defuzzy_line_text d.lines ++ key_text key.EndDefuzzify d.end)
+defuzzify_text d = plain (tok.Word d.at key.Defuzzify) ∷ plain (name_token d.name) ∷
+    (each defuzzy_line_text d.lines ++ key_text key.EndDefuzzify d.end)
 
 -- part = fuzzify | defuzzify; OPTION in its place is refused, code 7
-abbrev pub option_sorts : List ℕ
-option_sorts = key_sort key.Options ∷ []
+abbrev pub option_classes : List ℕ
+option_classes = keyword_class key.Options ∷ []
 
 abbrev pub TPart : Type 0
-TPart = Among option_sorts ⊎ (TFuzzify ⊎ TDefuzzify)
+TPart = Among option_classes ⊎ (TFuzzify ⊎ TDefuzzify)
 
 abbrev pub part_text : TPart → List Sym
-part_text = or_refused (Unsupported 7) option_sorts (either_text fuzzify_text defuzzify_text)
+part_text = or_refused (Unsupported 7) option_classes (either_text fuzzify_text defuzzify_text)
 
 -- ---- conditions
 
@@ -281,7 +290,7 @@ mutual
     neg : ℕ → TNot → TNot
     group : ℕ → TOr → TNot
     is : (variable : Name) → (is_at : ℕ) → (not_at : Option ℕ) → (term : Name) → TNot
-    lone : Name → Among follow_sorts → TNot
+    lone : Name → Among follow_classes → TNot
 
   pub data TNots : Type 0 where
     no_nots : TNots
@@ -299,7 +308,7 @@ mutual
 
 -- "(" or NOT, where n more may be open
 abbrev pub opener : ℕ → Token → Sym
-opener zero x = marked Deep x
+opener zero x = annotated Deep x
 opener (suc n) x = plain x
 
 abbrev pub less : ℕ → ℕ
@@ -307,7 +316,8 @@ less zero = zero
 less (suc n) = n
 
 abbrev pub is_text : Name → ℕ → Option ℕ → Name → List Sym
-is_text v i (Some n) t = plain (name_token v) ∷ plain (tok.Word i key.Is) ∷ plain (tok.Word n key.Not) ∷ plain (name_token t) ∷ []
+is_text v i (Some n) t =
+    plain (name_token v) ∷ plain (tok.Word i key.Is) ∷ plain (tok.Word n key.Not) ∷ plain (name_token t) ∷ []
 is_text v i None t = plain (name_token v) ∷ plain (tok.Word i key.Is) ∷ plain (name_token t) ∷ []
 
 abbrev mutual
@@ -315,7 +325,7 @@ abbrev mutual
   not_text (neg at t) n = opener n (tok.Word at key.Not) ∷ not_text t (less n)
   not_text (group at o) n = opener n (tok.Open at) ∷ (or_text o (less n) ++ plain tok.Close ∷ [])
   not_text (is v i b t) n = is_text v i b t
-  not_text (lone v f) n = marked (Unsupported 12) (name_token v) ∷ plain f.token ∷ []
+  not_text (lone v f) n = annotated (Unsupported 12) (name_token v) ∷ plain f.token ∷ []
 
   pub nots_text : TNots → ℕ → List Sym
   nots_text no_nots n = []
@@ -343,10 +353,11 @@ conclusions_text t = conclusion_text t.0 ++ behind tok.Comma conclusion_text t.1
 -- WITH num ";"; a name in the place of the number is refused, code 15
 pub record TWeight : Type 0 where
   pub at : ℕ
-  pub value : Among name_sorts ⊎ TNum
+  pub value : Among name_classes ⊎ TNum
 
 abbrev pub weight_text : TWeight → List Sym
-weight_text w = plain (tok.Word w.at key.With) ∷ (or_refused (Unsupported 15) name_sorts num_text w.value ++ plain tok.Semicolon ∷ [])
+weight_text w = plain (tok.Word w.at key.With) ∷
+    (or_refused (Unsupported 15) name_classes num_text w.value ++ plain tok.Semicolon ∷ [])
 
 -- [WITH num] ";"
 abbrev pub semicolon_text : Unit {0} → List Sym
@@ -366,28 +377,31 @@ pub record TRule : Type 0 where
   pub weight : TWeight ⊎ Unit {0}
 
 abbrev pub rule_text : TRule → List Sym
-rule_text r = plain (tok.Word r.at key.Rule) ∷ plain (label_token r.label) ∷ plain tok.Colon ∷ plain (tok.Word r.if_at key.If) ∷ (or_text r.condition 64 ++ (plain (tok.Word r.then_at key.Then) ∷ (conclusions_text r.conclusions ++ either_text weight_text semicolon_text r.weight)))
+rule_text r =
+    plain (tok.Word r.at key.Rule) ∷ plain (label_token r.label) ∷ plain tok.Colon ∷ plain (tok.Word r.if_at key.If) ∷
+    (or_text r.condition 64 ++ (plain (tok.Word r.then_at key.Then) ∷
+    (conclusions_text r.conclusions ++ either_text weight_text semicolon_text r.weight)))
 
 -- OPTION in the place of a rule or of a line before it is refused, code 7
 abbrev pub TRuleItem : Type 0
-TRuleItem = Among option_sorts ⊎ TRule
+TRuleItem = Among option_classes ⊎ TRule
 
 abbrev pub rule_item_text : TRuleItem → List Sym
-rule_item_text = or_refused (Unsupported 7) option_sorts rule_text
+rule_item_text = or_refused (Unsupported 7) option_classes rule_text
 
 -- AND ":" MIN ";", where PROD and BDIF are refused, code 2
-abbrev pub and_sorts : List ℕ
-and_sorts = word_sort word.Prod ∷ word_sort word.Bdif ∷ []
+abbrev pub and_classes : List ℕ
+and_classes = word_class word.Prod ∷ word_class word.Bdif ∷ []
 
-abbrev pub and_line_text : TSetting and_sorts → List Sym
-and_line_text = setting_text key.And word.Min and_sorts 2
+abbrev pub and_line_text : TSetting and_classes → List Sym
+and_line_text = setting_text key.And word.Min and_classes 2
 
 -- OR ":" MAX ";", where ASUM and BSUM are refused, code 3
-abbrev pub or_sorts : List ℕ
-or_sorts = word_sort word.Asum ∷ word_sort word.Bsum ∷ []
+abbrev pub or_classes : List ℕ
+or_classes = word_class word.Asum ∷ word_class word.Bsum ∷ []
 
-abbrev pub or_line_text : TSetting or_sorts → List Sym
-or_line_text = setting_text key.Or word.Max or_sorts 3
+abbrev pub or_line_text : TSetting or_classes → List Sym
+or_line_text = setting_text key.Or word.Max or_classes 3
 
 -- ACT ":" (MIN | PROD) ";"
 pub record TAct : Type 0 where
@@ -395,10 +409,11 @@ pub record TAct : Type 0 where
   pub word : ℕ ⊎ ℕ
 
 abbrev pub act_text : TAct → List Sym
-act_text a = plain (tok.Word a.at key.Act) ∷ plain tok.Colon ∷ (either_text (word_text word.Min) (word_text word.Prod) a.word ++ plain tok.Semicolon ∷ [])
+act_text a = plain (tok.Word a.at key.Act) ∷ plain tok.Colon ∷
+    (either_text (word_text word.Min) (word_text word.Prod) a.word ++ plain tok.Semicolon ∷ [])
 
 abbrev pub TRuleLine : Type 0
-TRuleLine = TSetting and_sorts ⊎ (TSetting or_sorts ⊎ (TAct ⊎ TAccu))
+TRuleLine = TSetting and_classes ⊎ (TSetting or_classes ⊎ (TAct ⊎ TAccu))
 
 abbrev pub rule_line_text : TRuleLine → List Sym
 rule_line_text = either_text and_line_text (either_text or_line_text (either_text act_text accu_text))
@@ -412,17 +427,19 @@ pub record TRulebase : Type 0 where
   pub end : ℕ
 
 abbrev pub rulebase_text : TRulebase → List Sym
-rulebase_text r = plain (tok.Word r.at key.Ruleblock) ∷ plain (name_token r.name) ∷ (each rule_line_text r.lines ++ (each rule_item_text r.rules ++ key_text key.EndRuleblock r.end))
+rulebase_text r = plain (tok.Word r.at key.Ruleblock) ∷ plain (name_token r.name) ∷
+    (each rule_line_text r.lines ++ (each rule_item_text r.rules ++ key_text key.EndRuleblock r.end))
 
 -- END_FUNCTION_BLOCK; in its place OPTION is refused, code 7, and RULEBLOCK, code 8
-abbrev pub ruleblock_sorts : List ℕ
-ruleblock_sorts = key_sort key.Ruleblock ∷ []
+abbrev pub ruleblock_classes : List ℕ
+ruleblock_classes = keyword_class key.Ruleblock ∷ []
 
 abbrev pub TEnd : Type 0
-TEnd = Among option_sorts ⊎ (Among ruleblock_sorts ⊎ ℕ)
+TEnd = Among option_classes ⊎ (Among ruleblock_classes ⊎ ℕ)
 
 abbrev pub end_text : TEnd → List Sym
-end_text = or_refused (Unsupported 7) option_sorts (or_refused (Unsupported 8) ruleblock_sorts (key_text key.EndFunctionBlock))
+end_text = or_refused (Unsupported 7) option_classes
+    (or_refused (Unsupported 8) ruleblock_classes (key_text key.EndFunctionBlock))
 
 -- block = FUNCTION_BLOCK name {vars} {part} rules END_FUNCTION_BLOCK
 pub record TBlock : Type 0 where
@@ -434,4 +451,5 @@ pub record TBlock : Type 0 where
   pub end : TEnd
 
 abbrev pub block_text : TBlock → List Sym
-block_text b = plain (tok.Word b.at key.FunctionBlock) ∷ plain (name_token b.name) ∷ (each section_text b.vars ++ (each part_text b.parts ++ (rulebase_text b.rules ++ end_text b.end)))
+block_text b = plain (tok.Word b.at key.FunctionBlock) ∷ plain (name_token b.name) ∷
+    (each section_text b.vars ++ (each part_text b.parts ++ (rulebase_text b.rules ++ end_text b.end)))

@@ -1,4 +1,4 @@
--- The tokens of a text: it is cut from the left, and each piece is as long as it can be.
+-- Cutting a text from the left, piece by piece, as the lexer does.
 use Rattle.std.specs.Prelude.{◌≡◌, ℕ, zero, suc, ◌+◌, ◌<◌, ◌≤◌, Bool, true, false, List, [], ◌∷◌, length, take, drop, Option, Some, None, Result, Ok, Err, ◌==◌, ◌||◌, if◌then◌else◌, pos}
 use Rattle.std.specs.List.{take_while}
 use Rattle.std.specs.Char.{is_ascii_digit, is_ascii_alphabetic}
@@ -22,18 +22,7 @@ use Rattle.fcl_syntax.specs.declared.token.Token.{Token}
 use Rattle.fcl_syntax.specs.declared.token.Token.TheVariants as tok
 use Rattle.fcl_syntax.specs.declared.token.Word.TheVariants as word
 use Rattle.fcl_syntax.specs.Meanings.{meanings}
-
-abbrev pub is_blank : ℕ → Bool
-is_blank b = b == 32 || b == 9 || b == 13 || b == 10
-
-abbrev pub is_name_start : ℕ → Bool
-is_name_start b = is_ascii_alphabetic b || b == 95
-
-abbrev pub is_name_byte : ℕ → Bool
-is_name_byte b = is_name_start b || is_ascii_digit b
-
-abbrev pub is_line_byte : ℕ → Bool
-is_line_byte b = if b == 10 then false else true
+use Rattle.fcl_syntax.specs.Tokens.{is_blank, meaning_in, is_name_start, amount_of, starts_name, is_line_byte, is_name_byte}
 
 -- how long a run at the front is
 abbrev pub run : (ℕ → Bool) → List ℕ → ℕ
@@ -50,7 +39,8 @@ starts_close (b ∷ bytes) = b == 41
 
 abbrev pub comment_end : List ℕ → Option ℕ
 comment_end [] = None
-comment_end (a ∷ bytes) = if (if a == 42 then starts_close bytes else false) then Some 2 else shifted 1 (comment_end bytes)
+comment_end (a ∷ bytes) =
+    if (if a == 42 then starts_close bytes else false) then Some 2 else shifted 1 (comment_end bytes)
 
 abbrev pub comment_piece : Option ℕ → Piece
 comment_piece None = piece.Fault kinds.OpenComment
@@ -61,18 +51,11 @@ abbrev pub has_fraction : List ℕ → Bool
 has_fraction (a ∷ b ∷ bytes) = if a == 46 then is_ascii_digit b else false
 has_fraction _ = false
 
-abbrev pub starts_name : List ℕ → Bool
-starts_name [] = false
-starts_name (b ∷ bytes) = is_name_start b
-
 -- digits, or digits.digits: how many bytes
 unfoldable pub number_len : List ℕ → ℕ
 number_len bytes =
     let n = run is_ascii_digit bytes in
     if has_fraction (drop n bytes) then n + 1 + run is_ascii_digit (drop (n + 1) bytes) else n
-
-abbrev pub amount_of : Dec → Amount
-amount_of d = if int_eq d.0 (pos 0) then amount.Zero else (if int_eq d.0 (pos 10000) then amount.One else amount.Other d)
 
 abbrev pub decimal_piece : ℕ → ℕ → Bool → Result Dec DecFault → Piece
 decimal_piece at n whole (Ok d) = piece.Token (tok.Number at (amount_of d) whole) n
@@ -82,12 +65,8 @@ decimal_piece at n whole (Err e) = piece.Fault (kinds.Number e)
 unfoldable pub number_piece : ℕ → List ℕ → Piece
 number_piece at bytes =
     let n = number_len bytes in
-    if starts_name (drop n bytes) then piece.Fault (kinds.Number Shape) else decimal_piece at n (n == run is_ascii_digit bytes) (decimal (take n bytes))
-
--- a keyword, or a name with what it says
-abbrev pub meaning_in : List (List ℕ × Meaning) → List ℕ → Meaning
-meaning_in [] text = meaning.Name word.Other
-meaning_in (m ∷ ms) text = if str_eq_ignore_ascii_case m.0 text then m.1 else meaning_in ms text
+    if starts_name (drop n bytes) then piece.Fault (kinds.Number Shape) else
+    decimal_piece at n (n == run is_ascii_digit bytes) (decimal (take n bytes))
 
 abbrev pub token_of : ℕ → Meaning → Token
 token_of at (meaning.Keyword k) = tok.Word at k
@@ -113,8 +92,8 @@ unfoldable pub colon_piece : List ℕ → Piece
 colon_piece [] = piece.Token tok.Colon 1
 colon_piece (b ∷ bytes) = if b == 61 then piece.Token tok.Assign 2 else piece.Token tok.Colon 1
 
-unfoldable pub mark_piece : ℕ → ℕ → List ℕ → Piece
-mark_piece at b bytes =
+unfoldable pub delimiter_piece : ℕ → ℕ → List ℕ → Piece
+delimiter_piece at b bytes =
     if b == 40 then open_piece at bytes else
     if b == 47 then slash_piece bytes else
     if b == 46 then point_piece bytes else
@@ -131,9 +110,10 @@ abbrev pub piece_of : ℕ → List ℕ → Piece
 piece_of at [] = piece.Skip 1
 piece_of at (b ∷ bytes) =
     if is_blank b then piece.Skip 1 else
-    if is_name_start b then (let n = run is_name_byte (b ∷ bytes) in piece.Token (word_token at (take n (b ∷ bytes))) n) else
+    if is_name_start b then (let n = run is_name_byte (b ∷ bytes) in
+    piece.Token (word_token at (take n (b ∷ bytes))) n) else
     if is_ascii_digit b then number_piece at (b ∷ bytes) else
-    mark_piece at b bytes
+    delimiter_piece at b bytes
 
 -- tokens, each with its place
 abbrev pub Placed : Type 0
@@ -155,7 +135,8 @@ next_piece at (piece.Fault k) go = Err (record { kind = k; at = at })
 unfoldable pub lexed : ℕ → ℕ → List ℕ → Lexed
 lexed zero at bytes = Ok ([], [])
 lexed (suc fuel) at [] = Ok ([], [])
-lexed (suc fuel) at (b ∷ bytes) = next_piece at (piece_of at (b ∷ bytes)) (λ n. lexed fuel (at + n) (drop n (b ∷ bytes)))
+lexed (suc fuel) at (b ∷ bytes) =
+    next_piece at (piece_of at (b ∷ bytes)) (λ n. lexed fuel (at + n) (drop n (b ∷ bytes)))
 
 -- the tokens of a text with their places, or its first token fault
 abbrev pub tokenization : List ℕ → Lexed

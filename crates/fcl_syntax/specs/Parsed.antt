@@ -15,8 +15,3 @@ GivesTree (Err e) t = OrMemory (λ _. ⊥) e
 abbrev pub GivesFault : Result Tree SyntaxFault → SyntaxFault → Type 0
 GivesFault (Ok tree) e = ⊥
 GivesFault (Err d) e = OrMemory (λ d. d ≡ e) d
-
--- what is answered is what reading gives, where memory was found
-abbrev pub Reads : Result Tree SyntaxFault → Result TBlock SyntaxFault → Type 0
-Reads (Ok tree) r = r ≡ Ok (view tree.block)
-Reads (Err e) r = OrMemory (λ e. r ≡ Err e) e

@@ -18,9 +18,9 @@ use Rattle.fcl_syntax.specs.declared.tree.Name.{Name}
 use Rattle.fcl_syntax.specs.declared.tree.Number.{Number}
 use Rattle.fcl_syntax.specs.declared.tree.UnitNumber.{UnitNumber}
 use Rattle.fcl_syntax.specs.declared.tree.ZeroNumber.{ZeroNumber}
-use Rattle.fcl_syntax.specs.Marks.{sort, key_sort, word_sort, name_sorts, other_type_sorts, signed_sorts, beyond_unit_sorts, beyond_zero_sorts, follow_sorts, Among}
-use Rattle.fcl_syntax.specs.Form.{◌>>=◌, Read, cond_read, fault_at, starts, one_at, loop, ended}
-use Rattle.fcl_syntax.specs.Grammar.{TSigned, plus, minus, bare, TNum, TType, TDecl, TVars, var_sorts, TSection, TCoordinate, TUnit, TZero, TPoint, TPoints, TTerm, TRange, TFuzzify, TSetting, accu_sorts, TAccu, method_sorts, TMethod, open_sorts, TSingleton, TFallback, TDefuzzyLine, TDefuzzify, option_sorts, TPart, TNot, neg, group, is, TAnd, and_of, TOr, or_of, TWeight, TRule, TRuleItem, and_sorts, or_sorts, TAct, TRuleLine, TRulebase, ruleblock_sorts, TEnd, TBlock}
+use Rattle.fcl_syntax.specs.TokenClasses.{class_of, keyword_class, word_class, name_classes, other_type_classes, signed_classes, beyond_unit_classes, beyond_zero_classes, follow_classes, Among, comma_classes, defuzzy_line_classes, fuzzy_line_classes, open_classes, opener_classes, part_classes, rule_item_classes, rule_line_classes, section_classes}
+use Rattle.fcl_syntax.specs.Readers.{◌>>=◌, Read, cond_read, fault_at, starts, one_at, loop, ended}
+use Rattle.fcl_syntax.specs.Grammar.{TSigned, plus, minus, bare, TNum, TType, TDecl, TVars, var_classes, TSection, TCoordinate, TUnit, TZero, TPoint, TPoints, TTerm, TRange, TFuzzify, TSetting, accu_classes, TAccu, method_classes, TMethod, TSingleton, TFallback, TDefuzzyLine, TDefuzzify, option_classes, TPart, TNot, neg, group, is, TAnd, and_of, TOr, or_of, TWeight, TRule, TRuleItem, and_classes, or_classes, TAct, TRuleLine, TRulebase, ruleblock_classes, TEnd, TBlock}
 use Rattle.fcl_syntax.specs.View.{nots_of, ands_of}
 
 abbrev pub unit : Unit {0}
@@ -39,37 +39,37 @@ abbrev pub at_if : Bool → ℕ → Option ℕ
 at_if true at = Some at
 at_if false at = None
 
--- the token of a sort, where its sort is all that it says
+-- the token of a class, where its class is all that it says
 abbrev pub bare_of : ℕ → Option Token
 bare_of n =
-    if n == 61 then Some tok.Close else
-    if n == 62 then Some tok.Assign else
-    if n == 63 then Some tok.To else
-    if n == 64 then Some tok.Colon else
-    if n == 65 then Some tok.Semicolon else
-    if n == 66 then Some tok.Comma else
-    if n == 67 then Some tok.Plus else
-    if n == 68 then Some tok.Minus else None
+    if n == class_of tok.Close then Some tok.Close else
+    if n == class_of tok.Assign then Some tok.Assign else
+    if n == class_of tok.To then Some tok.To else
+    if n == class_of tok.Colon then Some tok.Colon else
+    if n == class_of tok.Semicolon then Some tok.Semicolon else
+    if n == class_of tok.Comma then Some tok.Comma else
+    if n == class_of tok.Plus then Some tok.Plus else
+    if n == class_of tok.Minus then Some tok.Minus else None
 
--- a token that says nothing beside its sort
+-- a token that says nothing beside its class
 abbrev pub IsBare : Token → Type 0
-IsBare x = bare_of (sort x) ≡ Some x
+IsBare x = bare_of (class_of x) ≡ Some x
 
 abbrev pub bare_want : Token → Token → Option (Unit {0})
-bare_want x y = some_unit (sort y == sort x)
+bare_want x y = some_unit (class_of y == class_of x)
 
 unfoldable pub expect_at : Token → List Token → Read (Unit {0})
 expect_at x ts = one_at (bare_want x) ts
 
 abbrev pub key_want : Keyword → Token → Option ℕ
-key_want k (tok.Word at j) = at_if (key_sort j == key_sort k) at
+key_want k (tok.Word at j) = at_if (keyword_class j == keyword_class k) at
 key_want k _ = None
 
 unfoldable pub key_at : Keyword → List Token → Read ℕ
 key_at k ts = one_at (key_want k) ts
 
 abbrev pub word_want : Word → Token → Option ℕ
-word_want w (tok.Name at v) = at_if (word_sort v == word_sort w) at
+word_want w (tok.Name at v) = at_if (word_class v == word_class w) at
 word_want w _ = None
 
 unfoldable pub word_at : Word → List Token → Read ℕ
@@ -128,11 +128,12 @@ direction_at ts = one_at direction_want ts
 
 -- ---- numbers
 
-unfoldable pub signed_at : {A B : Type 0} → (List Token → Read A) → (List Token → Read B) → List Token → Read (TSigned A B)
-signed_at f g ts = cond_read (starts (67 ∷ []) ts) (do
+unfoldable pub signed_at : {A B : Type 0} → (List Token → Read A) → (List Token → Read B) → List Token
+    → Read (TSigned A B)
+signed_at f g ts = cond_read (starts (class_of tok.Plus ∷ []) ts) (do
   x ← expect_at tok.Plus ts
   n ← f x.1
-  Ok (plus n.0, n.1)) (cond_read (starts (68 ∷ []) ts) (do
+  Ok (plus n.0, n.1)) (cond_read (starts (class_of tok.Minus ∷ []) ts) (do
     x ← expect_at tok.Minus ts
     n ← g x.1
     Ok (minus n.0, n.1)) (do
@@ -143,7 +144,7 @@ abbrev pub num_at : List Token → Read TNum
 num_at = signed_at number_at number_at
 
 unfoldable pub coordinate_number_at : List Token → Read TCoordinate
-coordinate_number_at ts = cond_read (starts name_sorts ts) (refuse_at 10 ts) (do
+coordinate_number_at ts = cond_read (starts name_classes ts) (refuse_at 10 ts) (do
   n ← number_at ts
   Ok (inr n.0, n.1))
 
@@ -151,14 +152,16 @@ abbrev pub coordinate_at : List Token → Read (TSigned TCoordinate TCoordinate)
 coordinate_at = signed_at coordinate_number_at coordinate_number_at
 
 unfoldable pub unit_at : List Token → Read TUnit
-unit_at ts = cond_read (starts name_sorts ts) (refuse_at 10 ts) (cond_read (starts beyond_unit_sorts ts) (refuse_at 11 ts) (do
-  n ← unit_number_at ts
-  Ok (inr (inr n.0), n.1)))
+unit_at ts = cond_read (starts name_classes ts) (refuse_at 10 ts)
+    (cond_read (starts beyond_unit_classes ts) (refuse_at 11 ts) (do
+      n ← unit_number_at ts
+      Ok (inr (inr n.0), n.1)))
 
 unfoldable pub zero_at : List Token → Read TZero
-zero_at ts = cond_read (starts name_sorts ts) (refuse_at 10 ts) (cond_read (starts beyond_zero_sorts ts) (refuse_at 11 ts) (do
-  n ← zero_number_at ts
-  Ok (inr (inr n.0), n.1)))
+zero_at ts = cond_read (starts name_classes ts) (refuse_at 10 ts)
+    (cond_read (starts beyond_zero_classes ts) (refuse_at 11 ts) (do
+      n ← zero_number_at ts
+      Ok (inr (inr n.0), n.1)))
 
 abbrev pub degree_at : List Token → Read (TSigned TUnit TZero)
 degree_at = signed_at unit_at zero_at
@@ -173,12 +176,12 @@ comma_name_at ts = do
 unfoldable pub names_at : List Token → Read (Name × List Name)
 names_at ts = do
   n ← name_at ts
-  more ← loop (66 ∷ []) comma_name_at (length n.1) n.1
+  more ← loop comma_classes comma_name_at (length n.1) n.1
   Ok ((n.0, more.0), more.1)
 
 -- REAL, by its offset
 unfoldable pub type_at : List Token → Read TType
-type_at ts = cond_read (starts other_type_sorts ts) (refuse_at 5 ts) (do
+type_at ts = cond_read (starts other_type_classes ts) (refuse_at 5 ts) (do
   r ← word_at word.Real ts
   Ok (inr r.0, r.1))
 
@@ -191,7 +194,7 @@ decl_at ts = do
   Ok (record { names = n.0; type = t.0 }, s.1)
 
 abbrev pub decls_at : List Token → Read (List TDecl)
-decls_at ts = loop name_sorts decl_at (length ts) ts
+decls_at ts = loop name_classes decl_at (length ts) ts
 
 unfoldable pub vars_at : List Token → Read TVars
 vars_at ts = do
@@ -201,12 +204,12 @@ vars_at ts = do
   Ok (record { at = v.0.0; direction = v.0.1; decls = ds.0; end = e.0 }, e.1)
 
 unfoldable pub section_at : List Token → Read TSection
-section_at ts = cond_read (starts var_sorts ts) (refuse_at 6 ts) (do
+section_at ts = cond_read (starts var_classes ts) (refuse_at 6 ts) (do
   v ← vars_at ts
   Ok (inr v.0, v.1))
 
 abbrev pub sections_at : List Token → Read (List TSection)
-sections_at ts = loop (5 ∷ 2 ∷ 3 ∷ []) section_at (length ts) ts
+sections_at ts = loop section_classes section_at (length ts) ts
 
 -- ---- terms of an input, and ranges
 
@@ -222,11 +225,11 @@ point_at ts = do
 unfoldable pub some_points_at : List Token → Read (TPoint × List TPoint)
 some_points_at ts = do
   p ← point_at ts
-  more ← loop (60 ∷ []) point_at (length p.1) p.1
+  more ← loop open_classes point_at (length p.1) p.1
   Ok ((p.0, more.0), more.1)
 
 unfoldable pub points_at : List Token → Read TPoints
-points_at ts = cond_read (starts signed_sorts ts) (refuse_at 14 ts) (do
+points_at ts = cond_read (starts signed_classes ts) (refuse_at 14 ts) (do
   p ← some_points_at ts
   Ok (inr p.0, p.1))
 
@@ -240,7 +243,7 @@ term_at ts = do
   Ok (record { at = t.0; name = n.0; points = p.0 }, s.1)
 
 unfoldable pub opening_at : List Token → Read (Bool × ℕ)
-opening_at ts = cond_read (starts (62 ∷ []) ts) (do
+opening_at ts = cond_read (starts (class_of tok.Assign ∷ []) ts) (do
   a ← expect_at tok.Assign ts
   o ← open_at a.1
   Ok ((true, o.0), o.1)) (do
@@ -259,14 +262,14 @@ range_at ts = do
   Ok (record { at = r.0; assigned = o.0.0; open_at = o.0.1; low = l.0; high = h.0 }, s.1)
 
 unfoldable pub fuzzy_line_at : List Token → Read (TTerm ⊎ TRange)
-fuzzy_line_at ts = cond_read (starts (10 ∷ []) ts) (do
+fuzzy_line_at ts = cond_read (starts (keyword_class key.Term ∷ []) ts) (do
   t ← term_at ts
   Ok (inl t.0, t.1)) (do
     r ← range_at ts
     Ok (inr r.0, r.1))
 
 abbrev pub fuzzy_lines_at : List Token → Read (List (TTerm ⊎ TRange))
-fuzzy_lines_at ts = loop (10 ∷ 11 ∷ []) fuzzy_line_at (length ts) ts
+fuzzy_lines_at ts = loop fuzzy_line_classes fuzzy_line_at (length ts) ts
 
 unfoldable pub fuzzify_at : List Token → Read TFuzzify
 fuzzify_at ts = do
@@ -278,27 +281,27 @@ fuzzify_at ts = do
 
 -- ---- terms of an output
 
-unfoldable pub choice_at : Word → (sorts : List ℕ) → ℕ → List Token → Read (Among sorts ⊎ ℕ)
-choice_at w sorts code ts = cond_read (starts sorts ts) (refuse_at code ts) (do
+unfoldable pub choice_at : Word → (classes : List ℕ) → ℕ → List Token → Read (Among classes ⊎ ℕ)
+choice_at w classes code ts = cond_read (starts classes ts) (refuse_at code ts) (do
   x ← word_at w ts
   Ok (inr x.0, x.1))
 
-unfoldable pub setting_at : Keyword → Word → (sorts : List ℕ) → ℕ → List Token → Read (TSetting sorts)
-setting_at k w sorts code ts = do
+unfoldable pub setting_at : Keyword → Word → (classes : List ℕ) → ℕ → List Token → Read (TSetting classes)
+setting_at k w classes code ts = do
   x ← key_at k ts
   c ← expect_at tok.Colon x.1
-  y ← choice_at w sorts code c.1
+  y ← choice_at w classes code c.1
   s ← expect_at tok.Semicolon y.1
   Ok (record { at = x.0; word = y.0 }, s.1)
 
 abbrev pub accu_at : List Token → Read TAccu
-accu_at = setting_at key.Accu word.Max accu_sorts 4
+accu_at = setting_at key.Accu word.Max accu_classes 4
 
 abbrev pub method_at : List Token → Read TMethod
-method_at = setting_at key.Method word.Cogs method_sorts 1
+method_at = setting_at key.Method word.Cogs method_classes 1
 
-unfoldable pub singleton_value_at : List Token → Read (Among open_sorts ⊎ TNum)
-singleton_value_at ts = cond_read (starts open_sorts ts) (refuse_at 13 ts) (do
+unfoldable pub singleton_value_at : List Token → Read (Among open_classes ⊎ TNum)
+singleton_value_at ts = cond_read (starts open_classes ts) (refuse_at 13 ts) (do
   n ← num_at ts
   Ok (inr n.0, n.1))
 
@@ -312,7 +315,7 @@ singleton_at ts = do
   Ok (record { at = t.0; name = n.0; value = v.0 }, s.1)
 
 unfoldable pub fallback_value_at : List Token → Read (TNum ⊎ ℕ)
-fallback_value_at ts = cond_read (starts signed_sorts ts) (do
+fallback_value_at ts = cond_read (starts signed_classes ts) (do
   n ← num_at ts
   Ok (inl n.0, n.1)) (do
     x ← word_at word.Nc ts
@@ -327,20 +330,20 @@ fallback_at ts = do
   Ok (record { at = d.0; value = v.0 }, s.1)
 
 unfoldable pub defuzzy_line_at : List Token → Read TDefuzzyLine
-defuzzy_line_at ts = cond_read (starts (10 ∷ []) ts) (do
+defuzzy_line_at ts = cond_read (starts (keyword_class key.Term ∷ []) ts) (do
   t ← singleton_at ts
-  Ok (inl t.0, t.1)) (cond_read (starts (12 ∷ []) ts) (do
+  Ok (inl t.0, t.1)) (cond_read (starts (keyword_class key.Accu ∷ []) ts) (do
     a ← accu_at ts
-    Ok (inr (inl a.0), a.1)) (cond_read (starts (13 ∷ []) ts) (do
+    Ok (inr (inl a.0), a.1)) (cond_read (starts (keyword_class key.Method ∷ []) ts) (do
       m ← method_at ts
-      Ok (inr (inr (inl m.0)), m.1)) (cond_read (starts (14 ∷ []) ts) (do
+      Ok (inr (inr (inl m.0)), m.1)) (cond_read (starts (keyword_class key.Default ∷ []) ts) (do
         d ← fallback_at ts
         Ok (inr (inr (inr (inl d.0))), d.1)) (do
           r ← range_at ts
           Ok (inr (inr (inr (inr r.0))), r.1)))))
 
 abbrev pub defuzzy_lines_at : List Token → Read (List TDefuzzyLine)
-defuzzy_lines_at ts = loop (10 ∷ 12 ∷ 13 ∷ 14 ∷ 11 ∷ []) defuzzy_line_at (length ts) ts
+defuzzy_lines_at ts = loop defuzzy_line_classes defuzzy_line_at (length ts) ts
 
 unfoldable pub defuzzify_at : List Token → Read TDefuzzify
 defuzzify_at ts = do
@@ -351,19 +354,20 @@ defuzzify_at ts = do
   Ok (record { at = d.0; name = n.0; lines = ls.0; end = e.0 }, e.1)
 
 unfoldable pub part_at : List Token → Read TPart
-part_at ts = cond_read (starts option_sorts ts) (refuse_at 7 ts) (cond_read (starts (6 ∷ []) ts) (do
-  f ← fuzzify_at ts
-  Ok (inr (inl f.0), f.1)) (do
-    d ← defuzzify_at ts
-    Ok (inr (inr d.0), d.1)))
+part_at ts = cond_read (starts option_classes ts) (refuse_at 7 ts)
+    (cond_read (starts (keyword_class key.Fuzzify ∷ []) ts) (do
+      f ← fuzzify_at ts
+      Ok (inr (inl f.0), f.1)) (do
+        d ← defuzzify_at ts
+        Ok (inr (inr d.0), d.1)))
 
 abbrev pub parts_at : List Token → Read (List TPart)
-parts_at ts = loop (26 ∷ 6 ∷ 8 ∷ []) part_at (length ts) ts
+parts_at ts = loop part_classes part_at (length ts) ts
 
 -- ---- conditions
 
 unfoldable pub not_word_at : List Token → Read (Option ℕ)
-not_word_at ts = cond_read (starts (22 ∷ []) ts) (do
+not_word_at ts = cond_read (starts (keyword_class key.Not ∷ []) ts) (do
   x ← key_at key.Not ts
   Ok (Some x.0, x.1)) (Ok (None, ts))
 
@@ -371,7 +375,7 @@ not_word_at ts = cond_read (starts (22 ∷ []) ts) (do
 unfoldable pub operand_at : List Token → Read TNot
 operand_at ts = do
   v ← name_at ts
-  cond_read (starts follow_sorts v.1) (Err (fault_at (Unsupported 12) (suc (length v.1)))) (do
+  cond_read (starts follow_classes v.1) (Err (fault_at (Unsupported 12) (suc (length v.1)))) (do
     i ← key_at key.Is v.1
     n ← not_word_at i.1
     t ← name_at n.1
@@ -386,7 +390,7 @@ conjunct_in inner ts = do
 unfoldable pub and_in : (List Token → Read TNot) → List Token → Read TAnd
 and_in inner ts = do
   t ← inner ts
-  more ← loop (23 ∷ []) (conjunct_in inner) (length t.1) t.1
+  more ← loop (keyword_class key.And ∷ []) (conjunct_in inner) (length t.1) t.1
   Ok (and_of t.0 (nots_of more.0), more.1)
 
 unfoldable pub alternative_in : (List Token → Read TNot) → List Token → Read (ℕ × TAnd)
@@ -398,7 +402,7 @@ alternative_in inner ts = do
 unfoldable pub or_in : (List Token → Read TNot) → List Token → Read TOr
 or_in inner ts = do
   a ← and_in inner ts
-  more ← loop (24 ∷ []) (alternative_in inner) (length a.1) a.1
+  more ← loop (keyword_class key.Or ∷ []) (alternative_in inner) (length a.1) a.1
   Ok (or_of a.0 (ands_of more.0), more.1)
 
 unfoldable pub neg_in : (List Token → Read TNot) → List Token → Read TNot
@@ -415,12 +419,12 @@ group_in inner ts = do
   Ok (group x.0 o.0, y.1)
 
 unfoldable pub opened_in : (List Token → Read TNot) → List Token → Read TNot
-opened_in inner ts = cond_read (starts (22 ∷ []) ts) (neg_in inner ts) (group_in inner ts)
+opened_in inner ts = cond_read (starts (keyword_class key.Not ∷ []) ts) (neg_in inner ts) (group_in inner ts)
 
 -- a condition's part, where n more "(" and NOT may be open
 unfoldable pub not_at : ℕ → List Token → Read TNot
-not_at zero ts = cond_read (starts (22 ∷ 60 ∷ []) ts) (Err (fault_at Deep (length ts))) (operand_at ts)
-not_at (suc n) ts = cond_read (starts (22 ∷ 60 ∷ []) ts) (opened_in (not_at n) ts) (operand_at ts)
+not_at zero ts = cond_read (starts opener_classes ts) (Err (fault_at Deep (length ts))) (operand_at ts)
+not_at (suc n) ts = cond_read (starts opener_classes ts) (opened_in (not_at n) ts) (operand_at ts)
 
 -- ---- rules
 
@@ -439,11 +443,11 @@ comma_conclusion_at ts = do
 unfoldable pub conclusions_at : List Token → Read (Conclusion × List Conclusion)
 conclusions_at ts = do
   c ← conclusion_at ts
-  more ← loop (66 ∷ []) comma_conclusion_at (length c.1) c.1
+  more ← loop comma_classes comma_conclusion_at (length c.1) c.1
   Ok ((c.0, more.0), more.1)
 
-unfoldable pub weight_value_at : List Token → Read (Among name_sorts ⊎ TNum)
-weight_value_at ts = cond_read (starts name_sorts ts) (refuse_at 15 ts) (do
+unfoldable pub weight_value_at : List Token → Read (Among name_classes ⊎ TNum)
+weight_value_at ts = cond_read (starts name_classes ts) (refuse_at 15 ts) (do
   n ← num_at ts
   Ok (inr n.0, n.1))
 
@@ -455,7 +459,7 @@ with_at ts = do
   Ok (record { at = w.0; value = v.0 }, s.1)
 
 unfoldable pub weight_at : List Token → Read (TWeight ⊎ Unit {0})
-weight_at ts = cond_read (starts (20 ∷ []) ts) (do
+weight_at ts = cond_read (starts (keyword_class key.With ∷ []) ts) (do
   w ← with_at ts
   Ok (inl w.0, w.1)) (do
     s ← expect_at tok.Semicolon ts
@@ -471,18 +475,21 @@ rule_at ts = do
   t ← key_at key.Then o.1
   cs ← conclusions_at t.1
   w ← weight_at cs.1
-  Ok (record { at = r.0; label = n.0; if_at = i.0; condition = o.0; then_at = t.0; conclusions = cs.0; weight = w.0 }, w.1)
+  Ok (
+    record { at = r.0; label = n.0; if_at = i.0; condition = o.0; then_at = t.0; conclusions = cs.0; weight = w.0 },
+    w.1,
+  )
 
 unfoldable pub rule_item_at : List Token → Read TRuleItem
-rule_item_at ts = cond_read (starts option_sorts ts) (refuse_at 7 ts) (do
+rule_item_at ts = cond_read (starts option_classes ts) (refuse_at 7 ts) (do
   r ← rule_at ts
   Ok (inr r.0, r.1))
 
 abbrev pub rules_at : List Token → Read (List TRuleItem)
-rules_at ts = loop (26 ∷ 17 ∷ []) rule_item_at (length ts) ts
+rules_at ts = loop rule_item_classes rule_item_at (length ts) ts
 
 unfoldable pub act_word_at : List Token → Read (ℕ ⊎ ℕ)
-act_word_at ts = cond_read (starts (31 ∷ []) ts) (do
+act_word_at ts = cond_read (starts (word_class word.Min ∷ []) ts) (do
   m ← word_at word.Min ts
   Ok (inl m.0, m.1)) (do
     p ← word_at word.Prod ts
@@ -497,18 +504,18 @@ act_at ts = do
   Ok (record { at = a.0; word = w.0 }, s.1)
 
 unfoldable pub rule_line_at : List Token → Read TRuleLine
-rule_line_at ts = cond_read (starts (23 ∷ []) ts) (do
-  a ← setting_at key.And word.Min and_sorts 2 ts
-  Ok (inl a.0, a.1)) (cond_read (starts (24 ∷ []) ts) (do
-    o ← setting_at key.Or word.Max or_sorts 3 ts
-    Ok (inr (inl o.0), o.1)) (cond_read (starts (25 ∷ []) ts) (do
+rule_line_at ts = cond_read (starts (keyword_class key.And ∷ []) ts) (do
+  a ← setting_at key.And word.Min and_classes 2 ts
+  Ok (inl a.0, a.1)) (cond_read (starts (keyword_class key.Or ∷ []) ts) (do
+    o ← setting_at key.Or word.Max or_classes 3 ts
+    Ok (inr (inl o.0), o.1)) (cond_read (starts (keyword_class key.Act ∷ []) ts) (do
       a ← act_at ts
       Ok (inr (inr (inl a.0)), a.1)) (do
         a ← accu_at ts
         Ok (inr (inr (inr a.0)), a.1))))
 
 abbrev pub rule_lines_at : List Token → Read (List TRuleLine)
-rule_lines_at ts = loop (23 ∷ 24 ∷ 25 ∷ 12 ∷ []) rule_line_at (length ts) ts
+rule_lines_at ts = loop rule_line_classes rule_line_at (length ts) ts
 
 unfoldable pub rulebase_at : List Token → Read TRulebase
 rulebase_at ts = do
@@ -520,9 +527,10 @@ rulebase_at ts = do
   Ok (record { at = b.0; name = n.0; lines = ls.0; rules = rs.0; end = e.0 }, e.1)
 
 unfoldable pub end_at : List Token → Read TEnd
-end_at ts = cond_read (starts option_sorts ts) (refuse_at 7 ts) (cond_read (starts ruleblock_sorts ts) (refuse_at 8 ts) (do
-  e ← key_at key.EndFunctionBlock ts
-  Ok (inr (inr e.0), e.1)))
+end_at ts = cond_read (starts option_classes ts) (refuse_at 7 ts)
+    (cond_read (starts ruleblock_classes ts) (refuse_at 8 ts) (do
+      e ← key_at key.EndFunctionBlock ts
+      Ok (inr (inr e.0), e.1)))
 
 unfoldable pub block_at : List Token → Read TBlock
 block_at ts = do

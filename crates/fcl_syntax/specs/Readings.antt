@@ -8,7 +8,8 @@ use Rattle.fcl_syntax.specs.declared.tree.FunctionBlock.{FunctionBlock}
 
 -- Each text of at most 1048576 bytes spells a tree of the program, or has a first fault.
 abbrev pub EachTextIsRead : Type 0
-EachTextIsRead = (text : List ℕ) → length text ≤ 1048576 → ((b : FunctionBlock) × SpellsTree text (view b)) ⊎ ((e : SyntaxFault) × IsFirstFault text e)
+EachTextIsRead = (text : List ℕ) → length text ≤ 1048576 → ((b : FunctionBlock) × SpellsTree text (view b)) ⊎
+    ((e : SyntaxFault) × IsFirstFault text e)
 
 -- A text spells at most one tree.
 abbrev pub TreesAreOne : Type 0
@@ -16,4 +17,5 @@ TreesAreOne = (text : List ℕ) (t u : TBlock) → SpellsTree text t → SpellsT
 
 -- A text has at most one first fault, and none where it spells a tree.
 abbrev pub FirstFaultsAreOne : Type 0
-FirstFaultsAreOne = (text : List ℕ) → ((e f : SyntaxFault) → IsFirstFault text e → IsFirstFault text f → e ≡ f) × ((e : SyntaxFault) (t : TBlock) → IsFirstFault text e → SpellsTree text t → ⊥)
+FirstFaultsAreOne = (text : List ℕ) → ((e f : SyntaxFault) → IsFirstFault text e → IsFirstFault text f → e ≡ f) ×
+    ((e : SyntaxFault) (t : TBlock) → IsFirstFault text e → SpellsTree text t → ⊥)

@@ -1,27 +1,24 @@
 -- The tree of a text, or its first fault, by the text's bytes.
-use Rattle.std.specs.Prelude.{◌≡◌, ℕ, ◌-◌, ◌≤◌, List, [], ◌∷◌, length, drop, Result, Ok, Err}
+use Rattle.std.specs.Prelude.{◌≡◌, ℕ, ◌≤◌, List, [], ◌∷◌, length, drop}
 use Rattle.std.specs.Str.{str_to_ascii_lowercase}
 use Rattle.fcl_syntax.specs.declared.fault.Fault.{Fault}
 use Rattle.fcl_syntax.specs.declared.fault.Kind.{Kind}
 use Rattle.fcl_syntax.specs.declared.fault.Kind.TheVariants.{Expected, Deep, Unsupported}
-use Rattle.fcl_syntax.specs.declared.lexer.LexFault.{LexFault}
-use Rattle.fcl_syntax.specs.declared.lexer.LexKind.{LexKind}
 use Rattle.fcl_syntax.specs.declared.lexer.LexKind.TheVariants as kinds
 use Rattle.fcl_syntax.specs.declared.text.SyntaxFault.{SyntaxFault}
 use Rattle.fcl_syntax.specs.declared.text.SyntaxFault.TheVariants as faults
 use Rattle.fcl_syntax.specs.declared.token.Token.{Token}
 use Rattle.fcl_syntax.specs.declared.tree.FunctionBlock.{FunctionBlock}
 use Rattle.fcl_syntax.specs.First.{Spells, FirstFault}
+use Rattle.fcl_syntax.specs.Tokens.{HasTokens, HasTokenFault}
 use Rattle.fcl_syntax.specs.Grammar.{TBlock, block_text}
-use Rattle.fcl_syntax.specs.Lexing.{Lexed, tokenization}
-use Rattle.fcl_syntax.specs.Reading.{all_of}
 use Rattle.fcl_syntax.specs.View.{view}
 
 -- the text has no token fault, and its tokens spell the tree
 pub record SpellsTree (text : List ℕ) (t : TBlock) : Type 0 where
   pub tokens : List Token
   pub places : List ℕ
-  pub cut : tokenization text ≡ Ok (tokens, places)
+  pub cut : HasTokens text tokens places
   pub spells : Spells block_text tokens t
 
 -- a text that can be read spells the block, and these are its bytes in small letters
@@ -41,12 +38,9 @@ pub record HasFault (text : List ℕ) (k : Kind) (at : ℕ) : Type 0 where
   pub tokens : List Token
   pub places : List ℕ
   pub left : ℕ
-  pub cut : tokenization text ≡ Ok (tokens, places)
+  pub cut : HasTokens text tokens places
   pub fault : FirstFault block_text tokens (record { kind = k; left = left })
   pub place : at ≡ head_or (drop (length fault.front) places) (length text)
-
-abbrev pub HasTokenFault : List ℕ → LexKind → ℕ → Type 0
-HasTokenFault text k at = tokenization text ≡ Err (record { kind = k; at = at })
 
 -- the first fault of a text; want of memory is none
 abbrev pub IsFirstFault : List ℕ → SyntaxFault → Type 0
@@ -67,33 +61,3 @@ OrMemory P (faults.Expected at) = P (faults.Expected at)
 OrMemory P (faults.Unsupported at code) = P (faults.Unsupported at code)
 OrMemory P (faults.Deep at) = P (faults.Deep at)
 OrMemory P faults.Memory = Unit {0}
-
--- ---- reading, function by function
-
-abbrev pub of_kind : LexKind → ℕ → SyntaxFault
-of_kind kinds.BadByte at = faults.BadByte at
-of_kind kinds.OpenComment at = faults.OpenComment at
-of_kind (kinds.Number e) at = faults.Number at e
-
-abbrev pub token_fault : LexFault → SyntaxFault
-token_fault e = of_kind e.kind e.at
-
-abbrev pub grammar_fault : Kind → ℕ → SyntaxFault
-grammar_fault Expected at = faults.Expected at
-grammar_fault Deep at = faults.Deep at
-grammar_fault (Unsupported code) at = faults.Unsupported at code
-
--- the place of the token where this many are left, or the end
-abbrev pub place_of : List ℕ → ℕ → ℕ → ℕ
-place_of places left end = head_or (drop (length places - left) places) end
-
-abbrev pub located : List ℕ → ℕ → Result TBlock Fault → Result TBlock SyntaxFault
-located places end (Ok t) = Ok t
-located places end (Err e) = Err (grammar_fault e.kind (place_of places e.left end))
-
-abbrev pub read_lexed : ℕ → Lexed → Result TBlock SyntaxFault
-read_lexed end (Ok l) = located l.1 end (all_of l.0)
-read_lexed end (Err e) = Err (token_fault e)
-
-abbrev pub read_text : List ℕ → Result TBlock SyntaxFault
-read_text text = read_lexed (length text) (tokenization text)

@@ -73,7 +73,13 @@ abbrev pub view_term : Term → TTerm
 view_term t = record { at = t.at; name = t.name; points = inr (view_point t.first, map view_point t.more.items) }
 
 abbrev pub view_range : Range → TRange
-view_range r = record { at = r.at; assigned = r.assigned; open_at = r.open_at; low = view_num r.low; high = view_num r.high }
+view_range r = record {
+  at = r.at;
+  assigned = r.assigned;
+  open_at = r.open_at;
+  low = view_num r.low;
+  high = view_num r.high;
+}
 
 abbrev pub view_fuzzy_line : FuzzyLine → TTerm ⊎ TRange
 view_fuzzy_line (fuzzy.Term t) = inl (view_term t)
@@ -82,7 +88,7 @@ view_fuzzy_line (fuzzy.Range r) = inr (view_range r)
 abbrev pub view_fuzzify : Fuzzify → TFuzzify
 view_fuzzify f = record { at = f.at; name = f.name; lines = map view_fuzzy_line f.lines.items; end = f.end }
 
-abbrev pub view_setting : {sorts : List ℕ} → Setting → TSetting sorts
+abbrev pub view_setting : {classes : List ℕ} → Setting → TSetting classes
 view_setting s = record { at = s.at; word = inr s.word }
 
 abbrev pub view_singleton : Singleton → TSingleton
@@ -140,13 +146,15 @@ abbrev pub view_not : Not → TNot
 view_not = fold-Not TNot (ℕ × TAnd) TAnd (ℕ × TNot) TOr not_step alternative_step and_step conjunct_step or_step
 
 abbrev pub view_alternative : Alternative → ℕ × TAnd
-view_alternative = fold-Alternative TNot (ℕ × TAnd) TAnd (ℕ × TNot) TOr not_step alternative_step and_step conjunct_step or_step
+view_alternative =
+    fold-Alternative TNot (ℕ × TAnd) TAnd (ℕ × TNot) TOr not_step alternative_step and_step conjunct_step or_step
 
 abbrev pub view_and : And → TAnd
 view_and = fold-And TNot (ℕ × TAnd) TAnd (ℕ × TNot) TOr not_step alternative_step and_step conjunct_step or_step
 
 abbrev pub view_conjunct : Conjunct → ℕ × TNot
-view_conjunct = fold-Conjunct TNot (ℕ × TAnd) TAnd (ℕ × TNot) TOr not_step alternative_step and_step conjunct_step or_step
+view_conjunct =
+    fold-Conjunct TNot (ℕ × TAnd) TAnd (ℕ × TNot) TOr not_step alternative_step and_step conjunct_step or_step
 
 abbrev pub view_or : Or → TOr
 view_or = fold-Or TNot (ℕ × TAnd) TAnd (ℕ × TNot) TOr not_step alternative_step and_step conjunct_step or_step
@@ -161,7 +169,15 @@ view_weight None = inr tt
 view_weight (Some w) = inl (view_with w)
 
 abbrev pub view_rule : Rule → TRule
-view_rule r = record { at = r.at; label = r.label; if_at = r.if_at; condition = view_or r.condition; then_at = r.then_at; conclusions = (r.first, r.more.items); weight = view_weight r.weight }
+view_rule r = record {
+  at = r.at;
+  label = r.label;
+  if_at = r.if_at;
+  condition = view_or r.condition;
+  then_at = r.then_at;
+  conclusions = (r.first, r.more.items);
+  weight = view_weight r.weight;
+}
 
 abbrev pub view_rule_item : Rule → TRuleItem
 view_rule_item r = inr (view_rule r)
@@ -180,7 +196,20 @@ view_rule_line (line.Act a) = inr (inr (inl (view_act a)))
 view_rule_line (line.Accu s) = inr (inr (inr (view_setting s)))
 
 abbrev pub view_rulebase : Rulebase → TRulebase
-view_rulebase r = record { at = r.at; name = r.name; lines = map view_rule_line r.lines.items; rules = map view_rule_item r.rules.items; end = r.end }
+view_rulebase r = record {
+  at = r.at;
+  name = r.name;
+  lines = map view_rule_line r.lines.items;
+  rules = map view_rule_item r.rules.items;
+  end = r.end;
+}
 
 abbrev pub view : FunctionBlock → TBlock
-view b = record { at = b.at; name = b.name; vars = map view_section b.vars.items; parts = map view_part b.parts.items; rules = view_rulebase b.rules; end = inr (inr b.end) }
+view b = record {
+  at = b.at;
+  name = b.name;
+  vars = map view_section b.vars.items;
+  parts = map view_part b.parts.items;
+  rules = view_rulebase b.rules;
+  end = inr (inr b.end);
+}

@@ -1,17 +1,16 @@
 //! Tokens to the tree of a function block, or the first fault.
 
 ghost use Rattle.std.proofs.Common.{inr};
-ghost use Rattle.fcl_syntax.specs.Form.{Gives};
+ghost use Rattle.fcl_syntax.specs.Readers.{Gives};
 ghost use Rattle.fcl_syntax.specs.Reading.{end_at, block_at, all_of};
 ghost use Rattle.fcl_syntax.specs.View.{view};
 
 use crate::fault::{Kind, ParseError};
+use crate::repeated::many;
 use crate::rules::rulebase;
 use crate::single::{fault, is_keyword, keyword, name};
-use crate::terms::parts;
 use crate::token::{Keyword, Token};
-use crate::tree::FunctionBlock;
-use crate::variables::sections;
+use crate::tree::{FunctionBlock, Part, Vars};
 use std::alloc::Global;
 
 // END_FUNCTION_BLOCK, where OPTION and RULEBLOCK are refused.
@@ -34,8 +33,8 @@ fn block(alloc: Global, tokens: &[Token]) -> Result<(FunctionBlock, &[Token]), P
 {
     let (at, rest) = keyword(tokens, Keyword::FunctionBlock)?;
     let (name, rest) = name(rest)?;
-    let (vars, rest) = sections(alloc, rest)?;
-    let (parts, rest) = parts(alloc, rest)?;
+    let (vars, rest) = many::<Vars>(alloc, rest)?;
+    let (parts, rest) = many::<Part>(alloc, rest)?;
     let (rules, rest) = rulebase(alloc, rest)?;
     let (end, rest) = end(rest)?;
     Ok((

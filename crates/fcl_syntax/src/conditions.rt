@@ -1,8 +1,8 @@
 //! Conditions, with a bound on what is open at once.
 
 ghost use Rattle.std.specs.Prelude.{◌≡◌, [], ◌∷◌, length, map};
-ghost use Rattle.fcl_syntax.specs.Form.{Gives, loop, starts};
-ghost use Rattle.fcl_syntax.specs.Marks.{follow_sorts};
+ghost use Rattle.fcl_syntax.specs.TokenClasses.{follow_classes, keyword_class, opener_classes};
+ghost use Rattle.fcl_syntax.specs.Readers.{Gives, loop, starts};
 ghost use Rattle.fcl_syntax.specs.Reading.{not_word_at, operand_at, not_at, opened_in, conjunct_in, and_in, alternative_in, or_in};
 ghost use Rattle.fcl_syntax.specs.View.{view_not, view_conjunct, view_and, view_alternative, view_or};
 
@@ -26,7 +26,7 @@ fn not_word(tokens: &[Token]) -> Result<(Option<u32>, &[Token]), ParseError>
 
 // Whether what may follow an operand is next.
 fn is_behind_operand(tokens: &[Token]) -> bool
-    ensures { result ≡ starts follow_sorts tokens.now }
+    ensures { result ≡ starts follow_classes tokens.now }
 {
     is_keyword(tokens, Keyword::And)
         || is_keyword(tokens, Keyword::Or)
@@ -62,7 +62,7 @@ fn operand(tokens: &[Token]) -> Result<(Not, &[Token]), ParseError>
 
 // Whether "(" or NOT is next.
 fn is_opener(tokens: &[Token]) -> bool
-    ensures { result ≡ starts (22 ∷ 60 ∷ []) tokens.now }
+    ensures { result ≡ starts opener_classes tokens.now }
 {
     is_keyword(tokens, Keyword::Not) || is_open(tokens)
 }
@@ -115,7 +115,8 @@ fn conjuncts(
     room: u8,
     tokens: &[Token],
 ) -> Result<(Vec<Conjunct>, &[Token]), ParseError>
-    ensures { Gives (λ x. (map view_conjunct x.0.items, x.1.now)) result (loop (23 ∷ []) (conjunct_in (not_at room)) (length tokens.now) tokens.now) }
+    ensures { Gives (λ x. (map view_conjunct x.0.items, x.1.now)) result
+        (loop (keyword_class Keyword.And ∷ []) (conjunct_in (not_at room)) (length tokens.now) tokens.now) }
 {
     let mut more = Vec::new(alloc);
     let mut rest = tokens;
@@ -157,7 +158,8 @@ fn alternatives(
     room: u8,
     tokens: &[Token],
 ) -> Result<(Vec<Alternative>, &[Token]), ParseError>
-    ensures { Gives (λ x. (map view_alternative x.0.items, x.1.now)) result (loop (24 ∷ []) (alternative_in (not_at room)) (length tokens.now) tokens.now) }
+    ensures { Gives (λ x. (map view_alternative x.0.items, x.1.now)) result
+        (loop (keyword_class Keyword.Or ∷ []) (alternative_in (not_at room)) (length tokens.now) tokens.now) }
 {
     let mut more = Vec::new(alloc);
     let mut rest = tokens;

@@ -1,4 +1,5 @@
 //! Laws of the trees that texts spell, each the contract of a function that does nothing.
+ghost use Rattle.fcl_syntax.specs.Cuts.{CutsAreTokens};
 ghost use Rattle.fcl_syntax.specs.Offsets.{OffsetsAscend};
 ghost use Rattle.fcl_syntax.specs.Readings.{EachTextIsRead, FirstFaultsAreOne, TreesAreOne};
 ghost use Rattle.fcl_syntax.specs.Scale.{NumbersInScale};
@@ -27,4 +28,10 @@ pub fn trees_are_one()
 /// A text has at most one first fault, and none where it spells a tree.
 pub fn first_faults_are_one()
     ensures { FirstFaultsAreOne }
+{}
+
+/// What the lexer cuts a text into is just what stands in it: blanks, comments and tokens, each the
+/// longest that stands there; and its fault is just the text's first token fault.
+pub fn cuts_are_tokens()
+    ensures { CutsAreTokens }
 {}

@@ -4,7 +4,8 @@ ghost use Rattle.std.specs.Prelude.{◌≡◌, ◌<◌, ◌≤◌, ◌+◌, leng
 ghost use Rattle.std.specs.Char.{is_ascii_digit};
 ghost use Rattle.std.specs.Str.{str_eq_ignore_ascii_case};
 ghost use Rattle.fcl_syntax.specs.declared.lexer.LexError.TheVariants.{Memory};
-ghost use Rattle.fcl_syntax.specs.Lexing.{is_blank, is_name_start, is_name_byte, is_line_byte, run, comment_end, starts_close, has_fraction, starts_name, number_len, meaning_in, word_token, amount_of, number_piece, open_piece, slash_piece, point_piece, colon_piece, mark_piece, piece_of, tokenization, LexFails, PieceFits};
+ghost use Rattle.fcl_syntax.specs.Tokens.{is_blank, is_name_start, is_name_byte, is_line_byte, starts_name, meaning_in, amount_of};
+ghost use Rattle.fcl_syntax.specs.Lexing.{run, comment_end, starts_close, has_fraction, number_len, word_token, number_piece, open_piece, slash_piece, point_piece, colon_piece, delimiter_piece, piece_of, tokenization, LexFails, PieceFits};
 
 use crate::token::{Amount, MEANINGS, Meaning, Token, Word};
 use fz_num::{Dec, DecFault};
@@ -234,9 +235,9 @@ fn colon_piece(bytes: &[u8]) -> Piece
     }
 }
 
-#[tactic(auto, unfolding(crate::specs::Lexing::mark_piece))]
-fn mark_piece(at: u32, b: u8, bytes: &[u8]) -> Piece
-    ensures value { result ≡ mark_piece at b bytes.now }
+#[tactic(auto, unfolding(crate::specs::Lexing::delimiter_piece))]
+fn delimiter_piece(at: u32, b: u8, bytes: &[u8]) -> Piece
+    ensures value { result ≡ delimiter_piece at b bytes.now }
     ensures fits { PieceFits result (length bytes.now + 1) }
 {
     match b {
@@ -269,7 +270,7 @@ fn front_piece(at: u32, bytes: &[u8]) -> Piece
     if first.is_ascii_digit() {
         return number_piece(at, bytes);
     }
-    mark_piece(at, first, &bytes[1..])
+    delimiter_piece(at, first, &bytes[1..])
 }
 
 #[derive(Debug, Drop)]

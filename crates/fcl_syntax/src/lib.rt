@@ -10,6 +10,7 @@ mod conditions;
 mod fault;
 mod laws;
 mod lexer;
+mod repeated;
 mod rules;
 mod single;
 mod terms;
@@ -19,7 +20,8 @@ mod tree;
 mod variables;
 
 pub use laws::{
-    each_text_is_read, first_faults_are_one, numbers_in_scale, offsets_ascend, trees_are_one,
+    cuts_are_tokens, each_text_is_read, first_faults_are_one, numbers_in_scale, offsets_ascend,
+    trees_are_one,
 };
 pub use text::{SyntaxFault, parse};
 pub use token::{Amount, Word};

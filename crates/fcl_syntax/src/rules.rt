@@ -1,14 +1,17 @@
 //! RULEBLOCK.
 
-ghost use Rattle.std.specs.Prelude.{◌≡◌, [], ◌∷◌, length, map};
+ghost use Rattle.std.specs.Prelude.{◌≡◌};
 ghost use Rattle.std.proofs.Common.{inl, inr};
-ghost use Rattle.fcl_syntax.specs.Form.{Gives, loop, starts};
-ghost use Rattle.fcl_syntax.specs.Grammar.{and_sorts, or_sorts};
-ghost use Rattle.fcl_syntax.specs.Reading.{conclusion_at, comma_conclusion_at, conclusions_at, weight_value_at, setting_at, with_at, weight_at, rule_at, rule_item_at, rules_at, act_word_at, act_at, rule_line_at, rule_lines_at, rulebase_at};
+ghost use Rattle.fcl_syntax.specs.declared.tree.Conclusion.{Conclusion};
+ghost use Rattle.fcl_syntax.specs.TokenClasses.{comma_classes, rule_item_classes, rule_line_classes};
+ghost use Rattle.fcl_syntax.specs.Readers.{Gives};
+ghost use Rattle.fcl_syntax.specs.Grammar.{TRuleItem, TRuleLine, and_classes, or_classes};
+ghost use Rattle.fcl_syntax.specs.Reading.{conclusion_at, comma_conclusion_at, conclusions_at, weight_value_at, setting_at, with_at, weight_at, rule_at, rule_item_at, act_word_at, act_at, rule_line_at, rulebase_at};
 ghost use Rattle.fcl_syntax.specs.View.{view_num, view_setting, view_with, view_weight, view_rule, view_rule_item, view_act_word, view_act, view_rule_line, view_rulebase};
 
 use crate::conditions::or;
 use crate::fault::{Kind, ParseError};
+use crate::repeated::{Repeated, many};
 use crate::single::{
     expect, fault, is_keyword, is_name, is_next, is_word, keyword, label, name, word,
 };
@@ -49,20 +52,22 @@ fn comma_conclusion(tokens: &[Token]) -> Result<(Conclusion, &[Token]), ParseErr
     conclusion(rest)
 }
 
-fn more_conclusions(
-    alloc: Global,
-    tokens: &[Token],
-) -> Result<(Vec<Conclusion>, &[Token]), ParseError>
-    ensures { Gives (λ x. (x.0.items, x.1.now)) result (loop (66 ∷ []) comma_conclusion_at (length tokens.now) tokens.now) }
-{
-    let mut more = Vec::new(alloc);
-    let mut rest = tokens;
-    'each: while is_next(rest, Token::Comma) {
-        let (next, after) = comma_conclusion(rest)?;
-        more.push(next)?;
-        rest = after;
+impl Repeated for Conclusion {
+    ghost Tree = { Conclusion };
+
+    ghost first = { comma_classes };
+
+    ghost read_at = { comma_conclusion_at };
+
+    ghost view = { λ c. c };
+
+    fn is_next(tokens: &[Token]) -> bool {
+        is_next(tokens, Token::Comma)
     }
-    Ok((more, rest))
+
+    fn next(alloc: Global, tokens: &[Token]) -> Result<(Conclusion, &[Token]), ParseError> {
+        comma_conclusion(tokens)
+    }
 }
 
 #[tactic(auto, unfolding(crate::specs::Reading::conclusions_at))]
@@ -73,7 +78,7 @@ fn conclusions(
     ensures { Gives (λ x. ((x.0.0, x.0.1.items), x.1.now)) result (conclusions_at tokens.now) }
 {
     let (first, rest) = conclusion(tokens)?;
-    let (more, rest) = more_conclusions(alloc, rest)?;
+    let (more, rest) = many::<Conclusion>(alloc, rest)?;
     Ok(((first, more), rest))
 }
 
@@ -151,24 +156,23 @@ fn rule_item(alloc: Global, tokens: &[Token]) -> Result<(Rule, &[Token]), ParseE
     rule(alloc, tokens)
 }
 
-// Whether a rule is next, or OPTION in its place.
-fn is_rule_item(tokens: &[Token]) -> bool
-    ensures { result ≡ starts (26 ∷ 17 ∷ []) tokens.now }
-{
-    is_keyword(tokens, Keyword::Options) || is_keyword(tokens, Keyword::Rule)
-}
+// One is next where a rule is, or OPTION in its place.
+impl Repeated for Rule {
+    ghost Tree = { TRuleItem };
 
-fn rules(alloc: Global, tokens: &[Token]) -> Result<(Vec<Rule>, &[Token]), ParseError>
-    ensures { Gives (λ x. (map view_rule_item x.0.items, x.1.now)) result (rules_at tokens.now) }
-{
-    let mut more = Vec::new(alloc);
-    let mut rest = tokens;
-    'each: while is_rule_item(rest) {
-        let (next, after) = rule_item(alloc, rest)?;
-        more.push(next)?;
-        rest = after;
+    ghost first = { rule_item_classes };
+
+    ghost read_at = { rule_item_at };
+
+    ghost view = { view_rule_item };
+
+    fn is_next(tokens: &[Token]) -> bool {
+        is_keyword(tokens, Keyword::Options) || is_keyword(tokens, Keyword::Rule)
     }
-    Ok((more, rest))
+
+    fn next(alloc: Global, tokens: &[Token]) -> Result<(Rule, &[Token]), ParseError> {
+        rule_item(alloc, tokens)
+    }
 }
 
 // ---- the lines before the rules
@@ -198,7 +202,8 @@ fn act(tokens: &[Token]) -> Result<(Activation, &[Token]), ParseError>
 }
 
 fn and_line(tokens: &[Token]) -> Result<(Setting, &[Token]), ParseError>
-    ensures { Gives (λ x. (view_setting x.0, x.1.now)) result (setting_at Keyword.And Word.Min and_sorts 2 tokens.now) }
+    ensures { Gives (λ x. (view_setting x.0, x.1.now)) result
+        (setting_at Keyword.And Word.Min and_classes 2 tokens.now) }
 {
     let refused = Refused {
         first: Word::Prod,
@@ -209,7 +214,7 @@ fn and_line(tokens: &[Token]) -> Result<(Setting, &[Token]), ParseError>
 }
 
 fn or_line(tokens: &[Token]) -> Result<(Setting, &[Token]), ParseError>
-    ensures { Gives (λ x. (view_setting x.0, x.1.now)) result (setting_at Keyword.Or Word.Max or_sorts 3 tokens.now) }
+    ensures { Gives (λ x. (view_setting x.0, x.1.now)) result (setting_at Keyword.Or Word.Max or_classes 3 tokens.now) }
 {
     let refused = Refused {
         first: Word::Asum,
@@ -239,26 +244,25 @@ fn rule_line(tokens: &[Token]) -> Result<(RuleLine, &[Token]), ParseError>
     Ok((RuleLine::Accu(line), rest))
 }
 
-fn is_rule_line(tokens: &[Token]) -> bool
-    ensures { result ≡ starts (23 ∷ 24 ∷ 25 ∷ 12 ∷ []) tokens.now }
-{
-    is_keyword(tokens, Keyword::And)
-        || is_keyword(tokens, Keyword::Or)
-        || is_keyword(tokens, Keyword::Act)
-        || is_keyword(tokens, Keyword::Accu)
-}
+impl Repeated for RuleLine {
+    ghost Tree = { TRuleLine };
 
-fn rule_lines(alloc: Global, tokens: &[Token]) -> Result<(Vec<RuleLine>, &[Token]), ParseError>
-    ensures { Gives (λ x. (map view_rule_line x.0.items, x.1.now)) result (rule_lines_at tokens.now) }
-{
-    let mut more = Vec::new(alloc);
-    let mut rest = tokens;
-    'each: while is_rule_line(rest) {
-        let (next, after) = rule_line(rest)?;
-        more.push(next)?;
-        rest = after;
+    ghost first = { rule_line_classes };
+
+    ghost read_at = { rule_line_at };
+
+    ghost view = { view_rule_line };
+
+    fn is_next(tokens: &[Token]) -> bool {
+        is_keyword(tokens, Keyword::And)
+            || is_keyword(tokens, Keyword::Or)
+            || is_keyword(tokens, Keyword::Act)
+            || is_keyword(tokens, Keyword::Accu)
     }
-    Ok((more, rest))
+
+    fn next(alloc: Global, tokens: &[Token]) -> Result<(RuleLine, &[Token]), ParseError> {
+        rule_line(tokens)
+    }
 }
 
 #[tactic(auto, unfolding(crate::specs::Reading::rulebase_at))]
@@ -267,8 +271,8 @@ pub fn rulebase(alloc: Global, tokens: &[Token]) -> Result<(Rulebase, &[Token]),
 {
     let (at, rest) = keyword(tokens, Keyword::Ruleblock)?;
     let (name, rest) = name(rest)?;
-    let (lines, rest) = rule_lines(alloc, rest)?;
-    let (rules, rest) = rules(alloc, rest)?;
+    let (lines, rest) = many::<RuleLine>(alloc, rest)?;
+    let (rules, rest) = many::<Rule>(alloc, rest)?;
     let (end, rest) = keyword(rest, Keyword::EndRuleblock)?;
     Ok((
         Rulebase {

@@ -1,8 +1,8 @@
 //! Single tokens: whether one is next, and what is behind it.
 
 ghost use Rattle.std.specs.Prelude.{◌≡◌, [], ◌∷◌, length};
-ghost use Rattle.fcl_syntax.specs.Form.{Gives, starts};
-ghost use Rattle.fcl_syntax.specs.Marks.{mem, sort, key_sort, word_sort, name_sorts, number_sorts, signed_sorts, other_type_sorts, beyond_unit_sorts, beyond_zero_sorts};
+ghost use Rattle.fcl_syntax.specs.TokenClasses.{mem, class_of, keyword_class, word_class, name_classes, number_classes, signed_classes, other_type_classes, beyond_unit_classes, beyond_zero_classes, open_classes};
+ghost use Rattle.fcl_syntax.specs.Readers.{Gives, starts};
 ghost use Rattle.fcl_syntax.specs.Reading.{IsBare, unit, expect_at, key_at, word_at, open_at, name_at, number_at, unit_number_at, zero_number_at, label_at, direction_at};
 
 use crate::fault::{Fault, Kind, ParseError};
@@ -31,7 +31,7 @@ pub fn expect(tokens: &[Token], token: Token) -> Result<&[Token], ParseError>
 
 pub fn is_next(tokens: &[Token], token: Token) -> bool
     requires { IsBare token }
-    ensures { result ≡ starts (sort token ∷ []) tokens.now }
+    ensures { result ≡ starts (class_of token ∷ []) tokens.now }
 {
     match tokens {
         [first, ..] => *first == token,
@@ -50,13 +50,13 @@ pub fn keyword(tokens: &[Token], wanted: Keyword) -> Result<(u32, &[Token]), Par
 }
 
 fn same_keyword(word: Keyword, wanted: Keyword) -> bool
-    ensures { result ≡ mem (key_sort word) (key_sort wanted ∷ []) }
+    ensures { result ≡ mem (keyword_class word) (keyword_class wanted ∷ []) }
 {
     word == wanted
 }
 
 pub fn is_keyword(tokens: &[Token], wanted: Keyword) -> bool
-    ensures { result ≡ starts (key_sort wanted ∷ []) tokens.now }
+    ensures { result ≡ starts (keyword_class wanted ∷ []) tokens.now }
 {
     match tokens {
         [Token::Word(_, word), ..] => same_keyword(*word, wanted),
@@ -75,7 +75,7 @@ pub fn word(tokens: &[Token], wanted: Word) -> Result<(u32, &[Token]), ParseErro
 }
 
 pub fn is_word(tokens: &[Token], wanted: Word) -> bool
-    ensures { result ≡ starts (word_sort wanted ∷ []) tokens.now }
+    ensures { result ≡ starts (word_class wanted ∷ []) tokens.now }
 {
     match tokens {
         [Token::Name(_, word), ..] => *word == wanted,
@@ -94,7 +94,7 @@ pub fn open(tokens: &[Token]) -> Result<(u32, &[Token]), ParseError>
 }
 
 pub fn is_open(tokens: &[Token]) -> bool
-    ensures { result ≡ starts (60 ∷ []) tokens.now }
+    ensures { result ≡ starts open_classes tokens.now }
 {
     matches!(tokens, [Token::Open(_), ..])
 }
@@ -116,14 +116,14 @@ pub fn name(tokens: &[Token]) -> Result<(Name, &[Token]), ParseError>
 }
 
 pub fn is_name(tokens: &[Token]) -> bool
-    ensures { result ≡ starts name_sorts tokens.now }
+    ensures { result ≡ starts name_classes tokens.now }
 {
     matches!(tokens, [Token::Name(..), ..])
 }
 
 /// A name that is not REAL.
 pub fn is_other_type(tokens: &[Token]) -> bool
-    ensures { result ≡ starts other_type_sorts tokens.now }
+    ensures { result ≡ starts other_type_classes tokens.now }
 {
     is_name(tokens) && !is_word(tokens, Word::Real)
 }
@@ -206,28 +206,28 @@ pub fn label(tokens: &[Token]) -> Result<(Label, &[Token]), ParseError>
 }
 
 pub fn is_number(tokens: &[Token]) -> bool
-    ensures { result ≡ starts number_sorts tokens.now }
+    ensures { result ≡ starts number_classes tokens.now }
 {
     matches!(tokens, [Token::Number(..), ..])
 }
 
 /// A number or a sign.
 pub fn is_signed(tokens: &[Token]) -> bool
-    ensures { result ≡ starts signed_sorts tokens.now }
+    ensures { result ≡ starts signed_classes tokens.now }
 {
     matches!(tokens, [Token::Plus | Token::Minus | Token::Number(..), ..])
 }
 
 /// A number other than 0 and 1.
 pub fn is_beyond_unit(tokens: &[Token]) -> bool
-    ensures { result ≡ starts beyond_unit_sorts tokens.now }
+    ensures { result ≡ starts beyond_unit_classes tokens.now }
 {
     matches!(tokens, [Token::Number(_, Amount::Other(_), _), ..])
 }
 
 /// A number other than 0.
 pub fn is_beyond_zero(tokens: &[Token]) -> bool
-    ensures { result ≡ starts beyond_zero_sorts tokens.now }
+    ensures { result ≡ starts beyond_zero_classes tokens.now }
 {
     matches!(
         tokens,

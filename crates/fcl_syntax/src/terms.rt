@@ -1,13 +1,15 @@
 //! FUZZIFY and DEFUZZIFY.
 
-ghost use Rattle.std.specs.Prelude.{◌≡◌, [], ◌∷◌, length, map};
+ghost use Rattle.std.specs.Prelude.{◌≡◌, ◌⊎◌, [], ◌∷◌, map};
 ghost use Rattle.std.proofs.Common.{inl, inr};
-ghost use Rattle.fcl_syntax.specs.Form.{Gives, loop, starts};
-ghost use Rattle.fcl_syntax.specs.Marks.{word_sort};
-ghost use Rattle.fcl_syntax.specs.Reading.{num_at, coordinate_number_at, coordinate_at, unit_at, zero_at, degree_at, point_at, some_points_at, points_at, term_at, opening_at, range_at, fuzzy_line_at, fuzzy_lines_at, fuzzify_at, choice_at, setting_at, accu_at, method_at, singleton_value_at, singleton_at, fallback_value_at, fallback_at, defuzzy_line_at, defuzzy_lines_at, defuzzify_at, part_at, parts_at};
+ghost use Rattle.fcl_syntax.specs.TokenClasses.{open_classes, fuzzy_line_classes, defuzzy_line_classes, part_classes, word_class};
+ghost use Rattle.fcl_syntax.specs.Grammar.{TPoint, TTerm, TRange, TDefuzzyLine, TPart};
+ghost use Rattle.fcl_syntax.specs.Readers.{Gives};
+ghost use Rattle.fcl_syntax.specs.Reading.{num_at, coordinate_number_at, coordinate_at, unit_at, zero_at, degree_at, point_at, some_points_at, points_at, term_at, opening_at, range_at, fuzzy_line_at, fuzzify_at, choice_at, setting_at, accu_at, method_at, singleton_value_at, singleton_at, fallback_value_at, fallback_at, defuzzy_line_at, defuzzify_at, part_at};
 ghost use Rattle.fcl_syntax.specs.View.{view_num, view_coordinate, view_degree, view_point, view_term, view_range, view_fuzzy_line, view_fuzzify, view_setting, view_singleton, view_value, view_fallback, view_defuzzy_line, view_defuzzify, view_part};
 
 use crate::fault::{Kind, ParseError};
+use crate::repeated::{Repeated, many};
 use crate::single::{
     expect, fault, is_beyond_unit, is_beyond_zero, is_keyword, is_name, is_next, is_open,
     is_signed, is_word, keyword, name, number, open, unit_number, word, zero_number,
@@ -128,17 +130,22 @@ fn point(tokens: &[Token]) -> Result<(Point, &[Token]), ParseError>
     Ok((Point { open_at, x, degree }, rest))
 }
 
-fn more_points(alloc: Global, tokens: &[Token]) -> Result<(Vec<Point>, &[Token]), ParseError>
-    ensures { Gives (λ x. (map view_point x.0.items, x.1.now)) result (loop (60 ∷ []) point_at (length tokens.now) tokens.now) }
-{
-    let mut more = Vec::new(alloc);
-    let mut rest = tokens;
-    'each: while is_open(rest) {
-        let (next, after) = point(rest)?;
-        more.push(next)?;
-        rest = after;
+impl Repeated for Point {
+    ghost Tree = { TPoint };
+
+    ghost first = { open_classes };
+
+    ghost read_at = { point_at };
+
+    ghost view = { view_point };
+
+    fn is_next(tokens: &[Token]) -> bool {
+        is_open(tokens)
     }
-    Ok((more, rest))
+
+    fn next(alloc: Global, tokens: &[Token]) -> Result<(Point, &[Token]), ParseError> {
+        point(tokens)
+    }
 }
 
 #[tactic(auto, unfolding(crate::specs::Reading::some_points_at))]
@@ -146,10 +153,11 @@ fn some_points(
     alloc: Global,
     tokens: &[Token],
 ) -> Result<((Point, Vec<Point>), &[Token]), ParseError>
-    ensures { Gives (λ x. ((view_point x.0.0, map view_point x.0.1.items), x.1.now)) result (some_points_at tokens.now) }
+    ensures { Gives (λ x. ((view_point x.0.0, map view_point x.0.1.items), x.1.now)) result
+        (some_points_at tokens.now) }
 {
     let (first, rest) = point(tokens)?;
-    let (more, rest) = more_points(alloc, rest)?;
+    let (more, rest) = many::<Point>(alloc, rest)?;
     Ok(((first, more), rest))
 }
 
@@ -237,23 +245,22 @@ fn fuzzy_line(alloc: Global, tokens: &[Token]) -> Result<(FuzzyLine, &[Token]), 
     Ok((FuzzyLine::Range(range), rest))
 }
 
-fn is_fuzzy_line(tokens: &[Token]) -> bool
-    ensures { result ≡ starts (10 ∷ 11 ∷ []) tokens.now }
-{
-    is_keyword(tokens, Keyword::Term) || is_keyword(tokens, Keyword::Range)
-}
+impl Repeated for FuzzyLine {
+    ghost Tree = { TTerm ⊎ TRange };
 
-fn fuzzy_lines(alloc: Global, tokens: &[Token]) -> Result<(Vec<FuzzyLine>, &[Token]), ParseError>
-    ensures { Gives (λ x. (map view_fuzzy_line x.0.items, x.1.now)) result (fuzzy_lines_at tokens.now) }
-{
-    let mut more = Vec::new(alloc);
-    let mut rest = tokens;
-    'each: while is_fuzzy_line(rest) {
-        let (next, after) = fuzzy_line(alloc, rest)?;
-        more.push(next)?;
-        rest = after;
+    ghost first = { fuzzy_line_classes };
+
+    ghost read_at = { fuzzy_line_at };
+
+    ghost view = { view_fuzzy_line };
+
+    fn is_next(tokens: &[Token]) -> bool {
+        is_keyword(tokens, Keyword::Term) || is_keyword(tokens, Keyword::Range)
     }
-    Ok((more, rest))
+
+    fn next(alloc: Global, tokens: &[Token]) -> Result<(FuzzyLine, &[Token]), ParseError> {
+        fuzzy_line(alloc, tokens)
+    }
 }
 
 #[tactic(auto, unfolding(crate::specs::Reading::fuzzify_at))]
@@ -262,7 +269,7 @@ fn fuzzify(alloc: Global, tokens: &[Token]) -> Result<(Fuzzify, &[Token]), Parse
 {
     let (at, rest) = keyword(tokens, Keyword::Fuzzify)?;
     let (name, rest) = name(rest)?;
-    let (lines, rest) = fuzzy_lines(alloc, rest)?;
+    let (lines, rest) = many::<FuzzyLine>(alloc, rest)?;
     let (end, rest) = keyword(rest, Keyword::EndFuzzify)?;
     Ok((
         Fuzzify {
@@ -287,7 +294,8 @@ pub struct Refused {
 
 #[tactic(auto, unfolding(crate::specs::Reading::choice_at))]
 fn choice(tokens: &[Token], wanted: Word, refused: Refused) -> Result<(u32, &[Token]), ParseError>
-    ensures { Gives (λ x. (inr x.0, x.1.now)) result (choice_at wanted (word_sort refused.first ∷ word_sort refused.second ∷ []) refused.code tokens.now) }
+    ensures { Gives (λ x. (inr x.0, x.1.now)) result
+        (choice_at wanted (word_class refused.first ∷ word_class refused.second ∷ []) refused.code tokens.now) }
 {
     if is_word(tokens, refused.first) || is_word(tokens, refused.second) {
         return Err(fault(Kind::Unsupported(refused.code), tokens));
@@ -303,7 +311,8 @@ pub fn setting(
     word: Word,
     refused: Refused,
 ) -> Result<(Setting, &[Token]), ParseError>
-    ensures { Gives (λ x. (view_setting x.0, x.1.now)) result (setting_at wanted word (word_sort refused.first ∷ word_sort refused.second ∷ []) refused.code tokens.now) }
+    ensures { Gives (λ x. (view_setting x.0, x.1.now)) result
+        (setting_at wanted word (word_class refused.first ∷ word_class refused.second ∷ []) refused.code tokens.now) }
 {
     let (at, rest) = keyword(tokens, wanted)?;
     let rest = expect(rest, Token::Colon)?;
@@ -407,30 +416,26 @@ fn defuzzy_line(tokens: &[Token]) -> Result<(DefuzzyLine, &[Token]), ParseError>
     Ok((DefuzzyLine::Range(line), rest))
 }
 
-fn is_defuzzy_line(tokens: &[Token]) -> bool
-    ensures { result ≡ starts (10 ∷ 12 ∷ 13 ∷ 14 ∷ 11 ∷ []) tokens.now }
-{
-    is_keyword(tokens, Keyword::Term)
-        || is_keyword(tokens, Keyword::Accu)
-        || is_keyword(tokens, Keyword::Method)
-        || is_keyword(tokens, Keyword::Default)
-        || is_keyword(tokens, Keyword::Range)
-}
+impl Repeated for DefuzzyLine {
+    ghost Tree = { TDefuzzyLine };
 
-fn defuzzy_lines(
-    alloc: Global,
-    tokens: &[Token],
-) -> Result<(Vec<DefuzzyLine>, &[Token]), ParseError>
-    ensures { Gives (λ x. (map view_defuzzy_line x.0.items, x.1.now)) result (defuzzy_lines_at tokens.now) }
-{
-    let mut more = Vec::new(alloc);
-    let mut rest = tokens;
-    'each: while is_defuzzy_line(rest) {
-        let (next, after) = defuzzy_line(rest)?;
-        more.push(next)?;
-        rest = after;
+    ghost first = { defuzzy_line_classes };
+
+    ghost read_at = { defuzzy_line_at };
+
+    ghost view = { view_defuzzy_line };
+
+    fn is_next(tokens: &[Token]) -> bool {
+        is_keyword(tokens, Keyword::Term)
+            || is_keyword(tokens, Keyword::Accu)
+            || is_keyword(tokens, Keyword::Method)
+            || is_keyword(tokens, Keyword::Default)
+            || is_keyword(tokens, Keyword::Range)
     }
-    Ok((more, rest))
+
+    fn next(alloc: Global, tokens: &[Token]) -> Result<(DefuzzyLine, &[Token]), ParseError> {
+        defuzzy_line(tokens)
+    }
 }
 
 #[tactic(auto, unfolding(crate::specs::Reading::defuzzify_at))]
@@ -439,7 +444,7 @@ fn defuzzify(alloc: Global, tokens: &[Token]) -> Result<(Defuzzify, &[Token]), P
 {
     let (at, rest) = keyword(tokens, Keyword::Defuzzify)?;
     let (name, rest) = name(rest)?;
-    let (lines, rest) = defuzzy_lines(alloc, rest)?;
+    let (lines, rest) = many::<DefuzzyLine>(alloc, rest)?;
     let (end, rest) = keyword(rest, Keyword::EndDefuzzify)?;
     Ok((
         Defuzzify {
@@ -469,24 +474,23 @@ fn part(alloc: Global, tokens: &[Token]) -> Result<(Part, &[Token]), ParseError>
     Ok((Part::Defuzzify(part), rest))
 }
 
-// Whether a part is next, or OPTION in its place.
-fn is_part(tokens: &[Token]) -> bool
-    ensures { result ≡ starts (26 ∷ 6 ∷ 8 ∷ []) tokens.now }
-{
-    is_keyword(tokens, Keyword::Options)
-        || is_keyword(tokens, Keyword::Fuzzify)
-        || is_keyword(tokens, Keyword::Defuzzify)
-}
+// One is next where a part is, or OPTION in its place.
+impl Repeated for Part {
+    ghost Tree = { TPart };
 
-pub fn parts(alloc: Global, tokens: &[Token]) -> Result<(Vec<Part>, &[Token]), ParseError>
-    ensures { Gives (λ x. (map view_part x.0.items, x.1.now)) result (parts_at tokens.now) }
-{
-    let mut more = Vec::new(alloc);
-    let mut rest = tokens;
-    'each: while is_part(rest) {
-        let (next, after) = part(alloc, rest)?;
-        more.push(next)?;
-        rest = after;
+    ghost first = { part_classes };
+
+    ghost read_at = { part_at };
+
+    ghost view = { view_part };
+
+    fn is_next(tokens: &[Token]) -> bool {
+        is_keyword(tokens, Keyword::Options)
+            || is_keyword(tokens, Keyword::Fuzzify)
+            || is_keyword(tokens, Keyword::Defuzzify)
     }
-    Ok((more, rest))
+
+    fn next(alloc: Global, tokens: &[Token]) -> Result<(Part, &[Token]), ParseError> {
+        part(alloc, tokens)
+    }
 }

@@ -1,12 +1,16 @@
 //! VAR_INPUT and VAR_OUTPUT.
 
-ghost use Rattle.std.specs.Prelude.{◌≡◌, [], ◌∷◌, length, map};
+ghost use Rattle.std.specs.Prelude.{◌≡◌};
 ghost use Rattle.std.proofs.Common.{inr};
-ghost use Rattle.fcl_syntax.specs.Form.{Gives, loop, starts};
-ghost use Rattle.fcl_syntax.specs.Reading.{comma_name_at, names_at, type_at, decl_at, decls_at, vars_at, section_at, sections_at};
+ghost use Rattle.fcl_syntax.specs.declared.tree.Name.{Name};
+ghost use Rattle.fcl_syntax.specs.TokenClasses.{comma_classes, name_classes, section_classes};
+ghost use Rattle.fcl_syntax.specs.Grammar.{TDecl, TSection};
+ghost use Rattle.fcl_syntax.specs.Readers.{Gives};
+ghost use Rattle.fcl_syntax.specs.Reading.{comma_name_at, names_at, type_at, decl_at, vars_at, section_at};
 ghost use Rattle.fcl_syntax.specs.View.{view_decl, view_vars, view_section};
 
 use crate::fault::{Kind, ParseError};
+use crate::repeated::{Repeated, many};
 use crate::single::{
     direction, expect, fault, is_keyword, is_name, is_next, is_other_type, keyword, name, word,
 };
@@ -22,17 +26,22 @@ fn comma_name(tokens: &[Token]) -> Result<(Name, &[Token]), ParseError>
     name(rest)
 }
 
-fn more_names(alloc: Global, tokens: &[Token]) -> Result<(Vec<Name>, &[Token]), ParseError>
-    ensures { Gives (λ x. (x.0.items, x.1.now)) result (loop (66 ∷ []) comma_name_at (length tokens.now) tokens.now) }
-{
-    let mut more = Vec::new(alloc);
-    let mut rest = tokens;
-    'each: while is_next(rest, Token::Comma) {
-        let (next, after) = comma_name(rest)?;
-        more.push(next)?;
-        rest = after;
+impl Repeated for Name {
+    ghost Tree = { Name };
+
+    ghost first = { comma_classes };
+
+    ghost read_at = { comma_name_at };
+
+    ghost view = { λ n. n };
+
+    fn is_next(tokens: &[Token]) -> bool {
+        is_next(tokens, Token::Comma)
     }
-    Ok((more, rest))
+
+    fn next(alloc: Global, tokens: &[Token]) -> Result<(Name, &[Token]), ParseError> {
+        comma_name(tokens)
+    }
 }
 
 #[tactic(auto, unfolding(crate::specs::Reading::names_at))]
@@ -40,7 +49,7 @@ fn names(alloc: Global, tokens: &[Token]) -> Result<((Name, Vec<Name>), &[Token]
     ensures { Gives (λ x. ((x.0.0, x.0.1.items), x.1.now)) result (names_at tokens.now) }
 {
     let (first, rest) = name(tokens)?;
-    let (more, rest) = more_names(alloc, rest)?;
+    let (more, rest) = many::<Name>(alloc, rest)?;
     Ok(((first, more), rest))
 }
 
@@ -65,17 +74,22 @@ fn decl(alloc: Global, tokens: &[Token]) -> Result<(Decl, &[Token]), ParseError>
     Ok((Decl { first, more, real }, rest))
 }
 
-fn decls(alloc: Global, tokens: &[Token]) -> Result<(Vec<Decl>, &[Token]), ParseError>
-    ensures { Gives (λ x. (map view_decl x.0.items, x.1.now)) result (decls_at tokens.now) }
-{
-    let mut more = Vec::new(alloc);
-    let mut rest = tokens;
-    'each: while is_name(rest) {
-        let (next, after) = decl(alloc, rest)?;
-        more.push(next)?;
-        rest = after;
+impl Repeated for Decl {
+    ghost Tree = { TDecl };
+
+    ghost first = { name_classes };
+
+    ghost read_at = { decl_at };
+
+    ghost view = { view_decl };
+
+    fn is_next(tokens: &[Token]) -> bool {
+        is_name(tokens)
     }
-    Ok((more, rest))
+
+    fn next(alloc: Global, tokens: &[Token]) -> Result<(Decl, &[Token]), ParseError> {
+        decl(alloc, tokens)
+    }
 }
 
 #[tactic(auto, unfolding(crate::specs::Reading::vars_at))]
@@ -83,7 +97,7 @@ fn vars(alloc: Global, tokens: &[Token]) -> Result<(Vars, &[Token]), ParseError>
     ensures { Gives (λ x. (view_vars x.0, x.1.now)) result (vars_at tokens.now) }
 {
     let ((at, direction), rest) = direction(tokens)?;
-    let (decls, rest) = decls(alloc, rest)?;
+    let (decls, rest) = many::<Decl>(alloc, rest)?;
     let (end, rest) = keyword(rest, Keyword::EndVar)?;
     Ok((
         Vars {
@@ -106,24 +120,23 @@ fn section(alloc: Global, tokens: &[Token]) -> Result<(Vars, &[Token]), ParseErr
     vars(alloc, tokens)
 }
 
-// Whether variables are next, or VAR in their place.
-fn is_section(tokens: &[Token]) -> bool
-    ensures { result ≡ starts (5 ∷ 2 ∷ 3 ∷ []) tokens.now }
-{
-    is_keyword(tokens, Keyword::Var)
-        || is_keyword(tokens, Keyword::VarInput)
-        || is_keyword(tokens, Keyword::VarOutput)
-}
+// One is next where variables are, or VAR in their place.
+impl Repeated for Vars {
+    ghost Tree = { TSection };
 
-pub fn sections(alloc: Global, tokens: &[Token]) -> Result<(Vec<Vars>, &[Token]), ParseError>
-    ensures { Gives (λ x. (map view_section x.0.items, x.1.now)) result (sections_at tokens.now) }
-{
-    let mut more = Vec::new(alloc);
-    let mut rest = tokens;
-    'each: while is_section(rest) {
-        let (next, after) = section(alloc, rest)?;
-        more.push(next)?;
-        rest = after;
+    ghost first = { section_classes };
+
+    ghost read_at = { section_at };
+
+    ghost view = { view_section };
+
+    fn is_next(tokens: &[Token]) -> bool {
+        is_keyword(tokens, Keyword::Var)
+            || is_keyword(tokens, Keyword::VarInput)
+            || is_keyword(tokens, Keyword::VarOutput)
     }
-    Ok((more, rest))
+
+    fn next(alloc: Global, tokens: &[Token]) -> Result<(Vars, &[Token]), ParseError> {
+        section(alloc, tokens)
+    }
 }

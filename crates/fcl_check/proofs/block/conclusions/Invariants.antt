@@ -3,4 +3,5 @@ use Rattle.fcl_check.specs.Loaded.{conclusion_of}
 use Rattle.fcl_check.proofs.block.conclusions.Given as goal
 
 abbrev pub invariant-each : goal.invariant-each
-invariant-each l = l.places.items ≡ map (conclusion_of l.source.tree.now.text.items l.source.tree.now.block) (l.rule.first ∷ take l.more-index l.rule.more.items)
+invariant-each l =
+    l.places.items ≡ map (conclusion_of l.source.tree.now.text.items l.source.tree.now.block) (l.rule.first ∷ take l.more-index l.rule.more.items)

@@ -2,9 +2,9 @@ use Rattle.std.proofs.Common.{take, refl, subst, sym}
 use Rattle.std.proofs.lemmas.List.Elements.{All-from_recursion}
 use Rattle.fcl_check.specs.Loaded.{IsRuleOf}
 use Rattle.fcl_check.specs.Sound.{IsSoundRule}
-use Rattle.fcl_check.proofs.Faultless.{faultless, sound_rules}
-use Rattle.fcl_check.proofs.FirstPlaces.{one_further}
-use Rattle.fcl_check.proofs.OneByOne.{all_related_more}
+use Rattle.fcl_check.proofs.faultless.Faultless.{faultless, sound_rules}
+use Rattle.fcl_check.proofs.places.FirstPlaces.{one_further}
+use Rattle.fcl_check.proofs.lists.OneByOne.{all_related_more}
 use Rattle.fcl_check.proofs.block.rules.Goals as goal
 
 pub each-preserved : goal.each-preserved
@@ -14,7 +14,8 @@ each-preserved c =
     let node = c.next-item.result in
     let more = one_further nodes c.each.next-index node node (rw value at c.each-test.true) (rw value at c.next-item.is) refl in
     let IsRule = IsRuleOf c.args.source.now.tree.now.text.items c.args.source.now.tree.now.block in
-    rw (c.in_ok-push.ensures.items, more) (all_related_more IsRule (take c.each.next-index nodes) c.each.rules.items node c.in_ok-next.next c.each.invariant c.in_ok-next.ensures)
+    rw (c.in_ok-push.ensures.items, more) (all_related_more IsRule
+    (take c.each.next-index nodes) c.each.rules.items node c.in_ok-next.next c.each.invariant c.in_ok-next.ensures)
 
 pub rule-requires : goal.rule-requires
 rule-requires c =

@@ -1,10 +1,12 @@
 use Rattle.std.proofs.Common.{sym, ap, ◌∙◌, option_copied}
 use Rattle.fcl_check.specs.Names.{as_fuzzify}
-use Rattle.fcl_check.proofs.Naming.{section-found}
+use Rattle.fcl_check.proofs.naming.Naming.{section-found}
 use Rattle.fcl_check.proofs.inputs.section_of.Goals as goal
 
 pub returns-in-Fuzzify : goal.returns-in-Fuzzify
-returns-in-Fuzzify c = section-found as_fuzzify c.args.tree.now c.args.names.now _ _ c.in_ok-section.field-0.now _ c.requires c.letters.ensures (ap option_copied (sym c.in_ok-section.was) ∙ c.get.ensures.value) (ap as_fuzzify c.in-Fuzzify.is)
+returns-in-Fuzzify c = section-found as_fuzzify c.args.tree.now c.args.names.now _ _ c.in_ok-section.field-0.now _ c.requires c.letters.ensures
+    (ap option_copied (sym c.in_ok-section.was) ∙ c.get.ensures.value) (ap as_fuzzify c.in-Fuzzify.is)
 
 pub returns-in-Defuzzify : goal.returns-in-Defuzzify
-returns-in-Defuzzify c = section-found as_fuzzify c.args.tree.now c.args.names.now _ _ c.in_ok-section.field-0.now _ c.requires c.letters.ensures (ap option_copied (sym c.in_ok-section.was) ∙ c.get.ensures.value) (ap as_fuzzify c.in-Defuzzify.is)
+returns-in-Defuzzify c = section-found as_fuzzify c.args.tree.now c.args.names.now _ _ c.in_ok-section.field-0.now _ c.requires c.letters.ensures
+    (ap option_copied (sym c.in_ok-section.was) ∙ c.get.ensures.value) (ap as_fuzzify c.in-Defuzzify.is)

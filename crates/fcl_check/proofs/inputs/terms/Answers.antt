@@ -6,9 +6,9 @@ use Rattle.fcl_check.specs.Loaded.{IsTermOf}
 use Rattle.fcl_check.specs.Names.{term_of}
 use Rattle.fcl_check.specs.Places.{at_if}
 use Rattle.fcl_check.specs.Sections.{has_shape, points_of}
-use Rattle.fcl_check.proofs.Faultless.{shaped}
-use Rattle.fcl_check.proofs.Present.{none_at}
-use Rattle.fcl_check.proofs.Pushes.{filter_map-more}
+use Rattle.fcl_check.proofs.faultless.Faultless.{shaped}
+use Rattle.fcl_check.proofs.faultless.Present.{none_at}
+use Rattle.fcl_check.proofs.lists.Pushes.{filter_map-more}
 use Rattle.fcl_check.proofs.inputs.terms.Goals as goal
 use Rattle.fcl_check.proofs.inputs.terms.Goals.{in-Term+in_ok-push, in_default}
 
@@ -17,9 +17,18 @@ each-preserved c =
     let lines = c.args.section.now.lines.items in
     let within : c.each.line-index < length lines = omega arith in
     elim c.match-line.branch [
-      | in-Term+in_ok-push w ↦ rw (w.terms-is, w.in_ok-push.ensures.items, filter_map-more term_of lines c.deref-line-items.result.now c.each.line-index c.line-item.result (Some w.in-Term.term) c.deref-line-items.ensures.value within c.line-item.is (ap term_of w.in-Term.is))
+      | in-Term+in_ok-push w ↦ rw (
+        w.terms-is,
+        w.in_ok-push.ensures.items,
+        filter_map-more term_of lines c.deref-line-items.result.now c.each.line-index c.line-item.result
+            (Some w.in-Term.term) c.deref-line-items.ensures.value within c.line-item.is (ap term_of w.in-Term.is),
+      )
           (all_zipped_more IsTermOf _ _ _ _ c.each.invariant w.trapezoid.ensures)
-      | in_default w ↦ rw (w.terms-is, filter_map-more term_of lines c.deref-line-items.result.now c.each.line-index c.line-item.result None c.deref-line-items.ensures.value within c.line-item.is (search rules), append-nil) c.each.invariant
+      | in_default w ↦ rw (
+        w.terms-is,
+        filter_map-more term_of lines c.deref-line-items.result.now c.each.line-index c.line-item.result None c.deref-line-items.ensures.value within c.line-item.is (search rules),
+        append-nil,
+      ) c.each.invariant
     ]
 
 pub trapezoid-requires : goal.trapezoid-requires
@@ -27,4 +36,5 @@ trapezoid-requires c =
     let lines = c.args.section.now.lines.items in
     let t = c.in-Term.term in
     let is = ap term_of (sym (rw c.deref-line-items.ensures.value at c.line-item.is) ∙ c.in-Term.is) in
-    shaped (has_shape (points_of t)) t.at (none_at (λ (t : Term). at_if (not (has_shape (points_of t))) t.at) term_of lines c.each.line-index c.line-item.result t c.requires (omega arith) is)
+    shaped (has_shape (points_of t)) t.at (none_at (λ (t : Term). at_if (not (has_shape
+    (points_of t))) t.at) term_of lines c.each.line-index c.line-item.result t c.requires (omega arith) is)

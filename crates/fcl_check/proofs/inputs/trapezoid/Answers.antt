@@ -1,7 +1,7 @@
 use Rattle.std.proofs.Common.{◌≡◌, [], ◌∷◌, take, refl, arith}
 use Rattle.std.proofs.lemmas.List.{take_all}
-use Rattle.fcl_check.proofs.CornerSteps.{AreCornersOf-more}
-use Rattle.fcl_check.proofs.Present.{top_there}
+use Rattle.fcl_check.proofs.courses.CornerSteps.{AreCornersOf-more}
+use Rattle.fcl_check.proofs.faultless.Present.{top_there}
 use Rattle.fcl_check.proofs.inputs.trapezoid.Goals as goal
 
 pub loop-point-init : goal.loop-point-init
@@ -10,10 +10,12 @@ loop-point-init c = c.with-corners.ensures [] (record { a = refl; b = refl; c = 
 pub loop-point-preserved : goal.loop-point-preserved
 loop-point-preserved c =
     let points = c.args.term.now.more.items in
-    AreCornersOf-more c.args.term.now.first points c.deref-point-items.result.now c.loop-point.point-index _ _ c.deref-point-items.ensures.value (omega arith) (c.with-corners-in-loop-point.ensures (c.args.term.now.first ∷ take c.loop-point.point-index points) c.loop-point.invariant)
+    AreCornersOf-more c.args.term.now.first points c.deref-point-items.result.now c.loop-point.point-index _ _ c.deref-point-items.ensures.value (omega arith)
+    (c.with-corners-in-loop-point.ensures (c.args.term.now.first ∷ take c.loop-point.point-index points) c.loop-point.invariant)
 
 pub unwrap-requires : goal.unwrap-requires
 unwrap-requires c =
     let points = c.args.term.now.more.items in
-    let whole : take c.loop-point.point-index points ≡ points = take_all c.loop-point.point-index points (rw c.deref-point-items.ensures.value at c.loop-point-test.false) in
+    let whole : take c.loop-point.point-index points ≡ points =
+    take_all c.loop-point.point-index points (rw c.deref-point-items.ensures.value at c.loop-point-test.false) in
     top_there (c.args.term.now.first ∷ points) c.loop-point.corners (rw whole at c.loop-point.invariant) c.requires

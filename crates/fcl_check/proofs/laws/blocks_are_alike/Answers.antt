@@ -1,5 +1,5 @@
 use Rattle.std.proofs.Common.{refl}
-use Rattle.fcl_check.proofs.AlikeBlocks.{alike_blocks}
+use Rattle.fcl_check.proofs.alike.AlikeBlocks.{alike_blocks}
 use Rattle.fcl_check.proofs.laws.blocks_are_alike.Goals as goal
 
 pub returns : goal.returns

@@ -1,4 +1,4 @@
-use Rattle.fcl_check.proofs.FoundBlocks.{found_block}
+use Rattle.fcl_check.proofs.existing.FoundBlocks.{found_block}
 use Rattle.fcl_check.proofs.laws.spelled_trees_have_blocks.Goals as goal
 
 pub returns : goal.returns

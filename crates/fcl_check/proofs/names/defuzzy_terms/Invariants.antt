@@ -1,9 +1,9 @@
 use Rattle.std.proofs.Common.{◌≡◌, take, None}
 use Rattle.std.specs.List.{filter}
-use Rattle.fcl_check.specs.ByLetters.{names_of_singletons, is_other}
+use Rattle.fcl_check.proofs.naming.Gathered.{names_of_singletons, is_other}
 use Rattle.fcl_check.specs.Faults.{repeated, same_output_line, output_line_at}
 use Rattle.fcl_check.specs.Places.{first}
-use Rattle.fcl_check.proofs.TermNames.{Numbers}
+use Rattle.fcl_check.proofs.naming.TermNames.{Numbers}
 use Rattle.fcl_check.proofs.names.defuzzy_terms.Given as goal
 
 abbrev pub invariant-each : goal.invariant-each

@@ -1,9 +1,9 @@
 use Rattle.std.proofs.Common.{◌≡◌, take, None}
 use Rattle.std.specs.List.{list_any}
-use Rattle.fcl_check.specs.ByLetters.{names_of_terms, is_range}
+use Rattle.fcl_check.proofs.naming.Gathered.{names_of_terms, is_range}
 use Rattle.fcl_check.specs.Faults.{repeated, same_line, line_at}
 use Rattle.fcl_check.specs.Places.{first}
-use Rattle.fcl_check.proofs.TermNames.{Numbers}
+use Rattle.fcl_check.proofs.naming.TermNames.{Numbers}
 use Rattle.fcl_check.proofs.names.fuzzy_terms.Given as goal
 
 abbrev pub invariant-each : goal.invariant-each

@@ -1,5 +1,5 @@
 use Rattle.std.proofs.Common.{◌≡◌, ◌++◌, take}
-use Rattle.fcl_check.specs.ByLetters.{names_declared}
+use Rattle.fcl_check.proofs.naming.Gathered.{names_declared}
 use Rattle.fcl_check.proofs.names.push_vars.Given as goal
 
 abbrev pub invariant-each : goal.invariant-each

@@ -1,6 +1,6 @@
 use Rattle.std.proofs.Common.{◌≡◌, Err, take, length-take, rules, arith}
 use Rattle.fcl_syntax.specs.declared.tree.Direction.TheVariants.{Input, Output}
-use Rattle.fcl_check.proofs.VariableNames.{count_bound, variables_more, counts_more, variables_once, variables_twice}
+use Rattle.fcl_check.proofs.naming.VariableNames.{count_bound, variables_more, counts_more, variables_once, variables_twice}
 use Rattle.fcl_check.proofs.names.variables.Goals as goal
 
 pub next-requires : goal.next-requires

@@ -2,8 +2,9 @@ use Rattle.std.proofs.Common.{take}
 use Rattle.std.specs.List.{AllZip, filter_map}
 use Rattle.fcl_syntax.specs.declared.tree.Direction.TheVariants as side
 use Rattle.fcl_check.specs.Loaded.{IsOutputNamed}
-use Rattle.fcl_check.proofs.Naming.{named_as}
+use Rattle.fcl_check.proofs.naming.Naming.{named_as}
 use Rattle.fcl_check.proofs.outputs.outputs.Given as goal
 
 abbrev pub invariant-each : goal.invariant-each
-invariant-each l = AllZip (IsOutputNamed l.tree.text.items l.tree.block) (filter_map (named_as side.Output) (take l.direction-index l.names.declared.items)) l.outputs.items
+invariant-each l =
+    AllZip (IsOutputNamed l.tree.text.items l.tree.block) (filter_map (named_as side.Output) (take l.direction-index l.names.declared.items)) l.outputs.items

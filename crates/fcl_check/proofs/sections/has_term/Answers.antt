@@ -4,10 +4,11 @@ use Rattle.std.proofs.lemmas.Iterator.{YieldsList-from_slice}
 use Rattle.std.proofs.lemmas.Iterator.Search.{any_from_yields_List}
 use Rattle.fcl_syntax.specs.declared.tree.FuzzyLine.{FuzzyLine}
 use Rattle.fcl_check.specs.Names.{term_of}
-use Rattle.fcl_check.proofs.Places.{any_found}
+use Rattle.fcl_check.proofs.places.Places.{any_found}
 use Rattle.fcl_check.proofs.sections.has_term.Goals as goal
 
 pub returns : goal.returns
 returns c =
     let lines = c.args.section.now.lines.items in
-    any_from_yields_List (λ (l : FuzzyLine). is_some (term_of l)) _ _ _ c.any.ensures.ran (YieldsList-from_slice lines cc) (λ x b q k. search (rules, tests)) ∙ any_found term_of lines
+    any_from_yields_List (λ (l : FuzzyLine). is_some (term_of l)) _ _ _ c.any.ensures.ran (YieldsList-from_slice lines cc) (λ x b q k. search (rules, tests))
+    ∙ any_found term_of lines

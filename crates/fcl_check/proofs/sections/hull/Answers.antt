@@ -2,13 +2,15 @@ use Rattle.std.proofs.Common.{◌∙◌, option_map}
 use Rattle.std.proofs.lemmas.Grind.{common_steps}
 use Rattle.std.proofs.Common.{arith, rules}
 use Rattle.fcl_check.specs.Spans.{ends_in}
-use Rattle.fcl_check.proofs.Hulls.{hull_term}
+use Rattle.fcl_check.proofs.ranges.Hulls.{hull_term}
 use Rattle.fcl_check.proofs.sections.hull.Goals as goal
 use Rattle.fcl_check.proofs.sections.hull.Goals.{in-Term, in_default}
 
 pub loop-line-preserved : goal.loop-line-preserved
 loop-line-preserved c =
     elim c.match-line.branch [
-      | in-Term w ↦ rw w.hull-is (hull_term (option_map ends_in c.loop-line.hull) (ends_in w.with_term.result) c.args.section.now.lines.items c.loop-line.line-index c.line-item.result w.in-Term.term (search rules) (search rules) w.in-Term.is w.with_term.ensures ∙ c.loop-line.invariant)
+      | in-Term w ↦ rw w.hull-is (hull_term (option_map ends_in c.loop-line.hull)
+          (ends_in w.with_term.result) c.args.section.now.lines.items c.loop-line.line-index c.line-item.result w.in-Term.term (search rules)
+          (search rules) w.in-Term.is w.with_term.ensures ∙ c.loop-line.invariant)
       | in_default w ↦ grind (arith, common_steps)
     ]

@@ -1,5 +1,5 @@
 use Rattle.std.proofs.Common.{arith, sym, ◌∙◌}
-use Rattle.fcl_check.proofs.KnownNames.{number_few, term_few}
+use Rattle.fcl_check.proofs.naming.KnownNames.{number_few, term_few}
 use Rattle.fcl_check.proofs.source.numbers.Goals as goal
 
 pub overflow_cast-result : goal.overflow_cast-result
@@ -7,11 +7,19 @@ overflow_cast-result c =
     let source = c.args.source.now in
     let text = source.tree.now.text.items in
     let block = source.tree.now.block in
-    omega (arith, number_few text block source.sound c.args.side c.args.variable c.args.term _ c.unwrap-declared.result c.requires c.letters-letters.ensures (sym c.unwrap-declared.ensures ∙ c.variable.ensures source.tree.now source.known))
+    omega (
+      arith,
+      number_few text block source.sound c.args.side c.args.variable c.args.term _ c.unwrap-declared.result c.requires c.letters-letters.ensures
+          (sym c.unwrap-declared.ensures ∙ c.variable.ensures source.tree.now source.known),
+    )
 
 pub overflow_cast-result-2 : goal.overflow_cast-result-2
 overflow_cast-result-2 c =
     let source = c.args.source.now in
     let text = source.tree.now.text.items in
     let block = source.tree.now.block in
-    omega (arith, term_few text block source.sound c.args.side _ _ c.unwrap-term.result (sym (c.term.ensures source.tree.now source.known) ∙ c.unwrap-term.ensures))
+    omega (
+      arith,
+      term_few text block source.sound c.args.side _ _ c.unwrap-term.result
+          (sym (c.term.ensures source.tree.now source.known) ∙ c.unwrap-term.ensures),
+    )

@@ -1,5 +1,5 @@
 use Rattle.std.proofs.Common.{◌≡◌, length, map}
-use Rattle.fcl_syntax.specs.Lexing.{meaning_in}
+use Rattle.fcl_syntax.specs.Tokens.{meaning_in}
 use Rattle.fcl_syntax.proofs.lexer.meaning.Given as goal
 
 abbrev pub invariant-loop-table : goal.invariant-loop-table

@@ -1,0 +1,9 @@
+pub mod SameImages
+pub mod SameParts
+pub mod SameSections
+pub mod SameNames
+pub mod AlikeBlocks
+pub mod SamePlaces
+pub mod SameSectionFaults
+pub mod SameTwice
+pub mod SameFaults

@@ -1,0 +1,10 @@
+use Rattle.std.proofs.Common.{◌≡◌, List, [], drop}
+use Rattle.fcl_check.specs.Faults.{is_over}
+use Rattle.fcl_check.specs.Names.{Declared}
+use Rattle.fcl_check.specs.Places.{at_each, at_if, first}
+use Rattle.fcl_check.proofs.faultless.Limits.{over_from}
+use Rattle.fcl_check.proofs.checks.declared_over_limit.Given as goal
+
+abbrev pub invariant-loop-direction : goal.invariant-loop-direction
+invariant-loop-direction l = over_from l.room (drop l.direction-index l.declared) ≡ first
+    (at_each (λ (before : List Declared) (d : Declared). at_if (is_over before d) d.1.at) [] l.declared)

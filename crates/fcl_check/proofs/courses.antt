@@ -1,0 +1,4 @@
+pub mod Falling
+pub mod CornerSteps
+pub mod Heights
+pub mod CourseSteps

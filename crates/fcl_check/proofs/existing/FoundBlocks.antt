@@ -1,0 +1,54 @@
+-- A tree that a text spells has a block, where it has no load fault and is not too large.
+use Rattle.std.proofs.Common.{◌≡◌, ℕ, ◌^◌, ◌<◌, List, [], ◌∷◌, Option, Some, None, length, map, option_map, refl, arith}
+use Rattle.std.specs.List.{AllByRecursion}
+use Rattle.std.specs.Str.{str_to_ascii_lowercase}
+use Rattle.fuzzy_meaning.specs.declared.block.Rule.{Rule}
+use Rattle.fuzzy_meaning.specs.Conditions.{nodes}
+use Rattle.fcl_syntax.specs.declared.tree.FunctionBlock.{FunctionBlock}
+use Rattle.fcl_syntax.specs.declared.tree.Rule.{Rule as RuleNode}
+use Rattle.fcl_syntax.specs.declared.tree.Weight.{Weight}
+use Rattle.fcl_syntax.specs.Grammar.{block_text, each, rule_item_text}
+use Rattle.fcl_syntax.specs.Offsets.{OffsetsAscend, offsets}
+use Rattle.fcl_syntax.specs.View.{view, view_or, view_rule_item}
+use Rattle.fcl_check.specs.Faults.{conclusions_of}
+use Rattle.fcl_check.specs.Loaded.{IsRuleOf, conclusion_of, literal_of, number_of, or_condition}
+use Rattle.fcl_check.specs.Sections.{value}
+use Rattle.fcl_check.specs.Texts.{SpelledTreesHaveBlocks}
+use Rattle.fcl_check.proofs.trees.ConditionSizes.{count, count-append, few_within}
+use Rattle.fcl_check.proofs.existing.FoundConditions.{found_condition}
+use Rattle.fcl_check.proofs.existing.FoundInputs.{found_inputs}
+use Rattle.fcl_check.proofs.existing.FoundItems.{found_items}
+use Rattle.fcl_check.proofs.existing.FoundOutputs.{decimal_of, found_outputs}
+use Rattle.fcl_check.proofs.trees.RuleSizes.{condition_size, count-rules}
+
+-- ---- rules
+
+number_of-weight : (o : Option Weight) → number_of (option_map (λ (w : Weight). decimal_of w.num) o) ≡ option_map (λ (w : Weight). value w.num) o
+number_of-weight None = refl
+number_of-weight (Some w) = refl
+
+module _ (text : List ℕ) (b : FunctionBlock) where
+  found_rule : (r : RuleNode) → nodes (or_condition (literal_of text b) (view_or r.condition)) < 2 ^ 63 → (q : Rule) × IsRuleOf text b r q
+  found_rule r small =
+      let condition = found_condition b.vars.alloc (or_condition (literal_of text b) (view_or r.condition)) small in (
+        record { cond = condition.0; weight = option_map (λ (w : Weight). decimal_of w.num) r.weight; concl = map (conclusion_of text b) (conclusions_of r) },
+        record { condition = condition.1; weight = number_of-weight r.weight; conclusions = refl },
+      )
+
+  found_rules : (rs : List RuleNode) → count (each rule_item_text (map view_rule_item rs)) < 2 ^ 63 → AllByRecursion (λ r. (q : Rule) × IsRuleOf text b r q) rs
+  found_rules [] small = tt
+  found_rules (r ∷ rs) small =
+      let parts = count-append (rule_item_text (view_rule_item r)) (each rule_item_text (map view_rule_item rs)) in
+      (found_rule r (omega (arith, condition_size text b r, parts, small)), found_rules rs (omega (arith, parts, small)))
+
+-- ---- the block
+
+pub found_block : OffsetsAscend → SpelledTreesHaveBlocks
+found_block offsets_ascend text b small spelled sound =
+    let letters = str_to_ascii_lowercase text in
+    let items = b.rules.rules.items in
+    let few = few_within 0 (length text) (offsets (block_text (view b))) (offsets_ascend text (view b) spelled) in
+    let inputs = found_inputs letters b sound in
+    let outputs = found_outputs letters b sound in
+    let rules = found_items (IsRuleOf letters b) items (found_rules letters b items (omega (arith, count-rules b, few, small))) in
+    (record { inputs = inputs.0; outputs = outputs.0; rules = rules.0 }, record { inputs = inputs.1; outputs = outputs.1; rules = rules.1 })

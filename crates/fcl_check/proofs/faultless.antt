@@ -1,0 +1,5 @@
+pub mod FaultKinds
+pub mod Limits
+pub mod Standing
+pub mod Faultless
+pub mod Present

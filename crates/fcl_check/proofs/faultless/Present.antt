@@ -1,0 +1,199 @@
+-- What a tree without load faults has where the builder looks for it.
+use Rattle.std.proofs.Common.{◌≡◌, ℕ, zero, suc, ◌<◌, Bool, true, false, cond, ◌||◌, List, [], ◌∷◌, get_or, length, map, Option, Some, None, option_and_then, option_map, refl, subst, ap, arith}
+use Rattle.std.specs.Prelude.{IsSome, is_none, ℤ}
+use Rattle.std.specs.List.{cons_option, filter, filter_map, find, flat_map, list_any}
+use Rattle.std.proofs.lemmas.List.Elements.{All-from_recursion}
+use Rattle.std.proofs.lemmas.Slice.Eq.{bytes_eq-Decides}
+use Rattle.fz_num.specs.declared.dec.Dec.{Dec}
+use Rattle.fcl_syntax.specs.declared.tree.Defuzzify.{Defuzzify}
+use Rattle.fcl_syntax.specs.declared.tree.DefuzzyLine.{DefuzzyLine}
+use Rattle.fcl_syntax.specs.declared.tree.DefuzzyLine.TheVariants as defuzzy
+use Rattle.fcl_syntax.specs.declared.tree.Direction.{Direction}
+use Rattle.fcl_syntax.specs.declared.tree.Direction.TheVariants.{Input, Output}
+use Rattle.fcl_syntax.specs.declared.tree.FunctionBlock.{FunctionBlock}
+use Rattle.fcl_syntax.specs.declared.tree.Fuzzify.{Fuzzify}
+use Rattle.fcl_syntax.specs.declared.tree.Num.{Num}
+use Rattle.fcl_syntax.specs.declared.tree.Part.{Part}
+use Rattle.fcl_syntax.specs.declared.tree.Part.TheVariants as part
+use Rattle.fcl_syntax.specs.declared.tree.Point.{Point}
+use Rattle.fcl_syntax.specs.declared.tree.Range.{Range}
+use Rattle.fcl_syntax.specs.declared.tree.Term.{Term}
+use Rattle.fcl_check.specs.declared.inputs.Corners.{Corners}
+use Rattle.fcl_check.specs.Corners.{AreCornersOf}
+use Rattle.fcl_check.specs.Faults.{direction, first_fault, repeated, same_declared, without_section}
+use Rattle.fcl_check.specs.Loaded.{abscissa_of, given_or, input_range, output_hull, output_range, widened}
+use Rattle.fcl_check.specs.Names.{Declared, as_defuzzify, as_fuzzify, declared_in, direction_of, fuzzify_of, defuzzify_of, is_direction, is_named, letters, section_name, section_of, singleton_of, terms_of}
+use Rattle.fcl_check.specs.Places.{at_each, at_if, drop_while, first}
+use Rattle.fcl_check.specs.Sections.{Ends, default_of, defuzzy_range, fallback_number, fuzzy_range, has_one, has_shape, has_zero, hull_of, incomplete, method_line, number_line, points_of, value, without_terms, x_of}
+use Rattle.fcl_check.proofs.faultless.Faultless.{faultless, no_items, no_place, nowhere, sound_part}
+use Rattle.fcl_check.proofs.lists.Pushes.{drop_while-all, none-passes}
+
+pub mapped_there : {X Y : Type 0} (f : X → Y) (o : Option X) (p : Option Y) → option_map f o ≡ p → IsSome p → IsSome o
+mapped_there f None None e h = h
+mapped_there f None (Some y) e h = absurd cc
+mapped_there f (Some x) p e h = refl
+
+-- ---- lines
+
+-- none at what a line has
+pub none_at : {X Y Z : Type 0} (f : Y → List Z) (g : X → Option Y) (xs : List X) (i : ℕ) (d : X) (y : Y) → flat_map f (filter_map g xs) ≡ [] → i < length xs
+    → g (get_or xs i d) ≡ Some y → f y ≡ []
+none_at f g [] i d y none within is = absurd (omega arith)
+none_at f g (x ∷ xs) zero d y none within is = (no_items (f y) _ (rw is at none)).0
+none_at f g (x ∷ xs) (suc i) d y none within is =
+    let rest = elim (g x) as (λ o. flat_map f (cons_option o (filter_map g xs)) ≡ []
+    → flat_map f (filter_map g xs) ≡ []) [ None ↦ λ k. k | Some z ↦ λ k. (no_items (f z) _ k).1 ] none in
+    none_at f g xs i d y rest (omega arith) is
+
+-- ---- a term
+
+-- the points of a term have one of degree 1
+pub one_there : (points : List Point) → has_shape points ≡ true → IsSome (first (filter has_one points))
+one_there points shape =
+    elim (first (filter has_one points)) as (λ o. first (filter has_one points) ≡ o → IsSome o) [
+      | None ↦ λ none.
+          let front : drop_while has_zero points ≡ [] = drop_while-all has_zero points (none-passes has_one points none) in
+          let no : false ≡ true = rw front at shape in
+          cc
+      | Some p ↦ λ e. refl
+    ] refl
+
+abscissa_there : (o : Option Point) → IsSome o → IsSome (abscissa_of o)
+abscissa_there None there = there
+abscissa_there (Some p) there = refl
+
+-- and so the corners have a top
+pub top_there : (points : List Point) (k : Corners) → AreCornersOf points k → has_shape points ≡ true → IsSome k.top
+top_there points k held shape = mapped_there (λ (t : Dec × Dec). t.0.0) k.top (abscissa_of (first (filter has_one points))) held.b
+    (abscissa_there (first (filter has_one points)) (one_there points shape))
+
+-- ---- ranges
+
+given_there : (hull : Option Ends) (r : Option Range) → IsSome hull → IsSome (given_or hull r)
+given_there hull None h = h
+given_there hull (Some r) h = refl
+
+hull_there : (ts : List Term) (at : ℕ) → at_if (is_none (first ts)) at ≡ [] → IsSome (hull_of (map x_of (flat_map points_of ts)))
+hull_there [] at h = absurd cc
+hull_there (t ∷ ts) at h = refl
+
+pub input_range_there : (s : Fuzzify) → without_terms (part.Fuzzify s) ≡ [] → IsSome (input_range s)
+input_range_there s h = given_there _ (fuzzy_range s) (hull_there (terms_of s) s.end h)
+
+numbers_there : (lines : List DefuzzyLine) (at : ℕ) → at_if (is_none (first (filter_map singleton_of lines))) at ≡ []
+    → IsSome (hull_of (map (λ (n : ℤ × ℕ). n.0) (filter_map number_line lines)))
+numbers_there [] at h = absurd cc
+numbers_there (defuzzy.Singleton t ∷ lines) at h = refl
+numbers_there (defuzzy.Accu x ∷ lines) at h = numbers_there lines at h
+numbers_there (defuzzy.Method x ∷ lines) at h = numbers_there lines at h
+numbers_there (defuzzy.Default d ∷ lines) at h =
+    elim (fallback_number d.value) as (λ o. IsSome (hull_of (map (λ (n : ℤ × ℕ). n.0)
+    (cons_option (option_map (λ (n : Num). (value n, d.at)) o) (filter_map number_line lines))))) [
+      | None ↦ numbers_there lines at h
+      | Some n ↦ refl
+    ]
+numbers_there (defuzzy.Range x ∷ lines) at h = numbers_there lines at h
+
+widened_there : (hull : Option Ends) → IsSome hull → IsSome (option_map widened hull)
+widened_there None h = h
+widened_there (Some e) h = refl
+
+pub output_range_there : (s : Defuzzify) → without_terms (part.Defuzzify s) ≡ [] → IsSome (output_range s)
+output_range_there s h = given_there _ (defuzzy_range s) (widened_there (output_hull s) (numbers_there s.lines.items s.end h))
+
+-- ---- DEFAULT
+
+neither : {X : Type 0} (test : Bool) (o : Option X) → (test || is_none o) ≡ false → IsSome o
+neither true o h = cc
+neither false None h = cc
+neither false (Some x) h = refl
+
+pub default_there : (s : Defuzzify) → incomplete (part.Defuzzify s) ≡ [] → IsSome (default_of s)
+default_there s h = neither (is_none (first (filter_map method_line s.lines.items))) (default_of s) (no_place _ s.end h)
+
+-- ---- the sections of declared names
+
+fuzzified : (o : Option Part) → IsSome o → ((s : Defuzzify) → o ≡ Some (part.Defuzzify s) → ⊥) → IsSome (option_and_then as_fuzzify o)
+fuzzified None there other = absurd cc
+fuzzified (Some (part.Fuzzify s)) there other = refl
+fuzzified (Some (part.Defuzzify s)) there other = absurd (other s refl)
+
+defuzzified : (o : Option Part) → IsSome o → ((s : Fuzzify) → o ≡ Some (part.Fuzzify s) → ⊥) → IsSome (option_and_then as_defuzzify o)
+defuzzified None there other = absurd cc
+defuzzified (Some (part.Fuzzify s)) there other = absurd (other s refl)
+defuzzified (Some (part.Defuzzify s)) there other = refl
+
+pub as_side : (side x : Direction) → is_direction side x ≡ true → x ≡ side
+as_side Input Input h = refl
+as_side Input Output h = cc
+as_side Output Input h = cc
+as_side Output Output h = refl
+
+found-passes : {X : Type 0} (test : X → Bool) (xs : List X) (x : X) → find test xs ≡ Some x → test x ≡ true
+found-passes test [] x h = cc
+found-passes test (y ∷ xs) x h =
+    elim (test y) as (λ b. test y ≡ b → cond b (Some y) (find test xs) ≡ Some x → test x ≡ true) [
+      | true ↦ λ e k. let same : y ≡ x = cc in rw (← same) e
+      | false ↦ λ e k. found-passes test xs x k
+    ] refl h
+
+neither_test : (p q : Bool) → (p || q) ≡ false → (p ≡ false) × (q ≡ false)
+neither_test true q h = absurd cc
+neither_test false q h = (refl, h)
+
+-- where no item is the same as one before it, each is the first that is the same as itself
+module _ {X : Type 0} (same : X → X → Bool) (at : X → ℕ) (itself : (x : X) → same x x ≡ true) where
+  abbrev again : List X → X → List ℕ
+  again before x = at_if (list_any (same x) before) (at x)
+
+  not-before : (before xs : List X) (i : ℕ) (d : X) → at_each again before xs ≡ [] → i < length xs → list_any (same (get_or xs i d)) before ≡ false
+  not-before before [] i d h within = absurd (omega arith)
+  not-before before (x ∷ xs) zero d h within = no_place (list_any (same x) before) (at x) (no_items (again before x) _ h).0
+  not-before before (x ∷ xs) (suc i) d h within =
+      (neither_test (same (get_or xs i d) x) _ (not-before (x ∷ before) xs i d (no_items (again before x) _ h).1 (omega arith))).1
+
+  first-same : (before xs : List X) (i : ℕ) (d : X) → at_each again before xs ≡ [] → i < length xs → find (same (get_or xs i d)) xs ≡ Some (get_or xs i d)
+  first-same before [] i d h within = absurd (omega arith)
+  first-same before (x ∷ xs) zero d h within = rw (itself x) refl
+  first-same before (x ∷ xs) (suc i) d h within =
+      let rest = (no_items (again before x) _ h).1 in
+      let other = (neither_test (same (get_or xs i d) x) _ (not-before (x ∷ before) xs i d rest (omega arith))).0 in
+      rw other (first-same (x ∷ before) xs i d rest (omega arith))
+
+module _ (text : List ℕ) (b : FunctionBlock) (sound : first_fault text b ≡ None) (read : List Declared) (i : ℕ) (d : Declared) (same : read ≡ declared_in b)
+    (within : i < length read) where
+  abbrev here : Declared
+  here = get_or read i d
+
+  direction_there : direction text b here.1 ≡ Some here.0
+  direction_there =
+      let once = (no_items (repeated (same_declared text b) (λ (e : Declared). e.1.at) (declared_in b)) _ (faultless text b sound).once).0 in
+      let found = first-same (same_declared text b) (λ (e : Declared). e.1.at) (λ e.
+      (bytes_eq-Decides (letters text e.1) (letters text e.1)).1 refl) [] read i d (rw same once) within in
+      ap (option_map (λ (e : Declared). e.0)) (subst (λ ds. find (same_declared text b here) ds ≡ Some here) same found)
+
+  section_there : IsSome (section_of text b (letters text here.1))
+  section_there =
+      let none = All-from_recursion (λ (e : Declared). without_section text b e ≡ []) read
+      (rw same (nowhere (without_section text b) (declared_in b) (no_items _ _ (faultless text b sound).missing).0)) i d within in
+      elim (section_of text b (letters text here.1)) as (λ o. at_if (is_none o) here.1.at ≡ [] → IsSome o) [ None ↦ λ h. absurd cc | Some p ↦ λ h. refl ] none
+
+  -- the section of a name is one of its own variable
+  same_direction : (p : Part) → section_of text b (letters text here.1) ≡ Some p → direction text b (section_name p) ≡ Some here.0
+  same_direction p found =
+      let ls = letters text here.1 in
+      let equal : ls ≡ letters text (section_name p) =
+      (bytes_eq-Decides ls (letters text (section_name p))).0 (found-passes (λ (q : Part). is_named text ls (section_name q)) b.parts.items p found) in
+      subst (λ (ms : List ℕ). direction_of text b ms ≡ Some here.0) equal direction_there
+
+  pub input_section_there : is_direction Input here.0 ≡ true → IsSome (fuzzify_of text b (letters text here.1))
+  input_section_there is = fuzzified (section_of text b (letters text here.1)) section_there (λ s found.
+      let sided = (sound_part text b (faultless text b sound) (letters text here.1) (part.Defuzzify s) found).sided in
+      let no = rw (same_direction (part.Defuzzify s) found, as_side Input here.0 is) at sided in
+      absurd cc)
+
+  pub output_section_there : is_direction Output here.0 ≡ true → IsSome (defuzzify_of text b (letters text here.1))
+  output_section_there is = defuzzified (section_of text b (letters text here.1)) section_there (λ s found.
+      let sided = (sound_part text b (faultless text b sound) (letters text here.1) (part.Fuzzify s) found).sided in
+      let no = rw (same_direction (part.Fuzzify s) found, as_side Output here.0 is) at sided in
+      absurd cc)

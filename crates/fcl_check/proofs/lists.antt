@@ -1,0 +1,5 @@
+pub mod Pushes
+pub mod Lines
+pub mod OneByOne
+pub mod Elements
+pub mod Counts

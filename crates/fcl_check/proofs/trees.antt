@@ -1,0 +1,5 @@
+pub mod ConditionTrees
+pub mod ConditionSizes
+pub mod RuleSizes
+pub mod WholeConditions
+pub mod ConditionNodes

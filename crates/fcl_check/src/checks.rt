@@ -1,0 +1,249 @@
+//! The kinds of faults over a whole tree, each at its first place.
+
+ghost use Rattle.std.specs.Prelude.{◌≡◌, List, [], map, option_map, slice_get};
+ghost use Rattle.std.specs.List.{flat_map, list_any};
+ghost use Rattle.fcl_syntax.specs.declared.tree.Direction.TheVariants as side;
+ghost use Rattle.fcl_syntax.specs.declared.tree.Rule.{Rule};
+ghost use Rattle.fcl_check.specs.Faults.{is_declared_as, is_over, is_whole, mistaken_in, mistaken_section, missing_part, too_many, unknown, unknown_in, unknown_section, weight_outside, without_section, wrong_side};
+ghost use Rattle.fcl_check.specs.Known.{Knows};
+ghost use Rattle.fcl_check.specs.Names.{Declared, declared_in, is_direction};
+ghost use Rattle.fcl_check.specs.Places.{at_each, at_if, first};
+ghost use Rattle.fcl_check.specs.Sections.{bad_range, falling_points, incomplete, numbers_outside, points_outside, shapeless_terms, terms_over_limit, without_terms};
+ghost use Rattle.fcl_check.specs.Steps.{room_behind};
+ghost use Rattle.fcl_check.specs.declared.operands.RuleNames.{RuleNames};
+
+use crate::names::Names;
+use crate::operands::RuleNames;
+use crate::outputs::is_complete;
+use crate::rules::{
+    mistaken_name, mistaken_section, unknown_name, unknown_section, weight_outside,
+};
+use crate::sections::{
+    bad_range, falling_point, number_outside, point_outside, shapeless_term, term_over_limit,
+    without_terms,
+};
+use crate::walk::first_at;
+use fcl_syntax::{Direction, Name, Part, Rule, Tree};
+
+// How many inputs, outputs and rules a block may have.
+const INPUTS: usize = 8;
+
+const OUTPUTS: usize = 4;
+
+const RULES: usize = 256;
+
+fn unknown_names(names: &Names<'_>, tree: &Tree, rules: &[RuleNames<'_>]) -> Option<u32>
+    requires { Knows tree.now names.now }
+    ensures { result ≡ first (flat_map (unknown_in tree.now.text.items tree.now.block) (map
+        (λ (n : RuleNames). n.rule.now) rules.now)) }
+{
+    first_at(rules, |rule| unknown_name(names, tree, rule))
+}
+
+/// A name of a section or of a rule that is unknown.
+#[tactic(auto, using(crate::proofs::places::Places::firsts))]
+pub fn unknown(names: &Names<'_>, tree: &Tree, rules: &[RuleNames<'_>]) -> Option<u32>
+    requires known { Knows tree.now names.now }
+    requires rules { map (λ (n : RuleNames). n.rule.now) rules.now ≡ tree.now.block.rules.rules.items }
+    ensures { result ≡ first (unknown tree.now.text.items tree.now.block) }
+{
+    match first_at(&tree.block.parts, |part| {
+        unknown_section(names, tree, part)
+    }) {
+        Some(at) => Some(at),
+        None => unknown_names(names, tree, rules),
+    }
+}
+
+/// A section without TERM.
+pub fn no_terms(parts: &[Part]) -> Option<u32>
+    ensures { result ≡ first (flat_map without_terms parts.now) }
+{
+    first_at(parts, without_terms)
+}
+
+// How many more inputs and outputs there may be.
+#[derive(Clone, Copy)]
+struct Room {
+    inputs: usize,
+    outputs: usize,
+}
+
+impl Room {
+    // What is left behind one more of a direction.
+    fn behind(self, direction: Direction) -> Option<Room>
+        ensures { result ≡ room_behind self direction }
+    {
+        match direction {
+            Direction::Input => Some(Room {
+                inputs: self.inputs.checked_sub(1)?,
+                ..self
+            }),
+            Direction::Output => Some(Room {
+                outputs: self.outputs.checked_sub(1)?,
+                ..self
+            }),
+        }
+    }
+}
+
+// The first declared name of a direction past so many of them.
+fn declared_over_limit(declared: &[(Direction, Name)]) -> Option<u32>
+    ensures { result ≡ first (at_each (λ (before : List Declared) (d : Declared). at_if
+        (is_over before d) d.1.at) [] declared.now) }
+{
+    let mut room = Room {
+        inputs: INPUTS,
+        outputs: OUTPUTS,
+    };
+    for (direction, name) in declared {
+        match room.behind(*direction) {
+            Some(left) => room = left,
+            None => return Some(name.at),
+        }
+    }
+    None
+}
+
+fn terms_over_limit(parts: &[Part]) -> Option<u32>
+    ensures { result ≡ first (flat_map terms_over_limit parts.now) }
+{
+    first_at(parts, term_over_limit)
+}
+
+fn rule_over_limit(rules: &[Rule]) -> Option<u32>
+    ensures { result ≡ option_map (λ (r : Rule). r.at) (slice_get rules.now 256) }
+{
+    rules.get(RULES).map(|rule| rule.at)
+}
+
+/// An input, an output, a term or a rule over its limit.
+pub fn too_many(names: &Names<'_>, tree: &Tree) -> Option<u32>
+    requires { Knows tree.now names.now }
+    ensures { result ≡ first (too_many tree.now.text.items tree.now.block) }
+{
+    declared_over_limit(&names.declared)
+        .or_else(|| terms_over_limit(&tree.block.parts))
+        .or_else(|| rule_over_limit(&tree.block.rules.rules))
+}
+
+/// A point that lies below the one before it.
+pub fn points_not_ascending(parts: &[Part]) -> Option<u32>
+    ensures { result ≡ first (flat_map falling_points parts.now) }
+{
+    first_at(parts, falling_point)
+}
+
+/// A term that is no trapezoid.
+pub fn term_shape(parts: &[Part]) -> Option<u32>
+    ensures { result ≡ first (flat_map shapeless_terms parts.now) }
+{
+    first_at(parts, shapeless_term)
+}
+
+/// A point outside its RANGE.
+pub fn term_outside(parts: &[Part]) -> Option<u32>
+    ensures { result ≡ first (flat_map points_outside parts.now) }
+{
+    first_at(parts, point_outside)
+}
+
+/// A range that is empty, or points that are all one.
+pub fn bad_ranges(names: &Names<'_>, tree: &Tree) -> Option<u32>
+    requires { Knows tree.now names.now }
+    ensures { result ≡ first (flat_map (bad_range
+        (is_declared_as tree.now.text.items tree.now.block side.Input)) tree.now.block.parts.items) }
+{
+    first_at(&tree.block.parts, |part| bad_range(names, tree, part))
+}
+
+/// A singleton or DEFAULT outside its RANGE.
+pub fn singletons_outside(parts: &[Part]) -> Option<u32>
+    ensures { result ≡ first (flat_map numbers_outside parts.now) }
+{
+    first_at(parts, number_outside)
+}
+
+/// A weight below 0 or above 1.
+pub fn weights_outside(rules: &[Rule]) -> Option<u32>
+    ensures { result ≡ first (flat_map weight_outside rules.now) }
+{
+    first_at(rules, weight_outside)
+}
+
+fn mistaken_names(names: &Names<'_>, tree: &Tree, rules: &[RuleNames<'_>]) -> Option<u32>
+    requires { Knows tree.now names.now }
+    ensures { result ≡ first (flat_map (mistaken_in tree.now.text.items tree.now.block) (map
+        (λ (n : RuleNames). n.rule.now) rules.now)) }
+{
+    first_at(rules, |rule| mistaken_name(names, tree, rule))
+}
+
+/// An output where an input belongs, or the other way round.
+#[tactic(auto, using(crate::proofs::places::Places::firsts))]
+pub fn wrong_side(names: &Names<'_>, tree: &Tree, rules: &[RuleNames<'_>]) -> Option<u32>
+    requires known { Knows tree.now names.now }
+    requires rules { map (λ (n : RuleNames). n.rule.now) rules.now ≡ tree.now.block.rules.rules.items }
+    ensures { result ≡ first (wrong_side tree.now.text.items tree.now.block) }
+{
+    match first_at(&tree.block.parts, |part| {
+        mistaken_section(names, tree, part)
+    }) {
+        Some(at) => Some(at),
+        None => mistaken_names(names, tree, rules),
+    }
+}
+
+fn without_section(names: &Names<'_>, tree: &Tree) -> Option<u32>
+    requires { Knows tree.now names.now }
+    ensures { result ≡ first (flat_map (without_section tree.now.text.items tree.now.block)
+        (declared_in tree.now.block)) }
+{
+    first_at(&names.declared, |(_, name)| {
+        if names.has_section(tree.letters(*name)) {
+            None
+        } else {
+            Some(name.at)
+        }
+    })
+}
+
+// The END word of an output's section that lacks METHOD or DEFAULT.
+fn incomplete(part: &Part) -> Option<u32>
+    ensures { result ≡ first (incomplete part.now) }
+{
+    match part {
+        Part::Defuzzify(section) if !is_complete(section) => Some(section.end),
+        _ => None,
+    }
+}
+
+fn has_direction(declared: &[(Direction, Name)], wanted: Direction) -> bool
+    ensures { result ≡ list_any (λ (d : Declared). is_direction wanted d.0) declared.now }
+{
+    declared.iter().any(|(direction, _)| *direction == wanted)
+}
+
+fn is_whole(names: &Names<'_>, tree: &Tree) -> bool
+    requires { Knows tree.now names.now }
+    ensures { result ≡ is_whole tree.now.text.items tree.now.block }
+{
+    has_direction(&names.declared, Direction::Input)
+        && has_direction(&names.declared, Direction::Output)
+        && !tree.block.rules.rules.is_empty()
+}
+
+/// A section, a line of one, an input, an output or a rule that is missing.
+#[tactic(auto, using(crate::proofs::places::Places::firsts))]
+pub fn missing_part(names: &Names<'_>, tree: &Tree) -> Option<u32>
+    requires { Knows tree.now names.now }
+    ensures { result ≡ first (missing_part tree.now.text.items tree.now.block) }
+{
+    if let Some(at) = without_section(names, tree) {
+        return Some(at);
+    }
+    match first_at(&tree.block.parts, incomplete) {
+        None if !is_whole(names, tree) => Some(tree.block.end),
+        at => at,
+    }
+}

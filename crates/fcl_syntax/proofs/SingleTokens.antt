@@ -1,0 +1,337 @@
+-- The classes of single tokens.
+use Rattle.std.proofs.Common.{◌≡◌, ℕ, Bool, true, false, eqb, eq-eqb, [], ◌∷◌, Some, None, refl, sym, ap, ◌∙◌}
+use Rattle.std.proofs.lemmas.Bool.{eqb-true}
+use Rattle.fcl_syntax.specs.declared.token.Amount.{Amount}
+use Rattle.fcl_syntax.specs.declared.token.Amount.TheVariants as amount
+use Rattle.fcl_syntax.specs.declared.token.Keyword.{Keyword}
+use Rattle.fcl_syntax.specs.declared.token.Keyword.TheVariants as key
+use Rattle.fcl_syntax.specs.declared.token.Token.{Token}
+use Rattle.fcl_syntax.specs.declared.token.Token.TheVariants as tok
+use Rattle.fcl_syntax.specs.declared.token.Word.{Word}
+use Rattle.fcl_syntax.specs.declared.token.Word.TheVariants as word
+use Rattle.fcl_syntax.specs.declared.tree.Direction.{Direction}
+use Rattle.fcl_syntax.specs.declared.tree.Direction.TheVariants.{Input, Output}
+use Rattle.fcl_syntax.specs.declared.tree.Label.{Label}
+use Rattle.fcl_syntax.specs.declared.tree.Name.{Name}
+use Rattle.fcl_syntax.specs.declared.tree.Number.{Number}
+use Rattle.fcl_syntax.specs.declared.tree.UnitNumber.{UnitNumber}
+use Rattle.fcl_syntax.specs.declared.tree.ZeroNumber.{ZeroNumber}
+use Rattle.fcl_syntax.specs.TokenClasses.{class_of, mem, keyword_class, word_class, name_classes, number_classes, unit_classes, zero_classes, whole_classes, direction_classes, open_classes}
+use Rattle.fcl_syntax.specs.Grammar.{name_token, number_token, unit_amount, unit_token, zero_token, label_token, direction_key}
+use Rattle.fcl_syntax.specs.Reading.{IsBare, bare_of, bare_want, some_unit, at_if, key_want, word_want, open_want, name_want, number_want, unit_want, zero_want, label_want, direction_want}
+use Rattle.fcl_syntax.proofs.Small.{Single}
+use Rattle.fcl_syntax.proofs.Tags.{key_one, word_one}
+
+none_some : {A : Type 0} (x : A) → None ≡ Some x → ⊥
+none_some x e = cc
+
+-- what has the class of a bare token is bare
+bare_is : (y x : Token) → bare_of (class_of y) ≡ Some x → bare_of (class_of y) ≡ Some y
+bare_is tok.Close x e = refl
+bare_is tok.Assign x e = refl
+bare_is tok.To x e = refl
+bare_is tok.Colon x e = refl
+bare_is tok.Semicolon x e = refl
+bare_is tok.Comma x e = refl
+bare_is tok.Plus x e = refl
+bare_is tok.Minus x e = refl
+bare_is (tok.Open at) x e = absurd (none_some x e)
+bare_is (tok.Word at key.FunctionBlock) x e = absurd (none_some x e)
+bare_is (tok.Word at key.EndFunctionBlock) x e = absurd (none_some x e)
+bare_is (tok.Word at key.VarInput) x e = absurd (none_some x e)
+bare_is (tok.Word at key.VarOutput) x e = absurd (none_some x e)
+bare_is (tok.Word at key.EndVar) x e = absurd (none_some x e)
+bare_is (tok.Word at key.Var) x e = absurd (none_some x e)
+bare_is (tok.Word at key.Fuzzify) x e = absurd (none_some x e)
+bare_is (tok.Word at key.EndFuzzify) x e = absurd (none_some x e)
+bare_is (tok.Word at key.Defuzzify) x e = absurd (none_some x e)
+bare_is (tok.Word at key.EndDefuzzify) x e = absurd (none_some x e)
+bare_is (tok.Word at key.Term) x e = absurd (none_some x e)
+bare_is (tok.Word at key.Range) x e = absurd (none_some x e)
+bare_is (tok.Word at key.Accu) x e = absurd (none_some x e)
+bare_is (tok.Word at key.Method) x e = absurd (none_some x e)
+bare_is (tok.Word at key.Default) x e = absurd (none_some x e)
+bare_is (tok.Word at key.Ruleblock) x e = absurd (none_some x e)
+bare_is (tok.Word at key.EndRuleblock) x e = absurd (none_some x e)
+bare_is (tok.Word at key.Rule) x e = absurd (none_some x e)
+bare_is (tok.Word at key.If) x e = absurd (none_some x e)
+bare_is (tok.Word at key.Then) x e = absurd (none_some x e)
+bare_is (tok.Word at key.With) x e = absurd (none_some x e)
+bare_is (tok.Word at key.Is) x e = absurd (none_some x e)
+bare_is (tok.Word at key.Not) x e = absurd (none_some x e)
+bare_is (tok.Word at key.And) x e = absurd (none_some x e)
+bare_is (tok.Word at key.Or) x e = absurd (none_some x e)
+bare_is (tok.Word at key.Act) x e = absurd (none_some x e)
+bare_is (tok.Word at key.Options) x e = absurd (none_some x e)
+bare_is (tok.Word at key.EndOptions) x e = absurd (none_some x e)
+bare_is (tok.Name at word.Real) x e = absurd (none_some x e)
+bare_is (tok.Name at word.Min) x e = absurd (none_some x e)
+bare_is (tok.Name at word.Max) x e = absurd (none_some x e)
+bare_is (tok.Name at word.Prod) x e = absurd (none_some x e)
+bare_is (tok.Name at word.Bdif) x e = absurd (none_some x e)
+bare_is (tok.Name at word.Asum) x e = absurd (none_some x e)
+bare_is (tok.Name at word.Bsum) x e = absurd (none_some x e)
+bare_is (tok.Name at word.Nsum) x e = absurd (none_some x e)
+bare_is (tok.Name at word.Cogs) x e = absurd (none_some x e)
+bare_is (tok.Name at word.Centre) x e = absurd (none_some x e)
+bare_is (tok.Name at word.Extreme) x e = absurd (none_some x e)
+bare_is (tok.Name at word.Nc) x e = absurd (none_some x e)
+bare_is (tok.Name at word.Other) x e = absurd (none_some x e)
+bare_is (tok.Number at amount.Zero true) x e = absurd (none_some x e)
+bare_is (tok.Number at amount.Zero false) x e = absurd (none_some x e)
+bare_is (tok.Number at amount.One true) x e = absurd (none_some x e)
+bare_is (tok.Number at amount.One false) x e = absurd (none_some x e)
+bare_is (tok.Number at (amount.Other n) true) x e = absurd (none_some x e)
+bare_is (tok.Number at (amount.Other n) false) x e = absurd (none_some x e)
+
+pub same_class : (x y : Token) → IsBare x → class_of y ≡ class_of x → x ≡ y
+same_class x y b e =
+    let one : bare_of (class_of y) ≡ Some x = ap bare_of e ∙ b in
+    let two = bare_is y x one in
+    cc
+
+pub some_is : (b : Bool) → some_unit b ≡ Some tt → b ≡ true
+some_is true e = refl
+some_is false e = absurd cc
+
+pub eqb-self : (n : ℕ) → eqb n n ≡ true
+eqb-self n = eq-eqb n n refl
+
+abbrev pub bare : (x : Token) → IsBare x → Single (Unit {0})
+bare x b = record {
+  want = bare_want x;
+  make = λ _. x;
+  among = class_of x ∷ [];
+  example = tt;
+  back = λ y _ e. same_class x y b (eqb-true _ _ (some_is (eqb (class_of y) (class_of x)) e));
+  forth = λ _. rw (eqb-self (class_of x)) refl;
+  classes = λ _. rw (eqb-self (class_of x)) refl;
+}
+
+some_of : {A : Type 0} (a b : A) → Some a ≡ Some b → a ≡ b
+some_of a b e = cc
+
+at_if-is : (b : Bool) (at a : ℕ) → at_if b at ≡ Some a → (b ≡ true) × (at ≡ a)
+at_if-is true at a e = (refl, some_of at a e)
+at_if-is false at a e = absurd cc
+
+-- ---- words of the grammar, and names in their places
+
+pub key_back : (k : Keyword) (x : Token) (a : ℕ) → key_want k x ≡ Some a → tok.Word a k ≡ x
+key_back k (tok.Word at j) a e =
+    let h = at_if-is (eqb (keyword_class j) (keyword_class k)) at a e in
+    let same : j ≡ k = key_one j k (eqb-true _ _ h.0) in
+    ap (λ (n : ℕ). tok.Word n k) (sym h.1) ∙ ap (λ (i : Keyword). tok.Word at i) (sym same)
+key_back k _ a e = absurd cc
+
+pub key_forth : (k : Keyword) (a : ℕ) → key_want k (tok.Word a k) ≡ Some a
+key_forth k a = rw (eqb-self (keyword_class k)) refl
+
+abbrev pub key_single : Keyword → Single ℕ
+key_single k = record {
+  want = key_want k;
+  make = λ n. tok.Word n k;
+  among = keyword_class k ∷ [];
+  example = 0;
+  back = key_back k;
+  forth = key_forth k;
+  classes = λ a. rw (eqb-self (keyword_class k)) refl;
+}
+
+pub word_back : (w : Word) (x : Token) (a : ℕ) → word_want w x ≡ Some a → tok.Name a w ≡ x
+word_back w (tok.Name at v) a e =
+    let h = at_if-is (eqb (word_class v) (word_class w)) at a e in
+    let same : v ≡ w = word_one v w (eqb-true _ _ h.0) in
+    ap (λ (n : ℕ). tok.Name n w) (sym h.1) ∙ ap (λ (i : Word). tok.Name at i) (sym same)
+word_back w _ a e = absurd cc
+
+pub word_forth : (w : Word) (a : ℕ) → word_want w (tok.Name a w) ≡ Some a
+word_forth w a = rw (eqb-self (word_class w)) refl
+
+abbrev pub word_single : Word → Single ℕ
+word_single w = record {
+  want = word_want w;
+  make = λ n. tok.Name n w;
+  among = word_class w ∷ [];
+  example = 0;
+  back = word_back w;
+  forth = word_forth w;
+  classes = λ a. rw (eqb-self (word_class w)) refl;
+}
+
+-- ---- the others
+
+pub open_back : (x : Token) (a : ℕ) → open_want x ≡ Some a → tok.Open a ≡ x
+open_back (tok.Open at) a e = ap (λ (n : ℕ). tok.Open n) (sym (some_of at a e))
+open_back _ a e = absurd cc
+
+abbrev pub open_single : Single ℕ
+open_single = record { want = open_want; make = λ n. tok.Open n; among = open_classes; example = 0; back = open_back; forth = λ a. refl; classes = λ a. refl }
+
+pub name_back : (x : Token) (a : Name) → name_want x ≡ Some a → name_token a ≡ x
+name_back (tok.Name at w) a e = let is : record { at = at; word = w } ≡ a = cc in ap name_token (sym is)
+name_back _ a e = absurd cc
+
+pub name_among : (a : Name) → mem (class_of (name_token a)) name_classes ≡ true
+name_among a = go a.at a.word
+  where
+    go : (at : ℕ) (w : Word) → mem (class_of (tok.Name at w)) name_classes ≡ true
+    go at word.Real = refl
+    go at word.Min = refl
+    go at word.Max = refl
+    go at word.Prod = refl
+    go at word.Bdif = refl
+    go at word.Asum = refl
+    go at word.Bsum = refl
+    go at word.Nsum = refl
+    go at word.Cogs = refl
+    go at word.Centre = refl
+    go at word.Extreme = refl
+    go at word.Nc = refl
+    go at word.Other = refl
+
+abbrev pub name_single : Single Name
+name_single = record {
+  want = name_want;
+  make = name_token;
+  among = name_classes;
+  example = record { at = 0; word = word.Other };
+  back = name_back;
+  forth = λ a. refl;
+  classes = name_among;
+}
+
+pub number_back : (x : Token) (a : Number) → number_want x ≡ Some a → number_token a ≡ x
+number_back (tok.Number at n w) a e = let is : record { at = at; amount = n; whole = w } ≡ a = cc in ap number_token (sym is)
+number_back _ a e = absurd cc
+
+pub number_among : (a : Number) → mem (class_of (number_token a)) number_classes ≡ true
+number_among a = go a.at a.amount a.whole
+  where
+    go : (at : ℕ) (n : Amount) (w : Bool) → mem (class_of (tok.Number at n w)) number_classes ≡ true
+    go at amount.Zero true = refl
+    go at amount.One true = refl
+    go at (amount.Other n) true = refl
+    go at amount.Zero false = refl
+    go at amount.One false = refl
+    go at (amount.Other n) false = refl
+
+abbrev pub number_single : Single Number
+number_single = record {
+  want = number_want;
+  make = number_token;
+  among = number_classes;
+  example = record { at = 0; amount = amount.Zero; whole = true };
+  back = number_back;
+  forth = λ a. refl;
+  classes = number_among;
+}
+
+pub unit_back : (x : Token) (a : UnitNumber) → unit_want x ≡ Some a → unit_token a ≡ x
+unit_back (tok.Number at amount.Zero w) a e = let is : record { at = at; is_one = false; whole = w } ≡ a = cc in ap unit_token (sym is)
+unit_back (tok.Number at amount.One w) a e = let is : record { at = at; is_one = true; whole = w } ≡ a = cc in ap unit_token (sym is)
+unit_back (tok.Number at (amount.Other n) w) a e = absurd cc
+unit_back _ a e = absurd cc
+
+pub unit_among : (a : UnitNumber) → mem (class_of (unit_token a)) unit_classes ≡ true
+unit_among a = go a.at a.is_one a.whole
+  where
+    go : (at : ℕ) (b w : Bool) → mem (class_of (tok.Number at (unit_amount b) w)) unit_classes ≡ true
+    go at true true = refl
+    go at true false = refl
+    go at false true = refl
+    go at false false = refl
+
+pub unit_forth : (a : UnitNumber) → unit_want (unit_token a) ≡ Some a
+unit_forth a = go a.at a.is_one a.whole
+  where
+    go : (at : ℕ) (b w : Bool) → unit_want (tok.Number at (unit_amount b) w) ≡ Some (record { at = at; is_one = b; whole = w })
+    go at true w = refl
+    go at false w = refl
+
+abbrev pub unit_single : Single UnitNumber
+unit_single = record {
+  want = unit_want;
+  make = unit_token;
+  among = unit_classes;
+  example = record { at = 0; is_one = false; whole = true };
+  back = unit_back;
+  forth = unit_forth;
+  classes = unit_among;
+}
+
+pub zero_back : (x : Token) (a : ZeroNumber) → zero_want x ≡ Some a → zero_token a ≡ x
+zero_back (tok.Number at amount.Zero w) a e = let is : record { at = at; whole = w } ≡ a = cc in ap zero_token (sym is)
+zero_back (tok.Number at amount.One w) a e = absurd cc
+zero_back (tok.Number at (amount.Other n) w) a e = absurd cc
+zero_back _ a e = absurd cc
+
+pub zero_among : (a : ZeroNumber) → mem (class_of (zero_token a)) zero_classes ≡ true
+zero_among a = go a.at a.whole
+  where
+    go : (at : ℕ) (w : Bool) → mem (class_of (tok.Number at amount.Zero w)) zero_classes ≡ true
+    go at true = refl
+    go at false = refl
+
+abbrev pub zero_single : Single ZeroNumber
+zero_single = record {
+  want = zero_want;
+  make = zero_token;
+  among = zero_classes;
+  example = record { at = 0; whole = true };
+  back = zero_back;
+  forth = λ a. refl;
+  classes = zero_among;
+}
+
+pub label_back : (x : Token) (a : Label) → label_want x ≡ Some a → label_token a ≡ x
+label_back (tok.Number at n true) a e = let is : record { at = at; amount = n } ≡ a = cc in ap label_token (sym is)
+label_back (tok.Number at n false) a e = absurd cc
+label_back _ a e = absurd cc
+
+pub label_among : (a : Label) → mem (class_of (label_token a)) whole_classes ≡ true
+label_among a = go a.at a.amount
+  where
+    go : (at : ℕ) (n : Amount) → mem (class_of (tok.Number at n true)) whole_classes ≡ true
+    go at amount.Zero = refl
+    go at amount.One = refl
+    go at (amount.Other n) = refl
+
+abbrev pub label_single : Single Label
+label_single = record {
+  want = label_want;
+  make = label_token;
+  among = whole_classes;
+  example = record { at = 0; amount = amount.Zero };
+  back = label_back;
+  forth = λ a. refl;
+  classes = label_among;
+}
+
+abbrev pub direction_token : ℕ × Direction → Token
+direction_token a = tok.Word a.0 (direction_key a.1)
+
+pub direction_back : (x : Token) (a : ℕ × Direction) → direction_want x ≡ Some a → direction_token a ≡ x
+direction_back (tok.Word at key.VarInput) a e = ap direction_token (sym (some_of (at, Input) a e))
+direction_back (tok.Word at key.VarOutput) a e = ap direction_token (sym (some_of (at, Output) a e))
+direction_back (tok.Word at _) a e = absurd cc
+direction_back _ a e = absurd cc
+
+pub direction_forth : (a : ℕ × Direction) → direction_want (direction_token a) ≡ Some a
+direction_forth (at, Input) = refl
+direction_forth (at, Output) = refl
+
+pub direction_among : (a : ℕ × Direction) → mem (class_of (direction_token a)) direction_classes ≡ true
+direction_among (at, Input) = refl
+direction_among (at, Output) = refl
+
+abbrev pub direction_single : Single (ℕ × Direction)
+direction_single = record {
+  want = direction_want;
+  make = direction_token;
+  among = direction_classes;
+  example = (0, Input);
+  back = direction_back;
+  forth = direction_forth;
+  classes = direction_among;
+}
