@@ -564,24 +564,29 @@ fn call(
     Ok(())
 }
 
-/// A command over a text, given in parts, and another that are the only files.
+/// The parts of a text as one.
+fn joined(alloc: Global, parts: &[&str]) -> Result<Vec<u8>, AllocError> {
+    let mut text = Vec::new(alloc);
+    for part in parts {
+        text.extend_from_slice(part.as_bytes())?;
+    }
+    Ok(text)
+}
+
+/// A command over two texts, given in parts, that are the only files.
 fn call_of(
     rt: &impl Abort,
     alloc: Global,
     line: &[&str],
     fcl: &[&str],
-    other: &str,
+    other: &[&str],
     code: u8,
     out_text: &str,
     err_text: &str,
 ) -> Result<(), Fail> {
-    let mut text = Vec::new(alloc);
-    for part in fcl {
-        text.extend_from_slice(part.as_bytes())?;
-    }
     let files = vec![in alloc;
-        file(alloc, "n.fcl", text)?,
-        file(alloc, "n.csv", other.as_bytes().to_vec(alloc)?)?,
+        file(alloc, "n.fcl", joined(alloc, fcl)?)?,
+        file(alloc, "n.csv", joined(alloc, other)?)?,
     ]?;
     let never = List::new(Vec::new(alloc));
     let mut shelf = MemShelf::new(alloc, List::new(files), never, List::new(Vec::new(alloc)))?;
@@ -591,7 +596,7 @@ fn call_of(
 #[test]
 fn answers(rt: HostRuntime) -> Result<(), Fail> {
     for (fcl, trace, text) in ANSWERS {
-        call_of(&rt, rt.alloc(), &RUN, fcl, trace, 0, text, "")?;
+        call_of(&rt, rt.alloc(), &RUN, fcl, &[trace], 0, text, "")?;
     }
     Ok(())
 }
@@ -599,7 +604,7 @@ fn answers(rt: HostRuntime) -> Result<(), Fail> {
 #[test]
 fn refused_texts(rt: HostRuntime) -> Result<(), Fail> {
     for (fcl, text) in REFUSED {
-        call_of(&rt, rt.alloc(), &RUN, fcl, "64", 4, "", text)?;
+        call_of(&rt, rt.alloc(), &RUN, fcl, &["64"], 4, "", text)?;
     }
     Ok(())
 }
@@ -608,12 +613,8 @@ fn refused_texts(rt: HostRuntime) -> Result<(), Fail> {
 fn certificates(rt: HostRuntime) -> Result<(), Fail> {
     let alloc = rt.alloc();
     for (command, fcl, cert, code, out, err) in CERTS {
-        let mut text = String::new(alloc);
-        for part in cert {
-            text.push_str(part)?;
-        }
         let line = ["fuzz12", command, "n.fcl", "n.csv"];
-        call_of(&rt, alloc, &line, fcl, text.as_str(), code, out, err)?;
+        call_of(&rt, alloc, &line, fcl, cert, code, out, err)?;
     }
     Ok(())
 }
@@ -638,14 +639,14 @@ fn a_leaf_for_each_byte(rt: HostRuntime) -> Result<(), Fail> {
     let line = ["fuzz12", "check", "n.fcl", "n.csv"];
     let whole = each_byte(alloc, 255, 256)?;
     let lines = "error 1 11796\ninstructions 28\n";
-    call_of(&rt, alloc, &line, &[BLOCK], whole.as_str(), 0, lines, "")?;
+    call_of(&rt, alloc, &line, &[BLOCK], &[whole.as_str()], 0, lines, "")?;
     let cut = each_byte(alloc, 0, 255)?;
     call_of(
         &rt,
         alloc,
         &line,
         &[BLOCK],
-        cut.as_str(),
+        &[cut.as_str()],
         6,
         "",
         "cert: early\n",
@@ -662,7 +663,7 @@ fn a_leaf_too_many(rt: HostRuntime) -> Result<(), Fail> {
     text.push_str("leaf 0 0\n")?;
     let line = ["fuzz12", "check", "n.fcl", "n.csv"];
     let err = "cert: line 8195: too many leaves\n";
-    call_of(&rt, alloc, &line, &[BLOCK], text.as_str(), 6, "", err)
+    call_of(&rt, alloc, &line, &[BLOCK], &[text.as_str()], 6, "", err)
 }
 
 /// A command of two words over a shelf with its file and an empty file OUT.
@@ -778,5 +779,5 @@ fn a_block_at_every_limit(rt: HostRuntime) -> Result<(), Fail> {
     let alloc = rt.alloc();
     let text = full_text(alloc)?;
     let parts = [text.as_str()];
-    call_of(&rt, alloc, &RUN, &parts, FULL_SAMPLES, 0, FULL_LINES, "")
+    call_of(&rt, alloc, &RUN, &parts, &[FULL_SAMPLES], 0, FULL_LINES, "")
 }

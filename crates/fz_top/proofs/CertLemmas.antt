@@ -104,11 +104,12 @@ as_refusal width block text (refusal.Check f) h = let is = h (λ e. let z : ⊥ 
     check_is : HasRefusal block (parts width) (version width) text (refusal.Check f) → f ≢ check.Memory
     check_is (of_cert c g spelled fault) = check_carries block (parts width) c g fault
 
-pub as_status : (width : Width) (block : Block) (text : List ℕ) (answer : Result (Vec ℕ) TheRefusal) (result : Result (Vec ℕ) Status)
+pub as_status : (width w : Width) (block : Block) (text : List ℕ) (answer : Result (Vec ℕ) TheRefusal) (result : Result (Vec ℕ) Status) → w ≡ width
     → IfErr result (λ s. (r : TheRefusal) × (answer ≡ Err r) × (s ≡ status_of r))
     → IfErr answer (λ r. r ≢ refusal.Memory → HasRefusal block (parts width) (version width) text r)
-    → IfErr result (IsRefusal (record never { cert = HasCertFault width block text }))
-as_status width block text answer (Ok es) same h = tt
-as_status width block text answer (Err s) (r, is, told) h =
-    subst (λ x. IsRefusal (record never { cert = HasCertFault width block text }) x) (sym told)
-    (as_refusal width block text r (subst (λ a. IfErr a (λ q. q ≢ refusal.Memory → HasRefusal block (parts width) (version width) text q)) is h))
+    → IfErr result (IsRefusal (record never { cert = HasCertFault w block text }))
+as_status width w block text answer (Ok es) at same h = tt
+as_status width w block text answer (Err s) at (r, is, told) h =
+    subst (λ v. IsRefusal (record never { cert = HasCertFault v block text }) s) (sym at)
+    (subst (λ x. IsRefusal (record never { cert = HasCertFault width block text }) x) (sym told)
+    (as_refusal width block text r (subst (λ a. IfErr a (λ q. q ≢ refusal.Memory → HasRefusal block (parts width) (version width) text q)) is h)))
