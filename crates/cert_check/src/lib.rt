@@ -17,7 +17,8 @@ mod walk;
 pub use checker::{CheckFault, check, check16};
 pub use laws::{
     accepted_answers_are_near, check_faults_are_one, errors_are_determined, examples_are_accepted,
-    faulty_certs_fail, one_leaf_has_the_bytes, same_blocks_answer_alike, text_answers_are_one, wide_is_accepted,
+    faulty_certs_fail, one_leaf_has_the_bytes, same_blocks_answer_alike, text_answers_are_one,
+    wide_is_accepted,
 };
 pub use text::{CertRefusal, check_text, check_text16};
 
