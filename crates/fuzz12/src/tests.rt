@@ -65,86 +65,196 @@ END_RULEBLOCK
 END_FUNCTION_BLOCK
 ";
 
-// The parts of a text, a trace, and the lines of its run.
-const ANSWERS: [(&[&str], &str, &str); 10] = [
-    (
-        &[BLOCK],
-        "0\n256\n",
-        "instructions 28
-sample 1 bytes 0 answers 0 instructions 28
-sample 2 bytes 255 answers 255 instructions 28
+/// What `run` is given beside the text, and what it answers.
+struct Ran<'a> {
+    command: &'a str,
+    fcl: &'a [&'a str],
+    cert: &'a [&'a str],
+    trace: &'a str,
+    plan: &'a str,
+    code: u8,
+    out: &'a str,
+    err: &'a str,
+}
+
+/// The heater's run with no plan.
+const HEATER: Ran<'static> = Ran {
+    command: "run",
+    fcl: &[BLOCK],
+    cert: &["FZC 1\nclaim 19609\n", HALVES],
+    trace: "64\n",
+    plan: "",
+    code: 0,
+    out: LINES,
+    err: "",
+};
+
+// The frames are worked out from the registers before and after the instructions at their places, and the last
+// lines from the bytes that JSR and the interrupts leave on the stack, and those that they write.
+const RUNS: [Ran<'static>; 20] = [
+    HEATER,
+    Ran {
+        trace: "0\n256\n",
+        out: "error 1 19609
+instructions 28
+sample 1 bytes 0 answers 0 instructions 28 steps 36 resumed 0 frames 0
+sample 2 bytes 255 answers 255 instructions 28 steps 36 resumed 0 frames 0
+left 208
 ",
-    ),
-    (
-        &[BLOCK],
-        "127.9999\n64.9\n",
-        "instructions 28
-sample 1 bytes 127 answers 127 instructions 28
-sample 2 bytes 64 answers 64 instructions 28
+        ..HEATER
+    },
+    Ran {
+        trace: "127.9999\n64.9\n",
+        out: "error 1 19609
+instructions 28
+sample 1 bytes 127 answers 127 instructions 28 steps 36 resumed 0 frames 0
+sample 2 bytes 64 answers 64 instructions 28 steps 36 resumed 0 frames 0
+left 208
 ",
-    ),
-    (&[BLOCK], "", FIRST),
-    (
-        &[
+        ..HEATER
+    },
+    Ran {
+        trace: "",
+        out: "error 1 19609\ninstructions 28\nleft 0\n",
+        ..HEATER
+    },
+    Ran {
+        trace: "256.0001",
+        code: 7,
+        out: "",
+        err: "trace: row 1: input 1 out of range\n",
+        ..HEATER
+    },
+    Ran {
+        cert: &["FZC 1\nclaim 20000\n", HALVES],
+        ..HEATER
+    },
+    Ran {
+        cert: &["FZC 1\nclaim 19608\n", HALVES],
+        trace: "256.0001",
+        code: 6,
+        out: "",
+        err: "cert: output 1 claims 19608, computed 19609\n",
+        ..HEATER
+    },
+    Ran {
+        plan: "1,17\n",
+        out: "error 1 19609
+instructions 28
+sample 1 bytes 64 answers 64 instructions 28 steps 36 resumed 1 frames 1
+frame 1 17 C031 1FF5 9
+left 1070
+",
+        ..HEATER
+    },
+    Ran {
+        plan: "1,26\n1,26\n",
+        out: "error 1 19609
+instructions 28
+sample 1 bytes 64 answers 64 instructions 28 steps 36 resumed 1 frames 2
+frame 1 26 C03C 1FEF 15
+frame 1 26 C03C 1FEF 9
+left 1139
+",
+        ..HEATER
+    },
+    Ran {
+        plan: "1,25\n",
+        out: "error 1 19609
+instructions 28
+sample 1 bytes 64 answers 64 instructions 28 steps 36 resumed 0 frames 1
+frame 1 25 C03B 1FF5 9
+left 946
+",
+        ..HEATER
+    },
+    Ran {
+        plan: "1,14\n",
+        out: "error 1 19609
+instructions 28
+sample 1 bytes 64 answers 64 instructions 28 steps 36 resumed 0 frames 1
+frame 1 14 C031 1FF5 9
+left 1137
+",
+        ..HEATER
+    },
+    Ran {
+        plan: "1,36\n",
+        ..HEATER
+    },
+    Ran {
+        plan: "1,0,1800,FF,1FDF,01\n",
+        out: "error 1 19609
+instructions 28
+sample 1 bytes 64 answers 64 instructions 28 steps 36 resumed 0 frames 1
+frame 1 0 C008 1FF7 9
+left 660
+",
+        ..HEATER
+    },
+    Ran {
+        plan: "1,0,17FF,00\n",
+        code: 7,
+        out: "",
+        err: "plan: row 1: not free 17FF\n",
+        ..HEATER
+    },
+    Ran {
+        plan: "1,5\n1,4\n",
+        code: 7,
+        out: "",
+        err: "plan: row 2: not ascending\n",
+        ..HEATER
+    },
+    Ran {
+        trace: "256.0001",
+        plan: "0,1\n",
+        code: 7,
+        out: "",
+        err: "trace: row 1: input 1 out of range\n",
+        ..HEATER
+    },
+    Ran {
+        command: "run16",
+        cert: &["FZC 2\nclaim 15702\n", HALVES],
+        out: "error 1 15702
+instructions 31
+sample 1 bytes 64 answers 16384 instructions 31 steps 39 resumed 0 frames 0
+left 208
+",
+        ..HEATER
+    },
+    Ran {
+        fcl: &[
             FRONT, OPENED, NOTS, NOTS, NOTS, NOTS, NOTS, NOTS, NOTS, NOTS, COLD, SECOND, BACK,
         ],
-        "64\n",
-        LINES,
-    ),
-    (
-        &[FRONT, "50", MIDDLE, BACK],
-        "256",
-        "instructions 28\nsample 1 bytes 255 answers 128 instructions 26\n",
-    ),
-    (
-        &[FRONT, "0", MIDDLE, " WITH 0.5", SECOND, BACK],
-        "64",
-        "instructions 29\nsample 1 bytes 64 answers 102 instructions 29\n",
-    ),
-    (
-        &[FRONT, "0", MIDDLE, " WITH 0", SECOND, BACK],
-        "64",
-        "instructions 29\nsample 1 bytes 64 answers 255 instructions 29\n",
-    ),
-    (
-        &[FRONT, "0", MIDDLE, " WITH 0", SECOND, BACK],
-        "0",
-        "instructions 29\nsample 1 bytes 0 answers 0 instructions 27\n",
-    ),
-    (
-        &[LATCH],
-        "0\n128\n200\n128\n",
-        "instructions 30
-sample 1 bytes 0 answers 255 instructions 30
-sample 2 bytes 128 answers 255 instructions 27
-sample 3 bytes 200 answers 0 instructions 30
-sample 4 bytes 128 answers 0 instructions 27
+        ..HEATER
+    },
+    Ran {
+        fcl: &HALF_WEIGHT,
+        cert: &["FZC 1\nclaim 51417\nsplit 1 128\nleaf 1 63\nleaf 2 127\n"],
+        out: "error 1 51417
+instructions 29
+sample 1 bytes 64 answers 102 instructions 29 steps 37 resumed 0 frames 0
+left 208
 ",
-    ),
-    (
-        &[LATCH],
-        "128",
-        "instructions 30\nsample 1 bytes 128 answers 0 instructions 27\n",
-    ),
+        ..HEATER
+    },
+    Ran {
+        fcl: &[LATCH],
+        cert: &["FZC 1\nclaim 3922\n", NODES_OF_THE_LATCH],
+        trace: "0\n128\n200\n128\n",
+        out: "error 1 3922
+instructions 30
+sample 1 bytes 0 answers 255 instructions 30 steps 38 resumed 0 frames 0
+sample 2 bytes 128 answers 255 instructions 27 steps 35 resumed 0 frames 0
+sample 3 bytes 200 answers 0 instructions 30 steps 38 resumed 0 frames 0
+sample 4 bytes 128 answers 0 instructions 27 steps 35 resumed 0 frames 0
+left 208
+",
+        ..HEATER
+    },
 ];
-
-const FULL_VARIABLES: &str = "FUNCTION_BLOCK full
-VAR_INPUT x1, x2, x3, x4, x5, x6, x7, x8 : REAL; END_VAR
-VAR_OUTPUT y1, y2, y3, y4 : REAL; END_VAR
-";
-
-const FULL_SAMPLES: &str = "112,240,240,240,240,240,240,240
-0,240,240,240,240,240,240,240
-240,16,16,16,16,16,16,16
-";
-
-// The bound is 13 + 8 + 120 + 3*120 + 60 + 10*2 + 9*2 + 1, and where nothing fires an output with a
-// number as its DEFAULT takes 2 instructions less, and one with NC 3.
-const FULL_LINES: &str = "instructions 600
-sample 1 bytes 112 240 240 240 240 240 240 240 answers 119 136 103 112 instructions 600
-sample 2 bytes 0 240 240 240 240 240 240 240 answers 3 4 103 112 instructions 590
-sample 3 bytes 240 16 16 16 16 16 16 16 answers 255 0 239 240 instructions 600
-";
 
 // The parts of a text that is refused, and the line on err.
 const REFUSED: [(&[&str], &str); 7] = [
@@ -184,6 +294,20 @@ S123C02001791102791103CED800CD110086FF10FD183ACED200CD1102C602183C8E000050
 S110C040270511B7642002C6007B10103DD7
 S10BD00000FF000100FF010024
 S105D20000FF29
+S10BD80000FE02FE01FE03FF1D
+S105FFF2C01534
+S105FFFEC0003D
+S5030008F4
+S903C0003C
+";
+
+// The same with another byte at `$D201`.
+const RECORDS_OF_ANOTHER: &str = "S0070000465A3132F5
+S123C000CF200079100010EFB6100027FB16C01679100020F30BCED000CD1100B6100101E6
+S123C02001791102791103CED800CD110086FF10FD183ACED200CD1102C602183C8E000050
+S110C040270511B7642002C6007B10103DD7
+S10BD00000FF000100FF010024
+S105D20000FE2A
 S10BD80000FE02FE01FE03FF1D
 S105FFF2C01534
 S105FFFEC0003D
@@ -240,8 +364,6 @@ const IMAGES: [(&str, &str, &[u32], u8, &str, &str, Option<&str>); 6] = [
         Some(""),
     ),
 ];
-
-const RUN: [&str; 5] = ["fuzz12", "run", "n.fcl", "n.csv", "00"];
 
 // The lines of the heater's certificate behind its first two.
 const HALVES: &str = "split 1 128\nleaf 1 127\nleaf 2 127\n";
@@ -385,9 +507,13 @@ const CERTS: [(&str, &[&str], &[&str], u8, &str, &str); 17] = [
 
 const CERTIFIED: &str = "error 1 19609\ninstructions 28\n";
 
-const FIRST: &str = "instructions 28\n";
+const FIRST: &str = "error 1 19609\n";
 
-const LINES: &str = "instructions 28\nsample 1 bytes 64 answers 64 instructions 28\n";
+const LINES: &str = "error 1 19609
+instructions 28
+sample 1 bytes 64 answers 64 instructions 28 steps 36 resumed 0 frames 0
+left 208
+";
 
 const USAGE: &str = "usage: fuzz12 compile, certify, check, run, asm, exec or gen\n";
 
@@ -420,7 +546,18 @@ fn shelf(alloc: Global, failing: &[u32]) -> Result<MemShelf, Fail> {
     long.resize(1048577, b'0')?;
     let files = vec![in alloc;
         file(alloc, "a.fcl", BLOCK.as_bytes().to_vec(alloc)?)?,
+        file(alloc, "a.s19", RECORDS.as_bytes().to_vec(alloc)?)?,
+        file(
+            alloc,
+            "a.cert",
+            joined(alloc, &["FZC 1\nclaim 19609\n", HALVES])?
+        )?,
         file(alloc, "a.csv", b"64\n".to_vec(alloc)?)?,
+        file(
+            alloc,
+            "other.s19",
+            RECORDS_OF_ANOTHER.as_bytes().to_vec(alloc)?
+        )?,
         file(alloc, "empty", Vec::new(alloc))?,
         file(alloc, "over.csv", b"256.0001".to_vec(alloc)?)?,
         file(alloc, "long", long)?,
@@ -448,7 +585,7 @@ fn case(
     let mut shelf = shelf(alloc, faults.reads)?;
     let out_puts = List::new(faults.puts.to_vec(alloc)?);
     let err_puts = List::new(faults.err_puts.to_vec(alloc)?);
-    let mut out = MemSink::new(alloc, 100, out_puts, faults.most)?;
+    let mut out = MemSink::new(alloc, 200, out_puts, faults.most)?;
     let mut err = MemSink::new(alloc, 100, err_puts, 100)?;
     let status = fuzz12(alloc, words.as_slice(), &mut shelf, &mut out, &mut err);
     assert_eq!(rt; err.bytes(), err_text.as_bytes());
@@ -458,47 +595,52 @@ fn case(
     Ok(())
 }
 
+/// The words of the heater's run with these flags.
+fn run_words<'a>(flags: &'a str) -> [&'a str; 8] {
+    [
+        "fuzz12", "run", "a.fcl", "a.s19", "a.cert", "a.csv", "empty", flags,
+    ]
+}
+
 #[test]
 fn words(rt: HostRuntime) -> Result<(), Fail> {
     let alloc = rt.alloc();
     for flags in ["00", "FF", "fF", "7e"] {
-        let line = ["fuzz12", "run", "a.fcl", "a.csv", flags];
-        case(&rt, alloc, &line, &NONE, 2, 0, LINES, "")?;
+        case(&rt, alloc, &run_words(flags), &NONE, 5, 0, LINES, "")?;
     }
     for flags in ["", "0", "000", "0g", "+1", "-1"] {
-        let line = ["fuzz12", "run", "a.fcl", "a.csv", flags];
-        case(&rt, alloc, &line, &NONE, 0, 1, "", USAGE)?;
+        case(&rt, alloc, &run_words(flags), &NONE, 0, 1, "", USAGE)?;
     }
     case(&rt, alloc, &[], &NONE, 0, 1, "", USAGE)?;
     for word in ["", "run", "help", "--help", "-h", "gen"] {
         case(&rt, alloc, &["fuzz12", word], &NONE, 0, 1, "", USAGE)?;
     }
-    let hyphen = ["fuzz12", "run", "-a", "a.csv", "00"];
+    let mut hyphen = run_words("00");
+    hyphen[2] = "-a";
     case(&rt, alloc, &hyphen, &NONE, 0, 1, "", USAGE)?;
-    let more = ["fuzz12", "run", "a.fcl", "a.csv", "00", "00"];
-    case(&rt, alloc, &more, &NONE, 0, 1, "", USAGE)?;
+    let few = ["fuzz12", "run", "a.fcl", "a.csv", "00"];
+    case(&rt, alloc, &few, &NONE, 0, 1, "", USAGE)?;
     Ok(())
 }
 
 #[test]
 fn files(rt: HostRuntime) -> Result<(), Fail> {
     let alloc = rt.alloc();
-    for (fcl, csv, reads, code, text) in [
-        ("b.fcl", "a.csv", 1, 2, "read fault: b.fcl\n"),
-        ("a.fcl", "", 2, 2, "read fault: \n"),
-        ("long", "a.csv", 1, 10, "too long: long\n"),
-        ("a.fcl", "long", 2, 10, "too long: long\n"),
-        ("empty", "b.csv", 2, 2, "read fault: b.csv\n"),
-        ("empty", "a.csv", 2, 4, "fcl: at 0: expected\n"),
-        (
-            "a.fcl",
-            "over.csv",
-            2,
-            7,
-            "trace: row 1: input 1 out of range\n",
-        ),
+    for (place, name, reads, code, text) in [
+        (2usize, "b.fcl", 1, 2, "read fault: b.fcl\n"),
+        (2, "long", 1, 10, "too long: long\n"),
+        (2, "empty", 5, 4, "fcl: at 0: expected\n"),
+        (3, "b.s19", 2, 2, "read fault: b.s19\n"),
+        (3, "empty", 5, 5, "image: no end\n"),
+        (3, "other.s19", 5, 5, "image: D201: FE, compile gives FF\n"),
+        (4, "", 3, 2, "read fault: \n"),
+        (4, "empty", 5, 6, "cert: early\n"),
+        (5, "long", 4, 10, "too long: long\n"),
+        (6, "b.plan", 5, 2, "read fault: b.plan\n"),
+        (6, "a.csv", 5, 7, "plan: row 1: bad row\n"),
     ] {
-        let line = ["fuzz12", "run", fcl, csv, "00"];
+        let mut line = run_words("00");
+        line[place] = name;
         case(&rt, alloc, &line, &NONE, reads, code, "", text)?;
     }
     Ok(())
@@ -507,8 +649,14 @@ fn files(rt: HostRuntime) -> Result<(), Fail> {
 #[test]
 fn failures(rt: HostRuntime) -> Result<(), Fail> {
     let alloc = rt.alloc();
-    let line = ["fuzz12", "run", "a.fcl", "a.csv", "00"];
-    for (read, text) in [(1, "read fault: a.fcl\n"), (2, "read fault: a.csv\n")] {
+    let line = run_words("00");
+    for (read, text) in [
+        (1, "read fault: a.fcl\n"),
+        (2, "read fault: a.s19\n"),
+        (3, "read fault: a.cert\n"),
+        (4, "read fault: a.csv\n"),
+        (5, "read fault: empty\n"),
+    ] {
         let faults = Faults {
             reads: &[read],
             ..NONE
@@ -520,16 +668,16 @@ fn failures(rt: HostRuntime) -> Result<(), Fail> {
             puts: &[put],
             ..NONE
         };
-        case(&rt, alloc, &line, &faults, 2, 3, text, "write fault\n")?;
+        case(&rt, alloc, &line, &faults, 5, 3, text, "write fault\n")?;
     }
     let slow = Faults { most: 1, ..NONE };
-    case(&rt, alloc, &line, &slow, 2, 0, LINES, "")?;
+    case(&rt, alloc, &line, &slow, 5, 0, LINES, "")?;
     let cut = Faults {
         most: 1,
         puts: &[4],
         ..NONE
     };
-    case(&rt, alloc, &line, &cut, 2, 3, "ins", "write fault\n")?;
+    case(&rt, alloc, &line, &cut, 5, 3, "err", "write fault\n")?;
     for (put, text) in [(1, ""), (2, "read fault: ")] {
         let faults = Faults {
             reads: &[1],
@@ -593,10 +741,57 @@ fn call_of(
     call(rt, alloc, line, &mut shelf, code, out_text, err_text)
 }
 
+/// A run over its five files, the image being the one that `compile` writes before it.
+fn run_of(rt: &impl Abort, alloc: Global, ran: &Ran) -> Result<(), Fail> {
+    let wide = ran.command == "run16";
+    let mut image = file(alloc, "n.s19", Vec::new(alloc))?;
+    image.room = 2000;
+    let files = vec![in alloc;
+        file(alloc, "n.fcl", joined(alloc, ran.fcl)?)?,
+        image,
+        file(alloc, "n.cert", joined(alloc, ran.cert)?)?,
+        file(alloc, "n.csv", ran.trace.as_bytes().to_vec(alloc)?)?,
+        file(alloc, "n.plan", ran.plan.as_bytes().to_vec(alloc)?)?,
+    ]?;
+    let never = List::new(Vec::new(alloc));
+    let mut shelf = MemShelf::new(alloc, List::new(files), never, List::new(Vec::new(alloc)))?;
+    let compile = if wide { "compile16" } else { "compile" };
+    compiles(rt, alloc, compile, &mut shelf)?;
+    let line = [
+        "fuzz12",
+        ran.command,
+        "n.fcl",
+        "n.s19",
+        "n.cert",
+        "n.csv",
+        "n.plan",
+        "00",
+    ];
+    call(rt, alloc, &line, &mut shelf, ran.code, ran.out, ran.err)
+}
+
+/// Writes the records of the shelf's text.
+fn compiles(
+    rt: &impl Abort,
+    alloc: Global,
+    command: &str,
+    shelf: &mut MemShelf,
+) -> Result<(), Fail> {
+    let mut words = Vec::new(alloc);
+    for word in ["fuzz12", command, "n.fcl", "n.s19"] {
+        words.push(String::from_str(alloc, word)?)?;
+    }
+    let mut out = MemSink::new(alloc, 1000, List::new(Vec::new(alloc)), 1000)?;
+    let mut err = MemSink::new(alloc, 1000, List::new(Vec::new(alloc)), 1000)?;
+    let status = fuzz12(alloc, words.as_slice(), shelf, &mut out, &mut err);
+    assert_eq!(rt; status.code(), 0);
+    Ok(())
+}
+
 #[test]
-fn answers(rt: HostRuntime) -> Result<(), Fail> {
-    for (fcl, trace, text) in ANSWERS {
-        call_of(&rt, rt.alloc(), &RUN, fcl, &[trace], 0, text, "")?;
+fn runs(rt: HostRuntime) -> Result<(), Fail> {
+    for ran in &RUNS {
+        run_of(&rt, rt.alloc(), ran)?;
     }
     Ok(())
 }
@@ -604,7 +799,8 @@ fn answers(rt: HostRuntime) -> Result<(), Fail> {
 #[test]
 fn refused_texts(rt: HostRuntime) -> Result<(), Fail> {
     for (fcl, text) in REFUSED {
-        call_of(&rt, rt.alloc(), &RUN, fcl, &["64"], 4, "", text)?;
+        let line = ["fuzz12", "check", "n.fcl", "n.csv"];
+        call_of(&rt, rt.alloc(), &line, fcl, &["64"], 4, "", text)?;
     }
     Ok(())
 }
@@ -710,74 +906,4 @@ fn images(rt: HostRuntime) -> Result<(), Fail> {
         )?;
     }
     Ok(())
-}
-
-/// The singleton of term `k` of output `o` of a full block.
-fn singleton(o: u32, k: u32) -> u32
-    requires { (1 ≤ k) × (k ≤ 15) }
-{
-    match o {
-        1 => 17 * k,
-        2 => 255 - 17 * k,
-        3 => 17 * k - 16,
-        _ => 16 * k,
-    }
-}
-
-/// Input `i`: its term `k` is wholly true at 16*k alone, and false from the points of the terms
-/// beside it on.
-fn push_input(alloc: Global, text: &mut String, i: u32) -> Result<(), AllocError> {
-    text.push_str(&format!(in alloc; "FUZZIFY x{i} RANGE := (0 .. 256);\n")?)?;
-    for k in 1..16u32 {
-        let (first, mid, last) = (16 * k - 16, 16 * k, 16 * k + 16);
-        text.push_str(&format!(in alloc; "TERM t{k} := ({first}, 0) ({mid}, 1) ({last}, 0);\n")?)?;
-    }
-    text.push_str("END_FUZZIFY\n")
-}
-
-fn push_output(alloc: Global, text: &mut String, o: u32, default: &str) -> Result<(), AllocError> {
-    text.push_str(&format!(in alloc; "DEFUZZIFY y{o} RANGE := (0 .. 255);\n")?)?;
-    for k in 1..16u32 {
-        let value = singleton(o, k);
-        text.push_str(&format!(in alloc; "TERM s{k} := {value};\n")?)?;
-    }
-    text.push_str(&format!(in alloc; "METHOD : COGS; DEFAULT := {default}; END_DEFUZZIFY\n")?)
-}
-
-/// Rules that use the complement of each term, and spread into two conjunctions each.
-fn push_rules(alloc: Global, text: &mut String) -> Result<(), AllocError> {
-    for r in 0..256u32 {
-        let (k, i) = (r % 15 + 1, r % 120 / 15 + 1);
-        let cond = format!(in alloc; "x1 IS t{k} AND (x{i} IS NOT t{k} OR x2 IS NOT t{k})")?;
-        let concl = format!(in alloc; "y1 IS s{k}, y2 IS s{k}, y3 IS s{k}, y4 IS s{k}")?;
-        text.push_str(&format!(in alloc; "RULE {r} : IF {cond} THEN {concl};\n")?)?;
-    }
-    Ok(())
-}
-
-/// A block at every limit: 8 inputs of 15 terms, 4 outputs of 15 terms, and 256 rules that spread
-/// into 512 conjunctions.
-fn full_text(alloc: Global) -> Result<String, AllocError> {
-    let mut text = String::from_str(alloc, FULL_VARIABLES)?;
-    for i in 1..9u32 {
-        push_input(alloc, &mut text, i)?;
-    }
-    push_output(alloc, &mut text, 1, "3")?;
-    push_output(alloc, &mut text, 2, "4")?;
-    push_output(alloc, &mut text, 3, "NC")?;
-    push_output(alloc, &mut text, 4, "NC")?;
-    text.push_str("RULEBLOCK r\n")?;
-    push_rules(alloc, &mut text)?;
-    text.push_str("END_RULEBLOCK\nEND_FUNCTION_BLOCK\n")?;
-    Ok(text)
-}
-
-// Where x1 is at the point of its term k and no other input is at that of theirs, only the rules of
-// term k fire, wholly: each output answers its singleton k. Where x1 is at 0 none fires.
-#[test]
-fn a_block_at_every_limit(rt: HostRuntime) -> Result<(), Fail> {
-    let alloc = rt.alloc();
-    let text = full_text(alloc)?;
-    let parts = [text.as_str()];
-    call_of(&rt, alloc, &RUN, &parts, &[FULL_SAMPLES], 0, FULL_LINES, "")
 }

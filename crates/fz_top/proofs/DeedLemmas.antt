@@ -1,5 +1,5 @@
 -- Contents that make a deed make no fault.
-use Rattle.std.proofs.Common.{◌≡◌, ◌≢◌, ℕ, List, [], ◌∷◌, refl, subst, ap}
+use Rattle.std.proofs.Common.{◌≡◌, ◌≢◌, ℕ, List, [], ◌∷◌, refl, sym, ◌∙◌, subst, ap}
 use Rattle.std.specs.Prelude.{map, Err}
 use Rattle.std.specs.List.{AllZip}
 use Rattle.fuzzy_meaning.specs.declared.block.Block.{Block}
@@ -27,7 +27,11 @@ use Rattle.srecord.specs.Laws.{ImagesAreOne, ImagesHaveNoFault}
 use Rattle.srecord.specs.Texts.{GivesImage}
 use Rattle.fz_top.specs.Commands.{Makes}
 use Rattle.fz_top.specs.Exec.{Ends, ExecGives, exec_refusals}
-use Rattle.fz_top.specs.Images.{RefusesRecords}
+use Rattle.cpu12_asm.specs.Bytes.{byte_at}
+use Rattle.codegen.specs.Alike.{FirmwaresAreOne}
+use Rattle.codegen.specs.declared.firmware.Firmware.{Firmware}
+use Rattle.interrupt_plan.specs.OneReading.{SpelledPlansHaveNoFault}
+use Rattle.fz_top.specs.Images.{RefusesImage, RefusesRecords}
 use Rattle.codegen.specs.declared.width.Width.{Width}
 use Rattle.cert_check.specs.Laws.{TextAnswersAreOne}
 use Rattle.cert_check.specs.SameBlocks.{SameBlocksAnswerAlike}
@@ -35,8 +39,10 @@ use Rattle.fz_top.specs.Asm.{AsmGives, source_refusals}
 use Rattle.fz_top.specs.Certs.{AcceptsCert}
 use Rattle.fz_top.specs.Check.{check_in, check_refusals}
 use Rattle.fz_top.proofs.CertLemmas.{cert_apart}
-use Rattle.fz_top.specs.Firmwares.{RefusesText, text_refusals}
-use Rattle.fz_top.specs.Run.{RefusesTrace, run_refusals}
+use Rattle.fz_top.specs.Firmwares.{GivesFirmware, RefusesText, text_refusals}
+use Rattle.fz_top.specs.CertifiedRun.{Files}
+use Rattle.fz_top.specs.Run.{RunGives, run_refusals}
+use Rattle.fz_top.specs.declared.run.Run.{Run}
 use Rattle.fz_top.specs.Deeds.{Deed}
 use Rattle.fz_top.specs.Refusals.{CarriesNoMemory}
 use Rattle.fz_top.specs.Runs.{DeedsHaveNoFault, Runs, World}
@@ -66,7 +72,8 @@ says_same p q alike = record { inputs = alike.inputs; outputs = alike.outputs; r
 module _ (first : FirstFaultsAreOne) (load : LoadFaultsAreOne) (alike : SpelledBlocksAreAlike)
     (layouts : LayoutsAreOne) (limits : LimitsHaveNoFault) (traces : SpelledTracesHaveNoFault)
     (images : ImagesAreOne) (good : ImagesHaveNoFault) (loads : ImagesLoadAlike) (ends : RunsEndOnce)
-    (certs : TextAnswersAreOne) (blocks : SameBlocksAnswerAlike) where
+    (certs : TextAnswersAreOne) (blocks : SameBlocksAnswerAlike)
+    (firmwares : FirmwaresAreOne) (plans : SpelledPlansHaveNoFault) where
   -- a text that gives firmware is not refused
   text_apart : (text : List ℕ) (block : Block) → SpellsBlock text block → IsWithinLimits block
       → (f : FclFault) → CarriesNoMemory (status.Fcl f) → RefusesText text f → ⊥
@@ -75,13 +82,6 @@ module _ (first : FirstFaultsAreOne) (load : LoadFaultsAreOne) (alike : SpelledB
   text_apart text block spelled within (fcl.Layout f) carries refuses =
       let same = says_same refuses.0 block (alike text refuses.0 block refuses.1 spelled) in
       limits block f within carries (layouts.fault refuses.0 block f same refuses.2)
-
-  -- a trace of one block's inputs has no fault by those of another that the text spells
-  trace_apart : (text samples : List ℕ) (block : Block) (values : List Sample) → SpellsBlock text block
-      → Spells block.inputs samples values → (f : TraceFault) → f ≢ trace.Memory → RefusesTrace text samples f → ⊥
-  trace_apart text samples block values spelled spells f carries refuses =
-      let same : block.inputs ≡ refuses.0.inputs = (alike text block refuses.0 spelled refuses.2.spelled).inputs in
-      traces refuses.0.inputs samples values f (subst (λ (is : List Input). Spells is samples values) same spells) refuses.3
 
   text_impossible : (text : List ℕ) (block : Block) → SpellsBlock text block → IsWithinLimits block
       → AreImpossible (text_refusals text)
@@ -96,18 +96,42 @@ module _ (first : FirstFaultsAreOne) (load : LoadFaultsAreOne) (alike : SpelledB
     budget = λ steps is. is;
   }
 
-  run_impossible : (text samples : List ℕ) (block : Block) (values : List Sample) → SpellsBlock text block
-      → IsWithinLimits block → Spells block.inputs samples values → AreImpossible (run_refusals text samples)
-  run_impossible text samples block values spelled within spells = record {
-    fcl = text_apart text block spelled within;
-    image = λ f no is. is;
-    cert = λ f no is. is;
-    trace = trace_apart text samples block values spelled spells;
-    plan = λ f no is. is;
-    asm = λ f no is. is;
-    trap = λ pc byte is. is;
-    budget = λ steps is. is;
-  }
+  -- an image that is one firmware's is not refused as another's of the same text
+  image_apart : (width : Width) (text image : List ℕ) (block : Block) (firmware : Firmware) → GivesFirmware width text block firmware
+      → GivesImage image firmware.image → (f : ImageFault) → CarriesNoMemory (status.Image f)
+      → (other : Block) (others : Firmware) → GivesFirmware width text other others → RefusesImage image others.image f → ⊥
+  image_apart width text image block firmware gives is f carries other others gives_other refuses = go f refuses
+    where
+      one : ((at : ℕ) → byte_at firmware.image.bytes at ≡ byte_at others.image.bytes at) × (firmware.image.start ≡ others.image.start)
+      one = firmwares block other firmware others (says_same block other (alike text block other gives.spelled gives_other.spelled))
+          (gives.wide ∙ sym gives_other.wide) gives.compiled gives_other.compiled
+
+      go : (g : ImageFault) → RefusesImage image others.image g → ⊥
+      go (fault.Records g) why = good image firmware.image g is why
+      go (fault.Byte at got wanted) why =
+          why.2.differs ((images image why.0 firmware.image why.1 is).1 at ∙ one.0 at)
+      go (fault.Start got wanted) why =
+          why.3 (why.4 ∙ (images image why.0 firmware.image why.1 is).0 ∙ one.1 ∙ sym why.5)
+
+  run_impossible : (run : Run) (files : Files) (deed : Deed) → RunGives run files deed → AreImpossible (run_refusals run files)
+  run_impossible run files deed gives =
+      let c = gives.certified in
+      let alike_to : (other : Block) → SpellsBlock files.fcl other → AreAlike other c.block =
+      λ other spelled. alike files.fcl other c.block spelled c.compiled.spelled in
+      record {
+        fcl = text_apart files.fcl c.block c.compiled.spelled c.compiled.limits;
+        image = λ f no refuses. image_apart run.width files.fcl files.image c.block c.firmware c.compiled c.image f no
+            refuses.0 refuses.1 refuses.2 refuses.3;
+        cert = λ f no refuses. cert_apart certs blocks run.width files.cert gives.report.errors c.block refuses.0
+            c.compiled.spelled.valid (alike_to refuses.0 refuses.2.spelled) c.accepted f refuses.3.1;
+        trace = λ f no refuses. traces refuses.0.inputs files.trace c.samples f
+            (subst (λ (is : List Input). Spells is files.trace c.samples) (sym (alike_to refuses.0 refuses.2.spelled).inputs) c.in_range)
+            refuses.3.3;
+        plan = λ f no refuses. plans files.plan c.plan f c.good_plan refuses.3.5;
+        asm = λ f no is. is;
+        trap = λ pc byte is. is;
+        budget = λ steps is. is;
+      }
 
   check_impossible : (width : Width) (text cert errors : List ℕ) (block : Block) → SpellsBlock text block → IsWithinLimits block
       → AcceptsCert width block cert errors → AreImpossible (check_refusals (check_in width) text cert)
@@ -168,8 +192,7 @@ module _ (first : FirstFaultsAreOne) (load : LoadFaultsAreOne) (alike : SpelledB
   apart (command.Compile compile) contents deed s makes fault =
       none_refuses _ (text_impossible _ makes.block makes.gives.spelled makes.gives.limits) s fault
   apart (command.Exec exec) contents deed s makes fault = none_refuses _ (exec_impossible exec _ deed makes) s fault
-  apart (command.Run run) contents deed s makes fault =
-      none_refuses _ (run_impossible _ _ makes.block makes.values makes.gives.spelled makes.gives.limits makes.trace) s fault
+  apart (command.Run run) contents deed s makes fault = none_refuses _ (run_impossible run _ deed makes) s fault
 
 -- ---- a fault that is made is no want of memory
 

@@ -7,3 +7,4 @@ pub mod DeedLemmas
 pub mod StatusLemmas
 pub mod StepsLemmas
 pub mod CertLemmas
+pub mod SumLemmas

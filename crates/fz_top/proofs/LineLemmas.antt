@@ -1,15 +1,15 @@
 -- Lines that are written number by number.
-use Rattle.std.proofs.Common.{refl, ◌≡◌, ◌<◌, ◌+◌, ℕ, List, [], ◌∷◌, ◌++◌, length, take, get_or, sym, ◌∙◌, ap, arith, append_assoc, add-one}
-use Rattle.std.specs.Prelude.{codes, decimal, map, String, string_bytes}
+use Rattle.std.proofs.Common.{refl, ◌≡◌, ◌<◌, ◌+◌, ℕ, List, [], ◌∷◌, ◌++◌, length, take, get_or, sym, ◌∙◌, ap, ap₂, arith, append_assoc, add-one}
+use Rattle.std.specs.Prelude.{codes, decimal, flat_map, map, String, string_bytes}
 use Rattle.std.specs.declared.alloc.Global.{Global}
 use Rattle.std.proofs.Math.Seq.{take-suc}
-use Rattle.std.proofs.lemmas.List.{append-nil, length-map, length-take-le, map-append}
+use Rattle.std.proofs.lemmas.List.{append-nil, length-take-le}
 use Rattle.fz_shelf.specs.Lines.{text_of}
-use Rattle.fz_run.specs.Rows.{row_seen}
-use Rattle.fz_top.specs.Check.{error_line, error_lines}
-use Rattle.fz_top.specs.Lines.{newline}
-use Rattle.fz_top.specs.Run.{Answered, answered, numbers, run_lines, sample_line, sample_lines, shown}
+use Rattle.fz_run.specs.Rows.{boundary_seen, frames_seen, row_seen}
 use Rattle.fz_run.specs.declared.rows.Row.{Row}
+use Rattle.fz_top.specs.Check.{check_lines}
+use Rattle.fz_top.specs.Lines.{counted, error_line, line, newline}
+use Rattle.fz_top.specs.Run.{frame_line, numbers, report_of, row_lines, run_lines, sample_line}
 
 pub numbers-snoc : (ns : List ℕ) (n : ℕ) → numbers (ns ++ n ∷ []) ≡ numbers ns ++ (codes " " ++ decimal n)
 numbers-snoc [] n = ap (λ (l : List ℕ). codes " " ++ l) (append-nil (decimal n))
@@ -24,70 +24,125 @@ number_more before now next ns i d lt so_far step =
     ∙ append_assoc before (numbers (take i ns)) (codes " " ++ decimal (get_or ns i d))
     ∙ ap (λ (l : List ℕ). before ++ l) (sym (numbers-snoc (take i ns) (get_or ns i d)) ∙ ap numbers (sym more))
 
-module _ (k n : ℕ) (bs qs : List ℕ) where
-  pub sample_text : (t0 t1 t2 t3 t4 t5 : List ℕ) → t0 ≡ codes "sample " → t1 ≡ t0 ++ (decimal k ++ codes " bytes") → t2 ≡ t1 ++ numbers bs → t3 ≡ t2 ++ codes " answers" → t4 ≡ t3 ++ numbers qs
-      → t5 ≡ t4 ++ (codes " instructions " ++ (decimal n ++ newline)) → t5 ≡ sample_line k (record { bytes = bs; answers = qs; instructions = n })
-  sample_text t0 t1 t2 t3 t4 t5 e0 e1 e2 e3 e4 e5 =
-      let x1 = decimal k ++ codes " bytes" in
-      let x5 = codes " instructions " ++ (decimal n ++ newline) in
-      let d1 : t1 ≡ codes "sample " ++ x1 = e1 ∙ ap (λ (l : List ℕ). l ++ x1) e0 in
-      let d2 : t2 ≡ (codes "sample " ++ x1) ++ numbers bs = e2 ∙ ap (λ (l : List ℕ). l ++ numbers bs) d1 in
-      let d3 : t3 ≡ ((codes "sample " ++ x1) ++ numbers bs) ++ codes " answers" = e3 ∙ ap (λ (l : List ℕ). l ++ codes " answers") d2 in
-      let d4 : t4 ≡ (((codes "sample " ++ x1) ++ numbers bs) ++ codes " answers") ++ numbers qs = e4 ∙ ap (λ (l : List ℕ). l ++ numbers qs) d3 in
-      e5 ∙ ap (λ (l : List ℕ). l ++ x5) d4 ∙ simp append_assoc
-
 pub text_of-snoc : (lines : List (String Global)) (l : String Global) → text_of (lines ++ l ∷ []) ≡ text_of lines ++ string_bytes l
 text_of-snoc [] l = append-nil (string_bytes l)
 text_of-snoc (x ∷ lines) l = ap (λ (t : List ℕ). string_bytes x ++ t) (text_of-snoc lines l) ∙ sym (append_assoc (string_bytes x) (text_of lines) (string_bytes l))
 
-sample_lines-snoc : (k : ℕ) (rs : List Answered) (r : Answered) → sample_lines k (rs ++ r ∷ []) ≡ sample_lines k rs ++ sample_line (k + length rs) r
-sample_lines-snoc k [] r = append-nil (sample_line k r) ∙ ap (λ (n : ℕ). sample_line n r) (omega arith)
-sample_lines-snoc k (x ∷ rs) r =
-    let at : k + 1 + length rs ≡ k + length (x ∷ rs) = omega arith in
-    ap (λ (t : List ℕ). sample_line k x ++ t) (sample_lines-snoc (k + 1) rs r ∙ ap (λ (n : ℕ). sample_lines (k + 1) rs ++ sample_line n r) at)
-    ∙ sym (append_assoc (sample_line k x) (sample_lines (k + 1) rs) (sample_line (k + length (x ∷ rs)) r))
+-- the text so far with one line more
+pub line_more : (before items_text line_text next_text : List ℕ) (items next : List (String Global)) (line : String Global)
+    → text_of items ≡ before ++ items_text → next ≡ items ++ line ∷ [] → string_bytes line ≡ line_text
+    → next_text ≡ items_text ++ line_text → text_of next ≡ before ++ next_text
+line_more before items_text line_text next_text items next line so_far added is whole =
+    ap text_of added ∙ text_of-snoc items line ∙ ap₂ (λ (x y : List ℕ). x ++ y) so_far is
+    ∙ append_assoc before items_text line_text ∙ ap (λ (l : List ℕ). before ++ l) (sym whole)
 
--- the lines so far with one sample more
-pub sample_more : (head : List ℕ) (items next : List (String Global)) (line : String Global) (rows : List Row) (i : ℕ) (d : Row) → i < length rows
-    → text_of items ≡ head ++ sample_lines 1 (map answered (take i rows)) → next ≡ items ++ line ∷ [] → string_bytes line ≡ sample_line (i + 1) (answered (get_or rows i d))
-    → text_of next ≡ head ++ sample_lines 1 (map answered (take (i + 1) rows))
-sample_more head items next line rows i d lt so_far added is =
-    let r = answered (get_or rows i d) in
-    let more : take (i + 1) rows ≡ take i rows ++ get_or rows i d ∷ [] = rw add-one (take-suc rows i d lt) in
-    let all : map answered (take (i + 1) rows) ≡ map answered (take i rows) ++ r ∷ [] = ap (map answered) more ∙ map-append answered (take i rows) (get_or rows i d ∷ []) in
-    let size : 1 + length (map answered (take i rows)) ≡ i + 1 = rw length-map (omega (arith, length-take-le i rows (omega arith))) in
-    ap text_of added ∙ text_of-snoc items line ∙ ap (λ (t : List ℕ). t ++ string_bytes line) so_far
-    ∙ append_assoc head (sample_lines 1 (map answered (take i rows))) (string_bytes line)
-    ∙ ap (λ (t : List ℕ). head ++ t) (ap (λ (t : List ℕ). sample_lines 1 (map answered (take i rows)) ++ t) (is ∙ ap (λ (n : ℕ). sample_line n r) (sym size))
-    ∙ sym (sample_lines-snoc 1 (map answered (take i rows)) r) ∙ ap (sample_lines 1) (sym all))
+-- ---- counted items, one more
 
--- ---- the rows of a run as they are shown
+counted-snoc : {X : Type 0} (f : ℕ → X → List ℕ) (k : ℕ) (xs : List X) (x : X)
+    → counted f k (xs ++ x ∷ []) ≡ counted f k xs ++ f (k + length xs) x
+counted-snoc f k [] x = append-nil (f k x) ∙ ap (λ (n : ℕ). f n x) (omega arith)
+counted-snoc f k (y ∷ xs) x =
+    let at : k + 1 + length xs ≡ k + length (y ∷ xs) = omega arith in
+    ap (λ (t : List ℕ). f k y ++ t) (counted-snoc f (k + 1) xs x ∙ ap (λ (n : ℕ). counted f (k + 1) xs ++ f n x) at)
+    ∙ sym (append_assoc (f k y) (counted f (k + 1) xs) (f (k + length (y ∷ xs)) x))
 
-map_answered : (rows : List Row) → map answered rows ≡ map shown (map row_seen rows)
-map_answered [] = refl
-map_answered (r ∷ rows) = ap (λ (l : List Answered). answered r ∷ l) (map_answered rows)
+pub counted_more : {X : Type 0} (f : ℕ → X → List ℕ) (xs : List X) (i : ℕ) (d : X) → i < length xs
+    → counted f 1 (take (i + 1) xs) ≡ counted f 1 (take i xs) ++ f (i + 1) (get_or xs i d)
+counted_more f xs i d lt =
+    let more : take (i + 1) xs ≡ take i xs ++ get_or xs i d ∷ [] = rw add-one (take-suc xs i d lt) in
+    let size : 1 + length (take i xs) ≡ i + 1 = omega (arith, length-take-le i xs (omega arith)) in
+    ap (counted f 1) more ∙ counted-snoc f 1 (take i xs) (get_or xs i d)
+    ∙ ap (λ (n : ℕ). counted f 1 (take i xs) ++ f n (get_or xs i d)) size
 
-pub run_text : (bound bound' : ℕ) (rows shows : List Row) (text : List ℕ) → text ≡ run_lines bound (map answered shows) → bound ≡ bound' → shows ≡ rows → text ≡ run_lines bound' (map shown (map row_seen rows))
-run_text bound bound' rows shows text written bound_is shows_are =
-    written ∙ ap (λ (b : ℕ). run_lines b (map answered shows)) bound_is ∙ ap (λ (rs : List Row). run_lines bound' (map answered rs)) shows_are ∙ ap (run_lines bound') (map_answered rows)
+pub counted-map : {X Y : Type 0} (f : ℕ → Y → List ℕ) (g : X → Y) (k : ℕ) (xs : List X)
+    → counted f k (map g xs) ≡ counted (λ n x. f n (g x)) k xs
+counted-map f g k [] = refl
+counted-map f g k (x ∷ xs) = ap (λ (t : List ℕ). f k (g x) ++ t) (counted-map f g (k + 1) xs)
 
--- ---- the errors of outputs
+pub flat-map : {X Y : Type 0} (f : Y → List ℕ) (g : X → Y) (xs : List X) → flat_map f (map g xs) ≡ flat_map (λ x. f (g x)) xs
+flat-map f g [] = refl
+flat-map f g (x ∷ xs) = ap (λ (t : List ℕ). f (g x) ++ t) (flat-map f g xs)
 
-error_lines-snoc : (o : ℕ) (es : List ℕ) (e : ℕ) → error_lines o (es ++ e ∷ []) ≡ error_lines o es ++ error_line (o + length es) e
-error_lines-snoc o [] e = append-nil (error_line o e) ∙ ap (λ (n : ℕ). error_line n e) (omega arith)
-error_lines-snoc o (x ∷ es) e =
-    let at : o + 1 + length es ≡ o + length (x ∷ es) = omega arith in
-    ap (λ (t : List ℕ). error_line o x ++ t) (error_lines-snoc (o + 1) es e ∙ ap (λ (n : ℕ). error_lines (o + 1) es ++ error_line n e) at)
-    ∙ sym (append_assoc (error_line o x) (error_lines (o + 1) es) (error_line (o + length (x ∷ es)) e))
+-- a text so far with more behind it
+pub text_more : (before items_text more_text next_text now next : List ℕ) → now ≡ before ++ items_text
+    → next ≡ now ++ more_text → next_text ≡ items_text ++ more_text → next ≡ before ++ next_text
+text_more before items_text more_text next_text now next so_far step whole =
+    step ∙ ap (λ (l : List ℕ). l ++ more_text) so_far ∙ append_assoc before items_text more_text
+    ∙ ap (λ (l : List ℕ). before ++ l) (sym whole)
 
--- the lines so far with one output more
-pub error_more : (items next : List (String Global)) (line : String Global) (es : List ℕ) (i d : ℕ) → i < length es
-    → text_of items ≡ error_lines 1 (take i es) → next ≡ items ++ line ∷ [] → string_bytes line ≡ error_line (i + 1) (get_or es i d)
-    → text_of next ≡ error_lines 1 (take (i + 1) es)
-error_more items next line es i d lt so_far added is =
-    let e = get_or es i d in
-    let more : take (i + 1) es ≡ take i es ++ e ∷ [] = rw add-one (take-suc es i d lt) in
-    let size : 1 + length (take i es) ≡ i + 1 = omega (arith, length-take-le i es (omega arith)) in
-    ap text_of added ∙ text_of-snoc items line ∙ ap (λ (t : List ℕ). t ++ string_bytes line) so_far
-    ∙ ap (λ (t : List ℕ). error_lines 1 (take i es) ++ t) (is ∙ ap (λ (n : ℕ). error_line n e) (sym size))
-    ∙ sym (error_lines-snoc 1 (take i es) e) ∙ ap (error_lines 1) (sym more)
+-- ---- the lines of a check
+
+pub check_written : (none errors lines : List (String Global)) (bound_line : String Global) (es : List ℕ) (bound : ℕ)
+    → none ≡ [] → text_of errors ≡ text_of none ++ counted error_line 1 es
+    → lines ≡ errors ++ bound_line ∷ [] → string_bytes bound_line ≡ line (codes "instructions ") bound
+    → text_of lines ≡ check_lines es bound
+check_written none errors lines bound_line es bound start e0 e1 b =
+    ap text_of e1 ∙ text_of-snoc errors bound_line
+    ∙ ap₂ (λ (x y : List ℕ). x ++ y) (e0 ∙ ap (λ (x : List (String Global)). text_of x ++ counted error_line 1 es) start) b
+
+-- ---- the lines of a run
+
+module _ (k instructions steps resumed frames : ℕ) (bytes answers : List ℕ) where
+  abbrev pub sample_text : List ℕ
+  sample_text = codes "sample " ++ (decimal k ++ (codes " bytes" ++ (numbers bytes
+      ++ (codes " answers" ++ (numbers answers ++ (codes " instructions " ++ (decimal instructions
+      ++ (codes " steps " ++ (decimal steps ++ (codes " resumed " ++ (decimal resumed
+      ++ (codes " frames " ++ (decimal frames ++ newline)))))))))))))
+
+  pub sample_written : (t0 t1 t2 t3 t4 t5 t6 t7 t8 t9 : List ℕ) → t0 ≡ codes "sample " → t1 ≡ t0 ++ (decimal k ++ codes " bytes")
+      → t2 ≡ t1 ++ numbers bytes → t3 ≡ t2 ++ codes " answers" → t4 ≡ t3 ++ numbers answers
+      → t5 ≡ t4 ++ (codes " instructions " ++ decimal instructions) → t6 ≡ t5 ++ (codes " steps " ++ decimal steps)
+      → t7 ≡ t6 ++ (codes " resumed " ++ decimal resumed) → t8 ≡ t7 ++ (codes " frames " ++ decimal frames)
+      → t9 ≡ t8 ++ newline → t9 ≡ sample_text
+  sample_written t0 t1 t2 t3 t4 t5 t6 t7 t8 t9 e0 e1 e2 e3 e4 e5 e6 e7 e8 e9 =
+      let x1 = decimal k ++ codes " bytes" in
+      let s8 : t9 ≡ t7 ++ (codes " frames " ++ (decimal frames ++ newline)) =
+      e9 ∙ ap (λ (l : List ℕ). l ++ newline) e8 ∙ append_assoc t7 (codes " frames " ++ decimal frames) newline in
+      let s7 : t9 ≡ t6 ++ (codes " resumed " ++ (decimal resumed ++ (codes " frames " ++ (decimal frames ++ newline)))) =
+      s8 ∙ next t6 (codes " resumed ") (decimal resumed) (codes " frames " ++ (decimal frames ++ newline)) t7 e7 in
+      let r6 = codes " resumed " ++ (decimal resumed ++ (codes " frames " ++ (decimal frames ++ newline))) in
+      let s6 : t9 ≡ t5 ++ (codes " steps " ++ (decimal steps ++ r6)) = s7 ∙ next t5 (codes " steps ") (decimal steps) r6 t6 e6 in
+      let r5 = codes " steps " ++ (decimal steps ++ r6) in
+      let s5 : t9 ≡ t4 ++ (codes " instructions " ++ (decimal instructions ++ r5)) =
+      s6 ∙ next t4 (codes " instructions ") (decimal instructions) r5 t5 e5 in
+      let r4 = codes " instructions " ++ (decimal instructions ++ r5) in
+      let s4 : t9 ≡ t3 ++ (numbers answers ++ r4) = s5 ∙ one t3 (numbers answers) r4 t4 e4 in
+      let s3 : t9 ≡ t2 ++ (codes " answers" ++ (numbers answers ++ r4)) = s4 ∙ one t2 (codes " answers") (numbers answers ++ r4) t3 e3 in
+      let r2 = codes " answers" ++ (numbers answers ++ r4) in
+      let s2 : t9 ≡ t1 ++ (numbers bytes ++ r2) = s3 ∙ one t1 (numbers bytes) r2 t2 e2 in
+      s2 ∙ next t0 (decimal k) (codes " bytes") (numbers bytes ++ r2) t1 e1
+      ∙ ap (λ (l : List ℕ). l ++ (decimal k ++ (codes " bytes" ++ (numbers bytes ++ r2)))) e0
+    where
+      one : (t x rest u : List ℕ) → u ≡ t ++ x → u ++ rest ≡ t ++ (x ++ rest)
+      one t x rest u e = ap (λ (l : List ℕ). l ++ rest) e ∙ append_assoc t x rest
+
+      next : (t x y rest u : List ℕ) → u ≡ t ++ (x ++ y) → u ++ rest ≡ t ++ (x ++ (y ++ rest))
+      next t x y rest u e = one t (x ++ y) rest u e ∙ ap (λ (l : List ℕ). t ++ l) (append_assoc x y rest)
+
+pub row_written : (before next now : List (String Global)) (line : String Global) (k : ℕ) (row : Row)
+    → now ≡ before ++ line ∷ [] → string_bytes line ≡ sample_line k (row_seen row)
+    → text_of next ≡ text_of now ++ flat_map (λ f. frame_line k (boundary_seen f)) row.frames
+    → text_of next ≡ text_of before ++ row_lines k (row_seen row)
+row_written before next now line k row pushed is frames =
+    frames
+    ∙ ap₂ (λ (x y : List ℕ). x ++ y) (ap text_of pushed ∙ text_of-snoc before line) (sym (flat-map (frame_line k) boundary_seen row.frames))
+    ∙ append_assoc (text_of before) (string_bytes line) (flat_map (frame_line k) (frames_seen row.frames))
+    ∙ ap (λ (l : List ℕ). text_of before ++ (l ++ flat_map (frame_line k) (frames_seen row.frames))) is
+
+pub run_written : (none errors bounded rows lines : List (String Global)) (bound_line left_line : String Global)
+    (es : List ℕ) (bound left : ℕ) (rs : List Row)
+    → none ≡ [] → text_of errors ≡ text_of none ++ counted error_line 1 es
+    → bounded ≡ errors ++ bound_line ∷ [] → string_bytes bound_line ≡ line (codes "instructions ") bound
+    → text_of rows ≡ text_of bounded ++ counted (λ k r. row_lines k (row_seen r)) 1 rs
+    → lines ≡ rows ++ left_line ∷ [] → string_bytes left_line ≡ line (codes "left ") left
+    → text_of lines ≡ run_lines (report_of es bound (map row_seen rs) left)
+run_written none errors bounded rows lines bound_line left_line es bound left rs start e0 e1 b e2 e3 l =
+    let d0 : text_of errors ≡ counted error_line 1 es = e0 ∙ ap (λ (x : List (String Global)). text_of x ++ counted error_line 1 es) start in
+    let d1 : text_of bounded ≡ counted error_line 1 es ++ line (codes "instructions ") bound =
+    ap text_of e1 ∙ text_of-snoc errors bound_line ∙ ap₂ (λ (x y : List ℕ). x ++ y) d0 b in
+    let each = counted-map row_lines row_seen 1 rs in
+    let d2 : text_of rows ≡ (counted error_line 1 es ++ line (codes "instructions ") bound) ++ counted row_lines 1 (map row_seen rs) =
+    e2 ∙ ap₂ (λ (x y : List ℕ). x ++ y) d1 (sym each) in
+    ap text_of e3 ∙ text_of-snoc rows left_line ∙ ap₂ (λ (x y : List ℕ). x ++ y) d2 l
+    ∙ append_assoc (counted error_line 1 es ++ line (codes "instructions ") bound) (counted row_lines 1 (map row_seen rs)) (line (codes "left ") left)
+    ∙ append_assoc (counted error_line 1 es) (line (codes "instructions ") bound) (counted row_lines 1 (map row_seen rs) ++ line (codes "left ") left)

@@ -1,5 +1,5 @@
 -- The commands `check FCL CERT` and `check16 FCL CERT`.
-use Rattle.std.specs.Prelude.{◌≡◌, ◌+◌, ℕ, List, [], ◌∷◌, ◌++◌, codes, decimal, None, Result, Ok, Err}
+use Rattle.std.specs.Prelude.{◌≡◌, ℕ, List, [], ◌∷◌, ◌++◌, codes, None, Result, Ok, Err}
 use Rattle.fuzzy_meaning.specs.declared.block.Block.{Block}
 use Rattle.codegen.specs.Bounds.{instruction_bound}
 use Rattle.codegen.specs.declared.firmware.Firmware.{Firmware}
@@ -7,7 +7,7 @@ use Rattle.codegen.specs.declared.width.Width.{Width}
 use Rattle.fz_top.specs.Certs.{AcceptsCert, RefusesCert}
 use Rattle.fz_top.specs.Deeds.{Deed}
 use Rattle.fz_top.specs.Firmwares.{GivesFirmware, RefusesText}
-use Rattle.fz_top.specs.Lines.{line, newline}
+use Rattle.fz_top.specs.Lines.{counted, error_line, line}
 use Rattle.fz_top.specs.Refusals.{Refusals, Refuses, never}
 use Rattle.fz_top.specs.declared.check.Check.{Check}
 use Rattle.fz_top.specs.declared.status.Status.{Status}
@@ -21,16 +21,8 @@ check_inputs = 2 ∷ 3 ∷ []
 
 -- ---- its lines: the error of each output, and the bound on instructions
 
-abbrev pub error_line : ℕ → ℕ → List ℕ
-error_line output error = codes "error " ++ (decimal output ++ (codes " " ++ (decimal error ++ newline)))
-
--- the lines of outputs that are counted from o
-abbrev pub error_lines : ℕ → List ℕ → List ℕ
-error_lines o [] = []
-error_lines o (e ∷ es) = error_line o e ++ error_lines (o + 1) es
-
 abbrev pub check_lines : List ℕ → ℕ → List ℕ
-check_lines errors instructions = error_lines 1 errors ++ line (codes "instructions ") instructions
+check_lines errors instructions = counted error_line 1 errors ++ line (codes "instructions ") instructions
 
 -- ---- what it makes of its files
 

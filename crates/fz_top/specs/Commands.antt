@@ -8,7 +8,7 @@ use Rattle.fz_top.specs.Check.{CheckMakes, check_in, check_inputs}
 use Rattle.fz_top.specs.Compile.{CompileMakes, compile_in, compile_inputs}
 use Rattle.fz_top.specs.Deeds.{Deed}
 use Rattle.fz_top.specs.Exec.{ExecMakes, exec_in, exec_inputs}
-use Rattle.fz_top.specs.Run.{RunMakes, run_in, run_inputs}
+use Rattle.fz_top.specs.Run.{RunMakes, files_in, run_in, run_inputs}
 use Rattle.fz_top.specs.Texts.{Text, content_at}
 use Rattle.fz_top.specs.declared.command.Command.{Command}
 use Rattle.fz_top.specs.declared.command.Command.TheVariants.{Asm, Check, Compile, Exec, Run}
@@ -20,7 +20,7 @@ use Rattle.fz_top.specs.declared.status.Status.{Status}
 unfoldable pub table : List (Row Name)
 table = row (codes "asm") 2 name.Asm ∷ row (codes "check") 2 name.Check ∷ row (codes "check16") 2 name.Check16
     ∷ row (codes "compile") 2 name.Compile ∷ row (codes "compile16") 2 name.Compile16 ∷ row (codes "exec") 3 name.Exec
-    ∷ row (codes "run") 3 name.Run ∷ []
+    ∷ row (codes "run") 6 name.Run ∷ row (codes "run16") 6 name.Run16 ∷ []
 
 -- the command of a name, where the words have its form
 unfoldable pub form_of : Name → List Text → Option Command
@@ -30,7 +30,8 @@ form_of name.Check16 words = Some (Check (check_in Word))
 form_of name.Compile words = Some (Compile (compile_in Byte))
 form_of name.Compile16 words = Some (Compile (compile_in Word))
 form_of name.Exec words = option_map Exec (exec_in words)
-form_of name.Run words = option_map Run (run_in words)
+form_of name.Run words = option_map Run (run_in Byte words)
+form_of name.Run16 words = option_map Run (run_in Word words)
 
 -- the words that name the files to read, in order
 unfoldable pub inputs_of : Command → List ℕ
@@ -46,7 +47,7 @@ Makes Asm contents r = AsmMakes (content_at contents 0) r
 Makes (Check check) contents r = CheckMakes check (content_at contents 0) (content_at contents 1) r
 Makes (Compile compile) contents r = CompileMakes compile (content_at contents 0) r
 Makes (Exec exec) contents r = ExecMakes exec (content_at contents 0) r
-Makes (Run run) contents r = RunMakes run (content_at contents 0) (content_at contents 1) r
+Makes (Run run) contents r = RunMakes run (files_in contents) r
 
 abbrev pub name_in : List Text → Option Name
 name_in words = command_by table words

@@ -1,6 +1,8 @@
 -- From a text to its image.
-use Rattle.std.specs.Prelude.{ℕ, List}
-use Rattle.srecord.specs.Texts.{HasFault}
+use Rattle.std.specs.Prelude.{◌≡◌, ◌≢◌, ℕ, List}
+use Rattle.cpu12_asm.specs.Bytes.{IsFirstDifference, byte_at}
+use Rattle.cpu12_asm.specs.declared.image.Image.{Image}
+use Rattle.srecord.specs.Texts.{GivesImage, HasFault}
 use Rattle.fz_top.specs.Refusals.{Refusals, never}
 use Rattle.fz_top.specs.declared.status.ImageFault.{ImageFault}
 use Rattle.fz_top.specs.declared.status.ImageFault.TheVariants as image
@@ -13,3 +15,16 @@ RefusesRecords text (image.Start got wanted) = ⊥
 
 abbrev pub records_refusals : List ℕ → Refusals
 records_refusals text = record never { image = RefusesRecords text }
+
+-- why a text does not give an image: it gives none, or another byte somewhere, the first of them being told, or another
+-- start alone
+abbrev pub RefusesImage : List ℕ → Image → ImageFault → Type 0
+RefusesImage text wanted (image.Records f) = HasFault text f
+RefusesImage text wanted (image.Byte at got byte) = (given : Image) × GivesImage text given
+    × IsFirstDifference given.bytes wanted.bytes at × (got ≡ byte_at given.bytes at) × (byte ≡ byte_at wanted.bytes at)
+RefusesImage text wanted (image.Start got start) = (given : Image) × GivesImage text given
+    × ((at : ℕ) → byte_at given.bytes at ≡ byte_at wanted.bytes at)
+    × (got ≢ start) × (got ≡ given.start) × (start ≡ wanted.start)
+
+abbrev pub image_refusals : List ℕ → Image → Refusals
+image_refusals text wanted = record never { image = RefusesImage text wanted }

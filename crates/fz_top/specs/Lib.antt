@@ -1,4 +1,6 @@
+pub mod Accepted
 pub mod Asm
+pub mod CertifiedRun
 pub mod Certs
 pub mod Check
 pub mod Codes

@@ -1,5 +1,5 @@
 -- Lines on out and on err.
-use Rattle.std.specs.Prelude.{ℕ, List, ◌++◌, codes, decimal}
+use Rattle.std.specs.Prelude.{ℕ, ◌+◌, List, [], ◌∷◌, ◌++◌, codes, decimal}
 use Rattle.fz_top.specs.Texts.{Text}
 
 abbrev pub newline : List ℕ
@@ -8,3 +8,12 @@ newline = codes "\n"
 -- a label, a number and the end of the line
 abbrev pub line : Text → ℕ → List ℕ
 line label n = label ++ (decimal n ++ newline)
+
+-- the lines of items that are counted from k
+abbrev pub counted : {X : Type 0} → (ℕ → X → List ℕ) → ℕ → List X → List ℕ
+counted lines_of k [] = []
+counted lines_of k (x ∷ xs) = lines_of k x ++ counted lines_of (k + 1) xs
+
+-- the error of an output, in millionths of its range
+abbrev pub error_line : ℕ → ℕ → List ℕ
+error_line o e = codes "error " ++ (decimal o ++ line (codes " ") e)

@@ -1,35 +1,47 @@
--- The command `run FCL TRACE FLAGS`.
-use Rattle.std.specs.Prelude.{◌≡◌, ◌+◌, ℕ, List, [], ◌∷◌, ◌++◌, codes, decimal, map, Option, None, option_map, Result, Ok, Err}
+-- The commands `run FCL IMAGE CERT TRACE PLAN FLAGS` and `run16`, with answers of 16 bits.
+use Rattle.std.specs.Prelude.{◌≡◌, ℕ, List, [], ◌∷◌, ◌++◌, codes, decimal, length, Option, None, option_map, Result, Ok, Err}
+use Rattle.std.specs.List.{flat_map}
 use Rattle.fuzzy_meaning.specs.declared.block.Block.{Block}
-use Rattle.codegen.specs.Bounds.{instruction_bound}
 use Rattle.codegen.specs.declared.firmware.Firmware.{Firmware}
-use Rattle.codegen.specs.declared.width.Width.TheVariants.{Byte}
-use Rattle.trace_io.specs.Traces.{HasFault, Spells}
-use Rattle.trace_io.specs.declared.sample.Sample.{Sample}
-use Rattle.trace_io.specs.declared.sample.TraceFault.{TraceFault}
+use Rattle.codegen.specs.declared.width.Width.{Width}
+use Rattle.cpu12_emul.specs.Take.{FrameSeen}
+use Rattle.fz_shelf.specs.Parts.{address_digits}
+use Rattle.interrupt_plan.specs.PlanTexts.{HasFault as PlanHasFault}
 use Rattle.run_law.specs.Forms.{RowSeen}
-use Rattle.fz_run.specs.Answering.{AnswerBlock}
-use Rattle.fz_run.specs.Rows.{firmware_rows, input_bytes, row_seen}
-use Rattle.fz_run.specs.declared.rows.Row.{Row}
+use Rattle.srecord.specs.Texts.{GivesImage}
+use Rattle.trace_io.specs.Traces.{HasFault as TraceHasFault, Spells as SpellsTrace}
+use Rattle.trace_io.specs.declared.sample.Sample.{Sample}
+use Rattle.fz_top.specs.CertifiedRun.{CertifiedRun, Files, Report}
+use Rattle.fz_top.specs.Certs.{AcceptsCert, HasCertFault}
 use Rattle.fz_top.specs.Deeds.{Deed}
 use Rattle.fz_top.specs.Firmwares.{GivesFirmware, RefusesText}
-use Rattle.fz_top.specs.Lines.{line, newline}
+use Rattle.fz_top.specs.Images.{RefusesImage}
+use Rattle.fz_top.specs.Lines.{counted, error_line, line, newline}
 use Rattle.fz_top.specs.Refusals.{Refusals, Refuses, never}
-use Rattle.fz_top.specs.Texts.{Text, word_at}
+use Rattle.fz_top.specs.Texts.{Text, content_at, word_at}
 use Rattle.fz_top.specs.Words.{flags_of}
 use Rattle.fz_top.specs.declared.run.Run.{Run}
 use Rattle.fz_top.specs.declared.status.Status.{Status}
 
-abbrev pub run_with : ℕ → Run
-run_with flags = record { flags = flags }
+abbrev pub run_with : Width → ℕ → Run
+run_with width flags = record { width = width; flags = flags }
 
 -- the command of the words, where the last is of the form of FLAGS
-abbrev pub run_in : List Text → Option Run
-run_in words = option_map run_with (flags_of (word_at words 4))
+abbrev pub run_in : Width → List Text → Option Run
+run_in width words = option_map (run_with width) (flags_of (word_at words 7))
 
--- FCL and TRACE
+-- FCL, IMAGE, CERT, TRACE and PLAN
 abbrev pub run_inputs : List ℕ
-run_inputs = 2 ∷ 3 ∷ []
+run_inputs = 2 ∷ 3 ∷ 4 ∷ 5 ∷ 6 ∷ []
+
+abbrev pub files_in : List (List ℕ) → Files
+files_in contents = record {
+  fcl = content_at contents 0;
+  image = content_at contents 1;
+  cert = content_at contents 2;
+  trace = content_at contents 3;
+  plan = content_at contents 4;
+}
 
 -- ---- its lines
 
@@ -38,56 +50,62 @@ abbrev pub numbers : List ℕ → List ℕ
 numbers [] = []
 numbers (n ∷ ns) = codes " " ++ (decimal n ++ numbers ns)
 
--- what a run shows of a sample
-pub record Answered : Type 0 where
-  pub bytes : List ℕ
-  pub answers : List ℕ
-  pub instructions : ℕ
-
-abbrev pub shown : RowSeen (List ℕ) → Answered
-shown r = record { bytes = r.sample; answers = r.answers; instructions = r.instrs }
-
-abbrev pub answered : Row → Answered
-answered r = shown (row_seen r)
+-- the line of a frame of the k-th sample: its boundary, where the sample was interrupted, where the stack ends
+-- behind the push, and how many bytes were pushed
+abbrev pub frame_line : ℕ → ℕ × FrameSeen → List ℕ
+frame_line k f = codes "frame " ++ (decimal k ++ (codes " " ++ (decimal f.0
+    ++ (codes " " ++ (address_digits f.1.pc ++ (codes " " ++ (address_digits f.1.sp
+    ++ (codes " " ++ (decimal (length f.1.bytes) ++ newline)))))))))
 
 -- the line of the k-th sample
-abbrev pub sample_line : ℕ → Answered → List ℕ
-sample_line k r = codes "sample " ++ (decimal k ++ (codes " bytes" ++ (numbers r.bytes
-    ++ (codes " answers" ++ (numbers r.answers ++ (codes " instructions " ++ (decimal r.instructions ++ newline)))))))
+abbrev pub sample_line : ℕ → RowSeen (List ℕ) → List ℕ
+sample_line k r = codes "sample " ++ (decimal k ++ (codes " bytes" ++ (numbers r.sample
+    ++ (codes " answers" ++ (numbers r.answers ++ (codes " instructions " ++ (decimal r.instrs
+    ++ (codes " steps " ++ (decimal r.steps ++ (codes " resumed " ++ (decimal r.resumed
+    ++ (codes " frames " ++ (decimal (length r.frames) ++ newline)))))))))))))
 
--- the lines of samples that are counted from k
-abbrev pub sample_lines : ℕ → List Answered → List ℕ
-sample_lines k [] = []
-sample_lines k (r ∷ rs) = sample_line k r ++ sample_lines (k + 1) rs
+-- followed by its frames
+abbrev pub row_lines : ℕ → RowSeen (List ℕ) → List ℕ
+row_lines k r = sample_line k r ++ flat_map (frame_line k) r.frames
 
--- the bound on instructions, and then each sample
-abbrev pub run_lines : ℕ → List Answered → List ℕ
-run_lines bound rows = line (codes "instructions ") bound ++ sample_lines 1 rows
+abbrev pub report_of : List ℕ → ℕ → List (RowSeen (List ℕ)) → ℕ → Report
+report_of errors bound rows left = record { errors = errors; bound = bound; rows = rows; left = left }
+
+-- the errors, the bound on instructions, each sample, and the sum
+abbrev pub run_lines : Report → List ℕ
+run_lines r = counted error_line 1 r.errors
+    ++ (line (codes "instructions ") r.bound ++ (counted row_lines 1 r.rows ++ line (codes "left ") r.left))
 
 -- ---- what it makes of its files
 
--- the text gives firmware, the trace its samples; the rows are those of the run of the firmware
--- without interrupts, and they are the block's answers; and the lines are those of the bound and
--- of the rows
-pub record RunGives (run : Run) (text samples : List ℕ) (deed : Deed) : Type 0 where
-  pub block : Block
-  pub firmware : Firmware
-  pub gives : GivesFirmware Byte text block firmware
-  pub values : List Sample
-  pub trace : Spells block.inputs samples values
-  pub rows : List (RowSeen (List ℕ))
-  pub ran : rows ≡ (firmware_rows firmware (map input_bytes values) [] run.flags).rows
-  pub answers : AnswerBlock block firmware run.flags (map input_bytes values) rows
-  pub deed_is : deed ≡ record { text = run_lines (instruction_bound Byte block) (map shown rows); file = None }
+-- the run is certified, and the lines are those of its report
+pub record RunGives (run : Run) (files : Files) (deed : Deed) : Type 0 where
+  pub report : Report
+  pub certified : CertifiedRun run.width run.flags files report
+  pub deed_is : deed ≡ record { text = run_lines report; file = None }
 
--- why a trace is refused, the text giving firmware
-abbrev pub RefusesTrace : List ℕ → List ℕ → TraceFault → Type 0
-RefusesTrace text samples f =
-    (block : Block) × (firmware : Firmware) × GivesFirmware Byte text block firmware × HasFault block.inputs samples f
+-- FCL gives firmware of which this holds
+abbrev pub OfFirmware : Width → List ℕ → (Block → Firmware → Type 0) → Type 0
+OfFirmware width fcl holds = (block : Block) × (firmware : Firmware) × GivesFirmware width fcl block firmware × holds block firmware
 
-abbrev pub run_refusals : List ℕ → List ℕ → Refusals
-run_refusals text samples = record never { fcl = RefusesText text; trace = RefusesTrace text samples }
+-- why a certificate is refused, FCL giving firmware whose image is IMAGE's; why a trace is, the certificate being
+-- accepted beside; and why a plan is, the trace spelling samples beside
+abbrev pub run_refusals : Run → Files → Refusals
+run_refusals run files = record never {
+  fcl = RefusesText files.fcl;
+  image = λ f. OfFirmware run.width files.fcl (λ block firmware. RefusesImage files.image firmware.image f);
+  cert = λ f. OfFirmware run.width files.fcl (λ block firmware.
+      GivesImage files.image firmware.image × HasCertFault run.width block files.cert f);
+  trace = λ f. OfFirmware run.width files.fcl (λ block firmware.
+      GivesImage files.image firmware.image
+      × (errors : List ℕ) × AcceptsCert run.width block files.cert errors
+      × TraceHasFault block.inputs files.trace f);
+  plan = λ f. OfFirmware run.width files.fcl (λ block firmware.
+      GivesImage files.image firmware.image
+      × (errors : List ℕ) × AcceptsCert run.width block files.cert errors
+      × (samples : List Sample) × SpellsTrace block.inputs files.trace samples × PlanHasFault files.plan f);
+}
 
-abbrev pub RunMakes : Run → List ℕ → List ℕ → Result Deed Status → Type 0
-RunMakes run text samples (Ok deed) = RunGives run text samples deed
-RunMakes run text samples (Err s) = Refuses (run_refusals text samples) s
+abbrev pub RunMakes : Run → Files → Result Deed Status → Type 0
+RunMakes run files (Ok deed) = RunGives run files deed
+RunMakes run files (Err s) = Refuses (run_refusals run files) s

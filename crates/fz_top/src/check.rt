@@ -1,17 +1,16 @@
 //! The commands `check FCL CERT` and `check16 FCL CERT`.
-ghost use Rattle.std.specs.Prelude.{◌≡◌, ◌≤◌, length, IfOk, string_bytes};
+ghost use Rattle.std.specs.Prelude.{◌≡◌, ◌≤◌, length, IfOk};
 ghost use Rattle.fz_shelf.specs.Lines.{text_of};
 ghost use Rattle.fz_top.specs.Deeds.{IsResultOf};
-ghost use Rattle.fz_top.specs.Check.{CheckMakes, check_lines, error_line};
+ghost use Rattle.fz_top.specs.Check.{CheckMakes, check_lines};
 
 use crate::Status;
 use crate::certs::errors_under;
 use crate::firmware::firmware_of;
-use crate::lines::labelled;
+use crate::lines::{labelled, push_errors};
 use crate::work::Work;
 use codegen::Width;
 use std::alloc::{AllocError, Global};
-use std::fmt::Write;
 
 /// `check FCL CERT`, and `check16 FCL CERT` for answers of 16 bits.
 #[derive(Clone, Copy, Debug, PartialEq, Eq)]
@@ -51,18 +50,7 @@ fn lines(alloc: Global, errors: &[u32], instructions: u32) -> Result<Vec<String>
     ensures { IfOk result (λ lines. text_of lines.items ≡ check_lines errors.now instructions) }
 {
     let mut lines = Vec::new(alloc);
-    for (o, error) in errors.iter().enumerate() {
-        lines.push(line_of(alloc, o + 1, *error)?)?;
-    }
+    push_errors(alloc, &mut lines, errors)?;
     lines.push(labelled(alloc, "instructions ", u64::from(instructions))?)?;
     Ok(lines)
-}
-
-/// The error of an output.
-fn line_of(alloc: Global, output: usize, error: u32) -> Result<String, AllocError>
-    ensures { IfOk result (λ s. string_bytes s ≡ error_line output error) }
-{
-    let mut text = String::new(alloc);
-    write!(&mut text, "error {output} {error}\n")?;
-    Ok(text)
 }

@@ -31,17 +31,19 @@ pub(crate) enum Name {
     Compile16,
     Exec,
     Run,
+    Run16,
 }
 
 /// The commands by their names on the command line, each with the number of words that follow.
-static COMMANDS: [(&str, usize, Name); 7] = [
+static COMMANDS: [(&str, usize, Name); 8] = [
     ("asm", 2, Name::Asm),
     ("check", 2, Name::Check),
     ("check16", 2, Name::Check16),
     ("compile", 2, Name::Compile),
     ("compile16", 2, Name::Compile16),
     ("exec", 3, Name::Exec),
-    ("run", 3, Name::Run),
+    ("run", 6, Name::Run),
+    ("run16", 6, Name::Run16),
 ];
 
 /// A command with what its words give beside the names of files.
@@ -55,7 +57,7 @@ pub enum Command {
     Compile(Compile),
     /// `exec IMAGE STEPS FLAGS`
     Exec(Exec),
-    /// `run FCL TRACE FLAGS`
+    /// `run FCL IMAGE CERT TRACE PLAN FLAGS`, and `run16 ..`
     Run(Run),
 }
 
@@ -71,7 +73,8 @@ fn formed(name: Name, words: &[String]) -> Option<Command>
         Name::Compile => Some(Command::Compile(Compile { width: Width::Byte })),
         Name::Compile16 => Some(Command::Compile(Compile { width: Width::Word })),
         Name::Exec => Exec::of(words).map(Command::Exec),
-        Name::Run => Run::of(words).map(Command::Run),
+        Name::Run => Run::of(Width::Byte, words).map(Command::Run),
+        Name::Run16 => Run::of(Width::Word, words).map(Command::Run),
     }
 }
 
@@ -101,7 +104,7 @@ impl Command {
             Command::Check(check) => check.work(alloc, content(contents, 0), content(contents, 1)),
             Command::Compile(compile) => compile.work(alloc, content(contents, 0)),
             Command::Exec(exec) => exec.work(alloc, content(contents, 0)),
-            Command::Run(run) => run.work(alloc, content(contents, 0), content(contents, 1)),
+            Command::Run(run) => run.work(alloc, contents),
         }
     }
 }

@@ -3,13 +3,14 @@ ghost use Rattle.std.specs.Prelude.{◌≡◌, ◌≤◌, ◌++◌, length, stri
 ghost use Rattle.std.specs.Char.{is_ascii_digit};
 ghost use Rattle.std.specs.List.{list_all};
 ghost use Rattle.fz_shelf.specs.Lines.{text_of};
-ghost use Rattle.fz_shelf.specs.Parts.{address_digits, byte_digits};
+ghost use Rattle.fz_shelf.specs.Parts.{byte_digits};
 ghost use Rattle.fz_top.specs.Deeds.{IsResultOf};
 ghost use Rattle.fz_top.specs.Exec.{ExecMakes, exec_in, exec_line, steps_of};
 ghost use Rattle.fz_top.specs.Texts.{texts_of};
 
 use crate::Status;
 use crate::images::image_of;
+use crate::lines::push_address;
 use crate::words::{flags, word};
 use crate::work::Work;
 use cpu12_asm::Image;
@@ -100,19 +101,6 @@ fn push_byte(alloc: Global, text: &mut String, label: &str, byte: u8) -> Result<
     ensures { OnOk result (string_bytes text.new ≡ string_bytes text.old ++ (label.now ++ byte_digits byte)) }
 {
     let digits = hex::encode_upper(alloc, &[byte])?;
-    text.push_str(label)?;
-    text.push_str(digits.as_str())
-}
-
-fn push_address(
-    alloc: Global,
-    text: &mut String,
-    label: &str,
-    address: u16,
-) -> Result<(), AllocError>
-    ensures { OnOk result (string_bytes text.new ≡ string_bytes text.old ++ (label.now ++ address_digits address)) }
-{
-    let digits = hex::encode_upper(alloc, &[(address / 256) as u8, (address % 256) as u8])?;
     text.push_str(label)?;
     text.push_str(digits.as_str())
 }

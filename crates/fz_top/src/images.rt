@@ -1,7 +1,7 @@
 //! From a text to its image.
-ghost use Rattle.std.specs.Prelude.{◌≤◌, length, IfOk, IfErr};
+ghost use Rattle.std.specs.Prelude.{◌≤◌, length, IfOk, IfErr, OnOk};
 ghost use Rattle.srecord.specs.Texts.{GivesImage};
-ghost use Rattle.fz_top.specs.Images.{records_refusals};
+ghost use Rattle.fz_top.specs.Images.{image_refusals, records_refusals};
 ghost use Rattle.fz_top.specs.Refusals.{IsRefusal};
 
 use crate::{ImageFault, Status};
@@ -19,5 +19,29 @@ pub(crate) fn image_of(alloc: Global, text: &[u8]) -> Result<Image, Status>
         Ok(image) => Ok(image),
         Err(SrecFault::Memory) => Err(Status::Memory),
         Err(fault) => Err(Status::Image(ImageFault::Records(fault))),
+    }
+}
+
+/// Whether a text of records gives this image: else the status of its first fault, of the first
+/// address where it has another byte, or of its start.
+pub(crate) fn require_image(alloc: Global, text: &[u8], wanted: &Image) -> Result<(), Status>
+    requires { length text.now ≤ 1048576 }
+    ensures image { OnOk result (GivesImage text.now wanted.now) }
+    ensures fault { IfErr result (IsRefusal (image_refusals text.now wanted.now)) }
+{
+    let given = match image_of(alloc, text) {
+        Ok(given) => given,
+        Err(status) => return Err(status),
+    };
+    match given.bytes.first_difference(&wanted.bytes) {
+        Some(at) => Err(Status::Image(ImageFault::Byte(
+            at,
+            given.bytes.get(at),
+            wanted.bytes.get(at),
+        ))),
+        None if given.start != wanted.start => {
+            Err(Status::Image(ImageFault::Start(given.start, wanted.start)))
+        }
+        None => Ok(()),
     }
 }

@@ -2,9 +2,11 @@
 ghost use Rattle.fz_top.specs.Runs.{DeedsHaveNoFault};
 
 use cert_check::{same_blocks_answer_alike, text_answers_are_one};
+use codegen::firmwares_are_one;
 use cpu12_emul::laws::{images_load_alike, runs_end_once};
 use fcl_check::{load_faults_are_one, spelled_blocks_are_alike};
 use fcl_syntax::first_faults_are_one;
+use interrupt_plan::spelled_plans_have_no_fault;
 use rule_layout::{layouts_are_one, limits_have_no_fault};
 use srecord::images_are_one;
 use trace_io::spelled_traces_have_no_fault;
@@ -23,5 +25,7 @@ pub(crate) fn deeds_have_no_fault()
     images_are_one();
     images_load_alike();
     runs_end_once();
+    firmwares_are_one();
+    spelled_plans_have_no_fault();
     spelled_traces_have_no_fault()
 }

@@ -25,6 +25,7 @@ mod lines;
 mod program;
 mod reading;
 mod run;
+mod run_lines;
 mod status;
 mod words;
 mod work;

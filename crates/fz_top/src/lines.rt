@@ -1,6 +1,8 @@
 //! Lines on out.
-ghost use Rattle.std.specs.Prelude.{◌≡◌, IfOk, string_bytes};
-ghost use Rattle.fz_top.specs.Lines.{line};
+ghost use Rattle.std.specs.Prelude.{◌≡◌, ◌++◌, IfOk, OnOk, string_bytes};
+ghost use Rattle.fz_shelf.specs.Lines.{text_of};
+ghost use Rattle.fz_shelf.specs.Parts.{address_digits};
+ghost use Rattle.fz_top.specs.Lines.{counted, error_line, line};
 
 use std::alloc::{AllocError, Global};
 use std::fmt::Write;
@@ -12,4 +14,40 @@ pub(crate) fn labelled(alloc: Global, label: &str, n: u64) -> Result<String, All
     let mut text = String::from_str(alloc, label)?;
     write!(&mut text, "{n}\n")?;
     Ok(text)
+}
+
+/// The error of each output.
+pub(crate) fn push_errors(
+    alloc: Global,
+    lines: &mut Vec<String>,
+    errors: &[u32],
+) -> Result<(), AllocError>
+    ensures { OnOk result (text_of lines.new.items ≡ text_of lines.old.items ++ counted error_line 1 errors.now) }
+{
+    for (at, error) in errors.iter().enumerate() {
+        lines.push(line_of_error(alloc, at + 1, *error)?)?;
+    }
+    Ok(())
+}
+
+fn line_of_error(alloc: Global, output: usize, error: u32) -> Result<String, AllocError>
+    ensures { IfOk result (λ s. string_bytes s ≡ error_line output error) }
+{
+    let mut text = String::from_str(alloc, "error ")?;
+    write!(&mut text, "{output} {error}\n")?;
+    Ok(text)
+}
+
+/// A label, and an address as four hexadecimal digits.
+pub(crate) fn push_address(
+    alloc: Global,
+    text: &mut String,
+    label: &str,
+    address: u16,
+) -> Result<(), AllocError>
+    ensures { OnOk result (string_bytes text.new ≡ string_bytes text.old ++ (label.now ++ address_digits address)) }
+{
+    let digits = hex::encode_upper(alloc, &[(address / 256) as u8, (address % 256) as u8])?;
+    text.push_str(label)?;
+    text.push_str(digits.as_str())
 }

@@ -1,113 +1,163 @@
-//! The command `run FCL TRACE FLAGS`.
-ghost use Rattle.std.specs.Prelude.{◌≡◌, ◌++◌, ◌≤◌, length, map, string_bytes, IfOk, OnOk};
-ghost use Rattle.fz_shelf.specs.Lines.{text_of};
+//! The commands `run FCL IMAGE CERT TRACE PLAN FLAGS` and `run16 ..`: the certified run.
+ghost use Rattle.std.specs.Prelude.{◌≡◌, ◌≤◌, length, IfOk, IfErr};
+ghost use Rattle.std.specs.List.{All};
+ghost use Rattle.fuzzy_meaning.specs.Blocks.{IsValid};
+ghost use Rattle.interrupt_plan.specs.PlanTexts.{Spells as SpellsPlan};
+ghost use Rattle.trace_io.specs.Traces.{Spells};
+ghost use Rattle.fz_top.specs.Accepted.{Accepts, plan_refusals, trace_refusals};
+ghost use Rattle.fz_top.specs.CertifiedRun.{left_of};
 ghost use Rattle.fz_top.specs.Deeds.{IsResultOf};
-ghost use Rattle.fz_top.specs.Run.{RunMakes, answered, numbers, run_lines, run_in, sample_line};
-ghost use Rattle.fz_top.specs.Texts.{texts_of};
+ghost use Rattle.fz_top.specs.Refusals.{IsRefusal};
+ghost use Rattle.fz_top.specs.Run.{RunMakes, files_in, run_in, run_refusals};
+ghost use Rattle.fz_top.specs.Texts.{bytes_of, texts_of};
 
 use crate::Status;
-use crate::firmware::firmware_of;
-use crate::lines::labelled;
+use crate::certs::errors_under;
+use crate::firmware::{Compiled, firmware_of};
+use crate::images::require_image;
+use crate::reading::content;
+use crate::run_lines::lines;
 use crate::words::{flags, word};
 use crate::work::Work;
+use certified_run::answers_are_within_errors;
 use codegen::Width;
-use fz_run::Row;
-use interrupt_plan::no_interrupts;
-use std::alloc::{AllocError, Global};
-use std::fmt::Write;
-use trace_io::{TraceFault, read_trace};
+use cpu12_isa::mem::{FlatMem, Mem};
+use fuzzy_meaning::Block;
+use fz_run::run_on;
+use interrupt_plan::{Plan, PlanFault, read_plan};
+use std::alloc::Global;
+use trace_io::{Sample, TraceFault, read_trace};
 
-/// `run FCL TRACE FLAGS`
+/// `run FCL IMAGE CERT TRACE PLAN FLAGS`, and `run16 ..` with answers of 16 bits.
 #[derive(Clone, Copy, Debug, PartialEq, Eq)]
 pub struct Run {
-    /// The condition codes that the machine begins with.
+    /// How wide the firmware's answers are.
+    width: Width,
+    /// The condition codes that the machine leaves open.
     flags: u8,
 }
 
-/// The words FCL and TRACE.
-pub(crate) static INPUTS: [u32; 2] = [2, 3];
+/// The words FCL, IMAGE, CERT, TRACE and PLAN.
+pub(crate) static INPUTS: [u32; 5] = [2, 3, 4, 5, 6];
+
+/// What the files give, where all of them are accepted.
+#[derive(Drop)]
+struct Accepted {
+    compiled: Compiled,
+    errors: Vec<u32>,
+    samples: Vec<Sample>,
+    plan: Plan,
+}
 
 impl Run {
     /// The command of these words.
-    pub(crate) fn of(words: &[String]) -> Option<Run>
-        ensures { result ≡ run_in (texts_of words.now) }
+    pub(crate) fn of(width: Width, words: &[String]) -> Option<Run>
+        ensures { result ≡ run_in width (texts_of words.now) }
     {
-        match flags(word(words, 4)) {
-            Some(flags) => Some(Run { flags }),
+        match flags(word(words, 7)) {
+            Some(flags) => Some(Run { width, flags }),
             None => None,
         }
     }
 
-    /// Compiles the text, reads the trace, runs its samples and writes down what came of them.
-    pub(crate) fn work(self, alloc: Global, fcl: &[u8], trace: &[u8]) -> Result<Work, Status>
-        requires fcl_small { length fcl.now ≤ 1048576 }
-        requires trace_small { length trace.now ≤ 1048576 }
-        ensures { IsResultOf (RunMakes self fcl.now trace.now) result }
+    /// Runs the samples of the trace under the plan, once all files are accepted, and writes down what
+    /// came of them.
+    pub(crate) fn work(self, alloc: Global, contents: &[Vec<u8>]) -> Result<Work, Status>
+        requires { All (λ c. length c.items ≤ 1048576) contents.now }
+        ensures { IsResultOf (RunMakes self (files_in (bytes_of contents.now))) result }
     {
-        let compiled = match firmware_of(alloc, Width::Byte, fcl) {
-            Ok(compiled) => compiled,
+        answers_are_within_errors();
+        let accepted = match self.accepted(alloc, contents) {
+            Ok(accepted) => accepted,
             Err(status) => return Err(status),
         };
-        let firmware = &compiled.firmware;
-        let samples = match read_trace(alloc, trace, &compiled.block) {
-            Ok(samples) => samples,
-            Err(TraceFault::Memory) => return Err(Status::Memory),
-            Err(fault) => return Err(Status::Trace(fault)),
+        let firmware = &accepted.compiled.firmware;
+        let ran = run_on::<FlatMem>(
+            alloc,
+            firmware,
+            &accepted.samples,
+            &accepted.plan,
+            self.flags,
+        );
+        let Ok((rows, memory)) = ran else {
+            return Err(Status::Memory);
         };
-        let plan = no_interrupts(alloc);
-        let rows = match fz_run::run(alloc, firmware, &samples, &plan, self.flags) {
-            Ok(rows) => rows,
-            Err(_) => return Err(Status::Memory),
-        };
-        match lines(alloc, firmware.instr_bound, &rows) {
+        let bound = firmware.instr_bound;
+        match lines(alloc, &accepted.errors, bound, &rows, left_in(&memory)) {
             Ok(lines) => Ok(Work { lines, file: None }),
             Err(_) => Err(Status::Memory),
         }
     }
-}
 
-/// Bytes as numbers, with a blank before each.
-fn push_bytes(text: &mut String, values: &[u8]) -> Result<(), AllocError>
-    ensures { OnOk result (string_bytes text.new ≡ string_bytes text.old ++ numbers values.now) }
-{
-    for byte in values {
-        write!(text, " {byte}")?;
+    /// What the files give, or the first fault in their order.
+    fn accepted(self, alloc: Global, contents: &[Vec<u8>]) -> Result<Accepted, Status>
+        requires { All (λ c. length c.items ≤ 1048576) contents.now }
+        ensures accepted { IfOk result (λ a. Accepts self.width (files_in (bytes_of contents.now))
+            a.compiled.block a.compiled.firmware a.errors.items a.samples.items a.plan) }
+        ensures fault { IfErr result (IsRefusal (run_refusals self (files_in (bytes_of contents.now)))) }
+    {
+        let compiled = match firmware_of(alloc, self.width, content(contents, 0)) {
+            Ok(compiled) => compiled,
+            Err(status) => return Err(status),
+        };
+        match require_image(alloc, content(contents, 1), &compiled.firmware.image) {
+            Ok(()) => {}
+            Err(status) => return Err(status),
+        }
+        let errors = match errors_under(alloc, self.width, &compiled.block, content(contents, 2)) {
+            Ok(errors) => errors,
+            Err(status) => return Err(status),
+        };
+        let samples = match samples_of(alloc, &compiled.block, content(contents, 3)) {
+            Ok(samples) => samples,
+            Err(status) => return Err(status),
+        };
+        match plan_of(alloc, content(contents, 4)) {
+            Ok(plan) => Ok(Accepted {
+                compiled,
+                errors,
+                samples,
+                plan,
+            }),
+            Err(status) => Err(status),
+        }
     }
-    Ok(())
 }
 
-/// Numbers, with a blank before each.
-fn push_numbers(text: &mut String, values: &[u16]) -> Result<(), AllocError>
-    ensures { OnOk result (string_bytes text.new ≡ string_bytes text.old ++ numbers values.now) }
+/// The samples that a trace spells for a block.
+fn samples_of(alloc: Global, block: &Block, text: &[u8]) -> Result<Vec<Sample>, Status>
+    requires block { IsValid block.now }
+    requires text { length text.now ≤ 1048576 }
+    ensures samples { IfOk result (λ samples. Spells block.now.inputs text.now samples.items) }
+    ensures fault { IfErr result (IsRefusal (trace_refusals block.now text.now)) }
 {
-    for number in values {
-        write!(text, " {number}")?;
+    match read_trace(alloc, text, block) {
+        Ok(samples) => Ok(samples),
+        Err(TraceFault::Memory) => Err(Status::Memory),
+        Err(fault) => Err(Status::Trace(fault)),
     }
-    Ok(())
 }
 
-/// The line of the k-th sample.
-fn line_of_sample(alloc: Global, k: usize, row: &Row) -> Result<String, AllocError>
-    ensures { IfOk result (λ s. string_bytes s ≡ sample_line k (answered row.now)) }
+/// The plan that a text spells.
+fn plan_of(alloc: Global, text: &[u8]) -> Result<Plan, Status>
+    requires { length text.now ≤ 1048576 }
+    ensures plan { IfOk result (SpellsPlan text.now) }
+    ensures fault { IfErr result (IsRefusal (plan_refusals text.now)) }
 {
-    let mut text = String::from_str(alloc, "sample ")?;
-    write!(&mut text, "{k} bytes")?;
-    push_bytes(&mut text, row.bytes.as_slice())?;
-    text.push_str(" answers")?;
-    push_numbers(&mut text, row.answers.as_slice())?;
-    let instructions = row.instrs;
-    write!(&mut text, " instructions {instructions}\n")?;
-    Ok(text)
-}
-
-/// The lines of `run`: the bound on instructions, and then each sample.
-fn lines(alloc: Global, bound: u32, rows: &[Row]) -> Result<Vec<String>, AllocError>
-    ensures { IfOk result (λ lines. text_of lines.items ≡ run_lines bound (map answered rows.now)) }
-{
-    let mut lines = Vec::new(alloc);
-    lines.push(labelled(alloc, "instructions ", u64::from(bound))?)?;
-    for (at, row) in rows.iter().enumerate() {
-        lines.push(line_of_sample(alloc, at + 1, row)?)?;
+    match read_plan(alloc, text) {
+        Ok(plan) => Ok(plan),
+        Err(PlanFault::Memory) => Err(Status::Memory),
+        Err(fault) => Err(Status::Plan(fault)),
     }
-    Ok(lines)
+}
+
+/// The sum of the bytes from the first free one to the end of the stack.
+fn left_in<M: Mem>(memory: &M) -> u32
+    ensures { result ≡ left_of (M.bytes memory.now) }
+{
+    let mut sum = 0u32;
+    for at in 0x1800..0x2000u16 {
+        sum += u32::from(memory.read(at));
+    }
+    sum
 }

@@ -1,11 +1,12 @@
-use Rattle.std.proofs.Common.{ℕ, Bool, List, ap, ◌∙◌}
+use Rattle.std.proofs.Common.{ℕ, List, ap, ap₂, ◌∙◌}
 use Rattle.std.specs.Prelude.{None, map}
-use Rattle.codegen.specs.Bounds.{instruction_bound}
-use Rattle.codegen.specs.Widths.{width_of}
 use Rattle.fz_run.specs.Rows.{row_seen}
+use Rattle.fz_run.specs.declared.rows.Row.{Row}
+use Rattle.fz_top.specs.CertifiedRun.{left_of}
 use Rattle.fz_top.specs.Deeds.{Deed}
-use Rattle.fz_top.proofs.AnswerLemmas.{answers_trace, ran_alone}
-use Rattle.fz_top.proofs.LineLemmas.{run_text}
+use Rattle.fz_top.specs.Run.{files_in, report_of, run_lines}
+use Rattle.fz_top.specs.Texts.{bytes_of}
+use Rattle.fz_top.proofs.AnswerLemmas.{certifies}
 use Rattle.fz_top.proofs.run.Run.work.Goals as goal
 
 abbrev only_text : List ℕ → Deed
@@ -13,22 +14,14 @@ only_text t = record { text = t; file = None }
 
 pub returns-in-Ok-lines : goal.returns-in-Ok-lines
 returns-in-Ok-lines c =
-    let block = c.in-Ok.compiled.block in
-    let firmware = c.in-Ok.compiled.firmware in
-    let flags = c.args.self.flags in
-    let gives = c.in-Ok.ensures.gives in
-    let values = c.in-Ok-read_trace.samples.items in
-    let spells = c.in-Ok-read_trace.ensures.samples in
-    let rows = map row_seen c.in-Ok-run.rows.items in
-    let bound = gives.compiled.instructions ∙ ap (λ (wide : Bool). instruction_bound (width_of wide) block) gives.wide in
+    let a = c.in-Ok.accepted in
+    let bound = a.compiled.firmware.instr_bound in
+    let lines_of = λ (es : List ℕ) (rs : List Row). run_lines (report_of es bound (map row_seen rs) c.left_in.result) in
     record {
-      block = block;
-      firmware = firmware;
-      gives = gives;
-      values = values;
-      trace = spells;
-      rows = rows;
-      ran = ran_alone firmware flags values _ _ rows c.in-Ok-run.ensures.rows c.deref.ensures.value c.no_interrupts-plan.ensures.empty;
-      answers = answers_trace block firmware flags _ values _ _ rows c.in-Ok-run.ensures.answers c.deref.ensures.value gives.spelled.valid gives.limits gives.compiled spells;
-      deed_is = ap only_text (run_text firmware.instr_bound _ c.in-Ok-run.rows.items _ _ c.in-Ok-lines.ensures bound c.deref-2.ensures.value);
+      report = report_of a.errors.items bound (map row_seen c.in-Ok-ran.rows.items) c.left_in.result;
+      certified = certifies c.answers_are_within_errors.ensures c.args.self (files_in (bytes_of c.args.contents.now))
+          a.compiled.block a.compiled.firmware a.errors.items a.samples.items c.deref.result.now a.plan
+          (map row_seen c.in-Ok-ran.rows.items) c.left_in.result c.in-Ok.ensures.accepted c.deref.ensures.value
+          c.in-Ok-ran.ensures.rows c.in-Ok-ran.ensures.answers (c.left_in.ensures ∙ ap left_of c.in-Ok-ran.ensures.memory);
+      deed_is = ap only_text (c.in-Ok-lines.ensures ∙ ap₂ lines_of c.deref-2.ensures.value c.deref-3.ensures.value);
     }
