@@ -291,32 +291,90 @@ fn words(rt: HostRuntime) -> Result<(), Fail> {
     for word in ["", "run", "help", "--help", "-h", "gen"] {
         case(&rt, alloc, &["fuzz12", word], &NONE, 0, 1, "", USAGE)?;
     }
-    let mut hyphen = run_words("00");
-    hyphen[2] = "-a";
+    let hyphen = [
+        "fuzz12", "run", "-a", "a.s19", "a.cert", "a.csv", "empty", "00",
+    ];
     case(&rt, alloc, &hyphen, &NONE, 0, 1, "", USAGE)?;
     let few = ["fuzz12", "run", "a.fcl", "a.csv", "00"];
     case(&rt, alloc, &few, &NONE, 0, 1, "", USAGE)?;
     Ok(())
 }
 
+// The five files of a run, how many of them are read, the status, and the line on err.
+const FILES: [([&str; 5], usize, u8, &str); 11] = [
+    (
+        ["b.fcl", "a.s19", "a.cert", "a.csv", "empty"],
+        1,
+        2,
+        "read fault: b.fcl\n",
+    ),
+    (
+        ["long", "a.s19", "a.cert", "a.csv", "empty"],
+        1,
+        10,
+        "too long: long\n",
+    ),
+    (
+        ["empty", "empty", "empty", "over.csv", "a.csv"],
+        5,
+        4,
+        "fcl: at 0: expected\n",
+    ),
+    (
+        ["a.fcl", "b.s19", "a.cert", "a.csv", "empty"],
+        2,
+        2,
+        "read fault: b.s19\n",
+    ),
+    (
+        ["a.fcl", "empty", "empty", "over.csv", "a.csv"],
+        5,
+        5,
+        "image: no end\n",
+    ),
+    (
+        ["a.fcl", "other.s19", "a.cert", "a.csv", "empty"],
+        5,
+        5,
+        "image: D201: FE, compile gives FF\n",
+    ),
+    (
+        ["a.fcl", "a.s19", "", "a.csv", "empty"],
+        3,
+        2,
+        "read fault: \n",
+    ),
+    (
+        ["a.fcl", "a.s19", "empty", "over.csv", "a.csv"],
+        5,
+        6,
+        "cert: early\n",
+    ),
+    (
+        ["a.fcl", "a.s19", "a.cert", "long", "empty"],
+        4,
+        10,
+        "too long: long\n",
+    ),
+    (
+        ["a.fcl", "a.s19", "a.cert", "over.csv", "a.csv"],
+        5,
+        7,
+        "trace: row 1: input 1 out of range\n",
+    ),
+    (
+        ["a.fcl", "a.s19", "a.cert", "a.csv", "a.csv"],
+        5,
+        7,
+        "plan: row 1: bad row\n",
+    ),
+];
+
 #[test]
 fn files(rt: HostRuntime) -> Result<(), Fail> {
     let alloc = rt.alloc();
-    for (place, name, reads, code, text) in [
-        (2usize, "b.fcl", 1, 2, "read fault: b.fcl\n"),
-        (2, "long", 1, 10, "too long: long\n"),
-        (2, "empty", 5, 4, "fcl: at 0: expected\n"),
-        (3, "b.s19", 2, 2, "read fault: b.s19\n"),
-        (3, "empty", 5, 5, "image: no end\n"),
-        (3, "other.s19", 5, 5, "image: D201: FE, compile gives FF\n"),
-        (4, "", 3, 2, "read fault: \n"),
-        (4, "empty", 5, 6, "cert: early\n"),
-        (5, "long", 4, 10, "too long: long\n"),
-        (6, "b.plan", 5, 2, "read fault: b.plan\n"),
-        (6, "a.csv", 5, 7, "plan: row 1: bad row\n"),
-    ] {
-        let mut line = run_words("00");
-        line[place] = name;
+    for ([fcl, image, cert, trace, plan], reads, code, text) in FILES {
+        let line = ["fuzz12", "run", fcl, image, cert, trace, plan, "00"];
         case(&rt, alloc, &line, &NONE, reads, code, "", text)?;
     }
     Ok(())
