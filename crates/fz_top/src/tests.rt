@@ -1,4 +1,6 @@
-//! The steps of worked samples, which no line shows.
+//! Worked samples of blocks that no command runs, and the steps of others.
+ghost use Rattle.std.specs.Prelude.{◌≤◌};
+
 use crate::firmware::firmware_of;
 use codegen::{Width, compile};
 use fcl_check::load;
