@@ -76,6 +76,14 @@ impl<'a> Names<'a> {
         self.sections.contains_key(letters)
     }
 
+    /// The section of a variable, by its letters.
+    pub fn section(&self, letters: &[u8]) -> Option<&'a Part>
+        ensures { (tree : Tree) → Knows tree self.now → option_map (λ p. p.now) result ≡
+            section_of tree.text.items tree.block letters.now }
+    {
+        Some(self.sections.get(letters)?.part)
+    }
+
     /// The number of a term, looked for in the section of its variable that a variable of this
     /// direction has.
     pub fn term(&self, direction: Direction, variable: &[u8], term: &[u8]) -> Option<usize>

@@ -16,9 +16,9 @@ use Rattle.fcl_check.specs.Sections.{value}
 use Rattle.fcl_check.specs.Texts.{SpelledTreesHaveBlocks}
 use Rattle.fcl_check.proofs.trees.ConditionSizes.{count, count-append, few_within}
 use Rattle.fcl_check.proofs.existing.FoundConditions.{found_condition}
-use Rattle.fcl_check.proofs.existing.FoundInputs.{found_inputs}
 use Rattle.fcl_check.proofs.existing.FoundItems.{found_items}
-use Rattle.fcl_check.proofs.existing.FoundOutputs.{decimal_of, found_outputs}
+use Rattle.fcl_check.proofs.existing.FoundOutputs.{decimal_of}
+use Rattle.fcl_check.proofs.existing.FoundVariables.{found_inputs, found_outputs}
 use Rattle.fcl_check.proofs.trees.RuleSizes.{condition_size, count-rules}
 
 -- ---- rules

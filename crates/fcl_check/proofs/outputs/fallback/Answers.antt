@@ -7,7 +7,8 @@ use Rattle.fcl_check.proofs.outputs.fallback.Goals as goal
 pub returns-in-Default : goal.returns-in-Default
 returns-in-Default c =
     let read = c.deref-line-items in
-    sym (first-found default_line c.args.section.now.lines.items read.result.now c.loop-line.line-index read.ensures.value c.loop-line.invariant _ _ c.in-Default.fallback (omega arith) c.in-Default.is refl)
+    sym (first-found default_line c.args.section.now.lines.items read.result.now c.loop-line.line-index read.ensures.value c.loop-line.invariant _ _
+    c.in-Default.fallback (omega arith) c.in-Default.is refl)
 
 pub loop-line-preserved : goal.loop-line-preserved
 loop-line-preserved c =
@@ -17,4 +18,5 @@ loop-line-preserved c =
 
 pub returns : goal.returns
 returns c = sym
-    (none-found default_line c.args.section.now.lines.items c.deref-line-items.result.now c.loop-line.line-index c.deref-line-items.ensures.value c.loop-line.invariant (omega arith))
+    (none-found default_line c.args.section.now.lines.items c.deref-line-items.result.now c.loop-line.line-index c.deref-line-items.ensures.value
+    c.loop-line.invariant (omega arith))

@@ -8,7 +8,8 @@ pub returns-in-Method : goal.returns-in-Method
 returns-in-Method c =
     let read = c.deref-line-items in
     sym (ap is_none
-    (first-found method_line c.args.section.now.lines.items read.result.now c.loop-line.line-index read.ensures.value c.loop-line.invariant _ _ c.in-Method.field-0 (omega arith) c.in-Method.is refl))
+    (first-found method_line c.args.section.now.lines.items read.result.now c.loop-line.line-index read.ensures.value c.loop-line.invariant _ _
+    c.in-Method.field-0 (omega arith) c.in-Method.is refl))
 
 pub loop-line-preserved : goal.loop-line-preserved
 loop-line-preserved c =
@@ -18,4 +19,5 @@ loop-line-preserved c =
 
 pub returns : goal.returns
 returns c = sym (ap is_none
-    (none-found method_line c.args.section.now.lines.items c.deref-line-items.result.now c.loop-line.line-index c.deref-line-items.ensures.value c.loop-line.invariant (omega arith)))
+    (none-found method_line c.args.section.now.lines.items c.deref-line-items.result.now c.loop-line.line-index c.deref-line-items.ensures.value
+    c.loop-line.invariant (omega arith)))
