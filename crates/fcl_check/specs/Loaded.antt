@@ -145,7 +145,7 @@ module _ (text : List ℕ) (b : FunctionBlock) where
 
   pub record IsRuleOf (r : RuleNode) (q : Rule) : Type 0 where
     pub condition : condition_of q.cond ≡ or_condition literal_of (view_or r.condition)
-    pub weight : number_of q.weight ≡ option_map (λ (w : Weight). value w.num) r.weight
+    pub weight : number_of q.weight ≡ option_map (λ (w : Weight). value w.value) r.weight
     pub conclusions : q.concl ≡ map conclusion_of (conclusions_of r)
 
   -- ---- the block

@@ -25,9 +25,9 @@ use fz_num::Dec;
 use std::alloc::{AllocError, Global};
 
 fn weight(rule: &fcl_syntax::Rule) -> Option<Dec>
-    ensures same { number_of result ≡ option_map (λ (w : Weight). value w.num) rule.now.weight }
+    ensures same { number_of result ≡ option_map (λ (w : Weight). value w.value) rule.now.weight }
 {
-    rule.weight.map(|weight| value(weight.num))
+    rule.weight.map(|weight| value(weight.value))
 }
 
 fn conclusion(source: &Source<'_, '_>, conclusion: &Conclusion) -> (u8, u8)

@@ -56,7 +56,7 @@ fn fallback_number(value_or_nc: FallbackValue) -> Option<Dec>
     ensures { number_of result ≡ option_map value (fallback_number value_or_nc) }
 {
     match value_or_nc {
-        FallbackValue::Number(num) => Some(value(num)),
+        FallbackValue::Number(number) => Some(value(number)),
         FallbackValue::Nc(_) => None,
     }
 }

@@ -216,10 +216,7 @@ fn push_times(into: &mut Vec<u8>, word: &[u8], times: u32) -> Result<(), AllocEr
 }
 
 // What opens and what closes, how often, and the NOT that the block has then: 64 are open at once.
-const DEEPEST: [(&[u8], &[u8], u32, u32); 2] = [
-    (b"(", b")", 64, 0),
-    (b"NOT (", b")", 32, 32),
-];
+const DEEPEST: [(&[u8], &[u8], u32, u32); 2] = [(b"(", b")", 64, 0), (b"NOT (", b")", 32, 32)];
 
 fn nots_loaded(
     alloc: Global,

@@ -3,7 +3,7 @@ use Rattle.std.proofs.Common.{◌≡◌, List, [], ◌∷◌, Option, Some, None
 use Rattle.fz_num.specs.declared.dec.Dec.{Dec}
 use Rattle.fuzzy_meaning.specs.declared.block.Output.{Output}
 use Rattle.fcl_syntax.specs.declared.tree.Defuzzify.{Defuzzify}
-use Rattle.fcl_syntax.specs.declared.tree.Num.{Num}
+use Rattle.fcl_syntax.specs.declared.tree.SignedNumber.{SignedNumber}
 use Rattle.fcl_syntax.specs.declared.tree.Singleton.{Singleton}
 use Rattle.fcl_check.specs.Loaded.{IsOutputOf, default_number, number_of, output_range}
 use Rattle.fcl_check.specs.Names.{singletons_of}
@@ -11,10 +11,10 @@ use Rattle.fcl_check.specs.Sections.{default_of, fallback_number, value}
 use Rattle.fcl_check.specs.Sound.{IsSoundDefuzzify}
 use Rattle.fcl_check.proofs.faultless.Present.{default_there, found_value, output_range_there}
 
-abbrev pub decimal_of : Num → Dec
+abbrev pub decimal_of : SignedNumber → Dec
 decimal_of n = record { 0 = value n }
 
-number_of-decimal : (o : Option Num) → number_of (option_map decimal_of o) ≡ option_map value o
+number_of-decimal : (o : Option SignedNumber) → number_of (option_map decimal_of o) ≡ option_map value o
 number_of-decimal None = refl
 number_of-decimal (Some n) = refl
 

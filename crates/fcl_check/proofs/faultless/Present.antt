@@ -12,7 +12,7 @@ use Rattle.fcl_syntax.specs.declared.tree.Direction.{Direction}
 use Rattle.fcl_syntax.specs.declared.tree.Direction.TheVariants.{Input, Output}
 use Rattle.fcl_syntax.specs.declared.tree.FunctionBlock.{FunctionBlock}
 use Rattle.fcl_syntax.specs.declared.tree.Fuzzify.{Fuzzify}
-use Rattle.fcl_syntax.specs.declared.tree.Num.{Num}
+use Rattle.fcl_syntax.specs.declared.tree.SignedNumber.{SignedNumber}
 use Rattle.fcl_syntax.specs.declared.tree.Part.{Part}
 use Rattle.fcl_syntax.specs.declared.tree.Part.TheVariants as part
 use Rattle.fcl_syntax.specs.declared.tree.Point.{Point}
@@ -93,7 +93,7 @@ numbers_there (defuzzy.Accu x ∷ lines) at h = numbers_there lines at h
 numbers_there (defuzzy.Method x ∷ lines) at h = numbers_there lines at h
 numbers_there (defuzzy.Default d ∷ lines) at h =
     elim (fallback_number d.value) as (λ o. IsSome (hull_of (map (λ (n : ℤ × ℕ). n.0)
-    (cons_option (option_map (λ (n : Num). (value n, d.at)) o) (filter_map number_line lines))))) [
+    (cons_option (option_map (λ (n : SignedNumber). (value n, d.at)) o) (filter_map number_line lines))))) [
       | None ↦ numbers_there lines at h
       | Some n ↦ refl
     ]

@@ -101,14 +101,14 @@ weighed w h =
     ]
 
 abbrev beyond : Weight → List ℕ
-beyond w = at_if (int_lt (value w.num) (pos 0) || int_lt (pos 10000) (value w.num)) w.at
+beyond w = at_if (int_lt (value w.value) (pos 0) || int_lt (pos 10000) (value w.value)) w.at
 
-valid_weight : (o : Option Weight) (d : Option Dec) → at_some beyond o ≡ [] → number_of d ≡ option_map (λ (w : Weight). value w.num) o → IfSome d IsWeight
+valid_weight : (o : Option Weight) (d : Option Dec) → at_some beyond o ≡ [] → number_of d ≡ option_map (λ (w : Weight). value w.value) o → IfSome d IsWeight
 valid_weight o None none e = tt
 valid_weight None (Some d) none e = absurd cc
 valid_weight (Some w) (Some d) none e =
-    let same : d.0 ≡ value w.num = cc in
-    let both = weighed (value w.num) (no_place (int_lt (value w.num) (pos 0) || int_lt (pos 10000) (value w.num)) w.at none) in
+    let same : d.0 ≡ value w.value = cc in
+    let both = weighed (value w.value) (no_place (int_lt (value w.value) (pos 0) || int_lt (pos 10000) (value w.value)) w.at none) in
     record { low = rw same both.0; high = rw same both.1 }
 
 -- ---- rules
