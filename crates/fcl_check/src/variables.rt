@@ -13,32 +13,34 @@ use crate::names::Names;
 use fcl_syntax::{Direction, Part, Tree};
 use std::alloc::{AllocError, Global};
 
-/// What a block has of a declared variable: an input or an output.
+/// What a block has of a declared variable: an input, or an output.
+///
+/// Its section is FUZZIFY or DEFUZZIFY, and stands in the tree as one of the parts.
 pub trait FromSection: Sized + Drop {
     /// The section that tells what it is.
     type Section;
 
-    /// How it is declared.
+    /// The direction in which it is declared.
     ghost side: { Direction };
 
-    /// A section of its sort.
+    /// The section that a part is, if it is one of this kind.
     ghost as_section: { Part → Option Self.Section };
 
     /// Whether a section has no fault that a builder would meet.
     ghost IsSound: { Self.Section → Type 0 };
 
-    /// What a section makes.
+    /// What is made of a section.
     ghost IsOf: { Self.Section → Self → Type 0 };
 
-    /// How it is declared.
+    /// The direction in which it is declared.
     fn direction() -> Direction
         ensures { result ≡ side };
 
-    /// A section of its sort.
+    /// The section that a part is, if it is one of this kind.
     fn section(part: &Part) -> Option<&Self::Section>
         ensures { option_map (λ s. s.now) result ≡ as_section part.now };
 
-    /// What a section makes.
+    /// What is made of a sound section. Only memory can be wanting.
     fn from_section(alloc: Global, section: &Self::Section) -> Result<Self, AllocError>
         requires { IsSound section.now }
         ensures { IfOk result (IsOf section.now) };
