@@ -7,11 +7,10 @@ use Rattle.fuzzy_meaning.specs.declared.block.Block.{Block}
 use Rattle.fuzzy_meaning.specs.declared.block.Output.{Output}
 use Rattle.fuzzy_meaning.specs.declared.block.Rule.{Rule}
 use Rattle.fuzzy_meaning.specs.Blocks.{output_at}
-use Rattle.fuzzy_meaning.proofs.BlockLemmas.{IsSomeAnd-some, IsSomeAnd-within}
+use Rattle.fz_list.proofs.Algebra.{IsSomeAnd-some, IsSomeAnd-within, AreFilled, AreFilled-more}
 use Rattle.error_bound.specs.declared.boxes.Leaf.{Leaf}
 use Rattle.error_bound.specs.Leaves.{rule_at, concludes_some, IsPairFor, Holds}
 use Rattle.error_bound.specs.Bounds.{IsBound}
-use Rattle.error_bound.proofs.Filling.{AreFilled, AreFilled-more}
 use Rattle.cert_check.specs.Trees.{Part, leaves_of}
 use Rattle.cert_check.specs.Acceptance.{HasBound}
 use Rattle.cert_check.specs.Faults.{HoldBefore}

@@ -7,7 +7,7 @@ use Rattle.fuzzy_meaning.specs.declared.block.Block.{Block}
 use Rattle.fuzzy_meaning.specs.declared.block.Input.{Input}
 use Rattle.fuzzy_meaning.specs.declared.block.Trapezoid.{Trapezoid}
 use Rattle.fuzzy_meaning.specs.Blocks.{IsValid, IsValidInput, IsValidTerm}
-use Rattle.fuzzy_meaning.proofs.BlockLemmas.{All-slice_get}
+use Rattle.fz_list.proofs.Algebra.{All-slice_get}
 use Rattle.byte_scaling.specs.Cells.{cell_start, cell_end}
 use Rattle.point_slope.specs.Tables.{row_of, grade_of}
 use Rattle.error_bound.specs.declared.boxes.Interval.{Interval}
@@ -52,13 +52,10 @@ term_error-is i t v vi vt h =
       least = λ f c. cells_least billion w (points_of i t) g v.from m f (IsPeaked-points i t vt) (width_pos i vi) (omega arith) (λ n h1 h2 x inn. c n h1 (omega arith) x inn);
     }
 
-pub term_errors-are : (b : Block) (box : List Interval) → IsValid b → IsBox box → AreTermErrors b box (term_errors b box)
+pub term_errors-are : TermErrorsAre
 term_errors-are b box valid some = record {
   error = λ i t x term v ex et ev.
       let vx : IsValidInput x = All-slice_get IsValidInput b.inputs (i - 1) x valid.inputs ex in
       let vt : IsValidTerm x.lo x.hi term = All-slice_get (IsValidTerm x.lo x.hi) x.terms (t - 1) term vx.terms et in
       rw (ex, et, ev) (term_error-is x term v vx vt (some.some (i - 1) v ev).0);
 }
-
-pub term_errors_found : TermErrorsAre
-term_errors_found b box valid some = (term_errors b box, term_errors-are b box valid some)
