@@ -12,7 +12,7 @@ use Rattle.fuzzy_meaning.specs.declared.block.Output.{Output}
 use Rattle.fuzzy_meaning.specs.Blocks.{IsValid, IsValidInput, AreInputs, output_at}
 use Rattle.fuzzy_meaning.specs.Meaning.{answer_after, first_answer}
 use Rattle.fz_list.proofs.Algebra.{All-slice_get}
-use Rattle.byte_scaling.specs.Cells.{byte_of, LiesInCell, NumbersLieInTheirCells, value_in}
+use Rattle.byte_scaling.specs.Cells.{byte_of, bytes_of, LiesInCell, NumbersLieInTheirCells, value_in}
 use Rattle.point_slope.specs.Bytes.{answer_in}
 use Rattle.error_bound.specs.declared.boxes.Leaf.{Leaf}
 use Rattle.error_bound.specs.Boxes.{LieInCells}
@@ -21,7 +21,7 @@ use Rattle.fz_num.proofs.Algebra.{IsClose-more}
 use Rattle.box_tree.specs.declared.cert.Cert.{Cert}
 use Rattle.cert_check.specs.Trees.{Part, IsTree, lies, whole}
 use Rattle.cert_check.specs.Acceptance.{HasBound, IsGreatestBound}
-use Rattle.cert_check.specs.Laws.{bytes_of, AcceptedAnswersAreNear}
+use Rattle.cert_check.specs.Laws.{AcceptedAnswersAreNear}
 use Rattle.cert_check.proofs.TreeLemmas.{one_leaf, leaf_with, LieIn-lies}
 
 -- the bytes of numbers within their ranges
