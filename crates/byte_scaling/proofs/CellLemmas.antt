@@ -5,13 +5,9 @@ use Rattle.std.proofs.lemmas.Bool.Decides.{nat_tests}
 use Rattle.fz_num.specs.Fractions.{Fraction, over}
 use Rattle.std.proofs.lemmas.Nat.{le-div}
 use Rattle.std.proofs.lemmas.Int.{ints}
-use Rattle.std.specs.Prelude.{◌≤ℤ◌, ◌<ℤ◌, ◌==◌}
-use Rattle.fz_num.specs.declared.dec.Dec.{Dec}
+use Rattle.std.specs.Prelude.{◌==◌}
 use Rattle.fz_num.specs.Decimals.{distance}
-use Rattle.fuzzy_meaning.specs.declared.block.Input.{Input}
-use Rattle.fuzzy_meaning.specs.declared.block.Output.{Output}
-use Rattle.fuzzy_meaning.specs.Blocks.{IsWithin}
-use Rattle.byte_scaling.specs.Cells.{IsFromTo, inside, at_end, cell_start, cell_end, byte_of, nearest_byte, IsInCell, IsNearest, NearestIsByte, CellsAreApart, LiesInCell, NumbersLieInTheirCells, BytesAscend}
+use Rattle.byte_scaling.specs.Cells.{IsFromTo, inside, at_end, cell_start, cell_end, IsInCell, IsNearest, NearestIsByte, CellsAreApart, NumbersLieInTheirCells, BytesAscend}
 
 -- a place of the range lies in the cell of its part, the high end in the last
 pub IsInCell-part : (w d : ℕ) → 0 < w → d ≤ w → IsInCell w (min 255 (d * 256 / w)) (over d 1)

@@ -16,6 +16,7 @@ use Rattle.box_tree.specs.declared.cert.Cert.{Cert}
 use Rattle.cert_check.specs.Trees.{left_of, right_of, Part, leaves_of, IsTree, leaf, split, whole}
 use Rattle.cert_check.specs.Acceptance.{HasBound, IsGreatestBound, IsAccepted}
 use Rattle.cert_check.specs.Laws.{ErrorsAreDetermined}
+use Rattle.std.proofs.lemmas.Option.{slice_get_within}
 
 -- nodes spell one tree
 pub tree_unique : (box box' : List Interval) (ns ns' : List Node) (ps qs : List Part) (r r' : List Node) → IsTree box ns ps r → IsTree box' ns' qs r' → box ≡ box' → ns ≡ ns' → (ps ≡ qs) × (r ≡ r')
@@ -78,11 +79,6 @@ same_lists [] (f ∷ fs) l h = absurd (omega arith)
 same_lists (e ∷ es) [] l h = absurd (omega arith)
 same_lists (e ∷ es) (f ∷ fs) l h = ap₂ (λ a c. a ∷ c) (h 0 e f refl refl) (same_lists es fs (omega arith) (λ k a c p q. h (suc k) a c p q))
 
-pub within_list : {X : Type 0} (xs : List X) (k : ℕ) (x : X) → slice_get xs k ≡ Some x → k < length xs
-within_list [] k x e = absurd (let z : ⊥ = cc in z)
-within_list (y ∷ ys) zero x e = omega arith
-within_list (y ∷ ys) (suc k) x e = let r : k < length ys = within_list ys k x e in omega arith
-
 pub map_count : (is : List Input) → length {A = Interval} (map (λ (i : Input). record { from = 0; to = 255 }) is) ≡ length is
 map_count [] = refl
 map_count (i ∷ is) = ap suc (map_count is)
@@ -98,7 +94,7 @@ errors_unique one b h cert cert' es fs en v s t = same_lists es fs (s.errors_cou
 
     each : (k e f : ℕ) → slice_get es k ≡ Some e → slice_get fs k ≡ Some f → e ≡ f
     each k e f p q =
-        let l = within_list es k e p in
+        let l = slice_get_within es k e p in
         let c = s.errors_count in
         let x = some_at b.outputs k (omega arith) in
         let ek : k ≡ k + 1 - 1 = omega arith in

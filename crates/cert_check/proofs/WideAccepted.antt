@@ -12,7 +12,7 @@ use Rattle.box_tree.specs.declared.cert.Node.{Node}
 use Rattle.cert_check.specs.Trees.{Part, IsTree, leaf, split, whole}
 use Rattle.cert_check.specs.Acceptance.{HasBound, IsGreatestBound}
 use Rattle.cert_check.specs.Laws.{WideIsAccepted}
-use Rattle.cert_check.proofs.Determined.{within_list}
+use Rattle.std.proofs.lemmas.Option.{slice_get_within}
 
 wide_has : BoundsFallWithParts → (b : Block) (o : ℕ) (x : Output) (p : Part) (n : ℕ) → IsValid b → output_at b o ≡ Some x → HasBound b o x 1 p n → (m : ℕ) × HasBound b o x 256 p m × (m ≤ n)
 wide_has fall b o x p n valid out h =
@@ -88,7 +88,7 @@ wide_accepted fall b cert es v a = (
         let eo : o - 1 + 1 ≡ o = omega arith in
         subst (λ q. IsGreatestBound b q x 256 a.parts f) eo (c.2 (o - 1) x f ex ef).0;
     claimed = λ k f d ef ed.
-        let l = within_list fs k f ef in
+        let l = slice_get_within fs k f ef in
         let n1 = c.1 in
         let n2 = a.errors_count in
         let x = some_at b.outputs k (omega arith) in
@@ -96,7 +96,7 @@ wide_accepted fall b cert es v a = (
         at_least ((c.2 k x.0 f x.1 ef).1 e.0 e.1) (a.claimed k e.0 d e.1 ed);
   },
   λ k e f ee ef.
-      let l = within_list es k e ee in
+      let l = slice_get_within es k e ee in
       let n2 = a.errors_count in
       let x = some_at b.outputs k (omega arith) in
       (c.2 k x.0 f x.1 ef).1 e ee,
@@ -104,7 +104,7 @@ wide_accepted fall b cert es v a = (
   where
     pick : (k : ℕ) (x : Output) → slice_get b.outputs k ≡ Some x → (f : ℕ) × IsGreatestBound b (k + 1) x 256 a.parts f × ((e : ℕ) → slice_get es k ≡ Some e → f ≤ e)
     pick k x ex =
-        let l = within_list b.outputs k x ex in
+        let l = slice_get_within b.outputs k x ex in
         let n2 = a.errors_count in
         let e = some_at es k (omega arith) in
         let ek : k ≡ k + 1 - 1 = omega arith in

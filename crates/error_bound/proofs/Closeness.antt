@@ -7,7 +7,7 @@ use borrow.Author.Differences.{up, down}
 use Rattle.fz_num.specs.declared.dec.Dec.{Dec}
 use Rattle.fz_num.specs.Fractions.{over, up_div}
 use Rattle.fz_num.specs.Decimals.{distance}
-use Rattle.fz_num.specs.Fracs.{Quotient, IsClose}
+use Rattle.fz_num.specs.Fracs.{IsClose}
 use Rattle.fz_num.proofs.Algebra.{le-up_div}
 use Rattle.fuzzy_meaning.specs.declared.block.Output.{Output}
 use Rattle.fuzzy_meaning.specs.Blocks.{IsWithin}

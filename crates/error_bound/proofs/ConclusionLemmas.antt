@@ -4,14 +4,10 @@ use Rattle.std.specs.Prelude.{◌==◌, ◌&&◌, ◌||◌, if◌then◌else◌,
 use Rattle.std.specs.List.{list_any}
 use Rattle.std.proofs.lemmas.Bool.Decides.{nat_tests}
 use Rattle.std.proofs.lemmas.Grind.{get_or-set_at}
+use Rattle.fz_list.proofs.Algebra.{list_any-left}
 
 pub any-some : (o t : ℕ) (cs : List (ℕ × ℕ)) → list_any (λ c. (c.0 == o) && (c.1 == t)) cs ≡ true → list_any (λ c. c.0 == o) cs ≡ true
-any-some o t [] h = absurd (let z : ⊥ = cc in z)
-any-some o t (c ∷ cs) h = by_head (c.0 == o) (c.1 == t) h (any-some o t cs)
-  where
-    by_head : (a b : Bool) → ((a && b) || list_any (λ c. (c.0 == o) && (c.1 == t)) cs) ≡ true → (list_any (λ c. (c.0 == o) && (c.1 == t)) cs ≡ true → list_any (λ c. c.0 == o) cs ≡ true) → (a || list_any (λ c. c.0 == o) cs) ≡ true
-    by_head true b e rest = refl
-    by_head false b e rest = rest e
+any-some o t cs h = list_any-left (λ (c : ℕ × ℕ). c.0 == o) (λ (c : ℕ × ℕ). c.1 == t) cs h
 
 same_number : (t : ℕ) → (t == t) ≡ true
 same_number t = grind (arith, nat_tests)

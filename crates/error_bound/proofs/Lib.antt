@@ -20,4 +20,5 @@ pub mod Nested
 pub mod NestedBounds
 pub mod TableLemmas
 pub mod ConclusionLemmas
+pub mod PairLemmas
 pub mod FaultLemmas

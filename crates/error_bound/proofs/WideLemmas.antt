@@ -1,5 +1,5 @@
 -- A wide answer's Bound is at most that of bytes.
-use Rattle.std.proofs.Common.{◌≡◌, ℕ, zero, suc, ◌*◌, ◌<◌, ◌≤◌, min, arith, mul-le-mul_right, le_of_mul-le-mul_right, mul-pos, refl, ◌-◌, List}
+use Rattle.std.proofs.Common.{◌≡◌, ℕ, zero, suc, ◌*◌, ◌<◌, ◌≤◌, min, arith, mul-le-mul_right, le_of_mul-le-mul_right, mul-pos, refl, ◌-◌}
 use Rattle.std.specs.Prelude.{◌==◌, if◌then◌else◌, ◌<ℤ◌}
 use Rattle.std.proofs.lemmas.Int.{ints}
 use Rattle.fz_num.specs.Fractions.{Fraction, over, IsProper, AtMost, up_div}

@@ -1,14 +1,13 @@
 -- What a valid block has at its numbers.
-use Rattle.std.proofs.Common.{◌≡◌, ℕ, zero, suc, ◌-◌, ◌<◌, ◌≤◌, List, [], ◌∷◌, length, get_or, Option, Some, None, slice_get, refl, subst, arith}
-use Rattle.std.specs.Prelude.{All, IsSomeAnd, IfSome, ◌≤ℤ◌}
+use Rattle.std.proofs.Common.{◌≡◌, ℕ, ◌-◌, ◌<◌, ◌≤◌, List, length, get_or, Option, Some, None, slice_get, refl, arith}
+use Rattle.std.specs.Prelude.{IfSome, ◌≤ℤ◌}
 use Rattle.std.proofs.lemmas.Int.{ints}
-use Rattle.std.proofs.lemmas.Option.{slice_get_within, get_or_from_slice_get, slice_get_read, slice_get-get_or}
+use Rattle.std.proofs.lemmas.Option.{slice_get_read, slice_get-get_or}
 use Rattle.fz_num.specs.declared.dec.Dec.{Dec}
 use Rattle.fuzzy_meaning.specs.declared.block.Block.{Block}
 use Rattle.fuzzy_meaning.specs.declared.block.Input.{Input}
-use Rattle.fuzzy_meaning.specs.declared.block.Output.{Output}
 use Rattle.fuzzy_meaning.specs.declared.block.Trapezoid.{Trapezoid}
-use Rattle.fuzzy_meaning.specs.Blocks.{IsValid, IsValidInput, IsValidOutput, IsValidTerm, IsTrapezoid, IsInScale, IsWithin, HasTerm, AreInputs, output_at}
+use Rattle.fuzzy_meaning.specs.Blocks.{IsValid, IsValidInput, IsValidTerm, IsTrapezoid, IsInScale, IsWithin, HasTerm, AreInputs}
 use Rattle.fuzzy_meaning.specs.Degrees.{degree}
 use Rattle.fuzzy_meaning.specs.Meaning.{literal_degree}
 use Rattle.fz_list.proofs.Algebra.{All-slice_get, IsSomeAnd-some, IsSomeAnd-within}

@@ -1,8 +1,9 @@
 -- Lists by their places: what holds of each element, the element at a place, and lists that a loop fills.
-use Rattle.std.proofs.Common.{◌≡◌, ⊎_elim, ℕ, zero, suc, ◌+◌, ◌<◌, ◌≤◌, List, [], ◌∷◌, ◌++◌, length, Option, Some, refl, ◌∙◌, subst, arith}
-use Rattle.std.specs.Prelude.{All, IsSomeAnd, slice_get, slice_set}
+use Rattle.std.proofs.Common.{◌≡◌, ⊎_elim, ℕ, zero, suc, ◌+◌, ◌<◌, ◌≤◌, List, [], ◌∷◌, ◌++◌, length, Option, Some, refl, ◌∙◌, subst, arith, Bool, true, false}
+use Rattle.std.specs.Prelude.{All, IsSomeAnd, slice_get, slice_set, ◌&&◌, ◌||◌}
 use Rattle.std.proofs.lemmas.Bool.{cases_lt}
 use Rattle.std.proofs.lemmas.Option.{slice_get_within, get_or_from_slice_get}
+use Rattle.std.specs.List.{list_any}
 
 pub All-none : {X : Type 0} (P : X → Type 0) → All P []
 All-none P k d l = absurd (omega arith)
@@ -19,6 +20,9 @@ All-slice_get P xs i x h e = subst P (get_or_from_slice_get xs i x x e) (h i x (
 pub IsSomeAnd-some : {X : Type 0} (P : X → Type 0) (o : Option X) (x : X) → o ≡ Some x → IsSomeAnd o P → P x
 IsSomeAnd-some P o x e h = subst (λ y. IsSomeAnd y P) e h
 
+pub IsSomeAnd-at : {X : Type 0} (P : X → Type 0) (o : Option X) (x : X) → o ≡ Some x → P x → IsSomeAnd o P
+IsSomeAnd-at P o x e h = rw e h
+
 -- a place that has an element lies within the list
 pub IsSomeAnd-within : {X : Type 0} (P : X → Type 0) (xs : List X) (i : ℕ) → IsSomeAnd (slice_get xs i) P → i < length xs
 IsSomeAnd-within P [] i h = absurd h
@@ -30,6 +34,15 @@ pub some_at : {X : Type 0} (xs : List X) (k : ℕ) → k < length xs → (x : X)
 some_at [] k h = absurd (omega arith)
 some_at (x ∷ xs) zero h = (x, refl)
 some_at (x ∷ xs) (suc k) h = some_at xs k (omega arith)
+
+-- where both tests pass, one does
+pub list_any-left : {X : Type 0} (p q : X → Bool) (xs : List X) → list_any (λ x. p x && q x) xs ≡ true → list_any p xs ≡ true
+list_any-left p q [] h = absurd (let z : ⊥ = cc in z)
+list_any-left {X} p q (x ∷ xs) h = by_head (p x) (q x) h (list_any-left p q xs)
+  where
+    by_head : (a b : Bool) → ((a && b) || list_any (λ x. p x && q x) xs) ≡ true → (list_any (λ x. p x && q x) xs ≡ true → list_any p xs ≡ true) → (a || list_any p xs) ≡ true
+    by_head true b e rest = refl
+    by_head false b e rest = rest e
 
 pub slice_get-set_same : {X : Type 0} (xs : List X) (i : ℕ) (x : X) → i < length xs → slice_get (slice_set xs i x) i ≡ Some x
 slice_get-set_same [] i x h = absurd (omega arith)

@@ -1,4 +1,4 @@
-use Rattle.std.proofs.Common.{◌≡◌, ◌*◌, ◌/◌, min, subst, sym, arith}
+use Rattle.std.proofs.Common.{◌≡◌, ◌*◌, ◌/◌, subst, sym, arith}
 use Rattle.fz_num.specs.Decimals.{distance}
 use Rattle.byte_scaling.specs.Cells.{byte_of, LiesInCell}
 use Rattle.byte_scaling.proofs.CellLemmas.{LiesInCell-byte_of}

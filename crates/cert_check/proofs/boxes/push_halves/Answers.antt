@@ -32,9 +32,9 @@ returns-in-Some-clause-boxes c =
     let box = c.args.bytes.0.items in
     let i = c.in-Some.ensures.inside in
     let v = c.in-Some.field-0 in
-    let left : c.set_interval-2.new.bytes.0.items ≡ left_of place c.args.cut box = c.set_interval-2.ensures ∙ set-left place c.args.cut box v i.1 in
+    let left : c.set_interval-in-Some.new.bytes.0.items ≡ left_of place c.args.cut box = c.set_interval-in-Some.ensures ∙ set-left place c.args.cut box v i.1 in
     let right : c.set_interval.new.bytes.0.items ≡ right_of place c.args.cut box =
-        c.set_interval.ensures ∙ ap (λ (x : List Interval). set x place (record { from = c.args.cut; to = v.to })) c.copied.ensures
-        ∙ set-right place c.args.cut box v i.1 in
+    c.set_interval.ensures ∙ ap (λ (x : List Interval). set x place (record { from = c.args.cut; to = v.to })) c.copied-right.ensures
+    ∙ set-right place c.args.cut box v i.1 in
     c.push-in-Some.ensures.boxes ∙ ap₂ (λ (x : List Interval) (xs : List (List Interval)). x ∷ xs) left
     (c.push.ensures.boxes ∙ ap (λ (x : List Interval). x ∷ stack_of c.args.boxes.now.items) right)

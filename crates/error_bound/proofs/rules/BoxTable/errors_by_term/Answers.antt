@@ -4,7 +4,7 @@ use Rattle.std.proofs.Math.Seq.{drop-cons}
 use Rattle.std.proofs.lemmas.Option.{slice_get_read}
 use Rattle.fuzzy_meaning.specs.Rules.{concludes}
 use Rattle.error_bound.specs.CellErrors.{term_errors}
-use Rattle.error_bound.specs.Errors.{rule_error, output_error_among}
+use Rattle.error_bound.specs.Errors.{output_error_among}
 use Rattle.error_bound.proofs.TableLemmas.{no_reach, rule_reach}
 use Rattle.error_bound.proofs.rules.BoxTable.errors_by_term.Goals as goal
 
