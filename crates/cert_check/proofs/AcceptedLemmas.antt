@@ -1,6 +1,6 @@
 -- Under an accepted certificate each answer is within the error.
 use Rattle.std.proofs.Common.{◌≡◌, ℕ, zero, suc, ◌≤◌, List, [], ◌∷◌, length, map, Bool, true, Option, Some, None, refl, sym, ap, ap₂, ◌∙◌, subst, arith, mul-pos}
-use Rattle.std.specs.Prelude.{◌≢◌, nat_le, ◌&&◌, slice_get, fold, All, ◌<ℤ◌, ◌≤ℤ◌}
+use Rattle.std.specs.Prelude.{◌≢◌, nat_le, ◌&&◌, slice_get, fold, All}
 use Rattle.std.proofs.lemmas.Int.{ints}
 use Rattle.std.proofs.lemmas.Bool.Decides.{nat_tests}
 use Rattle.fz_num.specs.declared.dec.Dec.{Dec}

@@ -1,14 +1,13 @@
 -- A certificate with a fault is not accepted.
 use Rattle.std.proofs.Common.{◌≡◌, ℕ, zero, suc, ◌-◌, ◌≤◌, List, [], ◌∷◌, ◌++◌, Some, refl, sym, ap, ◌∙◌, subst, arith}
-use Rattle.std.specs.Prelude.{slice_get, All, IsTrue, Bool, true, false, ◌&&◌, ◌||◌, ◌==◌}
-use Rattle.std.specs.List.{list_any}
+use Rattle.std.specs.Prelude.{slice_get, All, IsTrue, ◌==◌}
 use Rattle.arrayvec.specs.ArrayVec.{ArrayVec}
 use Rattle.fuzzy_meaning.specs.declared.block.Block.{Block}
 use Rattle.fuzzy_meaning.specs.declared.block.Output.{Output}
 use Rattle.error_bound.specs.declared.boxes.Interval.{Interval}
 use Rattle.error_bound.specs.declared.boxes.Leaf as the
 use Rattle.error_bound.specs.Leaves.{Holds, strong, silent, IsPairFor, rule_at, concludes_some}
-use Rattle.fz_list.proofs.Algebra.{some_at}
+use Rattle.fz_list.proofs.Algebra.{some_at, IsSomeAnd-at, list_any-left}
 use Rattle.error_bound.specs.Faults.{FaultyLeavesFail}
 use Rattle.error_bound.specs.Laws.{BoundsAreDetermined}
 use Rattle.box_tree.specs.declared.cert.Node.{Node}
@@ -20,7 +19,6 @@ use Rattle.cert_check.specs.Acceptance.{HasBound, IsAccepted}
 use Rattle.cert_check.specs.Faults.{line_at, Reaches, root, in_left, in_right, HasPartFault, IsPairFault, bad_rule, fails, HasTreeFault, bad_cut, bad_leaf, outputs, tree, claimed}
 use Rattle.cert_check.specs.Laws.{FaultyCertsFail}
 use Rattle.cert_check.proofs.Determined.{tree_unique, errors_unique}
-use Rattle.cert_check.proofs.PairLemmas.{IsSomeAnd-at}
 
 record Halves (box : List Interval) (i c : ℕ) (nodes : List Node) (parts : List Part) (rest : List Node) : Type 0 where
   left : List Part
@@ -76,16 +74,6 @@ inside b P box nodes found rest (in_right x i c ns m qs f r some cut first hold 
     (subst (λ k. IsTree (right_of (i - 1) c x) k h.right after) same h.right_tree)
     (All-back P h.left h.right (subst (λ ps. All P ps) (sym h.parts_are) a))
 
-some-conclusion : (o t : ℕ) (cs : List (ℕ × ℕ)) → list_any (λ c. (c.0 == o) && (c.1 == t)) cs ≡ true
-    → list_any (λ c. c.0 == o) cs ≡ true
-some-conclusion o t [] h = absurd (let z : ⊥ = cc in z)
-some-conclusion o t (c ∷ cs) h = by_head (c.0 == o) (c.1 == t) (list_any (λ c. (c.0 == o) && (c.1 == t)) cs)
-    (list_any (λ c. c.0 == o) cs) h (some-conclusion o t cs)
-  where
-    by_head : (a d p q : Bool) → ((a && d) || p) ≡ true → (p ≡ true → q ≡ true) → (a || q) ≡ true
-    by_head true d p q e f = refl
-    by_head false d p q e f = f e
-
 -- a pair that holds names a rule of its output
 Holds-pair : (b : Block) (box : List Interval) (o : ℕ) (pair : the.Leaf) → Holds b box o pair → IsPairFor b o pair
 Holds-pair b box o pair (strong r some_rule some_part small at is) = record {
@@ -93,7 +81,7 @@ Holds-pair b box o pair (strong r some_rule some_part small at is) = record {
   strong = λ z. some_rule;
   part = small;
   concludes_one = λ z. IsSomeAnd-at (λ r. IsTrue (concludes_some r o)) (rule_at b pair.rule) r at
-      (some-conclusion o is.term r.concl is.concludes_it);
+      (list_any-left (λ (c : ℕ × ℕ). c.0 == o) (λ (c : ℕ × ℕ). c.1 == is.term) r.concl is.concludes_it);
 }
 Holds-pair b box o pair (silent no_rule no_part still) = record {
   silent = λ z. no_rule;

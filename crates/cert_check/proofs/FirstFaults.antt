@@ -15,10 +15,10 @@ use Rattle.box_tree.specs.declared.cert.CertFault.{CertFault}
 use Rattle.box_tree.specs.Laws.{CertsAreOne, FaultsAreOne, CertTextsAreSound}
 use Rattle.cert_check.specs.declared.checker.CheckFault.{CheckFault}
 use Rattle.cert_check.specs.declared.checker.CheckFault.TheVariants as fault
-use Rattle.cert_check.specs.declared.text.CertRefusal.TheVariants as refusal
+use Rattle.cert_check.specs.declared.text.TextFault.TheVariants as refusal
 use Rattle.cert_check.specs.Trees.{Part, IsTree, leaf, split, part_of, left_of, right_of, IsCut, whole}
 use Rattle.cert_check.specs.Faults.{AllHold, line_at, Reaches, root, in_left, in_right, HasPartFault, IsPairFault, bad_rule, fails, HasTreeFault, bad_cut, bad_leaf, IsFirstOver, HasCheckFault, outputs, tree, claimed}
-use Rattle.cert_check.specs.Refusals.{of_text, of_cert}
+use Rattle.cert_check.specs.TextFaults.{of_text, of_cert}
 use Rattle.cert_check.specs.Laws.{CheckFaultsAreOne, TextAnswersAreOne}
 use Rattle.cert_check.proofs.Determined.{tree_unique, errors_unique}
 use Rattle.cert_check.proofs.FaultLemmas.{inside, pair_fails, tree_fails, certs_fail}

@@ -6,8 +6,8 @@ ghost use Rattle.cert_check.specs.Examples.{ExamplesAreAccepted};
 use box_tree::{cert_texts_are_sound, certs_are_one, faults_are_one};
 use byte_scaling::numbers_lie_in_their_cells;
 use error_bound::{
-    answers_are_near, bounds_are_determined, bounds_fall_with_parts, faulty_leaves_fail, leaf_faults_are_one,
-    term_errors_are,
+    answers_are_near, bounds_are_determined, bounds_fall_with_parts, faulty_leaves_fail,
+    leaf_faults_are_one, term_errors_are,
 };
 use fuzzy_meaning::examples_are_valid;
 
