@@ -12,3 +12,4 @@ pub mod DriverLemmas
 pub mod FaultLemmas
 pub mod FirstFaults
 pub mod SameBlocks
+pub mod BoxLemmas

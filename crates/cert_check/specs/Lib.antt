@@ -6,3 +6,4 @@ pub mod Refusals
 pub mod Laws
 pub mod SameBlocks
 pub mod Examples
+pub mod BoxLaws

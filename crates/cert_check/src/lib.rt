@@ -7,6 +7,7 @@
 //! and that one with a fault is not accepted.
 #![tactic(auto)]
 
+mod box_laws;
 mod boxes;
 mod checker;
 mod laws;
@@ -14,6 +15,7 @@ mod pairs;
 mod text;
 mod walk;
 
+pub use box_laws::{cuts_have_halves, leaves_are_around};
 pub use checker::{CheckFault, check, check16};
 pub use laws::{
     accepted_answers_are_near, check_faults_are_one, errors_are_determined, examples_are_accepted,

@@ -23,3 +23,4 @@ pub mod Filling
 pub mod TableLemmas
 pub mod ConclusionLemmas
 pub mod FaultLemmas
+pub mod BestLemmas
