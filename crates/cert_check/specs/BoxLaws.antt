@@ -21,7 +21,9 @@ pub record HasHalves (box : List Interval) (k c : ℕ) (v : Interval) : Type 0 w
   pub right_box : IsBox box → IsBox (right_of k c box)
 
 abbrev pub CutsHaveHalves : Type 0
-CutsHaveHalves = (box : List Interval) (k c : ℕ) (v : Interval) → slice_get box k ≡ Some v → v.from < c → c ≤ v.to → HasHalves box k c v
+CutsHaveHalves =
+    (box : List Interval) (k c : ℕ) (v : Interval) → slice_get box k ≡ Some v → v.from < c → c ≤ v.to
+    → HasHalves box k c v
 
 -- a leaf around the bytes holds for output o, with a Bound of at most e
 pub record IsLeafAround (b : Block) (h : ℕ) (bytes : List ℕ) (o : ℕ) (x : Output) (e : ℕ) : Type 0 where

@@ -18,7 +18,8 @@ pub data IsBestBound (b : Block) (box : List Interval) (o : ℕ) (x : Output) (h
 
 -- a box has one best leaf for an output, or none
 abbrev pub BestLeavesAreOne : Type 0
-BestLeavesAreOne = (b : Block) (box : List Interval) (o : ℕ) (p q : Option Leaf) → IsBest b box o p → IsBest b box o q → p ≡ q
+BestLeavesAreOne =
+    (b : Block) (box : List Interval) (o : ℕ) (p q : Option Leaf) → IsBest b box o p → IsBest b box o q → p ≡ q
 
 -- it holds, and is a pair of a certificate
 abbrev pub BestLeavesHold : Type 0
