@@ -1,5 +1,5 @@
 -- Bytes of a range, and their cells.
-use Rattle.std.specs.Prelude.{◌≡◌, ℕ, ◌+◌, ◌*◌, ◌/◌, ◌<◌, ◌≤◌, min, Bool, IsTrue, ◌==◌, pos, ◌+ℤ◌, ◌*ℤ◌, ◌≤ℤ◌, ◌<ℤ◌}
+use Rattle.std.specs.Prelude.{◌≡◌, ℕ, List, [], ◌∷◌, ◌+◌, ◌*◌, ◌/◌, ◌<◌, ◌≤◌, min, Bool, IsTrue, ◌==◌, pos, ◌+ℤ◌, ◌*ℤ◌, ◌≤ℤ◌, ◌<ℤ◌}
 use Rattle.fz_num.specs.declared.dec.Dec.{Dec}
 use Rattle.fz_num.specs.Fractions.{Fraction, over, IsProper, AtMost, IsBelow}
 use Rattle.fz_num.specs.Fracs.{Quotient}
@@ -11,6 +11,12 @@ use Rattle.fuzzy_meaning.specs.Blocks.{IsWithin}
 -- of a range in 256 parts, the one that x lies in; the high end lies in the last
 abbrev pub byte_of : Input → Dec → ℕ
 byte_of i x = min 255 (distance i.lo x * 256 / distance i.lo i.hi)
+
+-- the byte of each number in its input's range
+abbrev pub bytes_of : List Input → List Dec → List ℕ
+bytes_of [] xs = []
+bytes_of (i ∷ is) [] = []
+bytes_of (i ∷ is) (x ∷ xs) = byte_of i x ∷ bytes_of is xs
 
 -- from s on and below e, or up to e where it is closed
 pub data IsFromTo (s e : Fraction) (closed : Bool) (x : Fraction) : Type 0 where

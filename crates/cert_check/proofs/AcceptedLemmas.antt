@@ -12,7 +12,7 @@ use Rattle.fuzzy_meaning.specs.declared.block.Output.{Output}
 use Rattle.fuzzy_meaning.specs.Blocks.{IsValid, IsValidInput, AreInputs, output_at}
 use Rattle.fuzzy_meaning.specs.Meaning.{answer_after, first_answer}
 use Rattle.fuzzy_meaning.proofs.BlockLemmas.{All-slice_get}
-use Rattle.byte_scaling.specs.Cells.{byte_of, LiesInCell, value_in}
+use Rattle.byte_scaling.specs.Cells.{byte_of, bytes_of, LiesInCell, value_in}
 use Rattle.byte_scaling.proofs.CellLemmas.{IsInCell-part}
 use Rattle.point_slope.specs.Bytes.{answer_in}
 use Rattle.error_bound.specs.declared.boxes.Leaf.{Leaf}
@@ -23,7 +23,7 @@ use Rattle.error_bound.proofs.AnswerLemmas.{answers_near}
 use Rattle.box_tree.specs.declared.cert.Cert.{Cert}
 use Rattle.cert_check.specs.Trees.{Part, IsTree, lies, whole}
 use Rattle.cert_check.specs.Acceptance.{HasBound, IsGreatestBound}
-use Rattle.cert_check.specs.Laws.{bytes_of, AcceptedAnswersAreNear}
+use Rattle.cert_check.specs.Laws.{AcceptedAnswersAreNear}
 use Rattle.cert_check.proofs.TreeLemmas.{one_leaf, leaf_with, LieIn-lies}
 
 -- the bytes of numbers within their ranges

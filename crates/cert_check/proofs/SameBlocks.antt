@@ -32,7 +32,8 @@ use Rattle.cert_check.specs.Trees.{Part, IsTree, whole}
 use Rattle.cert_check.specs.Acceptance.{HasBound, IsGreatestBound, IsAccepted}
 use Rattle.cert_check.specs.Faults.{HoldBefore, AllHold, Reaches, root, in_left, in_right, IsPairFault, bad_rule, fails, HasPartFault, HasTreeFault, bad_cut, bad_leaf, HasCheckFault, outputs, tree, claimed}
 use Rattle.cert_check.specs.Refusals.{IsAcceptedText, HasRefusal, of_text, of_cert}
-use Rattle.cert_check.specs.SameBlocks.{IsSameRule, IsSameBlock, SameBlocksAnswerAlike}
+use Rattle.fuzzy_meaning.specs.SameBlocks.{IsSameRule, IsSameBlock}
+use Rattle.cert_check.specs.SameBlocks.{SameBlocksAnswerAlike}
 use Rattle.cert_check.proofs.PairLemmas.{IsSomeAnd-at}
 
 -- ---- rules

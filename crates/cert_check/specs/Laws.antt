@@ -8,7 +8,7 @@ use Rattle.fuzzy_meaning.specs.declared.block.Input.{Input}
 use Rattle.fuzzy_meaning.specs.declared.block.Output.{Output}
 use Rattle.fuzzy_meaning.specs.Blocks.{IsValid, AreInputs, output_at}
 use Rattle.fuzzy_meaning.specs.Meaning.{exact_answer}
-use Rattle.byte_scaling.specs.Cells.{byte_of, value_in}
+use Rattle.byte_scaling.specs.Cells.{bytes_of, value_in}
 use Rattle.point_slope.specs.Bytes.{answer_in}
 use Rattle.error_bound.specs.declared.boxes.Interval.{Interval}
 use Rattle.box_tree.specs.declared.cert.Node.{Node}
@@ -23,12 +23,6 @@ use Rattle.cert_check.specs.Refusals.{IsAcceptedText, HasRefusal}
 -- each list of bytes of the box lies in exactly one leaf
 abbrev pub OneLeafHasTheBytes : Type 0
 OneLeafHasTheBytes = (box : List Interval) (nodes rest : List Node) (parts : List Part) (bytes : List ℕ) → IsTree box nodes parts rest → lies bytes box ≡ true → leaves_with bytes parts ≡ 1
-
--- the byte of each number in its input's range
-abbrev pub bytes_of : List Input → List Dec → List ℕ
-bytes_of [] xs = []
-bytes_of (i ∷ is) [] = []
-bytes_of (i ∷ is) (x ∷ xs) = byte_of i x ∷ bytes_of is xs
 
 -- the last answer to a list of samples, each the numbers of the inputs, in h parts to a byte
 abbrev pub answer_to : ℕ → Block → ℕ → List (List Dec) → ℕ

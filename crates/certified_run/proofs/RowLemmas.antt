@@ -12,17 +12,17 @@ use Rattle.fuzzy_meaning.specs.declared.block.Input.{Input}
 use Rattle.fuzzy_meaning.specs.declared.block.Output.{Output}
 use Rattle.fuzzy_meaning.specs.Blocks.{AreInputs, IsValid, IsWithin, output_at}
 use Rattle.fuzzy_meaning.specs.Meaning.{exact_answer}
-use Rattle.byte_scaling.specs.Cells.{value_in}
+use Rattle.byte_scaling.specs.Cells.{bytes_of, value_in}
 use Rattle.point_slope.specs.Bytes.{answer_in}
 use Rattle.box_tree.specs.declared.cert.Cert.{Cert}
 use Rattle.cert_check.specs.Acceptance.{IsAccepted}
-use Rattle.cert_check.specs.Laws.{AcceptedAnswersAreNear, answer_to, bytes_of as bytes_to}
+use Rattle.cert_check.specs.Laws.{AcceptedAnswersAreNear, answer_to}
 use Rattle.codegen.specs.Uninterrupted.{AreAnswersOf}
 use Rattle.codegen.specs.Widths.{answer, parts, width_of}
 use Rattle.codegen.specs.declared.firmware.Firmware.{Firmware}
 use Rattle.codegen.specs.declared.width.Width.{Width}
 use Rattle.codegen.specs.declared.width.Width.TheVariants.{Byte, Word}
-use Rattle.trace_io.specs.Traces.{AreWithin, Fields, SpellSamples, Spells, bytes_of}
+use Rattle.trace_io.specs.Traces.{AreWithin, Fields, SpellSamples, Spells}
 use Rattle.trace_io.specs.declared.sample.Sample.{Sample}
 use Rattle.run_law.specs.Forms.{RowSeen}
 use Rattle.fz_run.specs.Answering.{AnswerBlock, answer_of_row}
@@ -31,19 +31,13 @@ use Rattle.certified_run.specs.Nearness.{AnswersAreWithinErrors, AreWithinErrors
 
 -- ---- the samples
 
-bytes_same : (is : List Input) (ds : List Dec) → bytes_of is ds ≡ bytes_to is ds
-bytes_same [] ds = refl
-bytes_same (i ∷ is) [] = refl
-bytes_same (i ∷ is) (d ∷ ds) = ap (λ (l : List ℕ). bytes_to (i ∷ []) (d ∷ []) ++ l) (bytes_same is ds)
-
 bytes_read : (is : List Input) (rows : List Fields) (samples : List Sample) → SpellSamples is rows samples
-    → map input_bytes samples ≡ map (bytes_to is) (numbers_of samples)
+    → map input_bytes samples ≡ map (bytes_of is) (numbers_of samples)
 bytes_read is [] [] spelled = refl
 bytes_read is [] (s ∷ ss) spelled = absurd spelled
 bytes_read is (r ∷ rs) [] spelled = absurd spelled
 bytes_read is (r ∷ rs) (s ∷ ss) spelled =
-    let first : input_bytes s ≡ bytes_to is s.values = spelled.0.bytes ∙ bytes_same is s.values in
-    ap₂ (λ (x : List ℕ) (xs : List (List ℕ)). x ∷ xs) first (bytes_read is rs ss spelled.1)
+    ap₂ (λ (x : List ℕ) (xs : List (List ℕ)). x ∷ xs) spelled.0.bytes (bytes_read is rs ss spelled.1)
 
 count_within : (is : List Input) (ds : List Dec) → AreWithin is ds → length ds ≡ length is
 count_within [] [] within = refl
@@ -76,29 +70,29 @@ are_inputs b (r ∷ rs) (s ∷ ss) spelled =
 -- ---- the answers of a row are those to the samples up to it
 
 answer_to_next : (h : ℕ) (b : Block) (o : ℕ) (before : List (List Dec)) (xs : List Dec)
-    → answer_to h b o (before ++ xs ∷ []) ≡ answer_in h b o (bytes_to b.inputs xs) (answer_to h b o before)
+    → answer_to h b o (before ++ xs ∷ []) ≡ answer_in h b o (bytes_of b.inputs xs) (answer_to h b o before)
 answer_to_next h b o before xs =
-    fold-append (λ (n : ℕ) (ds : List Dec). answer_in h b o (bytes_to b.inputs ds) n) 0 before (xs ∷ [])
+    fold-append (λ (n : ℕ) (ds : List Dec). answer_in h b o (bytes_of b.inputs ds) n) 0 before (xs ∷ [])
 
 row_answers : (w : Width) (b : Block) (before : List (List Dec)) (given : ℕ → ℕ)
     → ((o : ℕ) → given o ≡ answer_to (parts w) b o before)
     → (samples : List (List Dec)) (rows : List (RowSeen (List ℕ)))
-    → AreAnswersOf w b given (map (bytes_to b.inputs) samples) (map answer_of_row rows)
+    → AreAnswersOf w b given (map (bytes_of b.inputs) samples) (map answer_of_row rows)
     → (k : ℕ) (row : RowSeen (List ℕ)) → slice_get rows k ≡ Some row → (o : ℕ) → 1 ≤ o → o ≤ length b.outputs
     → slice_index row.answers (o - 1) ≡ answer_to (parts w) b o (before ++ take (k + 1) samples)
 row_answers w b before given same samples [] answers k row is o from to = absurd (let e : slice_get [] k ≡ Some row = is in cc)
 row_answers w b before given same [] (r ∷ rs) answers k row is o from to = absurd answers
 row_answers w b before given same (xs ∷ ss) (r ∷ rs) answers zero row is o from to =
     let row_is : r ≡ row = cc in
-    let own : slice_index r.answers (o - 1) ≡ answer w b o (bytes_to b.inputs xs) (given o) = answers.0.values o from to in
+    let own : slice_index r.answers (o - 1) ≡ answer w b o (bytes_of b.inputs xs) (given o) = answers.0.values o from to in
     ap (λ (q : RowSeen (List ℕ)). slice_index q.answers (o - 1)) (sym row_is) ∙ own
-    ∙ ap (λ (n : ℕ). answer_in (parts w) b o (bytes_to b.inputs xs) n) (same o)
+    ∙ ap (λ (n : ℕ). answer_in (parts w) b o (bytes_of b.inputs xs) n) (same o)
     ∙ sym (answer_to_next (parts w) b o before xs)
 row_answers w b before given same (xs ∷ ss) (r ∷ rs) answers (suc k) row is o from to =
-    let next : (n : ℕ) → answer w b n (bytes_to b.inputs xs) (given n) ≡ answer_to (parts w) b n (before ++ xs ∷ []) =
-    λ n. ap (λ (m : ℕ). answer_in (parts w) b n (bytes_to b.inputs xs) m) (same n)
+    let next : (n : ℕ) → answer w b n (bytes_of b.inputs xs) (given n) ≡ answer_to (parts w) b n (before ++ xs ∷ []) =
+    λ n. ap (λ (m : ℕ). answer_in (parts w) b n (bytes_of b.inputs xs) m) (same n)
     ∙ sym (answer_to_next (parts w) b n before xs) in
-    let rest = row_answers w b (before ++ xs ∷ []) (λ n. answer w b n (bytes_to b.inputs xs) (given n)) next ss rs answers.1 k row is o from to in
+    let rest = row_answers w b (before ++ xs ∷ []) (λ n. answer w b n (bytes_of b.inputs xs) (given n)) next ss rs answers.1 k row is o from to in
     let one_more : suc k + 1 ≡ suc (k + 1) = omega arith in
     rest ∙ ap (λ (l : List (List Dec)). answer_to (parts w) b o l) (append_assoc before (xs ∷ []) (take (k + 1) ss)
     ∙ ap (λ (n : ℕ). before ++ take n (xs ∷ ss)) (sym one_more))
@@ -113,8 +107,8 @@ pub within_errors : AcceptedAnswersAreNear → AnswersAreWithinErrors
 within_errors near b f flags cert errors trace samples rows valid spells block accepted k row row_is o x e from output error =
     let w = width_of f.wide in
     let xs = numbers_of samples in
-    let bytes : map input_bytes samples ≡ map (bytes_to b.inputs) xs = bytes_read b.inputs spells.rows samples spells.spelled in
-    let answers : AreAnswersOf w b (λ n. 0) (map (bytes_to b.inputs) xs) (map answer_of_row rows) =
+    let bytes : map input_bytes samples ≡ map (bytes_of b.inputs) xs = bytes_read b.inputs spells.rows samples spells.spelled in
+    let answers : AreAnswersOf w b (λ n. 0) (map (bytes_of b.inputs) xs) (map answer_of_row rows) =
     subst (λ (l : List (List ℕ)). AreAnswersOf w b (λ n. 0) l (map answer_of_row rows)) bytes block.answers in
     let to : o ≤ length b.outputs = (let lt = slice_get_within b.outputs (o - 1) x output in omega (arith, lt, from)) in
     let is : slice_index row.answers (o - 1) ≡ answer_to (parts w) b o (take (k + 1) xs) =

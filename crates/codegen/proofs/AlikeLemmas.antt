@@ -1,11 +1,12 @@
--- Blocks that say the same have one image.
+-- Blocks that are the same have one image.
 use Rattle.std.proofs.Common.{◌≡◌, ℕ, Bool, List, [], ◌∷◌, ◌++◌, refl, sym, ◌∙◌, ap, ap₂}
 use Rattle.std.specs.Prelude.{flat_map}
 use Rattle.fuzzy_meaning.specs.declared.block.Block.{Block}
 use Rattle.fuzzy_meaning.specs.declared.block.Input.{Input}
 use Rattle.fuzzy_meaning.specs.declared.block.Output.{Output}
+use Rattle.fuzzy_meaning.specs.SameBlocks.{IsSameBlock}
 use Rattle.point_slope.specs.Tables.{rows_of}
-use Rattle.rule_layout.specs.Alike.{LayoutsAreOne, SaysTheSame}
+use Rattle.rule_layout.specs.Alike.{LayoutsAreOne}
 use Rattle.rule_layout.specs.Layouts.{conjunctions_of, flat_of, form_of, weights_of}
 use Rattle.rule_layout.specs.Slots.{slots_of}
 use Rattle.rule_layout.specs.declared.flat.Conjunction.{Conjunction}
@@ -57,7 +58,7 @@ parts_same p q same = record {
   form = ap (λ (f : Flat). f.form) same;
 }
 
-same_items : (l : Layout) (p q : Block) (w : Width) → SaysTheSame p q → SameLayout p q → firmware_items l p w ≡ firmware_items l q w
+same_items : (l : Layout) (p q : Block) (w : Width) → IsSameBlock p q → SameLayout p q → firmware_items l p w ≡ firmware_items l q w
 same_items l p q w says same =
     made_of l p w
     ∙ (λ i. items_of l w (says.inputs i) (says.outputs i) (same.slots i) (same.conjunctions i) (same.weights i) (same.form i))

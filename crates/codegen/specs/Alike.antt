@@ -1,13 +1,13 @@
--- The firmware of blocks that say the same.
+-- The firmware of blocks that are the same.
 use Rattle.std.specs.Prelude.{◌≡◌, ℕ}
 use Rattle.fuzzy_meaning.specs.declared.block.Block.{Block}
+use Rattle.fuzzy_meaning.specs.SameBlocks.{IsSameBlock}
 use Rattle.cpu12_asm.specs.Bytes.{byte_at}
-use Rattle.rule_layout.specs.Alike.{SaysTheSame}
 use Rattle.codegen.specs.Firmwares.{IsFirmwareOf}
 use Rattle.codegen.specs.declared.firmware.Firmware.{Firmware}
 
 -- in the same width it has one image, wherever the blocks' conditions lie in memory
 abbrev pub FirmwaresAreOne : Type 0
-FirmwaresAreOne = (p q : Block) (f g : Firmware) → SaysTheSame p q → f.wide ≡ g.wide
+FirmwaresAreOne = (p q : Block) (f g : Firmware) → IsSameBlock p q → f.wide ≡ g.wide
     → IsFirmwareOf p f → IsFirmwareOf q g
     → ((at : ℕ) → byte_at f.image.bytes at ≡ byte_at g.image.bytes at) × (f.image.start ≡ g.image.start)

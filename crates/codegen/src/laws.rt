@@ -65,7 +65,7 @@ pub fn uninterrupted_are_one()
     executions_are_one();
 }
 
-/// Blocks that say the same, wherever their conditions lie in memory, have firmware with one image.
+/// Blocks that are the same, wherever their conditions lie in memory, have firmware with one image.
 pub fn firmwares_are_one()
     ensures { FirmwaresAreOne }
 {

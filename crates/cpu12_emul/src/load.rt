@@ -5,7 +5,8 @@ ghost use Rattle.cpu12_emul.specs.Step.{reset_with};
 
 use crate::machine::Machine;
 use cpu12_asm::Image;
-use cpu12_isa::mem::{Mem, Memory};
+use cpu12_isa::mem::Mem;
+use fz_list::Memory;
 use std::alloc::Global;
 
 impl<M: Mem> Machine<M> {

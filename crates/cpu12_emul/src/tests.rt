@@ -4,7 +4,8 @@ use crate::ends::{Frame, RunEnd, Stepped};
 use crate::machine::Machine;
 use cpu12_asm::{ByteMap, Image};
 use cpu12_isa::instr::{Trap, Write};
-use cpu12_isa::mem::{FlatMem, Memory};
+use cpu12_isa::mem::FlatMem;
+use fz_list::Memory;
 use std::alloc::{AllocError, Global};
 use std::test::Fail;
 

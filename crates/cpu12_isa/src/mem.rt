@@ -2,11 +2,8 @@
 ghost use Rattle.std.specs.Prelude.{ℕ, ◌≡◌, List, length, slice_index, slice_set, IfOk};
 ghost use Rattle.cpu12_isa.specs.Memory.{zeros, word_of, high_of, low_of};
 
+use fz_list::Memory;
 use std::alloc::{AllocError, Global};
-
-/// No memory could be had.
-#[derive(Clone, Copy, Debug, PartialEq, Eq, Drop)]
-pub struct Memory;
 
 /// What an instruction reads and writes: 65536 bytes by their addresses.
 pub trait Mem: Sized {

@@ -2,7 +2,7 @@ pub mod SameImages
 pub mod SameParts
 pub mod SameSections
 pub mod SameNames
-pub mod AlikeBlocks
+pub mod SameBlocks
 pub mod SamePlaces
 pub mod SameSectionFaults
 pub mod SameTwice

@@ -13,4 +13,4 @@ pub mod Corners
 pub mod Courses
 pub mod Kept
 pub mod Order
-pub mod Alike
+pub mod OneBlock

@@ -1,6 +1,6 @@
 //! Laws of load faults and loaded blocks, each the contract of a function that does nothing but call
 //! a law that it rests on.
-ghost use Rattle.fcl_check.specs.Alike.{BlocksAreAlike, SpelledBlocksAreAlike};
+ghost use Rattle.fcl_check.specs.OneBlock.{BlocksAreOne, SpelledBlocksAreOne};
 ghost use Rattle.fcl_check.specs.Courses.{CourseLaw};
 ghost use Rattle.fcl_check.specs.Kept.{NumbersAreKept};
 ghost use Rattle.fcl_check.specs.Order.{PlacesAscend};
@@ -42,13 +42,13 @@ pub fn numbers_are_kept()
 }
 
 /// A tree has at most one block: two that it has are the same but for where they lie in memory.
-pub fn blocks_are_alike()
-    ensures { BlocksAreAlike }
+pub fn blocks_are_one()
+    ensures { BlocksAreOne }
 {}
 
 /// A text spells at most one block: two that it spells are the same but for where they lie in memory.
-pub fn spelled_blocks_are_alike()
-    ensures { SpelledBlocksAreAlike }
+pub fn spelled_blocks_are_one()
+    ensures { SpelledBlocksAreOne }
 {
     trees_are_one()
 }

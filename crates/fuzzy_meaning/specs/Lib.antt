@@ -5,4 +5,5 @@ pub mod Degrees
 pub mod Places
 pub mod Meaning
 pub mod Holding
+pub mod SameBlocks
 pub mod Examples

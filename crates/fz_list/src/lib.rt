@@ -1,5 +1,5 @@
-//! The two small containers that the other crates put into their plain data: [`List`], over a
-//! `Vec`, and [`Text`], over a `String`.
+//! The two small containers that the other crates put into their plain data, [`List`], over a
+//! `Vec`, and [`Text`], over a `String`, and what a call answers that found no [`Memory`].
 //!
 //! A contract sees a `List` as the list of its items and a `Text` as the list of its bytes, so
 //! two values with the same contents are equal, whatever their capacities are. Both are made
@@ -7,7 +7,9 @@
 #![tactic(auto)]
 
 mod list;
+mod memory;
 mod text;
 
 pub use list::List;
+pub use memory::Memory;
 pub use text::Text;

@@ -1,9 +1,5 @@
 //! Why a call was refused.
 
-/// Memory was wanted and not found.
-#[derive(Clone, Copy, Debug, PartialEq, Eq)]
-pub struct Memory;
-
 /// A write or a put failed; the object's count of such faults rose.
 #[derive(Clone, Copy, Debug, PartialEq, Eq)]
 pub struct Failed;

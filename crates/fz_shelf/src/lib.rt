@@ -23,7 +23,7 @@ mod std_sink;
 mod stored;
 mod whole;
 
-pub use errors::{Failed, Memory, ReadError};
+pub use errors::{Failed, ReadError};
 pub use file_shelf::FileShelf;
 pub use log::{Answer, Asked};
 pub use mem_shelf::{MemFile, MemShelf};

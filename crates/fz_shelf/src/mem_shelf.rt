@@ -9,8 +9,8 @@ ghost use Rattle.fz_shelf.specs.MemFiles.{file_in, is_named, IsPlace};
 
 use crate::log::{entry_for, record};
 use crate::stored::Stored;
-use crate::{Answer, Asked, Failed, MOST_BYTES, Memory, ReadError, Shelf};
-use fz_list::{List, Text};
+use crate::{Answer, Asked, Failed, MOST_BYTES, ReadError, Shelf};
+use fz_list::{List, Memory, Text};
 use std::alloc::Global;
 
 /// One file of a shelf in memory.

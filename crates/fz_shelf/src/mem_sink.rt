@@ -6,8 +6,8 @@ ghost use Rattle.fz_shelf.specs.Faults.{HasCause};
 ghost use Rattle.fz_shelf.specs.Told.{after_put, HasRoom, IsPart, IsWithinRoom};
 
 use crate::mem_shelf::is_listed;
-use crate::{Failed, Memory, Sink};
-use fz_list::List;
+use crate::{Failed, Sink};
+use fz_list::{List, Memory};
 use std::alloc::Global;
 
 /// A sink in memory with so much room. Puts are numbered from 1, and those whose number is

@@ -5,7 +5,7 @@ use Rattle.std.proofs.lemmas.List.Elements.{All-cons}
 use Rattle.fz_num.specs.declared.dec.Dec.{Dec}
 use Rattle.fuzzy_meaning.specs.declared.block.Block.{Block}
 use Rattle.fuzzy_meaning.specs.declared.block.Input.{Input}
-use Rattle.byte_scaling.specs.Cells.{byte_of}
+use Rattle.byte_scaling.specs.Cells.{byte_of, bytes_of}
 use Rattle.cert_check.specs.Acceptance.{IsAccepted}
 use Rattle.codegen.specs.Bounds.{instruction_bound, step_bound}
 use Rattle.codegen.specs.Firing.{AreInputBytes}
@@ -15,7 +15,7 @@ use Rattle.codegen.specs.declared.firmware.Firmware.{Firmware}
 use Rattle.codegen.specs.declared.width.Width.{Width}
 use Rattle.codegen.specs.declared.width.Width.TheVariants.{Byte, Word}
 use Rattle.interrupt_plan.specs.declared.Request.{Request}
-use Rattle.trace_io.specs.Traces.{AreWithin, Fields, SpellSamples, bytes_of}
+use Rattle.trace_io.specs.Traces.{AreWithin, Fields, SpellSamples}
 use Rattle.trace_io.specs.declared.sample.Sample.{Sample}
 use Rattle.run_law.specs.Forms.{RowSeen}
 use Rattle.fz_run.specs.Answering.{AnswersItsBlock, AnswersUnder, answer_of_row}

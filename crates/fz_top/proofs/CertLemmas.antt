@@ -6,7 +6,6 @@ use Rattle.std.specs.Global.{Vec}
 use Rattle.fuzzy_meaning.specs.declared.block.Block.{Block}
 use Rattle.fuzzy_meaning.specs.declared.block.Rule.{Rule}
 use Rattle.fuzzy_meaning.specs.Blocks.{IsValid}
-use Rattle.fcl_check.specs.Alike.{AreAlike, AreAlikeRules}
 use Rattle.codegen.specs.Widths.{parts}
 use Rattle.codegen.specs.declared.width.Width.{Width}
 use Rattle.codegen.specs.declared.width.Width.TheVariants.{Byte, Word}
@@ -24,22 +23,13 @@ use Rattle.cert_check.specs.declared.text.CertRefusal.TheVariants as refusal
 use Rattle.cert_check.specs.Faults.{IsPairFault, bad_rule, fails, HasTreeFault, bad_cut, bad_leaf, HasCheckFault, outputs, tree, claimed}
 use Rattle.cert_check.specs.Laws.{TextAnswersAreOne}
 use Rattle.cert_check.specs.Refusals.{HasRefusal, of_text, of_cert}
-use Rattle.cert_check.specs.SameBlocks.{IsSameRule, IsSameBlock, SameBlocksAnswerAlike}
+use Rattle.fuzzy_meaning.specs.SameBlocks.{IsSameBlock}
+use Rattle.cert_check.specs.SameBlocks.{SameBlocksAnswerAlike}
 use Rattle.fz_top.specs.Certs.{AcceptsCert, HasCertFault, cert_refusals, version, status_of}
 use Rattle.fz_status.specs.Refusals.{IsRefusal}
 use Rattle.fz_status.specs.declared.status.CertRefusal.{CertRefusal}
 use Rattle.fz_status.specs.declared.status.CertRefusal.TheVariants as told
 use Rattle.fz_status.specs.declared.status.Status.{Status}
-
-same_rules : (ps qs : List Rule) → AllZip AreAlikeRules ps qs → AllZip IsSameRule ps qs
-same_rules [] [] alike = tt
-same_rules [] (q ∷ qs) alike = absurd alike
-same_rules (p ∷ ps) [] alike = absurd alike
-same_rules (p ∷ ps) (q ∷ qs) alike =
-    (record { condition = alike.0.condition; weight = alike.0.weight; conclusions = alike.0.conclusions }, same_rules ps qs alike.1)
-
-same_block : (p q : Block) → AreAlike p q → IsSameBlock p q
-same_block p q alike = record { inputs = alike.inputs; outputs = alike.outputs; rules = same_rules p.rules q.rules alike.rules }
 
 few_versions : (width : Width) → version width ≤ 2
 few_versions Byte = omega arith
@@ -54,10 +44,10 @@ has_refusal : (width : Width) (block : Block) (text : List ℕ) (f : CertRefusal
 has_refusal width block text (told.Text f) h = h
 has_refusal width block text (told.Check f) h = h
 
-pub cert_apart : TextAnswersAreOne → SameBlocksAnswerAlike → (width : Width) (text errors : List ℕ) (block other : Block) → IsValid block → AreAlike other block
+pub cert_apart : TextAnswersAreOne → SameBlocksAnswerAlike → (width : Width) (text errors : List ℕ) (block other : Block) → IsValid block → IsSameBlock other block
     → AcceptsCert width block text errors → (f : CertRefusal) → HasCertFault width other text f → ⊥
 cert_apart answers alike width text errors block other valid blocks accepts f fault =
-    let refused = alike other block (parts width) (version width) text (Err (refusal_of f)) (same_block other block blocks) (has_refusal width other text f fault) in
+    let refused = alike other block (parts width) (version width) text (Err (refusal_of f)) blocks (has_refusal width other text f fault) in
     let same : Ok errors ≡ Err (refusal_of f) = answers block (parts width) (version width) text (Ok errors) (Err (refusal_of f)) valid (few_versions width) accepts refused in
     cc
 

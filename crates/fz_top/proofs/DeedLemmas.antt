@@ -7,9 +7,10 @@ use Rattle.fuzzy_meaning.specs.declared.block.Input.{Input}
 use Rattle.fuzzy_meaning.specs.declared.block.Rule.{Rule}
 use Rattle.fcl_syntax.specs.Readings.{FirstFaultsAreOne}
 use Rattle.fcl_syntax.specs.View.{view}
-use Rattle.fcl_check.specs.Alike.{AreAlike, AreAlikeRules, SpelledBlocksAreAlike}
+use Rattle.fuzzy_meaning.specs.SameBlocks.{IsSameBlock}
+use Rattle.fcl_check.specs.OneBlock.{SpelledBlocksAreOne}
 use Rattle.fcl_check.specs.Texts.{LoadFaultsAreOne, SpellsBlock}
-use Rattle.rule_layout.specs.Alike.{LayoutsAreOne, LimitsHaveNoFault, SaysTheSame, saying_of}
+use Rattle.rule_layout.specs.Alike.{LayoutsAreOne, LimitsHaveNoFault}
 use Rattle.rule_layout.specs.Layouts.{IsWithinLimits}
 use Rattle.trace_io.specs.OneReading.{SpelledTracesHaveNoFault}
 use Rattle.trace_io.specs.Traces.{Spells}
@@ -62,18 +63,7 @@ use Rattle.fz_top.proofs.StatusLemmas.{Kind, done, failed_read, failed_write, ki
 abbrev NoneRefuses : Refusals → Type 0
 NoneRefuses why = (s : Status) → Refuses why s → ⊥
 
-rules_say : (ps qs : List Rule) → AllZip AreAlikeRules ps qs → map saying_of ps ≡ map saying_of qs
-rules_say [] [] alike = refl
-rules_say [] (q ∷ qs) alike = absurd alike
-rules_say (p ∷ ps) [] alike = absurd alike
-rules_say (p ∷ ps) (q ∷ qs) alike =
-    let rest = rules_say ps qs alike.1 in
-    λ i. record { condition = alike.0.condition i; weight = alike.0.weight i; conclusions = alike.0.conclusions i } ∷ rest i
-
-says_same : (p q : Block) → AreAlike p q → SaysTheSame p q
-says_same p q alike = record { inputs = alike.inputs; outputs = alike.outputs; rules = rules_say p.rules q.rules alike.rules }
-
-module _ (first : FirstFaultsAreOne) (load : LoadFaultsAreOne) (alike : SpelledBlocksAreAlike)
+module _ (first : FirstFaultsAreOne) (load : LoadFaultsAreOne) (alike : SpelledBlocksAreOne)
     (layouts : LayoutsAreOne) (limits : LimitsHaveNoFault) (traces : SpelledTracesHaveNoFault)
     (images : ImagesAreOne) (good : ImagesHaveNoFault) (loads : ImagesLoadAlike) (ends : RunsEndOnce)
     (certs : TextAnswersAreOne) (blocks : SameBlocksAnswerAlike)
@@ -84,7 +74,7 @@ module _ (first : FirstFaultsAreOne) (load : LoadFaultsAreOne) (alike : SpelledB
   text_apart text block spelled within (fcl.Syntax f) carries refuses = (first text).1 f (view spelled.tree) refuses spelled.spelled
   text_apart text block spelled within (fcl.Load f) carries refuses = (load text).1 f block refuses spelled
   text_apart text block spelled within (fcl.Layout f) carries refuses =
-      let same = says_same refuses.0 block (alike text refuses.0 block refuses.1 spelled) in
+      let same = alike text refuses.0 block refuses.1 spelled in
       limits block f within carries (layouts.fault refuses.0 block f same refuses.2)
 
   text_stands : (text : List ℕ) (block : Block) → SpellsBlock text block → IsWithinLimits block → NoneRefuses (text_refusals text)
@@ -98,7 +88,7 @@ module _ (first : FirstFaultsAreOne) (load : LoadFaultsAreOne) (alike : SpelledB
   image_apart width text image block firmware gives is f carries other others gives_other refuses = go f refuses
     where
       one : ((at : ℕ) → byte_at firmware.image.bytes at ≡ byte_at others.image.bytes at) × (firmware.image.start ≡ others.image.start)
-      one = firmwares block other firmware others (says_same block other (alike text block other gives.spelled gives_other.spelled))
+      one = firmwares block other firmware others (alike text block other gives.spelled gives_other.spelled)
           (gives.wide ∙ sym gives_other.wide) gives.compiled gives_other.compiled
 
       go : (g : ImageFault) → RefusesImage image others.image g → ⊥
@@ -114,7 +104,7 @@ module _ (first : FirstFaultsAreOne) (load : LoadFaultsAreOne) (alike : SpelledB
       block : Block
       block = gives.certified.block
 
-      alike_to : (other : Block) → SpellsBlock files.fcl other → AreAlike other block
+      alike_to : (other : Block) → SpellsBlock files.fcl other → IsSameBlock other block
       alike_to other spelled = alike files.fcl other block spelled gives.certified.compiled.spelled
 
       go : NoneRefuses (run_refusals run files)

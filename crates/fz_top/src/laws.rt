@@ -4,7 +4,7 @@ ghost use Rattle.fz_top.specs.Runs.{DeedsHaveNoFault};
 use cert_check::{same_blocks_answer_alike, text_answers_are_one};
 use codegen::firmwares_are_one;
 use cpu12_emul::laws::{images_load_alike, runs_end_once};
-use fcl_check::{load_faults_are_one, spelled_blocks_are_alike};
+use fcl_check::{load_faults_are_one, spelled_blocks_are_one};
 use fcl_syntax::first_faults_are_one;
 use interrupt_plan::spelled_plans_have_no_fault;
 use rule_layout::{layouts_are_one, limits_have_no_fault};
@@ -19,7 +19,7 @@ pub(crate) fn deeds_have_no_fault()
     same_blocks_answer_alike();
     text_answers_are_one();
     load_faults_are_one();
-    spelled_blocks_are_alike();
+    spelled_blocks_are_one();
     layouts_are_one();
     limits_have_no_fault();
     images_are_one();

@@ -11,7 +11,7 @@ mod rows;
 
 pub use answers::answers_are_in_range;
 pub use grades::grade;
-pub use rows::{Memory, row, slope, table};
+pub use rows::{row, slope, table};
 
 #[cfg(test)]
 mod tests;

@@ -5,11 +5,8 @@ ghost use Rattle.point_slope.specs.Tables.{slope_of, row_of, rows_of, table_of};
 
 use byte_scaling::byte_within;
 use fuzzy_meaning::{Block, Input, Trapezoid};
+use fz_list::Memory;
 use std::alloc::Global;
-
-/// Memory ran out.
-#[derive(Clone, Copy, PartialEq, Eq, Debug)]
-pub struct Memory;
 
 /// The slope of a side that is w bytes wide: 255/w to the nearest, a tie going up, and 0 for a
 /// vertical side.

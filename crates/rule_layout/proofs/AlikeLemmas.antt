@@ -1,13 +1,16 @@
--- Blocks that say the same have one layout.
+-- Blocks that are the same have one layout.
 use Rattle.std.proofs.Common.{arith, ◌≡◌, ◌≢◌, ◌≤◌, ◌<◌, ◌+◌, ◌-◌, ◌*◌, ℕ, zero, suc, Bool, false, cond, List, [], ◌∷◌, ◌++◌, length, take, refl, sym, ◌∙◌, ap, subst}
-use Rattle.std.specs.Prelude.{fold, map, filter, sum_by, flat_map, not, nat_le, ◌&&◌, ◌||◌}
-use Rattle.std.specs.List.{list_any}
+use Rattle.std.specs.Prelude.{fold, map, filter, sum_by, flat_map, not, nat_le, ◌&&◌, ◌||◌, Option}
+use Rattle.std.specs.List.{AllZip, list_any}
 use Rattle.std.proofs.lemmas.List.{length-map}
 use Rattle.std.proofs.lemmas.List.Sums.{sum_by-cons}
 use Rattle.fuzzy_meaning.specs.declared.block.Block.{Block}
 use Rattle.fuzzy_meaning.specs.declared.block.Rule.{Rule}
+use Rattle.fuzzy_meaning.specs.Conditions.{Condition, condition_of}
+use Rattle.fuzzy_meaning.specs.SameBlocks.{IsSameBlock, IsSameRule}
+use Rattle.fz_num.specs.declared.dec.Dec.{Dec}
 use Rattle.byte_scaling.specs.Weights.{weight_byte_of}
-use Rattle.rule_layout.specs.Alike.{LayoutsAreOne, LimitsHaveNoFault, Saying, SaysTheSame, saying_of}
+use Rattle.rule_layout.specs.Alike.{LayoutsAreOne, LimitsHaveNoFault}
 use Rattle.rule_layout.specs.Layouts.{IsFaultOf, IsFirstTooMany, IsTooLong, IsWithinLimits, conjunction_count, conjunctions_of, element_width, flat_of, form_of, is_below_one, list_size, rule_conjunctions, rule_spread, rule_weights, weights_of}
 use Rattle.rule_layout.specs.Lists.{marked}
 use Rattle.rule_layout.specs.Slots.{complement_slot, conclusion_number, has_complement, is_complemented, literal_number, out_slot, singleton_count, slots_of, term_count, term_slot, terms_from}
@@ -40,6 +43,23 @@ map-take h zero xs = refl
 map-take h (suc n) [] = refl
 map-take {X} {Y} h (suc n) (x ∷ xs) = ap (λ (l : List Y). h x ∷ l) (map-take h n xs)
 
+-- what a rule says
+record Saying : Type 0 where
+  condition : Condition
+  weight : Option Dec
+  conclusions : List (ℕ × ℕ)
+
+abbrev saying_of : Rule → Saying
+saying_of r = record { condition = condition_of r.cond; weight = r.weight; conclusions = r.concl }
+
+same_sayings : (ps qs : List Rule) → AllZip IsSameRule ps qs → map saying_of ps ≡ map saying_of qs
+same_sayings [] [] same = refl
+same_sayings [] (q ∷ qs) same = absurd same
+same_sayings (p ∷ ps) [] same = absurd same
+same_sayings (p ∷ ps) (q ∷ qs) same =
+    let rest = same_sayings ps qs same.1 in
+    λ i. record { condition = same.0.condition i; weight = same.0.weight i; conclusions = same.0.conclusions i } ∷ rest i
+
 module _ (ps qs : List Rule) (same : map saying_of ps ≡ map saying_of qs) where
   sums_same : (g : Saying → ℕ) → sum_by (λ r. g (saying_of r)) ps ≡ sum_by (λ r. g (saying_of r)) qs
   sums_same g = sum_by-map g saying_of ps ∙ ap (sum_by g) same ∙ sym (sum_by-map g saying_of qs)
@@ -64,9 +84,12 @@ module _ (ps qs : List Rule) (same : map saying_of ps ≡ map saying_of qs) wher
 conjunctions_said : List Slot → Saying → List Conjunction
 conjunctions_said ss s = map (λ ls. record { literals = map (literal_number ss) ls; conclusions = map (conclusion_number ss) s.conclusions }) (spread_of false s.condition)
 
-module _ (p q : Block) (same : SaysTheSame p q) where
+module _ (p q : Block) (same : IsSameBlock p q) where
+  says : map saying_of p.rules ≡ map saying_of q.rules
+  says = same_sayings p.rules q.rules same.rules
+
   complements_same : (i t : ℕ) → is_complemented p.rules i t ≡ is_complemented q.rules i t
-  complements_same i t = any_same p.rules q.rules same.rules (λ s. has_complement i t false s.condition)
+  complements_same i t = any_same p.rules q.rules says (λ s. has_complement i t false s.condition)
 
   slots_same : slots_of p ≡ slots_of q
   unfolding slots_of
@@ -76,15 +99,15 @@ module _ (p q : Block) (same : SaysTheSame p q) where
 
   conjunctions_same : conjunctions_of p ≡ conjunctions_of q
   unfolding conjunctions_of conjunctions_said
-  conjunctions_same = ap (λ (ss : List Slot). flat_map (rule_conjunctions ss) p.rules) slots_same ∙ flat_same p.rules q.rules same.rules (conjunctions_said (slots_of q))
+  conjunctions_same = ap (λ (ss : List Slot). flat_map (rule_conjunctions ss) p.rules) slots_same ∙ flat_same p.rules q.rules says (conjunctions_said (slots_of q))
 
   weights_same : weights_of p ≡ weights_of q
   unfolding weights_of
-  weights_same = flat_same p.rules q.rules same.rules (λ s. map (λ _. weight_byte_of s.weight) (spread_of false s.condition))
+  weights_same = flat_same p.rules q.rules says (λ s. map (λ _. weight_byte_of s.weight) (spread_of false s.condition))
 
   form_same : form_of p ≡ form_of q
   unfolding form_of
-  form_same = λ k. cond (nat_le (length (slots_same k)) 254 && not (any_same p.rules q.rules same.rules (λ s. is_below_one s.weight) k)) Rev Revw
+  form_same = λ k. cond (nat_le (length (slots_same k)) 254 && not (any_same p.rules q.rules says (λ s. is_below_one s.weight) k)) Rev Revw
 
   layout_same : flat_of p ≡ flat_of q
   unfolding flat_of
@@ -96,22 +119,22 @@ module _ (p q : Block) (same : SaysTheSame p q) where
 
   limits_same : IsWithinLimits p → IsWithinLimits q
   limits_same w = record {
-    few_conjunctions = subst (λ (n : ℕ). n ≤ 512) (count_same p.rules q.rules same.rules) w.few_conjunctions;
+    few_conjunctions = subst (λ (n : ℕ). n ≤ 512) (count_same p.rules q.rules says) w.few_conjunctions;
     short_list = subst (λ (n : ℕ). n ≤ 9984) size_same w.short_list;
   }
 
   part_same : (n : ℕ) → conjunction_count (take n p.rules) ≡ conjunction_count (take n q.rules)
-  part_same n = count_same (take n p.rules) (take n q.rules) (takes_same p.rules q.rules same.rules n)
+  part_same n = count_same (take n p.rules) (take n q.rules) (takes_same p.rules q.rules says n)
 
   fault_same : (f : LayoutFault) → IsFaultOf p f → IsFaultOf q f
   fault_same (fault.TooManyRules n) h = record {
     from = h.from;
-    to = subst (λ (l : ℕ). n ≤ l) (length_same p.rules q.rules same.rules) h.to;
+    to = subst (λ (l : ℕ). n ≤ l) (length_same p.rules q.rules says) h.to;
     before = subst (λ (c : ℕ). c ≤ 512) (part_same (n - 1)) h.before;
     over = subst (λ (c : ℕ). 512 < c) (part_same n) h.over;
   }
   fault_same (fault.ListTooLong n) h = record {
-    few_conjunctions = subst (λ (c : ℕ). c ≤ 512) (count_same p.rules q.rules same.rules) h.few_conjunctions;
+    few_conjunctions = subst (λ (c : ℕ). c ≤ 512) (count_same p.rules q.rules says) h.few_conjunctions;
     bytes = h.bytes ∙ size_same;
     over = h.over;
   }

@@ -35,7 +35,7 @@ pub fn layout_law()
     ensures { LayoutLaw }
 {}
 
-/// Where the conditions of a block lie in memory decides nothing: blocks that say the same have
+/// Where the conditions of a block lie in memory decides nothing: blocks that are the same have
 /// one layout, the same limits, and the same faults.
 pub fn layouts_are_one()
     ensures { LayoutsAreOne }

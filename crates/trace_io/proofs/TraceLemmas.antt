@@ -10,8 +10,8 @@ use Rattle.fz_num.specs.declared.dec.DecFault.{DecFault}
 use Rattle.fz_num.specs.Decimals.{decimal}
 use Rattle.fuzzy_meaning.specs.Blocks.{IsWithin}
 use Rattle.fuzzy_meaning.specs.declared.block.Input.{Input}
-use Rattle.byte_scaling.specs.Cells.{byte_of}
-use Rattle.trace_io.specs.Traces.{AreWithin, Fields, FirstFault, at_row, more, IsFirstOutside, RowFails, SpellSamples, SpellsSample, bytes_of, decimals, with_decimal}
+use Rattle.byte_scaling.specs.Cells.{byte_of, bytes_of}
+use Rattle.trace_io.specs.Traces.{AreWithin, Fields, FirstFault, at_row, more, IsFirstOutside, RowFails, SpellSamples, SpellsSample, decimals, with_decimal}
 use Rattle.trace_io.specs.declared.sample.Sample.{Sample}
 use Rattle.trace_io.specs.declared.sample.TraceFault.{TraceFault}
 use Rattle.trace_io.specs.declared.sample.TraceFault.TheVariants.{TooMany}

@@ -5,7 +5,7 @@ use Rattle.fz_num.specs.declared.dec.Dec.{Dec}
 use Rattle.fz_num.specs.Decimals.{decimal}
 use Rattle.fuzzy_meaning.specs.Blocks.{IsWithin}
 use Rattle.fuzzy_meaning.specs.declared.block.Input.{Input}
-use Rattle.byte_scaling.specs.Cells.{byte_of}
+use Rattle.byte_scaling.specs.Cells.{bytes_of}
 use Rattle.trace_io.specs.declared.sample.Sample.{Sample}
 use Rattle.trace_io.specs.declared.sample.TraceFault.{TraceFault}
 use Rattle.trace_io.specs.declared.sample.TraceFault.TheVariants.{TooMany, BadRow, OutOfRange}
@@ -25,12 +25,6 @@ AreWithin [] [] = Unit {0}
 AreWithin [] (d ∷ ds) = ⊥
 AreWithin (i ∷ is) [] = ⊥
 AreWithin (i ∷ is) (d ∷ ds) = IsWithin i.lo i.hi d × AreWithin is ds
-
--- the byte of each value in the range of its input
-abbrev pub bytes_of : List Input → List Dec → List ℕ
-bytes_of [] ds = []
-bytes_of (i ∷ is) [] = []
-bytes_of (i ∷ is) (d ∷ ds) = byte_of i d ∷ bytes_of is ds
 
 -- the fields spell the sample: one decimal per input, each within its range
 pub record SpellsSample (inputs : List Input) (fields : Fields) (s : Sample) : Type 0 where

@@ -1,5 +1,6 @@
 use Rattle.std.proofs.Common.{◌≡◌, length, take}
-use Rattle.trace_io.specs.Traces.{AreWithin, bytes_of}
+use Rattle.byte_scaling.specs.Cells.{bytes_of}
+use Rattle.trace_io.specs.Traces.{AreWithin}
 use Rattle.trace_io.proofs.trace.bytes_in.Given as goal
 
 abbrev pub invariant-loop-i : goal.invariant-loop-i

@@ -25,7 +25,7 @@ use Rattle.fcl_syntax.specs.declared.tree.Rule.{Rule as RuleNode}
 use Rattle.fcl_syntax.specs.declared.tree.Singleton.{Singleton}
 use Rattle.fcl_syntax.specs.declared.tree.Term.{Term}
 use Rattle.fcl_syntax.specs.declared.tree.Weight.{Weight}
-use Rattle.fcl_check.specs.Alike.{AreAlike, AreAlikeRules}
+use Rattle.fuzzy_meaning.specs.SameBlocks.{IsSameRule, IsSameBlock}
 use Rattle.fcl_check.specs.Loaded.{IsBlockOf, IsInputNamed, IsInputOf, IsOutputNamed, IsOutputOf, IsRuleOf, IsTermOf, abscissa_of, default_number, given_or, input_range, number_of, or_condition, output_range, widened}
 use Rattle.fcl_check.specs.Names.{declared_as, defuzzify_of, fuzzify_of, letters, singleton_of, terms_of}
 use Rattle.fcl_check.specs.Places.{drop_while, first, last}
@@ -99,8 +99,8 @@ module _ (text : List ℕ) (b c : FunctionBlock) (same : view b ≡ view c) wher
       let views = same_found view_defuzzify (defuzzify_of text b (letters text n)) (defuzzify_of text c (letters text m)) p.0 q.0 p.1 q.1 found in
       same_output p.0 q.0 x y (same_lines p.0 q.0 views) p.2 q.2
 
-  alike_rules : (r s : RuleNode) (x y : Rule) → view_rule_item r ≡ view_rule_item s → IsRuleOf text b r x → IsRuleOf text c s y → AreAlikeRules x y
-  alike_rules r s x y h p q =
+  same_rules : (r s : RuleNode) (x y : Rule) → view_rule_item r ≡ view_rule_item s → IsRuleOf text b r x → IsRuleOf text c s y → IsSameRule x y
+  same_rules r s x y h p q =
       let inner : view_rule r ≡ view_rule s = cc in
       let condition : view_or r.condition ≡ view_or s.condition = ap (λ (t : TRule). t.condition) inner in
       let weight = same_weight r.weight s.weight (ap (λ (t : TRule). t.weight) inner) in
@@ -112,8 +112,8 @@ module _ (text : List ℕ) (b c : FunctionBlock) (same : view b ≡ view c) wher
             (same_conclusions text b c same) conclusions ∙ sym q.conclusions;
       }
 
-  pub alike_blocks : (p q : Block) → IsBlockOf text b p → IsBlockOf text c q → AreAlike p q
-  alike_blocks p q of_b of_c =
+  pub same_blocks : (p q : Block) → IsBlockOf text b p → IsBlockOf text c q → IsSameBlock p q
+  same_blocks p q of_b of_c =
       record {
         inputs = same_items p.inputs q.inputs (same_zips (λ (n : Name). n) (IsInputNamed text b) (IsInputNamed text c) (λ (x y : Input). x ≡ y) same_input_named
             (declared_as side.Input b) (declared_as side.Input c) p.inputs q.inputs
@@ -121,6 +121,6 @@ module _ (text : List ℕ) (b c : FunctionBlock) (same : view b ≡ view c) wher
         outputs = same_items p.outputs q.outputs (same_zips (λ (n : Name). n) (IsOutputNamed text b) (IsOutputNamed text c)
             (λ (x y : Output). x ≡ y) same_output_named (declared_as side.Output b) (declared_as side.Output c) p.outputs q.outputs
             (ap (map (λ (n : Name). n)) (same_declared text b c same side.Output)) of_b.outputs of_c.outputs);
-        rules = same_zips view_rule_item (IsRuleOf text b) (IsRuleOf text c) AreAlikeRules alike_rules b.rules.rules.items c.rules.rules.items p.rules q.rules
+        rules = same_zips view_rule_item (IsRuleOf text b) (IsRuleOf text c) IsSameRule same_rules b.rules.rules.items c.rules.rules.items p.rules q.rules
             (ap (λ (t : TBlock). t.rules.rules) same) of_b.rules of_c.rules;
       }

@@ -1,6 +1,0 @@
-use Rattle.std.proofs.Common.{refl}
-use Rattle.fcl_check.proofs.alike.AlikeBlocks.{alike_blocks}
-use Rattle.fcl_check.proofs.laws.blocks_are_alike.Goals as goal
-
-pub returns : goal.returns
-returns c = λ text b p q of_p of_q. alike_blocks text b b refl p q of_p of_q

@@ -1,0 +1,5 @@
+//! Want of memory.
+
+/// Memory was wanted and not found.
+#[derive(Clone, Copy, Debug, PartialEq, Eq, Drop)]
+pub struct Memory;
