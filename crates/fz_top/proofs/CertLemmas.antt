@@ -25,11 +25,11 @@ use Rattle.cert_check.specs.Laws.{TextAnswersAreOne}
 use Rattle.cert_check.specs.Refusals.{HasRefusal, of_text, of_cert}
 use Rattle.fuzzy_meaning.specs.SameBlocks.{IsSameBlock}
 use Rattle.cert_check.specs.SameBlocks.{SameBlocksAnswerAlike}
-use Rattle.fz_top.specs.Certs.{AcceptsCert, HasCertFault, version, status_of}
-use Rattle.fz_top.specs.Refusals.{IsRefusal, never}
-use Rattle.fz_top.specs.declared.status.CertRefusal.{CertRefusal}
-use Rattle.fz_top.specs.declared.status.CertRefusal.TheVariants as told
-use Rattle.fz_top.specs.declared.status.Status.{Status}
+use Rattle.fz_top.specs.Certs.{AcceptsCert, HasCertFault, cert_refusals, version, status_of}
+use Rattle.fz_status.specs.Refusals.{IsRefusal}
+use Rattle.fz_status.specs.declared.status.CertRefusal.{CertRefusal}
+use Rattle.fz_status.specs.declared.status.CertRefusal.TheVariants as told
+use Rattle.fz_status.specs.declared.status.Status.{Status}
 
 few_versions : (width : Width) → version width ≤ 2
 few_versions Byte = omega arith
@@ -83,7 +83,7 @@ as_errors P answer (Err s) same h = tt
 as_errors P answer (Ok es) same h = subst (λ a. IfOk a (λ fs. P fs.items)) same h
 
 as_refusal : (width : Width) (block : Block) (text : List ℕ) (r : TheRefusal) → (r ≢ refusal.Memory → HasRefusal block (parts width) (version width) text r)
-    → IsRefusal (record never { cert = HasCertFault width block text }) (status_of r)
+    → IsRefusal (cert_refusals width block text) (status_of r)
 as_refusal width block text refusal.Memory h = tt
 as_refusal width block text (refusal.Text f) h = let is = h (λ e. let z : ⊥ = cc in z) in (text_is is, is)
   where
@@ -97,9 +97,9 @@ as_refusal width block text (refusal.Check f) h = let is = h (λ e. let z : ⊥ 
 pub as_status : (width w : Width) (block : Block) (text : List ℕ) (answer : Result (Vec ℕ) TheRefusal) (result : Result (Vec ℕ) Status) → w ≡ width
     → IfErr result (λ s. (r : TheRefusal) × (answer ≡ Err r) × (s ≡ status_of r))
     → IfErr answer (λ r. r ≢ refusal.Memory → HasRefusal block (parts width) (version width) text r)
-    → IfErr result (IsRefusal (record never { cert = HasCertFault w block text }))
+    → IfErr result (IsRefusal (cert_refusals w block text))
 as_status width w block text answer (Ok es) at same h = tt
 as_status width w block text answer (Err s) at (r, is, told) h =
-    subst (λ v. IsRefusal (record never { cert = HasCertFault v block text }) s) (sym at)
-    (subst (λ x. IsRefusal (record never { cert = HasCertFault width block text }) x) (sym told)
+    subst (λ v. IsRefusal (cert_refusals v block text) s) (sym at)
+    (subst (λ x. IsRefusal (cert_refusals width block text) x) (sym told)
     (as_refusal width block text r (subst (λ a. IfErr a (λ q. q ≢ refusal.Memory → HasRefusal block (parts width) (version width) text q)) is h)))

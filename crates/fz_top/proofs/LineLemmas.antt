@@ -8,7 +8,8 @@ use Rattle.fz_shelf.specs.Lines.{text_of}
 use Rattle.fz_run.specs.Rows.{boundary_seen, frames_seen, row_seen}
 use Rattle.fz_run.specs.declared.rows.Row.{Row}
 use Rattle.fz_top.specs.Check.{check_lines}
-use Rattle.fz_top.specs.Lines.{counted, error_line, line, newline}
+use Rattle.fz_status.specs.FaultLines.{newline}
+use Rattle.fz_top.specs.Lines.{counted, error_line, line}
 use Rattle.fz_top.specs.Run.{frame_line, numbers, report_of, row_lines, run_lines, sample_line}
 
 pub numbers-snoc : (ns : List ℕ) (n : ℕ) → numbers (ns ++ n ∷ []) ≡ numbers ns ++ (codes " " ++ decimal n)

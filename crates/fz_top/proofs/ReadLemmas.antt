@@ -11,7 +11,8 @@ use Rattle.fz_shelf.specs.declared.log.Answer.{Answer}
 use Rattle.fz_shelf.specs.declared.log.Answer.TheVariants.{Whole, Missed, Long}
 use Rattle.std.specs.declared.alloc.Global.{Global}
 use Rattle.std.specs.declared.vec.Vec.{Vec}
-use Rattle.fz_top.specs.Texts.{Text, word_at, bytes_of}
+use Rattle.fz_status.specs.Words.{Text, word_at}
+use Rattle.fz_top.specs.Contents.{bytes_of}
 use Rattle.fz_top.specs.Reads.{AreHeld, AreThere, names_at, whole_entries, Reads, ReadsOne, ReadsWhole, StopsAt, StopsBy}
 use Rattle.fz_top.specs.declared.reading.Stop.{Stop}
 use Rattle.fz_top.specs.declared.reading.Stop.TheVariants as stop

@@ -8,15 +8,16 @@ use Rattle.fz_shelf.specs.Log.{Log}
 use Rattle.fz_shelf.specs.Reading.{Counts}
 use Rattle.std.specs.declared.alloc.Global.{Global}
 use Rattle.std.specs.declared.vec.Vec.{Vec}
-use Rattle.fz_top.specs.Texts.{Text, word_at, bytes_of}
+use Rattle.fz_status.specs.Words.{Text, word_at}
+use Rattle.fz_top.specs.Contents.{bytes_of}
 use Rattle.fz_top.specs.Commands.{Makes, command_in, inputs_of}
 use Rattle.fz_top.specs.Reads.{ReadsWhole, AreHeld, AreThere, names_at, StopsBy}
 use Rattle.fz_top.specs.Deeds.{Deed, IsFaultOf}
 use Rattle.fz_top.specs.Runs.{CanBeDone, DeedsHaveNoFault, HasNoFault, Faulted, IsMade, Untouched, IsReadFault, IsTooLong, IsWriteFault, Settles, status_of, IsReady, AreKnown, FileFits, World, world, Worked, Delivered, WriteFailed, PutFailed, ChangesOnly, IsWritten, Runs}
 use Rattle.fz_top.specs.declared.command.Command.{Command}
 use Rattle.fz_top.specs.declared.reading.Stop.TheVariants as stop
-use Rattle.fz_top.specs.declared.status.Status.{Status}
-use Rattle.fz_top.specs.declared.status.Status.TheVariants as status
+use Rattle.fz_status.specs.declared.status.Status.{Status}
+use Rattle.fz_status.specs.declared.status.Status.TheVariants as status
 use Rattle.fz_top.proofs.StatusLemmas.{Kind, done, failed_read, failed_write, kind_of, long_read, no_command, no_memory, of_contents}
 
 -- what was read and made, before anything is written

@@ -4,7 +4,7 @@ use Rattle.std.specs.Prelude.{Option, Some, None, option_and_then}
 use Rattle.fz_words.specs.App.{IsRefused}
 use Rattle.fz_top.specs.Commands.{name_in, table}
 use Rattle.fz_top.specs.declared.command.Name.{Name}
-use Rattle.fz_top.specs.Texts.{Text}
+use Rattle.fz_status.specs.Words.{Text}
 use Rattle.fz_top.specs.Commands.{command_in, form_of, IsUsage}
 use Rattle.fz_top.specs.declared.command.Command.{Command}
 

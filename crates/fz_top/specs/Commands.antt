@@ -9,12 +9,13 @@ use Rattle.fz_top.specs.Compile.{CompileMakes, compile_in, compile_inputs}
 use Rattle.fz_top.specs.Deeds.{Deed}
 use Rattle.fz_top.specs.Exec.{ExecMakes, exec_in, exec_inputs}
 use Rattle.fz_top.specs.Run.{RunMakes, files_in, run_in, run_inputs}
-use Rattle.fz_top.specs.Texts.{Text, content_at}
+use Rattle.fz_status.specs.Words.{Text}
+use Rattle.fz_top.specs.Contents.{content_at}
 use Rattle.fz_top.specs.declared.command.Command.{Command}
 use Rattle.fz_top.specs.declared.command.Command.TheVariants.{Asm, Check, Compile, Exec, Run}
 use Rattle.fz_top.specs.declared.command.Name.{Name}
 use Rattle.fz_top.specs.declared.command.Name.TheVariants as name
-use Rattle.fz_top.specs.declared.status.Status.{Status}
+use Rattle.fz_status.specs.declared.status.Status.{Status}
 
 -- the commands by name, each with the number of words that follow
 unfoldable pub table : List (Row Name)

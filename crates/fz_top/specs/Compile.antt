@@ -8,9 +8,9 @@ use Rattle.srecord.specs.Images.{ImageText}
 use Rattle.fz_top.specs.Deeds.{Deed}
 use Rattle.fz_top.specs.Firmwares.{GivesFirmware, text_refusals}
 use Rattle.fz_top.specs.Lines.{line}
-use Rattle.fz_top.specs.Refusals.{Refuses}
+use Rattle.fz_status.specs.Refusals.{Refuses}
 use Rattle.fz_top.specs.declared.compile.Compile.{Compile}
-use Rattle.fz_top.specs.declared.status.Status.{Status}
+use Rattle.fz_status.specs.declared.status.Status.{Status}
 
 abbrev pub compile_in : Width → Compile
 compile_in width = record { width = width }

@@ -6,7 +6,7 @@ use Rattle.fz_shelf.specs.Log.{Log}
 use Rattle.fz_shelf.specs.Reading.{Counts}
 use Rattle.fz_shelf.specs.declared.log.Answer.{Answer}
 use Rattle.fz_shelf.specs.declared.log.Answer.TheVariants.{Whole, Missed, Long}
-use Rattle.fz_top.specs.Texts.{Text, word_at}
+use Rattle.fz_status.specs.Words.{Text, word_at}
 use Rattle.fz_top.specs.declared.reading.Stop.{Stop}
 use Rattle.fz_top.specs.declared.reading.Stop.TheVariants as stop
 

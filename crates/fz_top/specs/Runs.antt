@@ -5,15 +5,15 @@ use Rattle.fz_shelf.specs.Told.{Taken, gained, GainedPart, HasRoom}
 use Rattle.fz_shelf.specs.Files.{Names, Written, Fits, known}
 use Rattle.fz_shelf.specs.Log.{Log}
 use Rattle.fz_shelf.specs.Reading.{Counts}
-use Rattle.fz_top.specs.Texts.{Text, word_at}
+use Rattle.fz_status.specs.Words.{Text, word_at}
 use Rattle.fz_top.specs.Commands.{Makes, command_in, inputs_of}
 use Rattle.fz_top.specs.Reads.{AreHeld, names_at, whole_entries, StopsBy}
 use Rattle.fz_top.specs.Deeds.{Deed}
 use Rattle.fz_top.specs.declared.command.Command.{Command}
 use Rattle.fz_top.specs.declared.reading.Stop.{Stop}
 use Rattle.fz_top.specs.declared.reading.Stop.TheVariants as stop
-use Rattle.fz_top.specs.declared.status.Status.{Status}
-use Rattle.fz_top.specs.declared.status.Status.TheVariants as status
+use Rattle.fz_status.specs.declared.status.Status.{Status}
+use Rattle.fz_status.specs.declared.status.Status.TheVariants as status
 
 -- what the shelf and out tell
 pub record World : Type 0 where

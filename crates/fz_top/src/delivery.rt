@@ -1,13 +1,13 @@
 //! Writing the file and putting the lines: the one place where anything leaves the program.
 ghost use Rattle.std.specs.Prelude.{◌≡◌, ◌⊎◌, length, OnOk, OnErr, IsOk};
 ghost use Rattle.fz_shelf.specs.Told.{HasRoom};
-ghost use Rattle.fz_top.specs.Texts.{texts_of};
+ghost use Rattle.fz_status.specs.Words.{texts_of};
 ghost use Rattle.fz_top.specs.Deeds.{deed_of};
 ghost use Rattle.fz_top.specs.Runs.{world, ChangesOnly, FileFits, Delivered, WriteFailed, PutFailed};
 
-use crate::words::word;
 use crate::work::Work;
 use fz_shelf::{Failed, Shelf, Sink, put_lines};
+use fz_status::word;
 
 /// Writes the file, if there is one, and then puts the lines.
 pub(crate) fn deliver<S: Shelf, O: Sink>(

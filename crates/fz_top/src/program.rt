@@ -1,22 +1,21 @@
 //! The program's call.
 ghost use Rattle.std.specs.Prelude.{◌≡◌, ◌⊎◌, ◌↔◌, length, None, Some, List, ℕ};
 ghost use Rattle.fz_shelf.specs.Told.{gained, HasRoom};
-ghost use Rattle.fz_top.specs.Texts.{texts_of};
+ghost use Rattle.fz_status.specs.Words.{texts_of};
 ghost use Rattle.fz_top.specs.Commands.{command_in, inputs_of, IsUsage, Makes};
 ghost use Rattle.fz_top.specs.Deeds.{Deed};
 ghost use Rattle.fz_top.specs.Reads.{names_at, AreThere};
 ghost use Rattle.fz_top.specs.Runs.{world, Runs, IsReady, IsReadFault, IsWriteFault, IsTooLong, AreKnown, CanBeDone, HasNoFault, IsMade, RoomFor, Settles};
-ghost use Rattle.fz_top.specs.Errors.{error_line_of, Complains};
-ghost use Rattle.fz_top.specs.Refusals.{CarriesNoMemory};
+ghost use Rattle.fz_status.specs.Errors.{error_line_of, Complains};
+ghost use Rattle.fz_status.specs.Refusals.{CarriesNoMemory};
 ghost use Rattle.fz_top.specs.declared.command.Command.{Command};
 
 use crate::command::command_of;
 use crate::delivery::deliver;
-use crate::errors::report;
 use crate::laws::deeds_have_no_fault;
 use crate::reading::{Stop, read_all};
-use crate::status::Status;
 use fz_shelf::{Shelf, Sink};
+use fz_status::{Status, report};
 use fz_words::Refusal;
 use std::alloc::Global;
 
