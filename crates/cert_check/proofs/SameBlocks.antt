@@ -1,7 +1,7 @@
 -- What is said of a block holds of each block that differs only in where its conditions lie in memory.
-use Rattle.std.proofs.Common.{◌≡◌, ℕ, zero, suc, ◌+◌, ◌-◌, ◌*◌, ◌/◌, ◌<◌, ◌≤◌, List, [], ◌∷◌, length, get_or, Option, Some, refl, sym, ap, ◌∙◌, subst, arith}
-use Rattle.std.specs.Prelude.{slice_get, All, IsTrue, IsSomeAnd, Result, Ok, Err, ◌==◌, if◌then◌else◌}
-use Rattle.std.specs.List.{AllZip, Any}
+use Rattle.std.proofs.Common.{◌≡◌, ℕ, zero, suc, ◌+◌, ◌-◌, ◌*◌, ◌/◌, ◌≤◌, List, [], ◌∷◌, length, get_or, Option, Some, refl, sym, ap, ◌∙◌, subst}
+use Rattle.std.specs.Prelude.{slice_get, IsTrue, IsSomeAnd, Ok, Err, ◌==◌, if◌then◌else◌}
+use Rattle.std.specs.List.{AllZip}
 use Rattle.std.proofs.lemmas.Option.{slice_get_within, slice_get-get_or, get_or_from_slice_get}
 use Rattle.fz_num.specs.declared.dec.Dec.{Dec}
 use Rattle.fz_num.specs.Fractions.{times, over, AtMost}
@@ -9,7 +9,6 @@ use Rattle.fuzzy_meaning.specs.declared.block.Block.{Block}
 use Rattle.fuzzy_meaning.specs.declared.block.Input.{Input}
 use Rattle.fuzzy_meaning.specs.declared.block.Output.{Output}
 use Rattle.fuzzy_meaning.specs.declared.block.Rule.{Rule}
-use Rattle.fuzzy_meaning.specs.Blocks.{input_at, output_at}
 use Rattle.fuzzy_meaning.specs.Conditions.{Condition, condition_of}
 use Rattle.fuzzy_meaning.specs.Meaning.{weight_of}
 use Rattle.fuzzy_meaning.specs.Rules.{concludes}
@@ -19,22 +18,21 @@ use Rattle.error_bound.specs.declared.boxes.Leaf as the
 use Rattle.error_bound.specs.declared.boxes.LeafFault.{LeafFault}
 use Rattle.error_bound.specs.Spans.{Span, ByteSpan, span, byte_span, greatest_literal}
 use Rattle.error_bound.specs.Boxes.{literal_span, literal_byte_span, rule_span, rule_byte_span}
-use Rattle.error_bound.specs.Errors.{AreTermErrors, rule_error, weight_error, floor_error, output_error_among}
+use Rattle.error_bound.specs.Errors.{rule_error, weight_error, floor_error, output_error_among}
 use Rattle.error_bound.specs.Bounds.{IsBound, bound, errors_from, silent_bound, strong_bound}
-use Rattle.error_bound.specs.Leaves.{rule_at, IsStrong, IsStill, Holds, strong, silent, concludes_some, IsPairFor}
+use Rattle.error_bound.specs.Leaves.{rule_at, IsStill, Holds, strong, silent, concludes_some, IsPairFor}
 use Rattle.error_bound.specs.Faults.{IsFirstFiring, IsStrongFault, IsSilentFault, HasLeafFault, of_strong, of_silent}
 use Rattle.box_tree.specs.declared.cert.Node.{Node}
 use Rattle.box_tree.specs.declared.cert.Cert.{Cert}
 use Rattle.cert_check.specs.declared.checker.CheckFault.{CheckFault}
 use Rattle.cert_check.specs.declared.checker.CheckFault.TheVariants as fault
-use Rattle.cert_check.specs.declared.text.CertRefusal.{CertRefusal}
 use Rattle.cert_check.specs.Trees.{Part, IsTree, whole}
-use Rattle.cert_check.specs.Acceptance.{HasBound, IsGreatestBound, IsAccepted}
+use Rattle.cert_check.specs.Acceptance.{HasBound, IsAccepted}
 use Rattle.cert_check.specs.Faults.{HoldBefore, AllHold, Reaches, root, in_left, in_right, IsPairFault, bad_rule, fails, HasPartFault, HasTreeFault, bad_cut, bad_leaf, HasCheckFault, outputs, tree, claimed}
-use Rattle.cert_check.specs.Refusals.{IsAcceptedText, HasRefusal, of_text, of_cert}
+use Rattle.cert_check.specs.TextFaults.{of_text, of_cert}
 use Rattle.fuzzy_meaning.specs.SameBlocks.{IsSameRule, IsSameBlock}
 use Rattle.cert_check.specs.SameBlocks.{SameBlocksAnswerAlike}
-use Rattle.cert_check.proofs.PairLemmas.{IsSomeAnd-at}
+use Rattle.fz_list.proofs.Algebra.{IsSomeAnd-at}
 
 -- ---- rules
 

@@ -23,7 +23,7 @@ pub use laws::{
     faulty_certs_fail, one_leaf_has_the_bytes, same_blocks_answer_alike, text_answers_are_one,
     wide_is_accepted,
 };
-pub use text::{CertRefusal, check_text, check_text16};
+pub use text::{TextFault, check_text, check_text16};
 
 #[cfg(test)]
 mod tests;

@@ -24,10 +24,11 @@ pub use boxes::{ByteBox, Interval, Leaf, LeafFault};
 pub use cells::term_error;
 pub use choosing::best;
 pub use laws::{
-    answers_are_near, bounds_are_determined, bounds_fall_inside, cells_have_bounds,
-    faulty_leaves_fail, leaf_faults_are_one, leaves_hold_inside, term_errors_are,
+    answers_are_near, bounds_are_determined, bounds_fall_inside, bounds_fall_with_parts,
+    cells_have_bounds, faulty_leaves_fail, leaf_faults_are_one, leaves_hold_inside,
+    term_errors_are,
 };
-pub use leaves::{leaf_bound, leaf_bound16};
+pub use leaves::{is_pair_for, leaf_bound, leaf_bound16};
 pub use rules::BoxTable;
 pub use tables::BlockCells;
 

@@ -5,8 +5,8 @@ use Rattle.box_tree.specs.declared.cert.Cert.{Cert}
 use Rattle.box_tree.specs.declared.cert.CertFault.{CertFault}
 use Rattle.box_tree.specs.Certificates.{CertText, HasFault}
 use Rattle.cert_check.specs.declared.checker.CheckFault.{CheckFault}
-use Rattle.cert_check.specs.declared.text.CertRefusal.{CertRefusal}
-use Rattle.cert_check.specs.declared.text.CertRefusal.TheVariants as refusal
+use Rattle.cert_check.specs.declared.text.TextFault.{TextFault}
+use Rattle.cert_check.specs.declared.text.TextFault.TheVariants as refusal
 use Rattle.cert_check.specs.Acceptance.{IsAccepted}
 use Rattle.cert_check.specs.Faults.{HasCheckFault}
 
@@ -17,7 +17,7 @@ pub record IsAcceptedText (b : Block) (h version : ℕ) (text errors : List ℕ)
   pub accepted : IsAccepted b h cert errors
 
 -- the text has a first fault, or it is that of a certificate that has one
-pub data HasRefusal (b : Block) (h version : ℕ) (text : List ℕ) : CertRefusal → Type 0 where
-  of_text : (f : CertFault) → HasFault version text f → HasRefusal b h version text (refusal.Text f)
+pub data HasTextFault (b : Block) (h version : ℕ) (text : List ℕ) : TextFault → Type 0 where
+  of_text : (f : CertFault) → HasFault version text f → HasTextFault b h version text (refusal.Text f)
   of_cert : (cert : Cert) (f : CheckFault) → CertText version text cert → HasCheckFault b h cert f
-      → HasRefusal b h version text (refusal.Check f)
+      → HasTextFault b h version text (refusal.Check f)
