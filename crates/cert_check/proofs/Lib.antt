@@ -13,3 +13,4 @@ pub mod FaultLemmas
 pub mod FirstFaults
 pub mod SameBlocks
 pub mod BoxLemmas
+pub mod SameLeaves

@@ -7,3 +7,4 @@ pub mod Laws
 pub mod SameBlocks
 pub mod Examples
 pub mod BoxLaws
+pub mod SameLeaves

@@ -12,6 +12,7 @@ mod boxes;
 mod checker;
 mod laws;
 mod pairs;
+mod same_leaves;
 mod text;
 mod walk;
 
@@ -23,6 +24,7 @@ pub use laws::{
     faulty_certs_fail, one_leaf_has_the_bytes, same_blocks_answer_alike, text_answers_are_one,
     wide_is_accepted,
 };
+pub use same_leaves::{same_blocks_have_best_leaves, same_blocks_have_bounds};
 pub use text::{TextFault, check_text, check_text16};
 
 #[cfg(test)]

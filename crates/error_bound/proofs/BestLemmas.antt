@@ -3,7 +3,7 @@ use Rattle.std.proofs.Common.{◌≡◌, ⊎_elim, ℕ, zero, suc, ◌+◌, ◌-
 use Rattle.std.specs.Prelude.{All, IsTrue, slice_get, ◌==◌, ◌⊎◌, if◌then◌else◌, nat_le, ◌<ℤ◌}
 use Rattle.std.proofs.lemmas.Int.{ints}
 use Rattle.std.proofs.lemmas.Bool.{cases_lt}
-use Rattle.std.proofs.lemmas.Option.{slice_get_within, get_or_from_slice_get}
+use Rattle.fz_list.proofs.Algebra.{All-slice_get}
 use Rattle.fz_num.specs.Fractions.{Fraction, over, IsProper, AtMost, lesser, greater, times}
 use Rattle.fz_num.specs.Decimals.{distance}
 use Rattle.fuzzy_meaning.specs.declared.block.Block.{Block}
@@ -35,8 +35,7 @@ use Rattle.error_bound.proofs.ConclusionLemmas.{any-some, any-term}
 use Rattle.error_bound.proofs.LawLemmas.{term_errors-are}
 use Rattle.error_bound.specs.CellErrors.{term_errors}
 use Rattle.error_bound.proofs.Nested.{leaves_hold_inside}
-use Rattle.error_bound.proofs.NestedBounds.{bounds_fall}
-use Rattle.error_bound.proofs.Uniqueness.{bound_unique}
+use Rattle.error_bound.proofs.NestedBounds.{bounds_fall, bounds_unique}
 use Rattle.error_bound.proofs.WideLemmas.{in_millionths-mono}
 
 -- ---- how far a rule's strengths reach
@@ -174,10 +173,8 @@ outdone b box o n k r from some er s =
 silent_not_strong : (b : Block) (box : List Interval) (o n k : ℕ) (r : Rule) → Holds b box o silent_leaf → rule_at b n ≡ Some r → IsStrong b box o r k → ⊥
 silent_not_strong b box o n k r (strong r' from some to e' s') er s = absurd (omega arith)
 silent_not_strong b box o n k r (silent z y every) er s =
-    let within = slice_get_within b.rules (n - 1) r er in
-    let here : get_or b.rules (n - 1) r ≡ r = get_or_from_slice_get b.rules (n - 1) r r er in
     let still : (t : ℕ) → IsTrue (concludes r o t) → IsStill b box r =
-    subst (λ q. (t : ℕ) → IsTrue (concludes q o t) → IsStill b box q) here (every (n - 1) r within) in
+    All-slice_get (λ q. (t : ℕ) → IsTrue (concludes q o t) → IsStill b box q) b.rules (n - 1) r every er in
     let none = (still s.term s.concludes_it).byte_high in
     let some = s.byte_low in
     let order = (rule_ordered b box r).bytes in
@@ -279,7 +276,7 @@ module _ (b : Block) (box : List Interval) (o : ℕ) (x : Output) (h : ℕ) (lea
       let above = out.above in
       let best : Leaf = record { rule = i; k = k } in
       let there : IsBound b box o x h best (bound b q.errors o x h best) = record { errors = q.errors; are_errors = q.are_errors; is = refl } in
-      let e = bound_unique b box o x h best n (bound b q.errors o x h best) valid count p there in
+      let e = bounds_unique b box o x h best n (bound b q.errors o x h best) valid count p there in
       let sum = errors_from b q.errors o 1 x.singletons in
       moved (e ∙ bound_strong x h k sum c.some) (q.is ∙ bound_strong x h leaf.k sum some) (strong-falls x h sum leaf.k k range hh some (omega arith))
 
@@ -293,8 +290,6 @@ best_least b small box o x h leaf n m valid ex hh count ins some best holds q =
     let here = leaves_hold_inside b small box o leaf valid count ins some holds in
     let p : IsBound b small o x h leaf (bound b e o x h leaf) = record { errors = e; are_errors = term_errors-are b small valid some; is = refl } in
     let falls = bounds_fall b small box o x h leaf (bound b e o x h leaf) m valid ex hh count ins p q in
-    let within = slice_get_within b.outputs (o - 1) x ex in
-    let same : get_or b.outputs (o - 1) x ≡ x = get_or_from_slice_get b.outputs (o - 1) x x ex in
-    let at : IsValidOutput x = subst IsValidOutput same (valid.outputs (o - 1) x within) in
+    let at : IsValidOutput x = All-slice_get IsValidOutput b.outputs (o - 1) x valid.outputs ex in
     let l = least_here b small o x h leaf valid at.range hh (ins.count ∙ count) n (bound b e o x h leaf) best here p in
     omega arith

@@ -12,11 +12,6 @@ use Rattle.cert_check.specs.Walks.{cuts_of}
 use Rattle.cert_check.specs.BoxLaws.{HasHalves, CutsHaveHalves}
 use Rattle.error_certifier.specs.Halving.{IsWidest, IsHalvedAt, middle_of, cell_of}
 
-pub some_at : {X : Type 0} (xs : List X) (k : ℕ) → k < length xs → (x : X) × (slice_get xs k ≡ Some x)
-some_at [] k h = absurd (omega arith)
-some_at (x ∷ xs) zero h = (x, refl)
-some_at (x ∷ xs) (suc k) h = some_at xs k (omega arith)
-
 pub same_items : {X : Type 0} (xs ys : List X) → length xs ≡ length ys → ((k : ℕ) → k < length xs → slice_get xs k ≡ slice_get ys k) → xs ≡ ys
 same_items [] [] e h = refl
 same_items [] (y ∷ ys) e h = absurd (omega (arith, e))

@@ -4,6 +4,7 @@ use Rattle.std.specs.Prelude.{slice_get, slice_index, All}
 use Rattle.std.specs.List.{Any}
 use Rattle.std.proofs.lemmas.List.{append-nil, length-replicate}
 use Rattle.std.proofs.lemmas.Option.{slice_get-get_or, get_or_from_slice_get}
+use Rattle.fz_list.proofs.Algebra.{some_at}
 use Rattle.fuzzy_meaning.specs.declared.block.Block.{Block}
 use Rattle.fuzzy_meaning.specs.declared.block.Output.{Output}
 use Rattle.fuzzy_meaning.specs.Blocks.{IsValid, output_at}
@@ -19,7 +20,6 @@ use Rattle.cert_check.specs.Acceptance.{HasBound, IsGreatestBound, IsAccepted}
 use Rattle.error_certifier.specs.declared.halving.Tree.{Tree}
 use Rattle.error_certifier.specs.Halving.{Halves, leaf as halved_leaf, split as halved_split, IsHalving}
 use Rattle.error_certifier.specs.Trees.{RisesTo, Grows}
-use Rattle.error_certifier.proofs.BoxLemmas.{some_at}
 
 -- ---- nodes that are one tree
 

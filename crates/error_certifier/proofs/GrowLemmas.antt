@@ -6,6 +6,7 @@ use Rattle.std.specs.Global.{Vec}
 use Rattle.std.proofs.lemmas.Bool.{cases_lt}
 use Rattle.std.proofs.lemmas.Option.{slice_get_within, get_or_from_slice_get}
 use Rattle.std.proofs.lemmas.List.Elements.{All-append}
+use Rattle.fz_list.proofs.Algebra.{All-cons, All-slice_get}
 use Rattle.fuzzy_meaning.specs.declared.block.Block.{Block}
 use Rattle.fuzzy_meaning.specs.declared.block.Output.{Output}
 use Rattle.error_bound.specs.declared.boxes.Interval.{Interval}
@@ -71,10 +72,6 @@ named [] k p e = absurd (let z : ⊥ = cc in z)
 named (q ∷ qs) zero p e = let s : q ≡ p = cc in ap (λ (r : ℕ × ℕ). Some (record { rule = r.0; k = r.1 })) s
 named (q ∷ qs) (suc k) p e = named qs k p e
 
--- what holds of each holds of the one at a place
-at_place : {X : Type 0} (P : X → Type 0) (xs : List X) (k : ℕ) (x : X) → All P xs → slice_get xs k ≡ Some x → P x
-at_place P xs k x all e = subst P (get_or_from_slice_get xs k x x e) (all k x (slice_get_within xs k x e))
-
 length-leaves : (pairs : List (ℕ × ℕ)) → length (leaves_of pairs) ≡ length pairs
 length-leaves [] = refl
 length-leaves (p ∷ ps) = ap suc (length-leaves ps)
@@ -94,7 +91,7 @@ module _ (hold : BestLeavesHold) (b : Block) (h target : ℕ) (box : List Interv
   has_bound : (k : ℕ) (x : Output) (p : IsBestPair b h target box k x leaves) → HasBound b (k + 1) x h (part_of box leaves.pairs.items) p.bound
   has_bound k x p =
       let leaf : the.Leaf = record { rule = p.pair.0; k = p.pair.1 } in
-      let small = (at_place IsPair leaves.pairs.items k p.pair best.good p.pair_is).part in
+      let small = (All-slice_get IsPair leaves.pairs.items k p.pair best.good p.pair_is).part in
       let place : k ≡ k + 1 - 1 = omega arith in
       record {
         leaf = leaf;
@@ -161,10 +158,6 @@ split_tree box k c ls rs rest ps qs cut l r =
     (subst (λ j. IsCut j c box) place cut)
     (subst (λ j. IsTree (left_of j c box) ((ls ++ rs) ++ rest) ps (rs ++ rest)) place left)
     (subst (λ j. IsTree (right_of j c box) (rs ++ rest) qs rest) place r)
-
-All-cons : {X : Type 0} (P : X → Type 0) (x : X) (xs : List X) → P x → All P xs → All P (x ∷ xs)
-All-cons P x xs p all zero d l = p
-All-cons P x xs p all (suc k) d l = all k d (omega arith)
 
 split_node : (b : Block) (box : List Interval) (k c : ℕ) → length b.inputs ≤ 8 → IsBoxOf b box → (at : IsHalvedAt box k c) → c ≤ 255 → IsNode (length b.outputs) (Split (k + 1) c)
 split_node b box k c few is at small =

@@ -4,6 +4,7 @@ use Rattle.std.specs.Prelude.{slice_get, All, IfSome}
 use Rattle.std.proofs.lemmas.Bool.{cases_lt}
 use Rattle.std.proofs.lemmas.Option.{slice_get_within}
 use Rattle.std.proofs.lemmas.List.Elements.{All-append}
+use Rattle.fz_list.proofs.Algebra.{some_at}
 use Rattle.fuzzy_meaning.specs.declared.block.Block.{Block}
 use Rattle.fuzzy_meaning.specs.declared.block.Output.{Output}
 use Rattle.fuzzy_meaning.specs.Blocks.{IsValid, output_at}
@@ -15,7 +16,6 @@ use Rattle.box_tree.specs.Certificates.{IsPair}
 use Rattle.error_certifier.specs.declared.leaves.BestLeaves.{BestLeaves}
 use Rattle.error_certifier.specs.Halving.{IsWithinTarget, IsFirstAbove}
 use Rattle.error_certifier.specs.Trees.{IsBestPair}
-use Rattle.error_certifier.proofs.BoxLemmas.{some_at}
 
 -- a best leaf is a pair of a certificate
 pub pair_of_best : (b : Block) (box : List Interval) (o : ℕ) (leaf : the.Leaf) → IsValid b → leaf.k ≤ 255 → IsBest b box o (Some leaf) → IsPair (leaf.rule, leaf.k)

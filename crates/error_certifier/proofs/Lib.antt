@@ -5,3 +5,4 @@ pub mod HalveLemmas
 pub mod CertLemmas
 pub mod OneAnswer
 pub mod OutOfReach
+pub mod SameHalving

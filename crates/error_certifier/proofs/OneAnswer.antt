@@ -3,6 +3,7 @@ use Rattle.std.proofs.Common.{◌≡◌, ⊎_elim, ℕ, zero, suc, ◌+◌, ◌<
 use Rattle.std.specs.Prelude.{slice_get}
 use Rattle.std.proofs.lemmas.Bool.{cases_lt}
 use Rattle.arrayvec.specs.ArrayVec.{ArrayVec}
+use Rattle.fz_list.proofs.Algebra.{some_at}
 use Rattle.fuzzy_meaning.specs.declared.block.Block.{Block}
 use Rattle.fuzzy_meaning.specs.declared.block.Output.{Output}
 use Rattle.fuzzy_meaning.specs.Blocks.{IsValid}
@@ -23,7 +24,7 @@ use Rattle.error_certifier.specs.declared.certifier.NotReached.{NotReached}
 use Rattle.error_certifier.specs.declared.certifier.NotReached.TheVariants.{Cell}
 use Rattle.error_certifier.specs.Halving.{AreWithinTarget, IsFirstAbove, IsHalvedAt, Halves, leaf, split, Stops, cell, limit, in_left, in_right}
 use Rattle.error_certifier.specs.Laws.{AnswersAreOne}
-use Rattle.error_certifier.proofs.BoxLemmas.{some_at, same_items, left_box, right_box, whole_box, one_halving, cell_bytes, cell_not_halved}
+use Rattle.error_certifier.proofs.BoxLemmas.{same_items, left_box, right_box, whole_box, one_halving, cell_bytes, cell_not_halved}
 
 abbrev lows : List Interval → List ℕ
 lows box = map (λ (v : Interval). v.from) box
@@ -35,8 +36,11 @@ pairs_back : (pairs : List (ℕ × ℕ)) → pairs_of (leaves_of pairs) ≡ pair
 pairs_back [] = refl
 pairs_back (p ∷ ps) = ap (λ (qs : List (ℕ × ℕ)). p ∷ qs) (pairs_back ps)
 
-same_cell : (xs ys : List ℕ) (o p n m : ℕ) → xs ≡ ys → o ≡ p → n ≡ m → Cell xs (o + 1) n ≡ Cell ys (p + 1) m
-same_cell xs ys o p n m e f g = cc
+same_cell : (xs ys : ArrayVec ℕ) (o p n m : ℕ) → xs.items ≡ ys.items → o ≡ p → n ≡ m → Cell xs (o + 1) n ≡ Cell ys (p + 1) m
+same_cell xs ys o p n m e f g =
+    let vec : List ℕ → ArrayVec ℕ = λ (is : List ℕ). record { items = is } in
+    let same : xs ≡ ys = ap vec e in
+    cc
 
 module _ (best_one : BestLeavesAreOne) (bound_one : BoundsAreDetermined) (b : Block) (h target : ℕ) (valid : IsValid b) where
   one_best_bound : (box : List Interval) (o : ℕ) (x : Output) (n m : ℕ) → IsBoxOf b box → IsBestBound b box o x h n → IsBestBound b box o x h m → n ≡ m
@@ -150,7 +154,7 @@ module _ (best_one : BestLeavesAreOne) (bound_one : BoundsAreDetermined) (b : Bl
     no_stop _ _ _ _ _ _ _ is (leaf box n p w few) (limit other o ls v many) e f = absurd (omega arith)
     no_stop _ _ _ _ _ _ _ is (leaf box n p w few) (in_left other j d o out up s a at stop) e f = not_both box (leaves_of p.items) out up is w (moved_above box other out up e a)
     no_stop _ _ _ _ _ _ _ is (leaf box n p w few) (in_right other j d o m' out up left s a at l stop) e f = not_both box (leaves_of p.items) out up is w (moved_above box other out up e a)
-    no_stop _ _ _ _ _ _ _ is (split box k c n m r out up left right a at l t) (cell other o bytes out' up' single a') e f = cell_not_halved box bytes k c (e ∙ single) at
+    no_stop _ _ _ _ _ _ _ is (split box k c n m r out up left right a at l t) (cell other o bytes out' up' single a') e f = cell_not_halved box bytes.items k c (e ∙ single) at
     no_stop _ _ _ _ _ _ _ is (split box k c n m r out up left right a at l t) (limit other o ls v many) e f = not_both box ls out up is (moved_within box other ls e v) a
     no_stop _ _ _ _ _ _ _ is (split box k c n m r out up left right a at l t) (in_left other j d o out' up' s a' at' stop) e f =
         let same = one_halving box k j c d at (moved_halved box other j d e at') in
@@ -163,15 +167,15 @@ module _ (best_one : BestLeavesAreOne) (bound_one : BoundsAreDetermined) (b : Bl
     one_stop : (box other : List Interval) (n o : ℕ) (s t : NotReached) → IsBoxOf b box → Stops b h target box n s → Stops b h target other o t → box ≡ other → n ≡ o → s ≡ t
     one_stop _ _ _ _ _ _ is (cell box n bytes out up single a) (cell other o bytes' out' up' single' a') e f =
         let same = one_above box out out' up up' is a (moved_above box other out' up' e a') in
-        same_cell bytes bytes' out out' up up' (sym (cell_bytes bytes) ∙ ap lows (sym single ∙ e ∙ single') ∙ cell_bytes bytes') same.0 same.1
+        same_cell bytes bytes' out out' up up' (sym (cell_bytes bytes.items) ∙ ap lows (sym single ∙ e ∙ single') ∙ cell_bytes bytes'.items) same.0 same.1
     one_stop _ _ _ _ _ _ is (cell box n bytes out up single a) (limit other o ls v many) e f = absurd (not_both box ls out up is (moved_within box other ls e v) a)
-    one_stop _ _ _ _ _ _ is (cell box n bytes out up single a) (in_left other j d o out' up' t a' at stop) e f = absurd (cell_not_halved box bytes j d single (moved_halved box other j d e at))
-    one_stop _ _ _ _ _ _ is (cell box n bytes out up single a) (in_right other j d o m out' up' left t a' at l stop) e f = absurd (cell_not_halved box bytes j d single (moved_halved box other j d e at))
+    one_stop _ _ _ _ _ _ is (cell box n bytes out up single a) (in_left other j d o out' up' t a' at stop) e f = absurd (cell_not_halved box bytes.items j d single (moved_halved box other j d e at))
+    one_stop _ _ _ _ _ _ is (cell box n bytes out up single a) (in_right other j d o m out' up' left t a' at l stop) e f = absurd (cell_not_halved box bytes.items j d single (moved_halved box other j d e at))
     one_stop _ _ _ _ _ _ is (limit box n ls w many) (cell other o bytes out up single a) e f = absurd (not_both box ls out up is w (moved_above box other out up e a))
     one_stop _ _ _ _ _ _ is (limit box n ls w many) (limit other o ks v more) e f = refl
     one_stop _ _ _ _ _ _ is (limit box n ls w many) (in_left other j d o out up t a at stop) e f = absurd (not_both box ls out up is w (moved_above box other out up e a))
     one_stop _ _ _ _ _ _ is (limit box n ls w many) (in_right other j d o m out up left t a at l stop) e f = absurd (not_both box ls out up is w (moved_above box other out up e a))
-    one_stop _ _ _ _ _ _ is (in_left box k c n out up s a at stop) (cell other o bytes out' up' single a') e f = absurd (cell_not_halved box bytes k c (e ∙ single) at)
+    one_stop _ _ _ _ _ _ is (in_left box k c n out up s a at stop) (cell other o bytes out' up' single a') e f = absurd (cell_not_halved box bytes.items k c (e ∙ single) at)
     one_stop _ _ _ _ _ _ is (in_left box k c n out up s a at stop) (limit other o ls v many) e f = absurd (not_both box ls out up is (moved_within box other ls e v) a)
     one_stop _ _ _ _ _ _ is (in_left box k c n out up s a at stop) (in_left other j d o out' up' t a' at' stop') e f =
         let same = one_halving box k j c d at (moved_halved box other j d e at') in
@@ -180,7 +184,7 @@ module _ (best_one : BestLeavesAreOne) (bound_one : BoundsAreDetermined) (b : Bl
         let same = one_halving box k j c d at (moved_halved box other j d e at') in
         let left_is = same_left box other k j c d e same.0 same.1 in
         absurd (no_stop (left_of j d other) (left_of k c box) o n m left s (subst (IsBoxOf b) left_is (left_box cuts b box k c at is)) l stop (sym left_is) (sym f))
-    one_stop _ _ _ _ _ _ is (in_right box k c n m out up left s a at l stop) (cell other o bytes out' up' single a') e f = absurd (cell_not_halved box bytes k c (e ∙ single) at)
+    one_stop _ _ _ _ _ _ is (in_right box k c n m out up left s a at l stop) (cell other o bytes out' up' single a') e f = absurd (cell_not_halved box bytes.items k c (e ∙ single) at)
     one_stop _ _ _ _ _ _ is (in_right box k c n m out up left s a at l stop) (limit other o ls v many) e f = absurd (not_both box ls out up is (moved_within box other ls e v) a)
     one_stop _ _ _ _ _ _ is (in_right box k c n m out up left s a at l stop) (in_left other j d o out' up' t a' at' stop') e f =
         let same = one_halving box k j c d at (moved_halved box other j d e at') in

@@ -28,9 +28,9 @@ module _ (around : LeavesAreAround) (least : BestBoundsAreLeast) (cuts : CutsHav
 
   out_of_reach : (box : List Interval) (n : ℕ) (stop : NotReached) → IsBoxOf b box → Stops b h target box n stop → SaysOutOfReach b h target stop
   out_of_reach _ _ _ is (cell box n bytes k above single a) =
-      let at : IsBoxOf b (cell_of bytes) = subst (IsBoxOf b) single is in
+      let at : IsBoxOf b (cell_of bytes.items) = subst (IsBoxOf b) single is in
       let first = subst (λ (x : List Interval). IsFirstAbove b h target x k above) single a in
-      record { above = a.above; least = least_error bytes k above at first }
+      record { above = a.above; least = least_error bytes.items k above at first }
   out_of_reach _ _ _ is (limit box n leaves w many) = tt
   out_of_reach _ _ _ is (in_left box k c n out up stop a at inner) = out_of_reach (left_of k c box) n stop (left_box cuts b box k c at is) inner
   out_of_reach _ _ _ is (in_right box k c n m out up left stop a at l inner) = out_of_reach (right_of k c box) m stop (right_box cuts b box k c at is) inner

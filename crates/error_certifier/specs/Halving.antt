@@ -78,7 +78,7 @@ pub data Halves (b : Block) (h target : ℕ) : List Interval → ℕ → List No
 
 -- or halving it stops: at the first cell that is above the target, or where another leaf would be too many
 pub data Stops (b : Block) (h target : ℕ) : List Interval → ℕ → NotReached → Type 0 where
-  cell : (box : List Interval) (n : ℕ) (bytes : List ℕ) (output above : ℕ) → box ≡ cell_of bytes
+  cell : (box : List Interval) (n : ℕ) (bytes : ArrayVec ℕ) (output above : ℕ) → box ≡ cell_of bytes.items
       → IsFirstAbove b h target box output above → Stops b h target box n (Cell bytes (output + 1) above)
   limit : (box : List Interval) (n : ℕ) (leaves : List the.Leaf) → AreWithinTarget b h target box leaves → 4096 ≤ n
       → Stops b h target box n LeafLimit

@@ -1,12 +1,12 @@
 //! Boxes, their widest intervals and their halves.
-ghost use Rattle.std.specs.Prelude.{◌≡◌, ◌≤◌, ◌<◌, ◌-◌, IfOk, Some, map, length, slice_get};
+ghost use Rattle.std.specs.Prelude.{◌≡◌, ◌≤◌, ◌<◌, ◌-◌, Some, map, length, slice_get};
 ghost use Rattle.error_bound.specs.Boxes.{IsBox};
 ghost use Rattle.cert_check.specs.Trees.{left_of, right_of};
 ghost use Rattle.error_certifier.specs.Halving.{IsWidest, middle_of};
 
+use arrayvec::ArrayVec;
 use cert_check::cuts_have_halves;
 use error_bound::{ByteBox, Interval};
-use std::alloc::{AllocError, Global};
 
 /// The first of the widest intervals, and its place.
 pub(crate) fn widest(bytes: &ByteBox) -> (usize, Interval)
@@ -65,13 +65,12 @@ pub(crate) fn halves(
 }
 
 /// The low bytes of a box.
-pub(crate) fn low_bytes(alloc: Global, bytes: &ByteBox) -> Result<Vec<u8>, AllocError>
-    ensures { IfOk result (λ low. low.items ≡ map (λ v. v.from) bytes.now.0.items) }
+pub(crate) fn low_bytes(bytes: &ByteBox) -> ArrayVec<u8, 8>
+    ensures { result.items ≡ map (λ v. v.from) bytes.now.0.items }
 {
-    bytes
-        .0
-        .as_slice()
-        .iter()
-        .map(|interval| interval.from)
-        .collect(alloc)
+    let mut low = ArrayVec::new();
+    for interval in bytes.0.as_slice() {
+        low.push(interval.from);
+    }
+    low
 }

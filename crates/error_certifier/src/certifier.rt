@@ -7,21 +7,25 @@ ghost use Rattle.error_certifier.specs.Laws.{SaysOutOfReach};
 
 use crate::halving::{Task, Tree};
 use crate::laws::cells_are_out_of_reach;
+use arrayvec::ArrayVec;
 use box_tree::{Cert, open_boxes_go_on};
 use cert_check::whole_box;
 use fuzzy_meaning::Block;
-use fz_list::List;
 use std::alloc::Global;
+use thiserror::Error;
 
 /// Why halving gives no certificate.
-#[derive(Drop)]
+#[derive(Clone, PartialEq, Eq, Debug, Drop, Error)]
 pub enum NotReached {
     /// The bytes of a cell, one for each input, the first output, from 1, that is above the target
     /// there, and the Bound of its best leaf in millionths of its range, or 1000001 where it has none.
-    Cell(List<u8>, u8, u32),
+    #[error("on a cell output {1} has a Bound of {2}")]
+    Cell(ArrayVec<u8, 8>, u8, u32),
     /// More than 4096 leaves would be needed. Another certificate may have fewer.
+    #[error("more than 4096 leaves")]
     LeafLimit,
     /// There was no memory for the certificate, or for the cells of the block's terms.
+    #[error("no memory")]
     Memory,
 }
 

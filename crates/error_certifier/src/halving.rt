@@ -1,5 +1,5 @@
 //! Halving, box by box.
-ghost use Rattle.std.specs.Prelude.{◌≡◌, ◌≢◌, ◌≤◌, ◌<◌, ◌+◌, ◌++◌, ◌∷◌, [], length, map, replicate, OnOk, IfOk, IfErr};
+ghost use Rattle.std.specs.Prelude.{◌≡◌, ◌≢◌, ◌≤◌, ◌<◌, ◌+◌, ◌++◌, ◌∷◌, [], length, replicate, OnOk, IfOk, IfErr};
 ghost use Rattle.fuzzy_meaning.specs.Blocks.{IsValid};
 ghost use Rattle.error_bound.specs.Boxes.{IsBoxOf};
 ghost use Rattle.box_tree.specs.declared.cert.Node.TheVariants as node;
@@ -22,7 +22,6 @@ const MOST_LEAVES: u16 = 4096;
 /// What is halved, and for which target.
 #[derive(Drop)]
 pub(crate) struct Task<'a> {
-    alloc: Global,
     block: &'a Block,
     /// The cells of the block's terms, for all boxes.
     cells: BlockCells,
@@ -58,7 +57,6 @@ impl<'a> Task<'a> {
     {
         let cells = BlockCells::new(alloc, block)?;
         Ok(Task {
-            alloc,
             block,
             cells,
             target,
@@ -85,7 +83,7 @@ impl<'a> Task<'a> {
         };
         let (place, interval) = widest(&bytes);
         if interval.from == interval.to {
-            return Err(self.cell(&bytes, above));
+            return Err(NotReached::Cell(low_bytes(&bytes), above.place + 1, above.bound));
         }
         let cut = middle(interval);
         if tree.nodes.push(Node::Split(place as u8 + 1, cut)).is_err() {
@@ -107,18 +105,6 @@ impl<'a> Task<'a> {
     {
         let table = BoxTable::over(self.block, &self.cells, bytes.copied());
         BestLeaves::new(self.block, &table, self.target, self.parts)
-    }
-
-    /// That halving stops at a cell of such bytes.
-    fn cell(&self, bytes: &ByteBox, above: Above) -> NotReached
-        requires { above.place < 4 }
-        ensures { result ≢ NotReached.Memory
-            → result ≡ NotReached.Cell (map (λ v. v.from) bytes.now.0.items) (above.place + 1) above.bound }
-    {
-        match low_bytes(self.alloc, bytes) {
-            Ok(bytes) => NotReached::Cell(List::new(bytes), above.place + 1, above.bound),
-            Err(_) => NotReached::Memory,
-        }
     }
 }
 

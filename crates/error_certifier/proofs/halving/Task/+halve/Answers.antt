@@ -1,4 +1,4 @@
-use Rattle.std.proofs.Common.{rules, ◌≡◌, ◌≢◌, ◌≤◌, ◌+◌, ◌∷◌, ◌++◌, [], List, map, arith, ap, refl, sym, subst}
+use Rattle.std.proofs.Common.{rules, ◌≡◌, ◌≢◌, ◌≤◌, ◌+◌, ◌∷◌, ◌++◌, [], List, arith, ap, refl, sym, ◌∙◌, subst}
 use Rattle.std.proofs.lemmas.Option.{slice_get_within}
 use Rattle.std.proofs.lemmas.Result.{err_from_is_err_and}
 use Rattle.error_bound.specs.declared.boxes.Interval.{Interval}
@@ -8,7 +8,7 @@ use Rattle.cert_check.specs.Walks.{cuts_of}
 use Rattle.error_certifier.specs.declared.certifier.NotReached.{NotReached}
 use Rattle.error_certifier.specs.declared.certifier.NotReached.TheVariants.{LeafLimit, Memory}
 use Rattle.error_certifier.specs.declared.halving.Tree.{Tree}
-use Rattle.error_certifier.specs.Halving.{Stops, cell, limit, in_left, in_right}
+use Rattle.error_certifier.specs.Halving.{Stops, cell_of, cell, limit, in_left, in_right}
 use Rattle.error_certifier.specs.Trees.{Grows}
 use Rattle.error_certifier.proofs.BoxLemmas.{left_box, right_box, halves_fewer, cell_is}
 use Rattle.error_certifier.proofs.GrowLemmas.{within_target, grows_leaf, grows_split}
@@ -35,19 +35,18 @@ returns-in-Ok-clause-stops t c =
     let p = f found in
     subst (λ (s : NotReached). Stops task.block.now task.parts task.target box n s) (sym p.0) (limit box n _ within p.1))
 
-pub cell-requires : goal.cell-requires
-cell-requires t c =
+pub overflow_add-result : goal.overflow_add-result
+overflow_add-result t c =
     let first = c.in-Err.ensures.above in
     let inside = slice_get_within c.args.self.now.block.now.outputs c.in-Err.above.place first.output first.output_is in
     omega (arith, inside, c.requires.task.valid.few_outputs)
 
 pub returns-then-interval-clause-stops : goal.returns-then-interval-clause-stops
 returns-then-interval-clause-stops t c = λ found.
-    let task = c.args.self.now in
     let box = c.args.bytes.0.items in
     let single = cell_is box c.widest-place.result.0 c.widest-place.result.1 c.requires.bytes.intervals c.widest-place.ensures c.if-interval.true in
-    subst (λ (s : NotReached). Stops task.block.now task.parts task.target box c.args.tree.now.leaves s) (sym (c.cell.ensures found))
-    (cell box c.args.tree.now.leaves (map (λ (v : Interval). v.from) box) c.in-Err.above.place c.in-Err.above.bound single c.in-Err.ensures.above)
+    cell box c.args.tree.now.leaves c.low_bytes.result c.in-Err.above.place c.in-Err.above.bound
+    (single ∙ ap cell_of (sym c.low_bytes.ensures)) c.in-Err.ensures.above
 
 pub overflow_cast-place : goal.overflow_cast-place
 overflow_cast-place t c =
