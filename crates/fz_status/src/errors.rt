@@ -1,9 +1,9 @@
 //! The one line on err, put in parts that take no memory.
 ghost use Rattle.std.specs.Prelude.{◌≡◌, ◌++◌, length};
 ghost use Rattle.fz_shelf.specs.Told.{gained, HasRoom};
-ghost use Rattle.fz_top.specs.Texts.{texts_of};
-ghost use Rattle.fz_top.specs.Errors.{Puts, Complains, error_line_of};
-ghost use Rattle.fz_top.specs.FaultLines.{with_name};
+ghost use Rattle.fz_status.specs.Words.{texts_of};
+ghost use Rattle.fz_status.specs.Errors.{Puts, Complains, error_line_of};
+ghost use Rattle.fz_status.specs.FaultLines.{with_name};
 
 use crate::Status;
 use crate::fault_lines::{
@@ -61,8 +61,9 @@ fn put_line<F: Sink>(err: &mut F, words: &[String], status: &Status) -> Result<(
     }
 }
 
-/// Puts the line of a status, which is none for `Ok`.
-pub(crate) fn report<F: Sink>(err: &mut F, words: &[String], status: &Status)
+/// Puts the line of a status, which is none for `Ok`. It takes no memory. Where a put fails a
+/// beginning of the line is there.
+pub fn report<F: Sink>(err: &mut F, words: &[String], status: &Status)
     ensures quiet { status.now ≡ Status.Ok
         → (F.told err.new ≡ F.told err.old) × (F.faults err.new ≡ F.faults err.old) }
     ensures line { (status.now ≡ Status.Ok → ⊥)

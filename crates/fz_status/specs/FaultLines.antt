@@ -21,14 +21,16 @@ use Rattle.srecord.specs.declared.fault.SrecFault.{SrecFault}
 use Rattle.srecord.specs.declared.fault.SrecFault.TheVariants as srec
 use Rattle.trace_io.specs.declared.sample.TraceFault.{TraceFault}
 use Rattle.trace_io.specs.declared.sample.TraceFault.TheVariants as trace
-use Rattle.fz_top.specs.Lines.{newline}
-use Rattle.fz_top.specs.Texts.{Text}
-use Rattle.fz_top.specs.declared.status.CertRefusal.{CertRefusal}
-use Rattle.fz_top.specs.declared.status.CertRefusal.TheVariants as refusal
-use Rattle.fz_top.specs.declared.status.FclFault.{FclFault}
-use Rattle.fz_top.specs.declared.status.FclFault.TheVariants as fcl
-use Rattle.fz_top.specs.declared.status.ImageFault.{ImageFault}
-use Rattle.fz_top.specs.declared.status.ImageFault.TheVariants as image
+use Rattle.fz_status.specs.Words.{Text}
+use Rattle.fz_status.specs.declared.status.CertRefusal.{CertRefusal}
+use Rattle.fz_status.specs.declared.status.CertRefusal.TheVariants as refusal
+use Rattle.fz_status.specs.declared.status.FclFault.{FclFault}
+use Rattle.fz_status.specs.declared.status.FclFault.TheVariants as fcl
+use Rattle.fz_status.specs.declared.status.ImageFault.{ImageFault}
+use Rattle.fz_status.specs.declared.status.ImageFault.TheVariants as image
+
+abbrev pub newline : List ℕ
+newline = codes "\n"
 
 -- a line with a name or with numbers in it
 abbrev pub with_name : Text → Text → List ℕ
@@ -83,7 +85,8 @@ fcl_line (fcl.Layout f) = layout_line f
 abbrev pub trace_line : TraceFault → List ℕ
 trace_line trace.TooMany = codes "trace: too many rows" ++ newline
 trace_line (trace.BadRow row) = with_number (codes "trace: row ") row (codes ": bad row")
-trace_line (trace.OutOfRange row input) = with_two (codes "trace: row ") row (codes ": input ") input (codes " out of range")
+trace_line (trace.OutOfRange row input) =
+    with_two (codes "trace: row ") row (codes ": input ") input (codes " out of range")
 trace_line trace.Memory = want_of_memory
 
 abbrev pub asm_line : AsmFault → List ℕ

@@ -76,7 +76,7 @@ pub enum CertRefusal {
 }
 
 impl Status {
-    ghost use Rattle.fz_top.specs.Codes.{code_of};
+    ghost use Rattle.fz_status.specs.Codes.{code_of};
 
     /// The number that the program ends with.
     pub fn code(&self) -> u8

@@ -1,4 +1,4 @@
-use Rattle.fz_top.proofs.fault_lines.put_check.Goals as goal
+use Rattle.fz_status.proofs.fault_lines.put_check.Goals as goal
 
 pub returns-in-Claimed : goal.returns-in-Claimed
 returns-in-Claimed g c =

@@ -1,4 +1,4 @@
-use Rattle.fz_top.proofs.fault_lines.put_leaf.Goals as goal
+use Rattle.fz_status.proofs.fault_lines.put_leaf.Goals as goal
 
 pub returns-in-Weak : goal.returns-in-Weak
 returns-in-Weak g c =
