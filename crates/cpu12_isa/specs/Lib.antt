@@ -1,4 +1,6 @@
 pub mod Memory
+pub mod Pages
+pub mod PageMemory
 pub mod Act
 pub mod Flags
 pub mod Registers

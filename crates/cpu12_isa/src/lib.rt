@@ -1,12 +1,13 @@
 //! The instructions of the CPU12 (CPU12 Reference Manual) that generated code, interrupt handlers and
 //! tools use: registers ([`instr::Regs`], [`instr::Ccr`]), instructions in their byte forms
-//! ([`instr::Instr`]), memory of 65536 bytes ([`mem::Mem`], [`mem::FlatMem`]), and the calls
+//! ([`instr::Instr`]), memory of 65536 bytes ([`mem::Mem`], [`pages::PageMem`], [`mem::FlatMem`]), and the calls
 //! [`decode::decode`], [`encode::encode`] and [`exec::exec`].
 //!
 //! What an instruction does is defined as an *act*: the addresses that it reads one after the other,
 //! then the new registers and the bytes that it writes. `exec` does just that for every
 //! implementation of `Mem`, and `decode` answers the instruction whose encoding stands at an address,
-//! or a trap with the first byte that is in no table. Only `Mem::fresh` takes memory.
+//! or a trap with the first byte that is in no table. Only `Mem::fresh`
+//! takes memory.
 #![tactic(auto)]
 
 pub mod ccr;
@@ -18,6 +19,7 @@ pub mod instr;
 pub mod laws;
 pub mod mem;
 pub mod mnemonic;
+pub mod pages;
 pub mod regs;
 pub mod stack;
 #[cfg(test)]

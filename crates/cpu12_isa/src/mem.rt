@@ -32,8 +32,9 @@ pub struct FlatMem {
     ghost full: { length cells.items ≡ 65536 },
 }
 
+/// n zeros.
 #[tactic(auto, unfolding(crate::specs::Memory::zeros))]
-fn zeroed(alloc: Global, n: usize) -> Result<Vec<u8>, AllocError>
+pub(crate) fn zeroed(alloc: Global, n: usize) -> Result<Vec<u8>, AllocError>
     ensures { IfOk result (λ v. v.items ≡ zeros n) }
 {
     vec![in alloc; 0u8; n]

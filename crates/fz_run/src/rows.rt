@@ -11,7 +11,8 @@ use arrayvec::ArrayVec;
 use codegen::Firmware;
 use cpu12_emul::ends::Frame;
 use cpu12_emul::machine::Machine;
-use cpu12_isa::mem::{FlatMem, Mem};
+use cpu12_isa::mem::Mem;
+use cpu12_isa::pages::PageMem;
 use fz_list::{List, Memory};
 use interrupt_plan::{Plan, Request};
 use std::alloc::Global;
@@ -72,7 +73,7 @@ pub fn run(
     ensures rows { IfOk result (λ rows. map row_seen rows.items ≡ (firmware_rows firmware.now (map input_bytes samples.now) plan.now flags).rows) }
     ensures answers { IfOk result (λ rows. AnswersItsBlock firmware.now flags (map input_bytes samples.now) plan.now (map row_seen rows.items)) }
 {
-    let (rows, _memory): (Vec<Row>, FlatMem) = run_on(alloc, firmware, samples, plan, flags)?;
+    let (rows, _memory): (Vec<Row>, PageMem) = run_on(alloc, firmware, samples, plan, flags)?;
     Ok(rows)
 }
 

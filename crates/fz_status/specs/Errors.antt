@@ -2,8 +2,8 @@
 use Rattle.std.specs.Prelude.{◌≡◌, ◌≤◌, ◌++◌, ℕ, List, [], length, codes, Option, Result, IsOk, OnOk}
 use Rattle.fz_shelf.specs.Faults.{HasCause, Rose}
 use Rattle.fz_shelf.specs.Told.{Taken, gained, GainedPart, HasRoom}
-use Rattle.fz_status.specs.FaultLines.{asm_line, cert_line, fcl_line, image_line, newline, plan_line, trace_line, trap_line}
-use Rattle.fz_status.specs.FaultLines.{want_of_memory, with_name, with_number}
+use Rattle.fz_status.specs.FaultLines.{asm_line, cert_line, fcl_line, image_line, newline, plan_line, trace_line}
+use Rattle.fz_status.specs.FaultLines.{trap_line, want_of_memory, with_name, with_number}
 use Rattle.fz_status.specs.Words.{Text, word_at}
 use Rattle.fz_status.specs.declared.status.Status.{Status}
 use Rattle.fz_status.specs.declared.status.Status.TheVariants as status
@@ -26,7 +26,8 @@ error_line_of words (status.Trap pc byte) = trap_line pc byte
 error_line_of words (status.Budget steps) = with_number (codes "budget: ") steps []
 
 -- a text is put: from what the sink told, its faults and its soundness before to those after
-pub record Puts {E : Type 0} (text : List ℕ) (told told' : Option Taken) (faults faults' : ℕ) (sound sound' : Type 0) (result : Result Unit E) : Type 0 where
+pub record Puts {E : Type 0} (text : List ℕ) (told told' : Option Taken) (faults faults' : ℕ) (sound sound' : Type 0)
+    (result : Result Unit E) : Type 0 where
   pub whole : OnOk result (told' ≡ gained told text)
   pub part : GainedPart told told' text
   pub cause : HasCause faults faults' result

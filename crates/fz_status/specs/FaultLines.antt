@@ -85,7 +85,8 @@ fcl_line (fcl.Layout f) = layout_line f
 abbrev pub trace_line : TraceFault → List ℕ
 trace_line trace.TooMany = codes "trace: too many rows" ++ newline
 trace_line (trace.BadRow row) = with_number (codes "trace: row ") row (codes ": bad row")
-trace_line (trace.OutOfRange row input) = with_two (codes "trace: row ") row (codes ": input ") input (codes " out of range")
+trace_line (trace.OutOfRange row input) =
+    with_two (codes "trace: row ") row (codes ": input ") input (codes " out of range")
 trace_line trace.Memory = want_of_memory
 
 abbrev pub asm_line : AsmFault → List ℕ

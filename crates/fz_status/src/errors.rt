@@ -61,8 +61,9 @@ fn put_line<F: Sink>(err: &mut F, words: &[String], status: &Status) -> Result<(
     }
 }
 
-/// Puts the line of a status, which is none for `Ok`.
-pub(crate) fn report<F: Sink>(err: &mut F, words: &[String], status: &Status)
+/// Puts the line of a status, which is none for `Ok`. It takes no memory. Where a put fails a
+/// beginning of the line is there.
+pub fn report<F: Sink>(err: &mut F, words: &[String], status: &Status)
     ensures quiet { status.now ≡ Status.Ok
         → (F.told err.new ≡ F.told err.old) × (F.faults err.new ≡ F.faults err.old) }
     ensures line { (status.now ≡ Status.Ok → ⊥)

@@ -3,8 +3,8 @@ ghost use Rattle.std.specs.Prelude.{◌≡◌, ◌++◌};
 ghost use Rattle.fz_shelf.specs.Parts.{part_text, parts_text};
 ghost use Rattle.fz_status.specs.Errors.{Puts};
 ghost use Rattle.fz_status.specs.FaultLines.{asm_line, byte_or_none, cert_line, check_line, fcl_line, image_line};
-ghost use Rattle.fz_status.specs.FaultLines.{layout_line, leaf_line, load_kind, load_line, newline, plan_line, records_line};
-ghost use Rattle.fz_status.specs.FaultLines.{syntax_line, text_line, trace_line, with_number, with_two};
+ghost use Rattle.fz_status.specs.FaultLines.{layout_line, leaf_line, load_kind, load_line, newline, plan_line};
+ghost use Rattle.fz_status.specs.FaultLines.{records_line, syntax_line, text_line, trace_line, with_number, with_two};
 
 use crate::{CertRefusal, FclFault, ImageFault};
 use box_tree::CertFault;

@@ -13,7 +13,8 @@ use Rattle.fz_top.specs.declared.command.Command.{Command}
 pub record IsOfContents (s : Status) : Type 0 where
   pub faulted : (words : List Text) (old new : World) → Runs words old new s → Faulted words old new s
   pub runs : (words : List Text) (old new : World) → Faulted words old new s → Runs words old new s
-  pub made : (command : Command) (contents : List (List ℕ)) → IsFaultOf (Makes command contents) s → Makes command contents (Err s)
+  pub made : (command : Command) (contents : List (List ℕ)) → IsFaultOf (Makes command contents) s
+      → Makes command contents (Err s)
   pub no_read : IsReadFault s → ⊥
   pub no_write : IsWriteFault s → ⊥
 

@@ -35,7 +35,8 @@ cert_refusals width block cert s = ⊥
 
 -- why CERT is refused, the text giving firmware
 abbrev pub RefusesCert : Width → List ℕ → List ℕ → CertRefusal → Type 0
-RefusesCert width text cert f = (block : Block) × (firmware : Firmware) × GivesFirmware width text block firmware × HasCertFault width block cert f
+RefusesCert width text cert f =
+    (block : Block) × (firmware : Firmware) × GivesFirmware width text block firmware × HasCertFault width block cert f
 
 -- the status that tells a refusal
 abbrev pub status_of : TheRefusal → Status

@@ -1,5 +1,6 @@
 -- The commands: the one table of them, and what each reads and makes.
-use Rattle.std.specs.Prelude.{◌≡◌, ◌⊎◌, ℕ, List, [], ◌∷◌, codes, Option, Some, None, Result, option_and_then, option_map}
+use Rattle.std.specs.Prelude.{◌≡◌, ◌⊎◌, ℕ, List, [], ◌∷◌, codes, Option, Some, None, Result, option_and_then}
+use Rattle.std.specs.Prelude.{option_map}
 use Rattle.fz_words.specs.App.{IsRefused}
 use Rattle.fz_words.specs.Table.{Row, row, command_in as command_by}
 use Rattle.codegen.specs.declared.width.Width.TheVariants.{Byte, Word}

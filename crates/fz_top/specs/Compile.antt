@@ -22,7 +22,8 @@ compile_inputs = 2 ∷ []
 -- ---- its lines: the bounds, and how many bytes the image has
 
 abbrev pub compile_lines : ℕ → ℕ → ℕ → List ℕ
-compile_lines instructions steps bytes = line (codes "instructions ") instructions ++ (line (codes "steps ") steps ++ line (codes "bytes ") bytes)
+compile_lines instructions steps bytes =
+    line (codes "instructions ") instructions ++ (line (codes "steps ") steps ++ line (codes "bytes ") bytes)
 
 -- ---- what it makes of its file
 
@@ -34,7 +35,8 @@ pub record CompileGives (compile : Compile) (text : List ℕ) (deed : Deed) : Ty
   pub records : List ℕ
   pub image : ImageText firmware.image.bytes firmware.image.start records
   pub deed_is : deed ≡ record {
-    text = compile_lines (instruction_bound compile.width block) (step_bound compile.width block) (length firmware.image.bytes);
+    text = compile_lines (instruction_bound compile.width block) (step_bound compile.width block)
+        (length firmware.image.bytes);
     file = Some (3, records);
   }
 

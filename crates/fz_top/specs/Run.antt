@@ -1,5 +1,6 @@
 -- The commands `run FCL IMAGE CERT TRACE PLAN FLAGS` and `run16`, with answers of 16 bits.
-use Rattle.std.specs.Prelude.{◌≡◌, ℕ, List, [], ◌∷◌, ◌++◌, codes, decimal, length, Option, None, option_map, Result, Ok, Err}
+use Rattle.std.specs.Prelude.{◌≡◌, ℕ, List, [], ◌∷◌, ◌++◌, codes, decimal, length, Option, None, option_map}
+use Rattle.std.specs.Prelude.{Result, Ok, Err}
 use Rattle.std.specs.List.{flat_map}
 use Rattle.fuzzy_meaning.specs.declared.block.Block.{Block}
 use Rattle.codegen.specs.declared.firmware.Firmware.{Firmware}
@@ -89,7 +90,8 @@ pub record RunGives (run : Run) (files : Files) (deed : Deed) : Type 0 where
 
 -- FCL gives firmware of which this holds
 abbrev pub OfFirmware : Width → List ℕ → (Block → Firmware → Type 0) → Type 0
-OfFirmware width fcl holds = (block : Block) × (firmware : Firmware) × GivesFirmware width fcl block firmware × holds block firmware
+OfFirmware width fcl holds =
+    (block : Block) × (firmware : Firmware) × GivesFirmware width fcl block firmware × holds block firmware
 
 -- why a certificate is refused, FCL giving firmware whose image is IMAGE's; why a trace is, the certificate being
 -- accepted beside; and why a plan is, the trace spelling samples beside

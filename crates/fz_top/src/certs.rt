@@ -33,7 +33,8 @@ pub(crate) fn errors_under(
 /// The checker's answer, with a refusal as a status.
 fn told(answer: Result<Vec<u32>, Refusal>) -> Result<Vec<u32>, Status>
     ensures errors { IfOk result (λ errors. answer ≡ Ok errors) }
-    ensures status { IfErr result (λ status. (refusal : TheRefusal) × (answer ≡ Err refusal) × (status ≡ status_of refusal)) }
+    ensures status { IfErr result (λ status.
+        (refusal : TheRefusal) × (answer ≡ Err refusal) × (status ≡ status_of refusal)) }
 {
     match answer {
         Ok(errors) => Ok(errors),

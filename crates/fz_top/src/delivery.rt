@@ -29,7 +29,8 @@ pub(crate) fn deliver<S: Shelf, O: Sink>(
         (world (S.files shelf.new) (S.counts shelf.new) (S.asked shelf.new) (O.told out.new) (O.faults out.new))) }
     ensures shelf_sound { S.sound shelf.old → S.sound shelf.new }
     ensures out_sound { O.sound out.old → O.sound out.new }
-    ensures steady { S.sound shelf.old → O.sound out.old → FileFits (texts_of words.now) (deed_of work.now).file (S.files shelf.old)
+    ensures steady { S.sound shelf.old → O.sound out.old
+        → FileFits (texts_of words.now) (deed_of work.now).file (S.files shelf.old)
         → HasRoom (O.told out.old) (length (deed_of work.now).text) → IsOk result }
 {
     match &work.file {

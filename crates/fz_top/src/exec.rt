@@ -16,7 +16,7 @@ use cpu12_asm::Image;
 use cpu12_emul::ends::RunEnd;
 use cpu12_emul::machine::Machine;
 use cpu12_isa::instr::Regs;
-use cpu12_isa::mem::FlatMem;
+use cpu12_isa::pages::PageMem;
 use fz_status::{Status, word};
 use std::alloc::{AllocError, Global};
 use std::fmt::Write;
@@ -82,7 +82,7 @@ impl Exec {
             Ok(image) => image,
             Err(status) => return Err(status),
         };
-        let mut machine = match Machine::<FlatMem>::new(alloc, &image, self.flags) {
+        let mut machine = match Machine::<PageMem>::new(alloc, &image, self.flags) {
             Ok(machine) => machine,
             Err(_) => return Err(Status::Memory),
         };

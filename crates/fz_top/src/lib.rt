@@ -34,6 +34,3 @@ pub use exec::Exec;
 pub use fz_status::{CertRefusal, FclFault, ImageFault, Status};
 pub use program::fuzz12;
 pub use run::Run;
-
-#[cfg(test)]
-mod tests;

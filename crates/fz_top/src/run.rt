@@ -21,7 +21,8 @@ use crate::words::flags;
 use crate::work::Work;
 use certified_run::answers_are_within_errors;
 use codegen::Width;
-use cpu12_isa::mem::{FlatMem, Mem};
+use cpu12_isa::mem::Mem;
+use cpu12_isa::pages::PageMem;
 use fuzzy_meaning::Block;
 use fz_run::run_on;
 use fz_status::{Status, word};
@@ -73,7 +74,7 @@ impl Run {
             Err(status) => return Err(status),
         };
         let firmware = &accepted.compiled.firmware;
-        let ran = run_on::<FlatMem>(
+        let ran = run_on::<PageMem>(
             alloc,
             firmware,
             &accepted.samples,

@@ -4,7 +4,7 @@ ghost use Rattle.interrupt_plan.specs.Plans.{IsGood};
 use super::*;
 use codegen::Layout;
 use cpu12_asm::{ByteMap, Image};
-use interrupt_plan::no_interrupts;
+use interrupt_plan::{no_interrupts, read_plan};
 use std::alloc::AllocError;
 use std::test::Fail;
 
@@ -95,7 +95,7 @@ fn twice(alloc: Global, moment: u32) -> Result<Plan, AllocError>
 }
 
 /// The sum of the bytes that plans may write, and of the stack's.
-fn sum_left(memory: &FlatMem) -> u32 {
+fn sum_left(memory: &PageMem) -> u32 {
     let mut sum = 0u32;
     for at in 0x1800..0x2000u16 {
         sum = sum.wrapping_add(u32::from(memory.read(at)));
@@ -109,7 +109,7 @@ fn run_once(
     byte: u8,
     plan: &Plan,
     flags: u8,
-) -> Result<(Vec<Row>, FlatMem), Fail>
+) -> Result<(Vec<Row>, PageMem), Fail>
     requires { IsGood plan.now }
 {
     let heater = heater(alloc, step_bound)?;
@@ -129,6 +129,20 @@ fn answers_without_interrupts(rt: HostRuntime) -> Result<(), Fail> {
         assert_eq!(rt; row.answers.as_slice(), [u16::from(byte)].as_slice());
         assert_eq!(rt; (row.instrs, row.steps, row.resumed), (28, 36, 0));
         assert_eq!(rt; row.frames.len(), 0);
+    }
+    Ok(())
+}
+
+#[test]
+fn takes_pages_as_they_are_written(rt: HostRuntime) -> Result<(), Fail> {
+    let alloc = rt.alloc();
+    for (text, pages) in [("", 8), ("1,0,1800,FF,1FDF,01\n", 9)] {
+        let plan = read_plan(alloc, text.as_bytes());
+        assert_eq!(rt; plan.is_ok(), true);
+        if let Ok(plan) = plan {
+            let (_rows, memory) = run_once(alloc, 36, 64, &plan, 0x00)?;
+            assert_eq!(rt; memory.pages(), pages);
+        }
     }
     Ok(())
 }
@@ -271,7 +285,7 @@ fn ends_where_no_step_is_defined(rt: HostRuntime) -> Result<(), Fail> {
 }
 
 /// Goes on by so many positions.
-fn go_on(session: &mut Session<'_, FlatMem>, count: u32) {
+fn go_on(session: &mut Session<'_, PageMem>, count: u32) {
     for _ in 0..count {
         session.advance();
     }
@@ -283,7 +297,7 @@ fn stands_at_each_position(rt: HostRuntime) -> Result<(), Fail> {
     let heater = heater(alloc, 36)?;
     let samples = vec![in alloc; sample(alloc, 64)]?;
     let plan = once(alloc, 26)?;
-    let mut session: Session<FlatMem> = Session::new(
+    let mut session: Session<PageMem> = Session::new(
         alloc,
         &heater,
         samples.as_slice(),
