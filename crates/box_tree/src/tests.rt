@@ -1,63 +1,145 @@
+//! Texts of both versions: the nodes of their certificates, which are written again as they were
+//! read, or their first faults, which are told again.
 use super::*;
 use std::alloc::{AllocError, Global};
 use std::test::Fail;
 
+/// How many nodes the certificate of a text has, or the text's first fault.
+type Told = Result<usize, CertFault>;
+
 const HEATER: &[u8] = b"FZC 1\nclaim 19609\nsplit 1 128\nleaf 1 127\nleaf 2 127\n";
 
-/// The first fault of a text of version 1.
-fn fault_of(alloc: Global, text: &[u8]) -> Option<CertFault> {
-    if text.len() > 1_048_576 {
-        return None;
-    }
-    read(alloc, text).err()
-}
-
-#[test]
-fn what_is_read_is_written(rt: HostRuntime) -> Result<(), Fail> {
-    let cert = read(rt.alloc(), HEATER)?;
-    assert_eq!(rt; cert.claims.as_slice(), [19609].as_slice());
-    assert_eq!(rt; cert.nodes.len(), 3);
-    let text = write(rt.alloc(), &cert)?;
-    assert_eq!(rt; text.as_slice(), HEATER);
-    let wide = write16(rt.alloc(), &cert)?;
-    assert!(rt; wide.starts_with(b"FZC 2\nclaim 19609\n"));
-    Ok(())
-}
-
-#[test]
-fn versions_are_told_apart(rt: HostRuntime) {
-    assert!(rt; matches!(read16(rt.alloc(), HEATER), Err(CertFault::BadLine(1))));
-    assert!(rt; read16(rt.alloc(), b"FZC 2\nclaim 0 7\nleaf 0 0 256 255\n").is_ok());
-}
-
-const ROWS: [(&[u8], CertFault); 20] = [
-    (b"", CertFault::Early),
-    (b"FZC 1\n", CertFault::Early),
-    (b"FZC 1\nclaim 1\n", CertFault::Early),
-    (b"FZC 1\nclaim 1\nsplit 1 1\nleaf 0 0\n", CertFault::Early),
-    (b"FZC 1", CertFault::BadLine(1)),
-    (b"FZC 2\nclaim 1\nleaf 0 0\n", CertFault::BadLine(1)),
-    (b"FZC 01\n", CertFault::BadLine(1)),
-    (b"FZC 1\nclaim\n", CertFault::BadLine(2)),
-    (b"FZC 1\nclaim 1000001\n", CertFault::BadLine(2)),
-    (b"FZC 1\nclaim 1 1 1 1 1\n", CertFault::BadLine(2)),
-    (b"FZC 1\nclaim 1\nleaf 0 1\n", CertFault::BadLine(3)),
-    (b"FZC 1\nclaim 1\nleaf 257 1\n", CertFault::BadLine(3)),
-    (b"FZC 1\nclaim 1\nleaf 1 1 1 1\n", CertFault::BadLine(3)),
-    (b"FZC 1\nclaim 1\nleaf  1 1\n", CertFault::BadLine(3)),
-    (b"FZC 1\nclaim 1\nsplit 9 1\n", CertFault::BadLine(3)),
-    (b"FZC 1\nclaim 1\nsplit 1 256\n", CertFault::BadLine(3)),
-    (b"FZC 1\nclaim 1\nleaf 1 1\r\n", CertFault::BadLine(3)),
-    (b"FZC 1\nclaim 1\nleaf 1 1\nleaf 0 0\n", CertFault::Late(4)),
-    (b"FZC 1\nclaim 1\nleaf 1 1\nleaf\n", CertFault::BadLine(4)),
-    (b"FZC 1\nclaim 1\nleaf 1 1\nleaf 0 0", CertFault::BadLine(4)),
+/// A version, a text, and what is told of it.
+const ROWS: [(u8, &[u8], Told); 25] = [
+    (1, HEATER, Ok(3)),
+    (2, HEATER, Err(CertFault::BadLine(1))),
+    (2, b"FZC 2\nclaim 0 7\nleaf 0 0 256 255\n", Ok(1)),
+    (1, b"", Err(CertFault::Early)),
+    (1, b"FZC 1\n", Err(CertFault::Early)),
+    (1, b"FZC 1\nclaim 1\n", Err(CertFault::Early)),
+    (
+        1,
+        b"FZC 1\nclaim 1\nsplit 1 1\nleaf 0 0\n",
+        Err(CertFault::Early),
+    ),
+    (1, b"FZC 1", Err(CertFault::BadLine(1))),
+    (1, b"FZC 2\nclaim 1\nleaf 0 0\n", Err(CertFault::BadLine(1))),
+    (1, b"FZC 01\n", Err(CertFault::BadLine(1))),
+    (1, b"FZC 1\nclaim\n", Err(CertFault::BadLine(2))),
+    (1, b"FZC 1\nclaim 1000001\n", Err(CertFault::BadLine(2))),
+    (1, b"FZC 1\nclaim 1 1 1 1 1\n", Err(CertFault::BadLine(2))),
+    (1, b"FZC 1\nclaim 1\nleaf 0 1\n", Err(CertFault::BadLine(3))),
+    (
+        1,
+        b"FZC 1\nclaim 1\nleaf 257 1\n",
+        Err(CertFault::BadLine(3)),
+    ),
+    (
+        1,
+        b"FZC 1\nclaim 1\nleaf 1 1 1 1\n",
+        Err(CertFault::BadLine(3)),
+    ),
+    (
+        1,
+        b"FZC 1\nclaim 1\nleaf  1 1\n",
+        Err(CertFault::BadLine(3)),
+    ),
+    (
+        1,
+        b"FZC 1\nclaim 1\nsplit 9 1\n",
+        Err(CertFault::BadLine(3)),
+    ),
+    (
+        1,
+        b"FZC 1\nclaim 1\nsplit 1 256\n",
+        Err(CertFault::BadLine(3)),
+    ),
+    (
+        1,
+        b"FZC 1\nclaim 1\nleaf 1 1\r\n",
+        Err(CertFault::BadLine(3)),
+    ),
+    (
+        1,
+        b"FZC 1\nclaim 1\nleaf 1 1\nleaf 0 0\n",
+        Err(CertFault::Late(4)),
+    ),
+    (
+        1,
+        b"FZC 1\nclaim 1\nleaf 1 1\nleaf\n",
+        Err(CertFault::BadLine(4)),
+    ),
+    (
+        1,
+        b"FZC 1\nclaim 1\nleaf 1 1\nleaf 0 0",
+        Err(CertFault::BadLine(4)),
+    ),
+    (
+        1,
+        b"FZC 1\nclaim 1\nsplit 1 1\nleaf 1 1",
+        Err(CertFault::BadLine(4)),
+    ),
+    (
+        2,
+        b"FZC 2\nclaim 1\nleaf 0 0\nleaf 0 0\n",
+        Err(CertFault::Late(4)),
+    ),
 ];
 
-#[test]
-fn faults(rt: HostRuntime) {
-    for (text, want) in ROWS {
-        assert!(rt; fault_of(rt.alloc(), text) == Some(want), "{text:?}");
+/// What `read` or `read16` tells of a text. What they read is written the same again.
+fn read_again(alloc: Global, version: u8, text: &[u8]) -> Result<Told, Fail> {
+    if text.len() > 1_048_576 {
+        return Ok(Err(CertFault::Memory));
     }
+    let told = if version == 1 {
+        read(alloc, text)
+    } else {
+        read16(alloc, text)
+    };
+    let cert = match told {
+        Ok(cert) => cert,
+        Err(fault) => return Ok(Err(fault)),
+    };
+    let again = if version == 1 {
+        write(alloc, &cert)?
+    } else {
+        write16(alloc, &cert)?
+    };
+    if again.as_slice() == text {
+        Ok(Ok(cert.nodes.len()))
+    } else {
+        Ok(Err(CertFault::Early))
+    }
+}
+
+/// What `Lines` tells of a text, if it tells it again.
+fn walk_twice(version: u8, text: &[u8]) -> Option<Told> {
+    let begun = if version == 1 {
+        Lines::new(text)
+    } else {
+        Lines::new16(text)
+    };
+    let mut lines = match begun {
+        Ok(lines) => lines,
+        Err(fault) => return Some(Err(fault)),
+    };
+    for count in 0..text.len() {
+        match lines.next() {
+            Ok(Some(_)) => {}
+            Ok(None) => return matches!(lines.next(), Ok(None)).then_some(Ok(count)),
+            Err(fault) => return (lines.next().err() == Some(fault)).then_some(Err(fault)),
+        }
+    }
+    None
+}
+
+#[test]
+fn a_text_has_a_certificate_or_a_first_fault(rt: HostRuntime) -> Result<(), Fail> {
+    for (version, text, want) in ROWS {
+        assert_eq!(rt; read_again(rt.alloc(), version, text)?, want, "{text:?}");
+        assert_eq!(rt; walk_twice(version, text), Some(want), "{text:?}");
+    }
+    Ok(())
 }
 
 /// A tree with this many splits, each with a leaf to its left.
@@ -71,31 +153,13 @@ fn comb(alloc: Global, splits: usize) -> Result<Vec<u8>, AllocError> {
 }
 
 #[test]
-fn leaves_are_counted(rt: HostRuntime) -> Result<(), Fail> {
-    let most = comb(rt.alloc(), 4095)?;
-    assert!(rt; fault_of(rt.alloc(), &most).is_none());
-    let more = comb(rt.alloc(), 4096)?;
-    assert!(rt; fault_of(rt.alloc(), &more) == Some(CertFault::TooManyLeaves(8195)));
-    Ok(())
-}
-
-#[test]
-fn lines_end_once(rt: HostRuntime) -> Result<(), Fail> {
-    let mut lines = Lines::new(HEATER)?;
-    assert_eq!(rt; lines.claims().as_slice(), [19609].as_slice());
-    for _ in 0..3 {
-        assert!(rt; lines.next()?.is_some());
+fn a_tree_has_4096_leaves_at_most(rt: HostRuntime) -> Result<(), Fail> {
+    for (splits, want) in [
+        (4095, Ok(8191)),
+        (4096, Err(CertFault::TooManyLeaves(8195))),
+    ] {
+        let text = comb(rt.alloc(), splits)?;
+        assert_eq!(rt; read_again(rt.alloc(), 1, &text)?, want);
     }
-    assert!(rt; lines.next()?.is_none());
-    assert!(rt; lines.next()?.is_none());
-    Ok(())
-}
-
-#[test]
-fn a_fault_is_told_again(rt: HostRuntime) -> Result<(), Fail> {
-    let mut lines = Lines::new(b"FZC 1\nclaim 1\nleaf 1 1\nleaf 0 0\n")?;
-    assert!(rt; lines.next()?.is_some());
-    assert!(rt; matches!(lines.next(), Err(CertFault::Late(4))));
-    assert!(rt; matches!(lines.next(), Err(CertFault::Late(4))));
     Ok(())
 }

@@ -5,13 +5,9 @@ use Rattle.std.proofs.lemmas.Bool.Decides.{nat_tests}
 use Rattle.fz_num.specs.Fractions.{Fraction, over}
 use Rattle.std.proofs.lemmas.Nat.{le-div}
 use Rattle.std.proofs.lemmas.Int.{ints}
-use Rattle.std.specs.Prelude.{◌≤ℤ◌, ◌<ℤ◌, ◌==◌}
-use Rattle.fz_num.specs.declared.dec.Dec.{Dec}
+use Rattle.std.specs.Prelude.{◌==◌}
 use Rattle.fz_num.specs.Decimals.{distance}
-use Rattle.fuzzy_meaning.specs.declared.block.Input.{Input}
-use Rattle.fuzzy_meaning.specs.declared.block.Output.{Output}
-use Rattle.fuzzy_meaning.specs.Blocks.{IsWithin}
-use Rattle.byte_scaling.specs.Cells.{IsFromTo, inside, at_end, cell_start, cell_end, byte_of, nearest_byte, IsInCell, IsNearest, CellsAreApart}
+use Rattle.byte_scaling.specs.Cells.{IsFromTo, inside, at_end, cell_start, cell_end, IsInCell, IsNearest, NearestIsByte, CellsAreApart, NumbersLieInTheirCells, BytesAscend}
 
 -- a place of the range lies in the cell of its part, the high end in the last
 pub IsInCell-part : (w d : ℕ) → 0 < w → d ≤ w → IsInCell w (min 255 (d * 256 / w)) (over d 1)
@@ -40,7 +36,7 @@ part-mono w d e h le =
     omega arith
 
 -- a greater number has no lower byte
-pub byte_of-mono : (i : Input) (x y : Dec) → i.lo.0 <ℤ i.hi.0 → i.lo.0 ≤ℤ x.0 → x.0 ≤ℤ y.0 → byte_of i x ≤ byte_of i y
+pub byte_of-mono : BytesAscend
 byte_of-mono i x y range from le = part-mono (distance i.lo i.hi) (distance i.lo x) (distance i.lo y) (omega (arith, ints)) (omega (arith, ints))
 
 nearest-small : (w d : ℕ) → 0 < w → d ≤ w → (510 * d + w) / (2 * w) ≤ 255
@@ -52,7 +48,7 @@ nearest-small w d h le = ⊎_elim
     (cases_lt ((510 * d + w) / (2 * w)) 256)
 
 -- the byte nearest to a number of the range is a byte
-pub nearest_byte-le : (o : Output) (x : Dec) → o.lo.0 <ℤ o.hi.0 → IsWithin o.lo o.hi x → nearest_byte o x ≤ 255
+pub nearest_byte-le : NearestIsByte
 nearest_byte-le o x range within = nearest-small (distance o.lo o.hi) (distance o.lo x) (omega (arith, ints)) (omega (arith, ints))
 
 crossed_cells : (w b c : ℕ) (x : Fraction) → b < c → x.num * 256 < (b + 1) * w * x.den → c * w * x.den ≤ x.num * 256 → ⊥
@@ -71,3 +67,9 @@ before-next w b c x hc lt (inside from to) (at_end from' to' last) = crossed_cel
 
 pub cells_apart : CellsAreApart
 cells_apart w b c x hb hc in_b in_c = ⊎_elim (λ e. e) (λ less. ⊎_elim (λ (l : b < c). absurd (before-next w b c x hc l in_b.place in_c.place)) (λ (l : c < b). absurd (before-next w c b x hb l in_c.place in_b.place)) less) (cases_order b c)
+
+pub LiesInCell-byte_of : NumbersLieInTheirCells
+LiesInCell-byte_of i x range within = record {
+  from_low = within.low;
+  cell = IsInCell-part (distance i.lo i.hi) (distance i.lo x) (omega (arith, ints)) (omega (arith, ints));
+}

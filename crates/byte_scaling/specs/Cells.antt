@@ -68,3 +68,11 @@ NearestIsByte = (o : Output) (x : Dec) → o.lo.0 <ℤ o.hi.0 → IsWithin o.lo 
 -- no place lies in two cells
 abbrev pub CellsAreApart : Type 0
 CellsAreApart = (w b c : ℕ) (x : Fraction) → b ≤ 255 → c ≤ 255 → IsInCell w b x → IsInCell w c x → b ≡ c
+
+-- a number of the range lies in the cell of its byte
+abbrev pub NumbersLieInTheirCells : Type 0
+NumbersLieInTheirCells = (i : Input) (x : Dec) → i.lo.0 <ℤ i.hi.0 → IsWithin i.lo i.hi x → LiesInCell i (byte_of i x) x
+
+-- a greater number of the range has no lower byte
+abbrev pub BytesAscend : Type 0
+BytesAscend = (i : Input) (x y : Dec) → i.lo.0 <ℤ i.hi.0 → i.lo.0 ≤ℤ x.0 → x.0 ≤ℤ y.0 → byte_of i x ≤ byte_of i y

@@ -11,7 +11,10 @@ mod inputs;
 mod outputs;
 mod weights;
 
-pub use inputs::{OutOfRange, byte_within, cell, cells_are_apart, to_byte};
+pub use inputs::{
+    OutOfRange, byte_within, bytes_ascend, cell, cells_are_apart, numbers_lie_in_their_cells,
+    to_byte,
+};
 pub use outputs::{near, nearest_is_byte, value, value16};
 pub use weights::weight_byte;
 

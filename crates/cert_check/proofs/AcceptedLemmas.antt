@@ -1,6 +1,6 @@
 -- Under an accepted certificate each answer is within the error.
 use Rattle.std.proofs.Common.{◌≡◌, ℕ, zero, suc, ◌≤◌, List, [], ◌∷◌, length, map, Bool, true, Option, Some, None, refl, sym, ap, ap₂, ◌∙◌, subst, arith, mul-pos}
-use Rattle.std.specs.Prelude.{◌≢◌, nat_le, ◌&&◌, slice_get, fold, All, ◌<ℤ◌, ◌≤ℤ◌}
+use Rattle.std.specs.Prelude.{◌≢◌, nat_le, ◌&&◌, slice_get, fold, All}
 use Rattle.std.proofs.lemmas.Int.{ints}
 use Rattle.std.proofs.lemmas.Bool.Decides.{nat_tests}
 use Rattle.fz_num.specs.declared.dec.Dec.{Dec}
@@ -11,15 +11,13 @@ use Rattle.fuzzy_meaning.specs.declared.block.Input.{Input}
 use Rattle.fuzzy_meaning.specs.declared.block.Output.{Output}
 use Rattle.fuzzy_meaning.specs.Blocks.{IsValid, IsValidInput, AreInputs, output_at}
 use Rattle.fuzzy_meaning.specs.Meaning.{answer_after, first_answer}
-use Rattle.fuzzy_meaning.proofs.BlockLemmas.{All-slice_get}
-use Rattle.byte_scaling.specs.Cells.{byte_of, bytes_of, LiesInCell, value_in}
-use Rattle.byte_scaling.proofs.CellLemmas.{IsInCell-part}
+use Rattle.fz_list.proofs.Algebra.{All-slice_get}
+use Rattle.byte_scaling.specs.Cells.{byte_of, bytes_of, LiesInCell, NumbersLieInTheirCells, value_in}
 use Rattle.point_slope.specs.Bytes.{answer_in}
 use Rattle.error_bound.specs.declared.boxes.Leaf.{Leaf}
 use Rattle.error_bound.specs.Boxes.{LieInCells}
-use Rattle.error_bound.specs.Answers.{Follows, IsOnLeaf}
-use Rattle.error_bound.proofs.Closeness.{IsClose-more}
-use Rattle.error_bound.proofs.AnswerLemmas.{answers_near}
+use Rattle.error_bound.specs.Answers.{Follows, IsOnLeaf, AnswersAreNear}
+use Rattle.fz_num.proofs.Algebra.{IsClose-more}
 use Rattle.box_tree.specs.declared.cert.Cert.{Cert}
 use Rattle.cert_check.specs.Trees.{Part, IsTree, lies, whole}
 use Rattle.cert_check.specs.Acceptance.{HasBound, IsGreatestBound}
@@ -53,17 +51,14 @@ bytes-at (j ∷ is) (y ∷ xs) zero i n x ei en ex =
     let e3 : byte_of j y ≡ n = cc in
     ap₂ byte_of (sym e1) (sym e2) ∙ e3
 
-part-place : (i : Input) (x : Dec) → i.lo.0 <ℤ i.hi.0 → i.lo.0 ≤ℤ x.0 → x.0 ≤ℤ i.hi.0 → LiesInCell i (byte_of i x) x
-part-place i x range from to = record { from_low = from; cell = IsInCell-part (distance i.lo i.hi) (distance i.lo x) (omega (arith, ints)) (omega (arith, ints)) }
-
-bytes-cells : (b : Block) (xs : List Dec) → IsValid b → AreInputs b xs → LieInCells b (bytes_of b.inputs xs) xs
-bytes-cells b xs v a = record {
+bytes-cells : NumbersLieInTheirCells → (b : Block) (xs : List Dec) → IsValid b → AreInputs b xs → LieInCells b (bytes_of b.inputs xs) xs
+bytes-cells in_cells b xs v a = record {
   inputs = a;
   count = bytes-count b.inputs xs a.count;
   cell = λ k i n x ei en ex.
       let vi : IsValidInput i = All-slice_get IsValidInput b.inputs k i v.inputs ei in
       let w = a.within k i x ei ex in
-      subst (λ m. LiesInCell i m x) (bytes-at b.inputs xs k i n x ei en ex) (part-place i x vi.range w.low w.high);
+      subst (λ m. LiesInCell i m x) (bytes-at b.inputs xs k i n x ei en ex) (in_cells i x vi.range w);
 }
 
 -- what stays near stays so where both answers are kept
@@ -83,7 +78,7 @@ still_near x leaf n e q q' value before after h f c = by_k leaf.k refl x.default
 first_close : (b : Block) (h o : ℕ) (x : Output) (e : ℕ) → 1 ≤ h → output_at b o ≡ Some x → IsClose (distance x.lo x.hi) e (value_in h x 0) (first_answer b o)
 first_close b h o x e some ex = rw ex (record { dens = mul-pos (mul-pos (omega arith) (mul-pos (omega arith) some)) (omega arith); cross = omega (arith, ints) })
 
-module _ (b : Block) (h : ℕ) (some : 1 ≤ h) (valid : IsValid b) (cert : Cert) (parts : List Part) (tree : IsTree (whole b) cert.nodes parts []) where
+module _ (in_cells : NumbersLieInTheirCells) (near : AnswersAreNear) (b : Block) (h : ℕ) (some : 1 ≤ h) (valid : IsValid b) (cert : Cert) (parts : List Part) (tree : IsTree (whole b) cert.nodes parts []) where
   next : (o : ℕ) (x : Output) (e : ℕ) → output_at b o ≡ Some x → IsGreatestBound b o x h parts e → (xs : List Dec) → AreInputs b xs → (before : Quotient) (q : ℕ) → IsClose (distance x.lo x.hi) e (value_in h x q) before
       → IsClose (distance x.lo x.hi) e (value_in h x (answer_in h b o (bytes_of b.inputs xs) q)) (answer_after b o before xs)
   next o x e ex g xs a before q c =
@@ -92,8 +87,8 @@ module _ (b : Block) (h : ℕ) (some : 1 ≤ h) (valid : IsValid b) (cert : Cert
       let p = leaf_with bytes parts (λ p. (n : ℕ) × HasBound b o x h p n × (n ≤ e)) (omega arith) g.each in
       let n : ℕ = p.2.0 in
       let hb : HasBound b o x h p.0 n = p.2.1 in
-      let on : IsOnLeaf b p.0.box o x h hb.leaf n bytes xs = record { valid = valid; output_is = ex; parts = some; cells = bytes-cells b xs valid a; box_is = LieIn-lies bytes p.0.box p.1; holds = hb.holds; bound_is = hb.bound_is } in
-      still_near x hb.leaf n e q (answer_in h b o bytes q) (value_in h x) before (answer_after b o before xs) p.2.2 (answers_near b p.0.box o x h hb.leaf n bytes xs before q on) c
+      let on : IsOnLeaf b p.0.box o x h hb.leaf n bytes xs = record { valid = valid; output_is = ex; parts = some; cells = bytes-cells in_cells b xs valid a; box_is = LieIn-lies bytes p.0.box p.1; holds = hb.holds; bound_is = hb.bound_is } in
+      still_near x hb.leaf n e q (answer_in h b o bytes q) (value_in h x) before (answer_after b o before xs) p.2.2 (near b p.0.box o x h hb.leaf n bytes xs before q on) c
 
   on_and_on : (o : ℕ) (x : Output) (e : ℕ) → output_at b o ≡ Some x → IsGreatestBound b o x h parts e → (samples : List (List Dec)) → All (AreInputs b) samples → (before : Quotient) (q : ℕ) → IsClose (distance x.lo x.hi) e (value_in h x q) before
       → IsClose (distance x.lo x.hi) e (value_in h x (fold (λ before xs. answer_in h b o (bytes_of b.inputs xs) before) q samples)) (fold (answer_after b o) before samples)
@@ -105,5 +100,5 @@ module _ (b : Block) (h : ℕ) (some : 1 ≤ h) (valid : IsValid b) (cert : Cert
       → IsClose (distance x.lo x.hi) e (value_in h x (fold (λ before xs. answer_in h b o (bytes_of b.inputs xs) before) 0 samples)) (fold (answer_after b o) (first_answer b o) samples)
   all_near o x e ex g samples all = on_and_on o x e ex g samples all (first_answer b o) 0 (first_close b h o x e some ex)
 
-pub accepted_near : AcceptedAnswersAreNear
-accepted_near b h cert errors o x e samples valid some acc from ex ee all = all_near b h some valid cert acc.parts acc.tree o x e ex (acc.greatest o x e from ex ee) samples all
+pub accepted_near : NumbersLieInTheirCells → AnswersAreNear → AcceptedAnswersAreNear
+accepted_near in_cells near b h cert errors o x e samples valid some acc from ex ee all = all_near in_cells near b h some valid cert acc.parts acc.tree o x e ex (acc.greatest o x e from ex ee) samples all

@@ -1,8 +1,5 @@
 -- Cuts of a box, and its halves.
-use Rattle.std.proofs.Common.{◌≡◌, ℕ, zero, suc, ◌+◌, ◌-◌, ◌<◌, ◌≤◌, List, [], ◌∷◌, ◌++◌, length, map, take, get_or, length-set, get_or-set_other, Some, None, refl, sym, ap, ◌∙◌, subst, arith}
-use Rattle.std.proofs.Math.Seq.{take-suc}
-use Rattle.std.proofs.lemmas.Grind.{get_or-set_at}
-use Rattle.std.proofs.lemmas.Option.{slice_get-get_or, get_or_from_slice_get}
+use Rattle.std.proofs.Common.{◌≡◌, ℕ, zero, suc, ◌+◌, ◌-◌, ◌<◌, ◌≤◌, List, [], ◌∷◌, ◌++◌, length, map, take, Some, None, refl, ap, subst, arith}
 use Rattle.std.specs.Prelude.{slice_get, set}
 use Rattle.fuzzy_meaning.specs.declared.block.Block.{Block}
 use Rattle.fuzzy_meaning.specs.declared.block.Input.{Input}
@@ -105,25 +102,3 @@ pub whole_more : (b : Block) (k : ℕ) → k < length b.inputs
     → take (k + 1) (whole b) ≡ take k (whole b) ++ record { from = 0; to = 255 } ∷ []
 whole_more b k h = let e : suc k ≡ k + 1 = omega arith in subst
     (λ n. take n (whole b) ≡ take k (whole b) ++ record { from = 0; to = 255 } ∷ []) e (suc_more b.inputs k h)
-
--- a box that is copied with another interval at a place, after one more
-pub set_more : (box : List Interval) (place k : ℕ) (new x : Interval) → k < length box → get_or (set box place new) k x ≡ x
-    → take (k + 1) (set box place new) ≡ take k (set box place new) ++ x ∷ []
-set_more box place k new x within is =
-    let e : suc k ≡ k + 1 = omega arith in
-    let same : length (set box place new) ≡ length box = length-set box place new in
-    subst (λ n. take n (set box place new) ≡ take k (set box place new) ++ x ∷ []) e
-    (take-suc (set box place new) k x (omega (arith, within, same)) ∙ ap
-    (λ (y : Interval). take k (set box place new) ++ y ∷ []) is)
-
-pub get_or-set_here : (box : List Interval) (place k : ℕ) (new x : Interval) → k < length box → k ≡ place → x ≡ new
-    → get_or (set box place new) k x ≡ x
-get_or-set_here box place k new x within here is = let l : place < length box = omega (arith, within, here) in get_or-set_at
-    box place k new x here l ∙ sym is
-
-pub get_or-set_elsewhere : (box : List Interval) (place k : ℕ) (new x d : Interval) → k < length box → (k ≡ place → ⊥)
-    → x ≡ get_or box k d
-    → get_or (set box place new) k x ≡ x
-get_or-set_elsewhere box place k new x d within elsewhere is =
-    get_or-set_other box place k new x elsewhere ∙ get_or_from_slice_get box k (get_or box k d) x
-    (slice_get-get_or box k d within) ∙ sym is

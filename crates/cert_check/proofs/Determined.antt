@@ -9,13 +9,14 @@ use Rattle.fuzzy_meaning.specs.declared.block.Output.{Output}
 use Rattle.fuzzy_meaning.specs.Blocks.{IsValid, output_at}
 use Rattle.error_bound.specs.declared.boxes.Interval.{Interval}
 use Rattle.error_bound.specs.Bounds.{IsBound}
-use Rattle.error_bound.proofs.Literals.{some_at}
-use Rattle.error_bound.proofs.Uniqueness.{bound_unique}
+use Rattle.fz_list.proofs.Algebra.{some_at}
+use Rattle.error_bound.specs.Laws.{BoundsAreDetermined}
 use Rattle.box_tree.specs.declared.cert.Node.{Node}
 use Rattle.box_tree.specs.declared.cert.Cert.{Cert}
 use Rattle.cert_check.specs.Trees.{left_of, right_of, Part, leaves_of, IsTree, leaf, split, whole}
 use Rattle.cert_check.specs.Acceptance.{HasBound, IsGreatestBound, IsAccepted}
 use Rattle.cert_check.specs.Laws.{ErrorsAreDetermined}
+use Rattle.std.proofs.lemmas.Option.{slice_get_within}
 
 -- nodes spell one tree
 pub tree_unique : (box box' : List Interval) (ns ns' : List Node) (ps qs : List Part) (r r' : List Node) → IsTree box ns ps r → IsTree box' ns' qs r' → box ≡ box' → ns ≡ ns' → (ps ≡ qs) × (r ≡ r')
@@ -52,14 +53,14 @@ boxes_count n box ns r ps (leaf x pairs rest) e zero d l = e
 boxes_count n box ns r ps (leaf x pairs rest) e (suc k) d l = absurd (omega arith)
 boxes_count n box ns r ps (split x i c m mid rest left right h cut tl tq) e k d l = All-append (λ p. length p.box ≡ n) left right (boxes_count n (left_of (i - 1) c x) m mid left tl (left_count (i - 1) c x ∙ e)) (boxes_count n (right_of (i - 1) c x) mid rest right tq (right_count (i - 1) c x ∙ e)) k d l
 
-has_unique : (b : Block) (o : ℕ) (x : Output) (h : ℕ) (p : Part) (n m : ℕ) → IsValid b → length p.box ≡ length b.inputs → HasBound b o x h p n → HasBound b o x h p m → n ≡ m
-has_unique b o x h p n m v c s t = bound_unique b p.box o x h s.leaf n m v c s.bound_is (subst (λ l. IsBound b p.box o x h l m) (same_leaf s.pair_is t.pair_is) t.bound_is)
+has_unique : BoundsAreDetermined → (b : Block) (o : ℕ) (x : Output) (h : ℕ) (p : Part) (n m : ℕ) → IsValid b → length p.box ≡ length b.inputs → HasBound b o x h p n → HasBound b o x h p m → n ≡ m
+has_unique one b o x h p n m v c s t = one b p.box o x h s.leaf n m v c s.bound_is (subst (λ l. IsBound b p.box o x h l m) (same_leaf s.pair_is t.pair_is) t.bound_is)
   where
     same_leaf : {X : Type 0} {q : Option X} {y z : X} → q ≡ Some y → q ≡ Some z → z ≡ y
     same_leaf e f = cc
 
-greatest_le : (b : Block) (o : ℕ) (x : Output) (h : ℕ) (ps : List Part) (e f : ℕ) → IsValid b → All (λ p. length p.box ≡ length b.inputs) ps → IsGreatestBound b o x h ps e → IsGreatestBound b o x h ps f → e ≤ f
-greatest_le b o x h ps e f v counts s t =
+greatest_le : BoundsAreDetermined → (b : Block) (o : ℕ) (x : Output) (h : ℕ) (ps : List Part) (e f : ℕ) → IsValid b → All (λ p. length p.box ≡ length b.inputs) ps → IsGreatestBound b o x h ps e → IsGreatestBound b o x h ps f → e ≤ f
+greatest_le one b o x h ps e f v counts s t =
     let k = s.some.0 in
     let p = s.some.1 in
     let at : get_or ps k p ≡ p = s.some.3 in
@@ -67,7 +68,7 @@ greatest_le b o x h ps e f v counts s t =
     let l : k < length ps = s.some.2 in
     let c : length p.box ≡ length b.inputs = subst (λ (q : Part). length q.box ≡ length b.inputs) at (counts k p l) in
     let w : (n : ℕ) × HasBound b o x h p n × (n ≤ f) = subst (λ (q : Part). (n : ℕ) × HasBound b o x h q n × (n ≤ f)) at (t.each k p l) in
-    joined (has_unique b o x h p e w.0 v c hb w.1) w.2
+    joined (has_unique one b o x h p e w.0 v c hb w.1) w.2
   where
     joined : {a c d : ℕ} → a ≡ c → c ≤ d → a ≤ d
     joined e h = omega arith
@@ -78,17 +79,12 @@ same_lists [] (f ∷ fs) l h = absurd (omega arith)
 same_lists (e ∷ es) [] l h = absurd (omega arith)
 same_lists (e ∷ es) (f ∷ fs) l h = ap₂ (λ a c. a ∷ c) (h 0 e f refl refl) (same_lists es fs (omega arith) (λ k a c p q. h (suc k) a c p q))
 
-pub within_list : {X : Type 0} (xs : List X) (k : ℕ) (x : X) → slice_get xs k ≡ Some x → k < length xs
-within_list [] k x e = absurd (let z : ⊥ = cc in z)
-within_list (y ∷ ys) zero x e = omega arith
-within_list (y ∷ ys) (suc k) x e = let r : k < length ys = within_list ys k x e in omega arith
-
 pub map_count : (is : List Input) → length {A = Interval} (map (λ (i : Input). record { from = 0; to = 255 }) is) ≡ length is
 map_count [] = refl
 map_count (i ∷ is) = ap suc (map_count is)
 
-pub errors_unique : (b : Block) (h : ℕ) (cert cert' : Cert) (es fs : List ℕ) → cert.nodes ≡ cert'.nodes → IsValid b → IsAccepted b h cert es → IsAccepted b h cert' fs → es ≡ fs
-errors_unique b h cert cert' es fs en v s t = same_lists es fs (s.errors_count ∙ sym t.errors_count) each
+pub errors_unique : BoundsAreDetermined → (b : Block) (h : ℕ) (cert cert' : Cert) (es fs : List ℕ) → cert.nodes ≡ cert'.nodes → IsValid b → IsAccepted b h cert es → IsAccepted b h cert' fs → es ≡ fs
+errors_unique one b h cert cert' es fs en v s t = same_lists es fs (s.errors_count ∙ sym t.errors_count) each
   where
     u : s.parts ≡ t.parts
     u = (tree_unique (whole b) (whole b) cert.nodes cert'.nodes s.parts t.parts [] [] s.tree t.tree refl en).0
@@ -98,17 +94,17 @@ errors_unique b h cert cert' es fs en v s t = same_lists es fs (s.errors_count �
 
     each : (k e f : ℕ) → slice_get es k ≡ Some e → slice_get fs k ≡ Some f → e ≡ f
     each k e f p q =
-        let l = within_list es k e p in
+        let l = slice_get_within es k e p in
         let c = s.errors_count in
         let x = some_at b.outputs k (omega arith) in
         let ek : k ≡ k + 1 - 1 = omega arith in
         let ex : output_at b (k + 1) ≡ Some x.0 = subst (λ j. slice_get b.outputs j ≡ Some x.0) ek x.1 in
         let g = s.greatest (k + 1) x.0 e (omega arith) ex (subst (λ j. slice_get es j ≡ Some e) ek p) in
         let g' = subst (λ ps. IsGreatestBound b (k + 1) x.0 h ps f) (sym u) (t.greatest (k + 1) x.0 f (omega arith) ex (subst (λ j. slice_get fs j ≡ Some f) ek q)) in
-        both_ways (greatest_le b (k + 1) x.0 h s.parts e f v counts g g') (greatest_le b (k + 1) x.0 h s.parts f e v counts g' g)
+        both_ways (greatest_le one b (k + 1) x.0 h s.parts e f v counts g g') (greatest_le one b (k + 1) x.0 h s.parts f e v counts g' g)
       where
         both_ways : {a c : ℕ} → a ≤ c → c ≤ a → a ≡ c
         both_ways h k = omega arith
 
-pub determined : ErrorsAreDetermined
-determined b h cert es fs v s t = errors_unique b h cert cert es fs refl v s t
+pub determined : BoundsAreDetermined → ErrorsAreDetermined
+determined one b h cert es fs v s t = errors_unique one b h cert cert es fs refl v s t

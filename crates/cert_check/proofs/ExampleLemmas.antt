@@ -1,5 +1,5 @@
 -- Certificates that are accepted.
-use Rattle.std.proofs.Common.{◌≡◌, ℕ, zero, suc, ◌-◌, ◌≤◌, List, [], ◌∷◌, Some, None, refl, subst, arith}
+use Rattle.std.proofs.Common.{◌≡◌, ℕ, zero, suc, ◌-◌, ◌≤◌, List, [], ◌∷◌, Some, None, refl, subst, arith, rules}
 use Rattle.std.specs.Prelude.{slice_get, All, IsTrue, pos}
 use Rattle.std.specs.Global.{Box}
 use Rattle.fz_num.specs.Fractions.{over, AtMost}
@@ -7,22 +7,28 @@ use Rattle.fuzzy_meaning.specs.declared.block.Block.{Block}
 use Rattle.fuzzy_meaning.specs.declared.block.Output.{Output}
 use Rattle.fuzzy_meaning.specs.declared.block.Rule.{Rule}
 use Rattle.fuzzy_meaning.specs.Rules.{concludes}
+use Rattle.fuzzy_meaning.specs.Conditions.{is, negation, condition_of}
 use Rattle.fuzzy_meaning.specs.Blocks.{IsValid, output_at}
-use Rattle.fuzzy_meaning.specs.declared.block.Cond.{Is, Not'}
-use Rattle.fuzzy_meaning.specs.Examples.{dec, heater, latch}
-use Rattle.fuzzy_meaning.proofs.ExampleLemmas.{heater_valid, latch_valid, condition_of-Is, condition_of-Not}
+use Rattle.fuzzy_meaning.specs.declared.block.Cond.{Cond, Is, Not', the_lemmas}
+use Rattle.fuzzy_meaning.specs.Examples.{dec, heater, latch, ExamplesAreValid}
 use Rattle.error_bound.specs.declared.boxes.Interval.{Interval}
 use Rattle.error_bound.specs.declared.boxes.Leaf as the
-use Rattle.error_bound.specs.Boxes.{rule_span, rule_byte_span}
+use Rattle.error_bound.specs.Boxes.{rule_span, rule_byte_span, IsBox}
 use Rattle.error_bound.specs.Leaves.{IsStrong, IsStill, strong, silent}
 use Rattle.error_bound.specs.Bounds.{IsBound, bound}
-use Rattle.error_bound.specs.Boxes.{IsBox}
 use Rattle.error_bound.specs.CellErrors.{term_errors}
-use Rattle.error_bound.proofs.LawLemmas.{term_errors-are}
+use Rattle.error_bound.specs.Laws.{TermErrorsAre}
 use Rattle.box_tree.specs.declared.cert.Node.TheVariants.{Split}
 use Rattle.cert_check.specs.Trees.{Part, IsTree, leaf, split, whole}
 use Rattle.cert_check.specs.Acceptance.{HasBound, IsGreatestBound, IsAccepted}
 use Rattle.cert_check.specs.Examples.{leaf_node, heater_cert, latch_cert, ExamplesAreAccepted}
+use Rattle.fz_list.proofs.Algebra.{All-cons, All-none}
+
+condition_of-Is : (i t : ℕ) → condition_of (Is i t) ≡ is i t
+condition_of-Is i t = search (rules, the_lemmas)
+
+condition_of-Not : (p : Box (Unit {0})) (c : Cond) → condition_of (Not' p c) ≡ negation (condition_of c)
+condition_of-Not p c = search (rules, the_lemmas)
 
 abbrev pair : ℕ → ℕ → the.Leaf
 pair r k = record { rule = r; k = k }
@@ -85,30 +91,23 @@ hot_bound = rw (condition_of-Is 1 1, condition_of-Is 1 2) refl
 hot_wide_bound : 15702 ≡ bound heater (term_errors heater hot_box) 1 power 256 (pair 2 127)
 hot_wide_bound = rw (condition_of-Is 1 1, condition_of-Is 1 2) refl
 
-bound_of : (b : Block) (box : List Interval) (o : ℕ) (x : Output) (h : ℕ) (l : the.Leaf) (n : ℕ) → IsValid b → IsBox box → n ≡ bound b (term_errors b box) o x h l → IsBound b box o x h l n
-bound_of b box o x h l n v ib e = record { errors = term_errors b box; are_errors = term_errors-are b box v ib; is = e }
+bound_of : TermErrorsAre → (b : Block) (box : List Interval) (o : ℕ) (x : Output) (h : ℕ) (l : the.Leaf) (n : ℕ) → IsValid b → IsBox box → n ≡ bound b (term_errors b box) o x h l → IsBound b box o x h l n
+bound_of errors b box o x h l n v ib e = record { errors = term_errors b box; are_errors = errors b box v ib; is = e }
 
-cold_part : (h n : ℕ) → n ≡ bound heater (term_errors heater cold_box) 1 power h (pair 1 127) → HasBound heater 1 power h (record { box = cold_box; pairs = pair 1 127 ∷ [] }) n
-cold_part h n e = record { leaf = pair 1 127; pair_is = refl; holds = strong cold_rule (omega arith) (omega arith) (omega arith) refl cold_strong; bound_is = bound_of heater cold_box 1 power h (pair 1 127) n heater_valid (box_valid 0 127 (omega arith) (omega arith)) e }
+cold_part : TermErrorsAre → IsValid heater → (h n : ℕ) → n ≡ bound heater (term_errors heater cold_box) 1 power h (pair 1 127) → HasBound heater 1 power h (record { box = cold_box; pairs = pair 1 127 ∷ [] }) n
+cold_part errors valid h n e = record { leaf = pair 1 127; pair_is = refl; holds = strong cold_rule (omega arith) (omega arith) (omega arith) refl cold_strong; bound_is = bound_of errors heater cold_box 1 power h (pair 1 127) n valid (box_valid 0 127 (omega arith) (omega arith)) e }
 
-hot_part : (h n : ℕ) → n ≡ bound heater (term_errors heater hot_box) 1 power h (pair 2 127) → HasBound heater 1 power h (record { box = hot_box; pairs = pair 2 127 ∷ [] }) n
-hot_part h n e = record { leaf = pair 2 127; pair_is = refl; holds = strong hot_rule (omega arith) (omega arith) (omega arith) refl hot_strong; bound_is = bound_of heater hot_box 1 power h (pair 2 127) n heater_valid (box_valid 128 255 (omega arith) (omega arith)) e }
+hot_part : TermErrorsAre → IsValid heater → (h n : ℕ) → n ≡ bound heater (term_errors heater hot_box) 1 power h (pair 2 127) → HasBound heater 1 power h (record { box = hot_box; pairs = pair 2 127 ∷ [] }) n
+hot_part errors valid h n e = record { leaf = pair 2 127; pair_is = refl; holds = strong hot_rule (omega arith) (omega arith) (omega arith) refl hot_strong; bound_is = bound_of errors heater hot_box 1 power h (pair 2 127) n valid (box_valid 128 255 (omega arith) (omega arith)) e }
 
-All-cons : {X : Type 0} (P : X → Type 0) (x : X) (xs : List X) → P x → All P xs → All P (x ∷ xs)
-All-cons P x xs h t zero d l = h
-All-cons P x xs h t (suc k) d l = t k d (omega arith)
-
-All-none : {X : Type 0} (P : X → Type 0) → All P []
-All-none P k d l = absurd (omega arith)
-
-heater_greatest : (h n : ℕ) → n ≡ bound heater (term_errors heater cold_box) 1 power h (pair 1 127) → n ≡ bound heater (term_errors heater hot_box) 1 power h (pair 2 127) → IsGreatestBound heater 1 power h heater_parts n
-heater_greatest h n e f =
+heater_greatest : TermErrorsAre → IsValid heater → (h n : ℕ) → n ≡ bound heater (term_errors heater cold_box) 1 power h (pair 1 127) → n ≡ bound heater (term_errors heater hot_box) 1 power h (pair 2 127) → IsGreatestBound heater 1 power h heater_parts n
+heater_greatest errors valid h n e f =
     let P : Part → Type 0 = λ p. (m : ℕ) × HasBound heater 1 power h p m × (m ≤ n) in
     let cp : Part = record { box = cold_box; pairs = pair 1 127 ∷ [] } in
     let hp : Part = record { box = hot_box; pairs = pair 2 127 ∷ [] } in
     record {
-      each = All-cons P cp (hp ∷ []) (n, cold_part h n e, omega arith) (All-cons P hp [] (n, hot_part h n f, omega arith) (All-none P));
-      some = (0, cp, omega arith, refl, cold_part h n e);
+      each = All-cons P cp (hp ∷ []) (n, cold_part errors valid h n e, omega arith) (All-cons P hp [] (n, hot_part errors valid h n f, omega arith) (All-none P));
+      some = (0, cp, omega arith, refl, cold_part errors valid h n e);
     }
 
 first_is : {X : Type 0} (n e : X) → slice_get (n ∷ []) 0 ≡ Some e → n ≡ e
@@ -135,11 +134,11 @@ claimed_one : (n c : ℕ) → n ≤ c → (k e d : ℕ) → slice_get (n ∷ [])
 claimed_one n c h zero e d p q = let e1 : n ≡ e = cc in let e2 : c ≡ d = cc in omega arith
 claimed_one n c h (suc k) e d p q = absurd (let z : ⊥ = cc in z)
 
-pub heater_accepted : IsAccepted heater 1 heater_cert (19609 ∷ [])
-heater_accepted = record { claims_count = refl; errors_count = refl; parts = heater_parts; tree = heater_tree; greatest = only heater 1 19609 power heater_parts refl (heater_greatest 1 19609 cold_bound hot_bound); claimed = claimed_one 19609 19609 (omega arith) }
+heater_accepted : TermErrorsAre → IsValid heater → IsAccepted heater 1 heater_cert (19609 ∷ [])
+heater_accepted errors valid = record { claims_count = refl; errors_count = refl; parts = heater_parts; tree = heater_tree; greatest = only heater 1 19609 power heater_parts refl (heater_greatest errors valid 1 19609 cold_bound hot_bound); claimed = claimed_one 19609 19609 (omega arith) }
 
-pub heater_accepted_wide : IsAccepted heater 256 heater_cert (15702 ∷ [])
-heater_accepted_wide = record { claims_count = refl; errors_count = refl; parts = heater_parts; tree = heater_tree; greatest = only heater 256 15702 power heater_parts refl (heater_greatest 256 15702 cold_wide_bound hot_wide_bound); claimed = claimed_one 15702 19609 (omega arith) }
+heater_accepted_wide : TermErrorsAre → IsValid heater → IsAccepted heater 256 heater_cert (15702 ∷ [])
+heater_accepted_wide errors valid = record { claims_count = refl; errors_count = refl; parts = heater_parts; tree = heater_tree; greatest = only heater 256 15702 power heater_parts refl (heater_greatest errors valid 256 15702 cold_wide_bound hot_wide_bound); claimed = claimed_one 15702 19609 (omega arith) }
 
 -- with NC, a vertical edge and a complement
 abbrev keeper : Output
@@ -203,20 +202,20 @@ latch_tree : (p : Box (Unit {0})) → IsTree (whole (latch p)) latch_cert.nodes 
 latch_tree p = split (span_of 0 255) 1 64 (leaf_node 1 255 ∷ Split 1 192 ∷ leaf_node 0 0 ∷ leaf_node 2 255 ∷ []) (Split 1 192 ∷ leaf_node 0 0 ∷ leaf_node 2 255 ∷ []) [] (part 0 63 1 255 ∷ []) (part 64 191 0 0 ∷ part 192 255 2 255 ∷ []) (omega arith) (omega arith, omega arith) (leaf (span_of 0 63) (record { items = (1, 255) ∷ [] }) (Split 1 192 ∷ leaf_node 0 0 ∷ leaf_node 2 255 ∷ []))
     (split (span_of 64 255) 1 192 (leaf_node 0 0 ∷ leaf_node 2 255 ∷ []) (leaf_node 2 255 ∷ []) [] (part 64 191 0 0 ∷ []) (part 192 255 2 255 ∷ []) (omega arith) (omega arith, omega arith) (leaf (span_of 64 191) (record { items = (0, 0) ∷ [] }) (leaf_node 2 255 ∷ [])) (leaf (span_of 192 255) (record { items = (2, 255) ∷ [] }) []))
 
-latch_greatest : (p : Box (Unit {0})) → IsGreatestBound (latch p) 1 keeper 1 (part 0 63 1 255 ∷ part 64 191 0 0 ∷ part 192 255 2 255 ∷ []) 3922
-latch_greatest p =
+latch_greatest : TermErrorsAre → (p : Box (Unit {0})) → IsValid (latch p) → IsGreatestBound (latch p) 1 keeper 1 (part 0 63 1 255 ∷ part 64 191 0 0 ∷ part 192 255 2 255 ∷ []) 3922
+latch_greatest errors p v =
     let P : Part → Type 0 = λ q. (m : ℕ) × HasBound (latch p) 1 keeper 1 q m × (m ≤ 3922) in
-    let v = latch_valid p in
-    let first : HasBound (latch p) 1 keeper 1 (part 0 63 1 255) 3922 = record { leaf = pair 1 255; pair_is = refl; holds = strong (on_rule p) (omega arith) (omega arith) (omega arith) refl (on_strong p); bound_is = bound_of (latch p) (span_of 0 63) 1 keeper 1 (pair 1 255) 3922 v (box_valid 0 63 (omega arith) (omega arith)) (on_bound p) } in
-    let second : HasBound (latch p) 1 keeper 1 (part 64 191 0 0) 0 = record { leaf = pair 0 0; pair_is = refl; holds = silent refl refl (silent_between p); bound_is = bound_of (latch p) (span_of 64 191) 1 keeper 1 (pair 0 0) 0 v (box_valid 64 191 (omega arith) (omega arith)) refl } in
-    let third : HasBound (latch p) 1 keeper 1 (part 192 255 2 255) 3922 = record { leaf = pair 2 255; pair_is = refl; holds = strong off_rule (omega arith) (omega arith) (omega arith) refl (off_strong p); bound_is = bound_of (latch p) (span_of 192 255) 1 keeper 1 (pair 2 255) 3922 v (box_valid 192 255 (omega arith) (omega arith)) (off_bound p) } in
+    let first : HasBound (latch p) 1 keeper 1 (part 0 63 1 255) 3922 = record { leaf = pair 1 255; pair_is = refl; holds = strong (on_rule p) (omega arith) (omega arith) (omega arith) refl (on_strong p); bound_is = bound_of errors (latch p) (span_of 0 63) 1 keeper 1 (pair 1 255) 3922 v (box_valid 0 63 (omega arith) (omega arith)) (on_bound p) } in
+    let second : HasBound (latch p) 1 keeper 1 (part 64 191 0 0) 0 = record { leaf = pair 0 0; pair_is = refl; holds = silent refl refl (silent_between p); bound_is = bound_of errors (latch p) (span_of 64 191) 1 keeper 1 (pair 0 0) 0 v (box_valid 64 191 (omega arith) (omega arith)) refl } in
+    let third : HasBound (latch p) 1 keeper 1 (part 192 255 2 255) 3922 = record { leaf = pair 2 255; pair_is = refl; holds = strong off_rule (omega arith) (omega arith) (omega arith) refl (off_strong p); bound_is = bound_of errors (latch p) (span_of 192 255) 1 keeper 1 (pair 2 255) 3922 v (box_valid 192 255 (omega arith) (omega arith)) (off_bound p) } in
     record {
       each = All-cons P (part 0 63 1 255) (part 64 191 0 0 ∷ part 192 255 2 255 ∷ []) (3922, first, omega arith) (All-cons P (part 64 191 0 0) (part 192 255 2 255 ∷ []) (0, second, omega arith) (All-cons P (part 192 255 2 255) [] (3922, third, omega arith) (All-none P)));
       some = (0, part 0 63 1 255, omega arith, refl, first);
     }
 
-pub latch_accepted : (p : Box (Unit {0})) → IsAccepted (latch p) 1 latch_cert (3922 ∷ [])
-latch_accepted p = record { claims_count = refl; errors_count = refl; parts = part 0 63 1 255 ∷ part 64 191 0 0 ∷ part 192 255 2 255 ∷ []; tree = latch_tree p; greatest = only (latch p) 1 3922 keeper (part 0 63 1 255 ∷ part 64 191 0 0 ∷ part 192 255 2 255 ∷ []) refl (latch_greatest p); claimed = claimed_one 3922 3922 (omega arith) }
+latch_accepted : TermErrorsAre → (p : Box (Unit {0})) → IsValid (latch p) → IsAccepted (latch p) 1 latch_cert (3922 ∷ [])
+latch_accepted errors p valid = record { claims_count = refl; errors_count = refl; parts = part 0 63 1 255 ∷ part 64 191 0 0 ∷ part 192 255 2 255 ∷ []; tree = latch_tree p; greatest = only (latch p) 1 3922 keeper (part 0 63 1 255 ∷ part 64 191 0 0 ∷ part 192 255 2 255 ∷ []) refl (latch_greatest errors p valid); claimed = claimed_one 3922 3922 (omega arith) }
 
-pub examples_accepted : ExamplesAreAccepted
-examples_accepted = (heater_accepted, heater_accepted_wide, latch_accepted)
+pub examples_accepted : ExamplesAreValid → TermErrorsAre → ExamplesAreAccepted
+examples_accepted valid errors =
+    (heater_accepted errors valid.0, heater_accepted_wide errors valid.0, λ p. latch_accepted errors p (valid.1 p).0)

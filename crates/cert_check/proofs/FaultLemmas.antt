@@ -1,15 +1,15 @@
 -- A certificate with a fault is not accepted.
 use Rattle.std.proofs.Common.{◌≡◌, ℕ, zero, suc, ◌-◌, ◌≤◌, List, [], ◌∷◌, ◌++◌, Some, refl, sym, ap, ◌∙◌, subst, arith}
-use Rattle.std.specs.Prelude.{slice_get, All, IsTrue, Bool, true, false, ◌&&◌, ◌||◌, ◌==◌}
-use Rattle.std.specs.List.{list_any}
+use Rattle.std.specs.Prelude.{slice_get, All, IsTrue, ◌==◌}
 use Rattle.arrayvec.specs.ArrayVec.{ArrayVec}
 use Rattle.fuzzy_meaning.specs.declared.block.Block.{Block}
 use Rattle.fuzzy_meaning.specs.declared.block.Output.{Output}
 use Rattle.error_bound.specs.declared.boxes.Interval.{Interval}
 use Rattle.error_bound.specs.declared.boxes.Leaf as the
 use Rattle.error_bound.specs.Leaves.{Holds, strong, silent, IsPairFor, rule_at, concludes_some}
-use Rattle.error_bound.proofs.Literals.{some_at}
-use Rattle.error_bound.proofs.FaultLemmas.{faulty_fail}
+use Rattle.fz_list.proofs.Algebra.{some_at, IsSomeAnd-at, list_any-left}
+use Rattle.error_bound.specs.Faults.{FaultyLeavesFail}
+use Rattle.error_bound.specs.Laws.{BoundsAreDetermined}
 use Rattle.box_tree.specs.declared.cert.Node.{Node}
 use Rattle.box_tree.specs.declared.cert.Node.TheVariants.{Split, Leaf}
 use Rattle.box_tree.specs.declared.cert.Cert.{Cert}
@@ -19,7 +19,6 @@ use Rattle.cert_check.specs.Acceptance.{HasBound, IsAccepted}
 use Rattle.cert_check.specs.Faults.{line_at, Reaches, root, in_left, in_right, HasPartFault, IsPairFault, bad_rule, fails, HasTreeFault, bad_cut, bad_leaf, outputs, tree, claimed}
 use Rattle.cert_check.specs.Laws.{FaultyCertsFail}
 use Rattle.cert_check.proofs.Determined.{tree_unique, errors_unique}
-use Rattle.cert_check.proofs.PairLemmas.{IsSomeAnd-at}
 
 record Halves (box : List Interval) (i c : ℕ) (nodes : List Node) (parts : List Part) (rest : List Node) : Type 0 where
   left : List Part
@@ -75,16 +74,6 @@ inside b P box nodes found rest (in_right x i c ns m qs f r some cut first hold 
     (subst (λ k. IsTree (right_of (i - 1) c x) k h.right after) same h.right_tree)
     (All-back P h.left h.right (subst (λ ps. All P ps) (sym h.parts_are) a))
 
-some-conclusion : (o t : ℕ) (cs : List (ℕ × ℕ)) → list_any (λ c. (c.0 == o) && (c.1 == t)) cs ≡ true
-    → list_any (λ c. c.0 == o) cs ≡ true
-some-conclusion o t [] h = absurd (let z : ⊥ = cc in z)
-some-conclusion o t (c ∷ cs) h = by_head (c.0 == o) (c.1 == t) (list_any (λ c. (c.0 == o) && (c.1 == t)) cs)
-    (list_any (λ c. c.0 == o) cs) h (some-conclusion o t cs)
-  where
-    by_head : (a d p q : Bool) → ((a && d) || p) ≡ true → (p ≡ true → q ≡ true) → (a || q) ≡ true
-    by_head true d p q e f = refl
-    by_head false d p q e f = f e
-
 -- a pair that holds names a rule of its output
 Holds-pair : (b : Block) (box : List Interval) (o : ℕ) (pair : the.Leaf) → Holds b box o pair → IsPairFor b o pair
 Holds-pair b box o pair (strong r some_rule some_part small at is) = record {
@@ -92,7 +81,7 @@ Holds-pair b box o pair (strong r some_rule some_part small at is) = record {
   strong = λ z. some_rule;
   part = small;
   concludes_one = λ z. IsSomeAnd-at (λ r. IsTrue (concludes_some r o)) (rule_at b pair.rule) r at
-      (some-conclusion o is.term r.concl is.concludes_it);
+      (list_any-left (λ (c : ℕ × ℕ). c.0 == o) (λ (c : ℕ × ℕ). c.1 == is.term) r.concl is.concludes_it);
 }
 Holds-pair b box o pair (silent no_rule no_part still) = record {
   silent = λ z. no_rule;
@@ -101,27 +90,27 @@ Holds-pair b box o pair (silent no_rule no_part still) = record {
   concludes_one = λ z. absurd (omega arith);
 }
 
-pub pair_fails : (b : Block) (box : List Interval) (o : ℕ) (pair : the.Leaf) (line : ℕ) (f : CheckFault)
+pub pair_fails : FaultyLeavesFail → (b : Block) (box : List Interval) (o : ℕ) (pair : the.Leaf) (line : ℕ) (f : CheckFault)
     → IsPairFault b box o pair line f → Holds b box o pair → ⊥
-pair_fails b box o pair line f (bad_rule n) h = n (Holds-pair b box o pair h)
-pair_fails b box o pair line f (fails g p e) h = faulty_fail b box o pair g e h
+pair_fails fail b box o pair line f (bad_rule n) h = n (Holds-pair b box o pair h)
+pair_fails fail b box o pair line f (fails g p e) h = fail b box o pair g e h
 
-part_fails : (b : Block) (h : ℕ) (p : Part) (line : ℕ) (f : CheckFault) (x : Output) (n : ℕ)
+part_fails : FaultyLeavesFail → (b : Block) (h : ℕ) (p : Part) (line : ℕ) (f : CheckFault) (x : Output) (n : ℕ)
     (fault : HasPartFault b p line f) → HasBound b fault.output x h p n → ⊥
-part_fails b h p line f x n fault bound =
+part_fails fail b h p line f x n fault bound =
     let s : Some bound.leaf ≡ Some fault.leaf = sym bound.pair_is ∙ fault.pair_is in
     let same : bound.leaf ≡ fault.leaf = cc in
-    pair_fails b p.box fault.output fault.leaf line f fault.is (subst (λ l. Holds b p.box fault.output l) same bound.holds)
+    pair_fails fail b p.box fault.output fault.leaf line f fault.is (subst (λ l. Holds b p.box fault.output l) same bound.holds)
 
 only_part : (P : Part → Type 0) (p : Part) (parts : List Part) → p ∷ [] ≡ parts → All P parts → P p
 only_part P p parts e a = subst (λ ps. All P ps) (sym e) a 0 p (omega arith)
 
-pub tree_fails : (b : Block) (h : ℕ) (cert : Cert) (errors : List ℕ) (f : CheckFault) → HasTreeFault b cert.nodes f
+pub tree_fails : FaultyLeavesFail → (b : Block) (h : ℕ) (cert : Cert) (errors : List ℕ) (f : CheckFault) → HasTreeFault b cert.nodes f
     → IsAccepted b h cert errors → ⊥
-tree_fails b h cert errors f (bad_cut box i c rest reach outside) a =
+tree_fails fail b h cert errors f (bad_cut box i c rest reach outside) a =
     let t = inside b (λ _. Unit {0}) (whole b) cert.nodes box (Split i c ∷ rest) reach a.parts [] a.tree (λ k d l. tt) in
     outside (halves box (Split i c ∷ rest) t.0 t.1 t.2 i c rest refl).cut
-tree_fails b h cert errors f (bad_leaf box pairs rest g reach fault) a =
+tree_fails fail b h cert errors f (bad_leaf box pairs rest g reach fault) a =
     let o = fault.output in
     let from = fault.from in
     let to = fault.to in
@@ -133,13 +122,13 @@ tree_fails b h cert errors f (bad_leaf box pairs rest g reach fault) a =
     let t = inside b P (whole b) cert.nodes box (Leaf pairs ∷ rest) reach a.parts [] a.tree each in
     let p : Part = record { box = box; pairs = leaves_of pairs.items } in
     let here : P p = only_part P p t.0 (one_part box (Leaf pairs ∷ rest) t.0 t.1 t.2 pairs rest refl) t.3 in
-    part_fails b h p (line_at cert.nodes (Leaf pairs ∷ rest)) g x.0 here.0 fault here.1
+    part_fails fail b h p (line_at cert.nodes (Leaf pairs ∷ rest)) g x.0 here.0 fault here.1
 
-pub certs_fail : FaultyCertsFail
-certs_fail b h cert errors f v (outputs differ) a = differ a.claims_count
-certs_fail b h cert errors f v (tree g count t) a = tree_fails b h cert errors g t a
-certs_fail b h cert errors f v (claimed es k over count accepted) a =
-    let same : es ≡ errors = errors_unique b h (record { claims = es; nodes = cert.nodes }) cert es errors refl v accepted a in
+pub certs_fail : FaultyLeavesFail → BoundsAreDetermined → FaultyCertsFail
+certs_fail fail one b h cert errors f v (outputs differ) a = differ a.claims_count
+certs_fail fail one b h cert errors f v (tree g count t) a = tree_fails fail b h cert errors g t a
+certs_fail fail one b h cert errors f v (claimed es k over count accepted) a =
+    let same : es ≡ errors = errors_unique one b h (record { claims = es; nodes = cert.nodes }) cert es errors refl v accepted a in
     let n = a.claimed k over.error over.claim (subst (λ xs. slice_get xs k ≡ Some over.error) same over.error_is) over.claim_is in
     let m = over.over in
     let z : ⊥ = omega arith in z

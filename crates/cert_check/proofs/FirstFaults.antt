@@ -7,7 +7,7 @@ use Rattle.fuzzy_meaning.specs.declared.block.Block.{Block}
 use Rattle.error_bound.specs.declared.boxes.Interval.{Interval}
 use Rattle.error_bound.specs.declared.boxes.Leaf as the
 use Rattle.error_bound.specs.declared.boxes.LeafFault.{LeafFault}
-use Rattle.error_bound.specs.Faults.{LeafFaultsAreOne}
+use Rattle.error_bound.specs.Faults.{LeafFaultsAreOne, FaultyLeavesFail}
 use Rattle.box_tree.specs.declared.cert.Node.{Node}
 use Rattle.box_tree.specs.declared.cert.Node.TheVariants.{Split, Leaf}
 use Rattle.box_tree.specs.declared.cert.Cert.{Cert}
@@ -15,13 +15,14 @@ use Rattle.box_tree.specs.declared.cert.CertFault.{CertFault}
 use Rattle.box_tree.specs.Laws.{CertsAreOne, FaultsAreOne, CertTextsAreSound}
 use Rattle.cert_check.specs.declared.checker.CheckFault.{CheckFault}
 use Rattle.cert_check.specs.declared.checker.CheckFault.TheVariants as fault
-use Rattle.cert_check.specs.declared.text.CertRefusal.TheVariants as refusal
+use Rattle.cert_check.specs.declared.text.TextFault.TheVariants as refusal
 use Rattle.cert_check.specs.Trees.{Part, IsTree, leaf, split, part_of, left_of, right_of, IsCut, whole}
 use Rattle.cert_check.specs.Faults.{AllHold, line_at, Reaches, root, in_left, in_right, HasPartFault, IsPairFault, bad_rule, fails, HasTreeFault, bad_cut, bad_leaf, IsFirstOver, HasCheckFault, outputs, tree, claimed}
-use Rattle.cert_check.specs.Refusals.{of_text, of_cert}
+use Rattle.cert_check.specs.TextFaults.{of_text, of_cert}
 use Rattle.cert_check.specs.Laws.{CheckFaultsAreOne, TextAnswersAreOne}
 use Rattle.cert_check.proofs.Determined.{tree_unique, errors_unique}
 use Rattle.cert_check.proofs.FaultLemmas.{inside, pair_fails, tree_fails, certs_fail}
+use Rattle.error_bound.specs.Laws.{BoundsAreDetermined}
 
 -- ---- a leaf's line
 
@@ -32,16 +33,16 @@ one_pair_fault one b box o pair line _ _ (fails f p e) (bad_rule m) = absurd (m 
 one_pair_fault one b box o pair line _ _ (fails f p e) (fails g q d) = ap (λ (l : LeafFault). fault.Leaf line l) (one b box o pair f g e d)
 
 -- the pair at fault stands before no other that is the first
-none_before : (b : Block) (p : Part) (line : ℕ) (f g : CheckFault) (first : HasPartFault b p line f) (other : HasPartFault b p line g) → other.output ≤ first.output
-none_before b p line f g first other = ⊎_elim
-    (λ (l : first.output < other.output). absurd (pair_fails b p.box first.output first.leaf line f first.is (other.before first.output first.leaf first.from l first.pair_is)))
+none_before : FaultyLeavesFail → (b : Block) (p : Part) (line : ℕ) (f g : CheckFault) (first : HasPartFault b p line f) (other : HasPartFault b p line g) → other.output ≤ first.output
+none_before fail b p line f g first other = ⊎_elim
+    (λ (l : first.output < other.output). absurd (pair_fails fail b p.box first.output first.leaf line f first.is (other.before first.output first.leaf first.from l first.pair_is)))
     (λ (l : other.output ≤ first.output). l)
     (cases_lt first.output other.output)
 
-one_part_fault : LeafFaultsAreOne → (b : Block) (p : Part) (line : ℕ) (f g : CheckFault) → HasPartFault b p line f → HasPartFault b p line g → f ≡ g
-one_part_fault one b p line f g first second =
-    let up = none_before b p line f g first second in
-    let down = none_before b p line g f second first in
+one_part_fault : LeafFaultsAreOne → FaultyLeavesFail → (b : Block) (p : Part) (line : ℕ) (f g : CheckFault) → HasPartFault b p line f → HasPartFault b p line g → f ≡ g
+one_part_fault one fail b p line f g first second =
+    let up = none_before fail b p line f g first second in
+    let down = none_before fail b p line g f second first in
     let same : first.output ≡ second.output = omega (arith, up, down) in
     let pairs : Some first.leaf ≡ Some second.leaf = sym first.pair_is ∙ ap (λ o. slice_get p.pairs (o - 1)) same ∙ second.pair_is in
     let leaves : first.leaf ≡ second.leaf = cc in
@@ -63,64 +64,64 @@ no_cut b box rest line _ i c nodes (at_cut j d after e none) same cut =
     none (subst (λ k. IsCut (k - 1) d box) (sym is) (subst (λ k. IsCut (i - 1) k box) (sym cs) cut))
 no_cut b box rest line _ i c nodes (at_leaf pairs after f e part) same cut = absurd (let both : Leaf pairs ∷ after ≡ Split i c ∷ nodes = sym e ∙ same in let z : ⊥ = cc in z)
 
-no_leaf : (b : Block) (box : List Interval) (pairs : ArrayVec (ℕ × ℕ)) (rest : List Node) (line : ℕ) (f : CheckFault) → Stops b box (Leaf pairs ∷ rest) line f → AllHold b (part_of box pairs.items) → ⊥
-no_leaf b box pairs rest line _ (at_cut j d after e none) hold = absurd (let z : ⊥ = cc in z)
-no_leaf b box pairs rest line _ (at_leaf others after f e part) hold =
+no_leaf : FaultyLeavesFail → (b : Block) (box : List Interval) (pairs : ArrayVec (ℕ × ℕ)) (rest : List Node) (line : ℕ) (f : CheckFault) → Stops b box (Leaf pairs ∷ rest) line f → AllHold b (part_of box pairs.items) → ⊥
+no_leaf fail b box pairs rest line _ (at_cut j d after e none) hold = absurd (let z : ⊥ = cc in z)
+no_leaf fail b box pairs rest line _ (at_leaf others after f e part) hold =
     let same : others ≡ pairs = cc in
     let here = subst (λ (a : ArrayVec (ℕ × ℕ)). HasPartFault b (part_of box a.items) line f) same part in
     let to = here.to in
-    pair_fails b box here.output here.leaf line f here.is (hold here.output here.leaf here.from (omega arith) here.pair_is)
+    pair_fails fail b box here.output here.leaf line f here.is (hold here.output here.leaf here.from (omega arith) here.pair_is)
 
 -- a tree whose leaves hold has no node at fault first
-no_stop : (b : Block) (box : List Interval) (nodes : List Node) (parts : List Part) (after : List Node) (line : ℕ) (f : CheckFault) → IsTree box nodes parts after → All (AllHold b) parts → Stops b box nodes line f → ⊥
-no_stop b box nodes parts after line f (leaf x pairs rest) all stop = no_leaf b x pairs rest line f stop (all 0 (part_of x pairs.items) (omega arith))
-no_stop b box nodes parts after line f (split x i c n m rest left right some cut tl tr) all stop = no_cut b x (Split i c ∷ n) line f i c n stop refl cut
+no_stop : FaultyLeavesFail → (b : Block) (box : List Interval) (nodes : List Node) (parts : List Part) (after : List Node) (line : ℕ) (f : CheckFault) → IsTree box nodes parts after → All (AllHold b) parts → Stops b box nodes line f → ⊥
+no_stop fail b box nodes parts after line f (leaf x pairs rest) all stop = no_leaf fail b x pairs rest line f stop (all 0 (part_of x pairs.items) (omega arith))
+no_stop fail b box nodes parts after line f (split x i c n m rest left right some cut tl tr) all stop = no_cut b x (Split i c ∷ n) line f i c n stop refl cut
 
-none_inside : (b : Block) (box : List Interval) (nodes : List Node) (parts : List Part) (after : List Node) (found : List Interval) (rest : List Node) (line : ℕ) (f : CheckFault)
+none_inside : FaultyLeavesFail → (b : Block) (box : List Interval) (nodes : List Node) (parts : List Part) (after : List Node) (found : List Interval) (rest : List Node) (line : ℕ) (f : CheckFault)
     → IsTree box nodes parts after → All (AllHold b) parts → Reaches b box nodes found rest → Stops b found rest line f → ⊥
-none_inside b box nodes parts after found rest line f t all reach stop =
+none_inside fail b box nodes parts after found rest line f t all reach stop =
     let i = inside b (AllHold b) box nodes found rest reach parts after t all in
-    no_stop b found rest i.0 i.1 line f i.2 i.3 stop
+    no_stop fail b found rest i.0 i.1 line f i.2 i.3 stop
 
 same_side : (side : ℕ → ℕ → List Interval → List Interval) (i j c d : ℕ) (x y : List Interval) → i ≡ j → c ≡ d → x ≡ y → side (i - 1) c x ≡ side (j - 1) d y
 same_side side i j c d x y e1 e2 e3 = cc
 
 -- what stands first at fault in a tree stands at one place
-one_place : (b : Block) (x y : List Interval) (ns ms : List Node) (found found' : List Interval) (rest rest' : List Node) (line line' : ℕ) (f g : CheckFault) → x ≡ y → ns ≡ ms
+one_place : FaultyLeavesFail → (b : Block) (x y : List Interval) (ns ms : List Node) (found found' : List Interval) (rest rest' : List Node) (line line' : ℕ) (f g : CheckFault) → x ≡ y → ns ≡ ms
     → Reaches b x ns found rest → Stops b found rest line f → Reaches b y ms found' rest' → Stops b found' rest' line' g → (found ≡ found') × (rest ≡ rest')
-one_place b x y ns ms _ _ _ _ line line' f g ex en (root _ _) stop (root _ _) stop' = (ex, en)
-one_place b x y ns ms _ _ _ _ line line' f g ex en (root _ _) stop (in_left _ i c n found' rest' some cut reach) stop' =
+one_place fail b x y ns ms _ _ _ _ line line' f g ex en (root _ _) stop (root _ _) stop' = (ex, en)
+one_place fail b x y ns ms _ _ _ _ line line' f g ex en (root _ _) stop (in_left _ i c n found' rest' some cut reach) stop' =
     absurd (no_cut b x ns line f i c n stop en (subst (λ v. IsCut (i - 1) c v) (sym ex) cut))
-one_place b x y ns ms _ _ _ _ line line' f g ex en (root _ _) stop (in_right _ i c n m ps found' rest' some cut t hold reach) stop' =
+one_place fail b x y ns ms _ _ _ _ line line' f g ex en (root _ _) stop (in_right _ i c n m ps found' rest' some cut t hold reach) stop' =
     absurd (no_cut b x ns line f i c n stop en (subst (λ v. IsCut (i - 1) c v) (sym ex) cut))
-one_place b x y ns ms _ _ _ _ line line' f g ex en (in_left _ i c n found rest some cut reach) stop (root _ _) stop' =
+one_place fail b x y ns ms _ _ _ _ line line' f g ex en (in_left _ i c n found rest some cut reach) stop (root _ _) stop' =
     absurd (no_cut b y ms line' g i c n stop' (sym en) (subst (λ v. IsCut (i - 1) c v) ex cut))
-one_place b x y ns ms _ _ _ _ line line' f g ex en (in_right _ i c n m ps found rest some cut t hold reach) stop (root _ _) stop' =
+one_place fail b x y ns ms _ _ _ _ line line' f g ex en (in_right _ i c n m ps found rest some cut t hold reach) stop (root _ _) stop' =
     absurd (no_cut b y ms line' g i c n stop' (sym en) (subst (λ v. IsCut (i - 1) c v) ex cut))
-one_place b x y ns ms _ _ _ _ line line' f g ex en (in_left _ i c n found rest some cut reach) stop (in_left _ j d k found' rest' some' cut' reach') stop' =
+one_place fail b x y ns ms _ _ _ _ line line' f g ex en (in_left _ i c n found rest some cut reach) stop (in_left _ j d k found' rest' some' cut' reach') stop' =
     let is : i ≡ j = cc in
     let cs : c ≡ d = cc in
     let ks : n ≡ k = cc in
-    one_place b (left_of (i - 1) c x) (left_of (j - 1) d y) n k found found' rest rest' line line' f g (same_side left_of i j c d x y is cs ex) ks reach stop reach' stop'
-one_place b x y ns ms _ _ _ _ line line' f g ex en (in_left _ i c n found rest some cut reach) stop (in_right _ j d k m ps found' rest' some' cut' t hold reach') stop' =
+    one_place fail b (left_of (i - 1) c x) (left_of (j - 1) d y) n k found found' rest rest' line line' f g (same_side left_of i j c d x y is cs ex) ks reach stop reach' stop'
+one_place fail b x y ns ms _ _ _ _ line line' f g ex en (in_left _ i c n found rest some cut reach) stop (in_right _ j d k m ps found' rest' some' cut' t hold reach') stop' =
     let is : i ≡ j = cc in
     let cs : c ≡ d = cc in
     let ks : n ≡ k = cc in
     let same = same_side left_of i j c d x y is cs ex in
-    absurd (none_inside b (left_of (i - 1) c x) n ps m found rest line f (subst (λ v. IsTree v n ps m) (sym same) (subst (λ v. IsTree (left_of (j - 1) d y) v ps m) (sym ks) t)) hold reach stop)
-one_place b x y ns ms _ _ _ _ line line' f g ex en (in_right _ i c n m ps found rest some cut t hold reach) stop (in_left _ j d k found' rest' some' cut' reach') stop' =
+    absurd (none_inside fail b (left_of (i - 1) c x) n ps m found rest line f (subst (λ v. IsTree v n ps m) (sym same) (subst (λ v. IsTree (left_of (j - 1) d y) v ps m) (sym ks) t)) hold reach stop)
+one_place fail b x y ns ms _ _ _ _ line line' f g ex en (in_right _ i c n m ps found rest some cut t hold reach) stop (in_left _ j d k found' rest' some' cut' reach') stop' =
     let is : i ≡ j = cc in
     let cs : c ≡ d = cc in
     let ks : n ≡ k = cc in
     let same = same_side left_of i j c d x y is cs ex in
-    absurd (none_inside b (left_of (j - 1) d y) k ps m found' rest' line' g (subst (λ v. IsTree v k ps m) same (subst (λ v. IsTree (left_of (i - 1) c x) v ps m) ks t)) hold reach' stop')
-one_place b x y ns ms _ _ _ _ line line' f g ex en (in_right _ i c n m ps found rest some cut t hold reach) stop (in_right _ j d k o qs found' rest' some' cut' t' hold' reach') stop' =
+    absurd (none_inside fail b (left_of (j - 1) d y) k ps m found' rest' line' g (subst (λ v. IsTree v k ps m) same (subst (λ v. IsTree (left_of (i - 1) c x) v ps m) ks t)) hold reach' stop')
+one_place fail b x y ns ms _ _ _ _ line line' f g ex en (in_right _ i c n m ps found rest some cut t hold reach) stop (in_right _ j d k o qs found' rest' some' cut' t' hold' reach') stop' =
     let is : i ≡ j = cc in
     let cs : c ≡ d = cc in
     let ks : n ≡ k = cc in
     let left = same_side left_of i j c d x y is cs ex in
     let mids = (tree_unique (left_of (i - 1) c x) (left_of (j - 1) d y) n k ps qs m o t t' left ks).1 in
-    one_place b (right_of (i - 1) c x) (right_of (j - 1) d y) m o found found' rest rest' line line' f g (same_side right_of i j c d x y is cs ex) mids reach stop reach' stop'
+    one_place fail b (right_of (i - 1) c x) (right_of (j - 1) d y) m o found found' rest rest' line line' f g (same_side right_of i j c d x y is cs ex) mids reach stop reach' stop'
 
 record StopsAt (b : Block) (nodes : List Node) (f : CheckFault) : Type 0 where
   box : List Interval
@@ -132,21 +133,21 @@ stops_at : (b : Block) (nodes : List Node) (f : CheckFault) → HasTreeFault b n
 stops_at b nodes _ (bad_cut box i c rest reach none) = record { box = box; rest = Split i c ∷ rest; reached = reach; stops = at_cut i c rest refl none }
 stops_at b nodes f (bad_leaf box pairs rest g reach part) = record { box = box; rest = Leaf pairs ∷ rest; reached = reach; stops = at_leaf pairs rest f refl part }
 
-one_stop : LeafFaultsAreOne → (b : Block) (box : List Interval) (rest : List Node) (line : ℕ) (f g : CheckFault) → Stops b box rest line f → Stops b box rest line g → f ≡ g
-one_stop one b box rest line _ _ (at_cut i c after e none) (at_cut j d after' e' none') = refl
-one_stop one b box rest line _ _ (at_cut i c after e none) (at_leaf pairs after' g e' part) = absurd (let both : Split i c ∷ after ≡ Leaf pairs ∷ after' = sym e ∙ e' in let z : ⊥ = cc in z)
-one_stop one b box rest line _ _ (at_leaf pairs after f e part) (at_cut j d after' e' none') = absurd (let both : Leaf pairs ∷ after ≡ Split j d ∷ after' = sym e ∙ e' in let z : ⊥ = cc in z)
-one_stop one b box rest line _ _ (at_leaf pairs after f e part) (at_leaf others after' g e' part') =
+one_stop : LeafFaultsAreOne → FaultyLeavesFail → (b : Block) (box : List Interval) (rest : List Node) (line : ℕ) (f g : CheckFault) → Stops b box rest line f → Stops b box rest line g → f ≡ g
+one_stop one fail b box rest line _ _ (at_cut i c after e none) (at_cut j d after' e' none') = refl
+one_stop one fail b box rest line _ _ (at_cut i c after e none) (at_leaf pairs after' g e' part) = absurd (let both : Split i c ∷ after ≡ Leaf pairs ∷ after' = sym e ∙ e' in let z : ⊥ = cc in z)
+one_stop one fail b box rest line _ _ (at_leaf pairs after f e part) (at_cut j d after' e' none') = absurd (let both : Leaf pairs ∷ after ≡ Split j d ∷ after' = sym e ∙ e' in let z : ⊥ = cc in z)
+one_stop one fail b box rest line _ _ (at_leaf pairs after f e part) (at_leaf others after' g e' part') =
     let both : Leaf pairs ∷ after ≡ Leaf others ∷ after' = sym e ∙ e' in
     let same : pairs ≡ others = cc in
-    one_part_fault one b (part_of box others.items) line f g (subst (λ (a : ArrayVec (ℕ × ℕ)). HasPartFault b (part_of box a.items) line f) same part) part'
+    one_part_fault one fail b (part_of box others.items) line f g (subst (λ (a : ArrayVec (ℕ × ℕ)). HasPartFault b (part_of box a.items) line f) same part) part'
 
-one_tree_fault : LeafFaultsAreOne → (b : Block) (nodes : List Node) (f g : CheckFault) → HasTreeFault b nodes f → HasTreeFault b nodes g → f ≡ g
-one_tree_fault one b nodes f g first second =
+one_tree_fault : LeafFaultsAreOne → FaultyLeavesFail → (b : Block) (nodes : List Node) (f g : CheckFault) → HasTreeFault b nodes f → HasTreeFault b nodes g → f ≡ g
+one_tree_fault one fail b nodes f g first second =
     let p = stops_at b nodes f first in
     let q = stops_at b nodes g second in
-    let at = one_place b (whole b) (whole b) nodes nodes p.box q.box p.rest q.rest (line_at nodes p.rest) (line_at nodes q.rest) f g refl refl p.reached p.stops q.reached q.stops in
-    one_stop one b q.box q.rest (line_at nodes q.rest) f g
+    let at = one_place fail b (whole b) (whole b) nodes nodes p.box q.box p.rest q.rest (line_at nodes p.rest) (line_at nodes q.rest) f g refl refl p.reached p.stops q.reached q.stops in
+    one_stop one fail b q.box q.rest (line_at nodes q.rest) f g
     (subst (λ x. Stops b x q.rest (line_at nodes q.rest) f) at.0 (subst (λ r. Stops b p.box r (line_at nodes r) f) at.1 p.stops)) q.stops
 
 -- ---- the claims come last
@@ -176,35 +177,35 @@ one_claim_fault es fs claims j k same first second =
 abbrev with_claims : List ℕ → Cert → Cert
 with_claims errors cert = record { claims = errors; nodes = cert.nodes }
 
-pub check_faults_are_one : LeafFaultsAreOne → CheckFaultsAreOne
-check_faults_are_one one b h cert _ _ v (outputs differ) (outputs also) = refl
-check_faults_are_one one b h cert _ _ v (outputs differ) (tree g count t) = absurd (differ count)
-check_faults_are_one one b h cert _ _ v (outputs differ) (claimed es k over count accepted) = absurd (differ count)
-check_faults_are_one one b h cert _ _ v (tree f count t) (outputs also) = absurd (also count)
-check_faults_are_one one b h cert _ _ v (tree f count t) (tree g also s) = one_tree_fault one b cert.nodes f g t s
-check_faults_are_one one b h cert _ _ v (tree f count t) (claimed es k over also accepted) = absurd (tree_fails b h (with_claims es cert) es f t accepted)
-check_faults_are_one one b h cert _ _ v (claimed es k over count accepted) (outputs also) = absurd (also count)
-check_faults_are_one one b h cert _ _ v (claimed es k over count accepted) (tree g also t) = absurd (tree_fails b h (with_claims es cert) es g t accepted)
-check_faults_are_one one b h cert _ _ v (claimed es k over count accepted) (claimed fs j under also too) =
-    one_claim_fault es fs cert.claims k j (errors_unique b h (with_claims es cert) (with_claims fs cert) es fs refl v accepted too) over under
+pub check_faults_are_one : LeafFaultsAreOne → FaultyLeavesFail → BoundsAreDetermined → CheckFaultsAreOne
+check_faults_are_one one fail unique b h cert _ _ v (outputs differ) (outputs also) = refl
+check_faults_are_one one fail unique b h cert _ _ v (outputs differ) (tree g count t) = absurd (differ count)
+check_faults_are_one one fail unique b h cert _ _ v (outputs differ) (claimed es k over count accepted) = absurd (differ count)
+check_faults_are_one one fail unique b h cert _ _ v (tree f count t) (outputs also) = absurd (also count)
+check_faults_are_one one fail unique b h cert _ _ v (tree f count t) (tree g also s) = one_tree_fault one fail b cert.nodes f g t s
+check_faults_are_one one fail unique b h cert _ _ v (tree f count t) (claimed es k over also accepted) = absurd (tree_fails fail b h (with_claims es cert) es f t accepted)
+check_faults_are_one one fail unique b h cert _ _ v (claimed es k over count accepted) (outputs also) = absurd (also count)
+check_faults_are_one one fail unique b h cert _ _ v (claimed es k over count accepted) (tree g also t) = absurd (tree_fails fail b h (with_claims es cert) es g t accepted)
+check_faults_are_one one fail unique b h cert _ _ v (claimed es k over count accepted) (claimed fs j under also too) =
+    one_claim_fault es fs cert.claims k j (errors_unique unique b h (with_claims es cert) (with_claims fs cert) es fs refl v accepted too) over under
 
 -- ---- a text's answer
 
-pub text_answers_are_one : CertsAreOne → FaultsAreOne → CertTextsAreSound → CheckFaultsAreOne → TextAnswersAreOne
-text_answers_are_one certs faults sound checks b h version text (Ok es) (Ok fs) v small x y =
+pub text_answers_are_one : FaultyLeavesFail → BoundsAreDetermined → CertsAreOne → FaultsAreOne → CertTextsAreSound → CheckFaultsAreOne → TextAnswersAreOne
+text_answers_are_one fail unique certs faults sound checks b h version text (Ok es) (Ok fs) v small x y =
     let same = (certs version version text x.cert y.cert small small x.spelled y.spelled).1 in
-    ap (λ (l : List ℕ). Ok l) (errors_unique b h x.cert y.cert es fs (ap (λ (c : Cert). c.nodes) same) v x.accepted y.accepted)
-text_answers_are_one certs faults sound checks b h version text (Ok es) (Err _) v small x (of_text f h') = absurd (sound version text x.cert f x.spelled h')
-text_answers_are_one certs faults sound checks b h version text (Ok es) (Err _) v small x (of_cert cert f spelled h') =
+    ap (λ (l : List ℕ). Ok l) (errors_unique unique b h x.cert y.cert es fs (ap (λ (c : Cert). c.nodes) same) v x.accepted y.accepted)
+text_answers_are_one fail unique certs faults sound checks b h version text (Ok es) (Err _) v small x (of_text f h') = absurd (sound version text x.cert f x.spelled h')
+text_answers_are_one fail unique certs faults sound checks b h version text (Ok es) (Err _) v small x (of_cert cert f spelled h') =
     let same = (certs version version text cert x.cert small small spelled x.spelled).1 in
-    absurd (certs_fail b h x.cert es f v (subst (λ c. HasCheckFault b h c f) same h') x.accepted)
-text_answers_are_one certs faults sound checks b h version text (Err _) (Ok fs) v small (of_text f h') y = absurd (sound version text y.cert f y.spelled h')
-text_answers_are_one certs faults sound checks b h version text (Err _) (Ok fs) v small (of_cert cert f spelled h') y =
+    absurd (certs_fail fail unique b h x.cert es f v (subst (λ c. HasCheckFault b h c f) same h') x.accepted)
+text_answers_are_one fail unique certs faults sound checks b h version text (Err _) (Ok fs) v small (of_text f h') y = absurd (sound version text y.cert f y.spelled h')
+text_answers_are_one fail unique certs faults sound checks b h version text (Err _) (Ok fs) v small (of_cert cert f spelled h') y =
     let same = (certs version version text cert y.cert small small spelled y.spelled).1 in
-    absurd (certs_fail b h y.cert fs f v (subst (λ c. HasCheckFault b h c f) same h') y.accepted)
-text_answers_are_one certs faults sound checks b h version text (Err _) (Err _) v small (of_text f h') (of_text g k') = ap (λ (l : CertFault). Err (refusal.Text l)) (faults version text f g h' k')
-text_answers_are_one certs faults sound checks b h version text (Err _) (Err _) v small (of_text f h') (of_cert cert g spelled k') = absurd (sound version text cert f spelled h')
-text_answers_are_one certs faults sound checks b h version text (Err _) (Err _) v small (of_cert cert f spelled h') (of_text g k') = absurd (sound version text cert g spelled k')
-text_answers_are_one certs faults sound checks b h version text (Err _) (Err _) v small (of_cert cert f spelled h') (of_cert other g spelled' k') =
+    absurd (certs_fail fail unique b h y.cert fs f v (subst (λ c. HasCheckFault b h c f) same h') y.accepted)
+text_answers_are_one fail unique certs faults sound checks b h version text (Err _) (Err _) v small (of_text f h') (of_text g k') = ap (λ (l : CertFault). Err (refusal.Text l)) (faults version text f g h' k')
+text_answers_are_one fail unique certs faults sound checks b h version text (Err _) (Err _) v small (of_text f h') (of_cert cert g spelled k') = absurd (sound version text cert f spelled h')
+text_answers_are_one fail unique certs faults sound checks b h version text (Err _) (Err _) v small (of_cert cert f spelled h') (of_text g k') = absurd (sound version text cert g spelled k')
+text_answers_are_one fail unique certs faults sound checks b h version text (Err _) (Err _) v small (of_cert cert f spelled h') (of_cert other g spelled' k') =
     let same = (certs version version text cert other small small spelled spelled').1 in
     ap (λ (l : CheckFault). Err (refusal.Check l)) (checks b h other f g v (subst (λ c. HasCheckFault b h c f) same h') k')

@@ -1,58 +1,25 @@
 -- The pairs of a leaf's line.
-use Rattle.std.proofs.Common.{◌≡◌, ⊎_elim, ℕ, zero, suc, ◌+◌, ◌-◌, ◌<◌, ◌≤◌, List, [], ◌∷◌, length, get_or, Bool, Option, Some, sym, ap, ◌∙◌, subst, arith}
-use Rattle.std.specs.Prelude.{◌≢◌, slice_get, slice_index, slice_set, IfSome, max, IsTrue, IsSomeAnd}
-use Rattle.std.proofs.lemmas.Option.{slice_get-get_or, slice_get_within}
+use Rattle.std.proofs.Common.{◌≡◌, ⊎_elim, ℕ, zero, suc, ◌+◌, ◌-◌, ◌<◌, ◌≤◌, List, [], ◌∷◌, length, Some, ap, ◌∙◌, subst, arith}
+use Rattle.std.specs.Prelude.{slice_get, slice_index, slice_set, IfSome, max}
+use Rattle.std.proofs.lemmas.Option.{slice_get_within}
 use Rattle.std.proofs.lemmas.Bool.{cases_lt}
 use Rattle.fuzzy_meaning.specs.declared.block.Block.{Block}
 use Rattle.fuzzy_meaning.specs.declared.block.Output.{Output}
-use Rattle.fuzzy_meaning.specs.declared.block.Rule.{Rule}
 use Rattle.fuzzy_meaning.specs.Blocks.{output_at}
-use Rattle.fuzzy_meaning.proofs.BlockLemmas.{IsSomeAnd-some, IsSomeAnd-within}
+use Rattle.fz_list.proofs.Algebra.{AreFilled, AreFilled-more}
 use Rattle.error_bound.specs.declared.boxes.Leaf.{Leaf}
-use Rattle.error_bound.specs.Leaves.{rule_at, concludes_some, IsPairFor, Holds}
+use Rattle.error_bound.specs.Leaves.{Holds}
 use Rattle.error_bound.specs.Bounds.{IsBound}
-use Rattle.error_bound.proofs.Filling.{AreFilled, AreFilled-more}
 use Rattle.cert_check.specs.Trees.{Part, leaves_of}
 use Rattle.cert_check.specs.Acceptance.{HasBound}
 use Rattle.cert_check.specs.Faults.{HoldBefore}
 use Rattle.cert_check.specs.Walks.{Raises}
-
--- the element that a place within a list has
-pub at_place : {X : Type 0} (xs : List X) (k : ℕ) (x : X) → k < length xs → x ≡ get_or xs k x → slice_get xs k ≡ Some x
-at_place xs k x within e = slice_get-get_or xs k x within ∙ ap (λ y. Some y) (sym e)
 
 pub leaf_at : (pairs : List (ℕ × ℕ)) (k : ℕ) (p : ℕ × ℕ) → slice_get pairs k ≡ Some p
     → slice_get (leaves_of pairs) k ≡ Some (record { rule = p.0; k = p.1 })
 leaf_at [] k p e = absurd (let z : ⊥ = cc in z)
 leaf_at (q ∷ qs) zero p e = let s : q ≡ p = cc in ap (λ (r : ℕ × ℕ). Some (record { rule = r.0; k = r.1 })) s
 leaf_at (q ∷ qs) (suc k) p e = leaf_at qs k p e
-
-pub IsSomeAnd-at : {X : Type 0} (P : X → Type 0) (o : Option X) (x : X) → o ≡ Some x → P x → IsSomeAnd o P
-IsSomeAnd-at P o x e h = rw e h
-
-module _ (b : Block) (o : ℕ) (pair : Leaf) (some_rule : pair.rule ≢ 0) (some_part : pair.k ≢ 0) (small : pair.k ≤ 255) where
-  pub pair_named : (r : Rule) (t : Bool) → rule_at b pair.rule ≡ Some r → t ≡ concludes_some r o → (IsTrue t
-      → IsPairFor b o pair) × (IsPairFor b o pair → IsTrue t)
-  pair_named r t er et = (to, from)
-    where
-      to : IsTrue t → IsPairFor b o pair
-      to h = record {
-        silent = λ z. absurd (some_part z);
-        strong = λ z. omega (arith, some_rule);
-        part = small;
-        concludes_one = λ z. IsSomeAnd-at (λ r. IsTrue (concludes_some r o)) (rule_at b pair.rule) r er
-            (subst (λ u. IsTrue u) et h);
-      }
-
-      from : IsPairFor b o pair → IsTrue t
-      from p = subst (λ u. IsTrue u) (sym et) (IsSomeAnd-some (λ r. IsTrue (concludes_some r o)) (rule_at b pair.rule) r er
-          (p.concludes_one (omega (arith, some_part))))
-
-  pub pair_unnamed : length b.rules ≤ pair.rule - 1 → IsPairFor b o pair → ⊥
-  pair_unnamed past p =
-      let w = IsSomeAnd-within (λ r. IsTrue (concludes_some r o)) b.rules (pair.rule - 1)
-      (p.concludes_one (omega (arith, some_part))) in
-      omega (arith, w, past)
 
 -- the error at place k rises to the Bound of the leaf's pair
 abbrev pub IsRaised : Block → ℕ → Part → List ℕ → ℕ → Output → ℕ → Type 0

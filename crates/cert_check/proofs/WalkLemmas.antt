@@ -25,6 +25,7 @@ use Rattle.cert_check.specs.Faults.{AllHold, HasPartFault, AreClaimed, HasCheckF
 use Rattle.cert_check.specs.Walks.{stack_of, Raises, cuts_of, AreCutOut, AreTrees, AreReached, IsGreatestSoFar, HasWalked}
 use Rattle.cert_check.proofs.CutLemmas.{IsBox-left, IsBox-right}
 use Rattle.cert_check.proofs.Determined.{left_count, right_count, map_count}
+use Rattle.fz_list.proofs.Algebra.{All-cons}
 
 trees_split : (box : List Interval) (boxes : List (List Interval)) (i c : ℕ) (nodes : List Node) (parts : List Part)
     (rest : List Node) → 1 ≤ i → IsCut (i - 1) c box
@@ -109,10 +110,6 @@ All-head P x xs a = a 0 x (omega arith)
 
 All-tail : {X : Type 0} (P : X → Type 0) (x : X) (xs : List X) → All P (x ∷ xs) → All P xs
 All-tail P x xs a k d l = a (suc k) d (omega arith)
-
-All-cons : {X : Type 0} (P : X → Type 0) (x : X) (xs : List X) → P x → All P xs → All P (x ∷ xs)
-All-cons P x xs h a zero d l = h
-All-cons P x xs h a (suc k) d l = a k d (omega arith)
 
 zero_at : (n k : ℕ) → slice_index (replicate {A = ℕ} n 0) k ≡ 0
 zero_at zero k = refl

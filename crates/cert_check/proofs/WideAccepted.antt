@@ -1,46 +1,34 @@
 -- A certificate that is accepted for bytes is accepted for 16 bits.
 use Rattle.std.proofs.Common.{◌≡◌, ⊎_elim, ℕ, zero, suc, ◌+◌, ◌-◌, ◌<◌, ◌≤◌, List, [], ◌∷◌, ◌++◌, length, Option, Some, refl, ap, subst, arith}
-use Rattle.std.specs.Prelude.{All, slice_get, ◌<ℤ◌}
+use Rattle.std.specs.Prelude.{All, slice_get}
 use Rattle.std.proofs.lemmas.Bool.{cases_lt}
 use Rattle.fuzzy_meaning.specs.declared.block.Block.{Block}
 use Rattle.fuzzy_meaning.specs.declared.block.Output.{Output}
-use Rattle.fuzzy_meaning.specs.Blocks.{output_at}
-use Rattle.fuzzy_meaning.proofs.BlockLemmas.{IsValidOutput-at}
+use Rattle.fuzzy_meaning.specs.Blocks.{IsValid, output_at}
 use Rattle.error_bound.specs.declared.boxes.Interval.{Interval}
-use Rattle.error_bound.specs.Bounds.{bound}
-use Rattle.error_bound.proofs.Literals.{some_at}
-use Rattle.error_bound.proofs.WideLemmas.{wide_bound-le}
+use Rattle.fz_list.proofs.Algebra.{some_at, All-cons, All-none}
+use Rattle.error_bound.specs.Laws.{BoundsFallWithParts}
 use Rattle.box_tree.specs.declared.cert.Node.{Node}
 use Rattle.cert_check.specs.Trees.{Part, IsTree, leaf, split, whole}
 use Rattle.cert_check.specs.Acceptance.{HasBound, IsGreatestBound}
 use Rattle.cert_check.specs.Laws.{WideIsAccepted}
-use Rattle.cert_check.proofs.Determined.{within_list}
+use Rattle.std.proofs.lemmas.Option.{slice_get_within}
 
-at_most : {a c d : ℕ} → a ≤ c → d ≡ c → a ≤ d
-at_most h e = omega arith
-
-wide_has : (b : Block) (o : ℕ) (x : Output) (p : Part) (n : ℕ) → x.lo.0 <ℤ x.hi.0 → HasBound b o x 1 p n → (m : ℕ) × HasBound b o x 256 p m × (m ≤ n)
-wide_has b o x p n range h =
-    let e = h.bound_is.errors in
-    (bound b e o x 256 h.leaf, record { leaf = h.leaf; pair_is = h.pair_is; holds = h.holds; bound_is = record { errors = e; are_errors = h.bound_is.are_errors; is = refl } }, at_most (wide_bound-le b e o x 256 h.leaf range (omega arith)) h.bound_is.is)
-
-All-join : {X : Type 0} (P : X → Type 0) (x : X) (xs : List X) → P x → All P xs → All P (x ∷ xs)
-All-join P x xs h t zero d l = h
-All-join P x xs h t (suc k) d l = t k d (omega arith)
-
-All-nil : {X : Type 0} (P : X → Type 0) → All P []
-All-nil P k d l = absurd (omega arith)
+wide_has : BoundsFallWithParts → (b : Block) (o : ℕ) (x : Output) (p : Part) (n : ℕ) → IsValid b → output_at b o ≡ Some x → HasBound b o x 1 p n → (m : ℕ) × HasBound b o x 256 p m × (m ≤ n)
+wide_has fall b o x p n valid out h =
+    let w = fall b p.box o x 256 h.leaf n valid out (omega arith) h.bound_is in
+    (w.0, record { leaf = h.leaf; pair_is = h.pair_is; holds = h.holds; bound_is = w.1 }, w.2)
 
 at_least : {a c d : ℕ} → a ≤ c → c ≤ d → a ≤ d
 at_least h k = omega arith
 
-module _ (b : Block) (o : ℕ) (x : Output) (range : x.lo.0 <ℤ x.hi.0) where
+module _ (fall : BoundsFallWithParts) (b : Block) (o : ℕ) (x : Output) (valid : IsValid b) (out : output_at b o ≡ Some x) where
   joined : (p : Part) (ps : List Part) (m f e : ℕ) → HasBound b o x 256 p m → m ≤ e → IsGreatestBound b o x 256 ps f → f ≤ e → (g : ℕ) × IsGreatestBound b o x 256 (p ∷ ps) g × (g ≤ e)
   joined p ps m f e hb me g fe = ⊎_elim
       (λ (l : f < m). (
         m,
         record {
-          each = All-join (λ (q : Part). (n : ℕ) × HasBound b o x 256 q n × (n ≤ m)) p ps (m, hb, omega arith) (λ k d i. let w = g.each k d i in (w.0, w.1, at_least w.2 (omega arith)));
+          each = All-cons (λ (q : Part). (n : ℕ) × HasBound b o x 256 q n × (n ≤ m)) p ps (m, hb, omega arith) (λ k d i. let w = g.each k d i in (w.0, w.1, at_least w.2 (omega arith)));
           some = (0, p, omega arith, refl, hb);
         },
         me,
@@ -48,7 +36,7 @@ module _ (b : Block) (o : ℕ) (x : Output) (range : x.lo.0 <ℤ x.hi.0) where
       (λ (l : m ≤ f). (
         f,
         record {
-          each = All-join (λ (q : Part). (n : ℕ) × HasBound b o x 256 q n × (n ≤ f)) p ps (m, hb, l) g.each;
+          each = All-cons (λ (q : Part). (n : ℕ) × HasBound b o x 256 q n × (n ≤ f)) p ps (m, hb, l) g.each;
           some = (suc g.some.0, g.some.1, (let z = g.some.2 in omega arith), g.some.3, g.some.4);
         },
         fe,
@@ -59,11 +47,11 @@ module _ (b : Block) (o : ℕ) (x : Output) (range : x.lo.0 <ℤ x.hi.0) where
   greatest_of [] e l h = absurd (omega arith)
   greatest_of (p ∷ []) e l h =
       let n = h 0 p (omega arith) in
-      let w = wide_has b o x p n.0 range n.1 in
-      (w.0, record { each = All-join (λ (q : Part). (n : ℕ) × HasBound b o x 256 q n × (n ≤ w.0)) p [] (w.0, w.1, omega arith) (All-nil (λ (q : Part). (n : ℕ) × HasBound b o x 256 q n × (n ≤ w.0))); some = (0, p, omega arith, refl, w.1) }, at_least w.2 n.2)
+      let w = wide_has fall b o x p n.0 valid out n.1 in
+      (w.0, record { each = All-cons (λ (q : Part). (n : ℕ) × HasBound b o x 256 q n × (n ≤ w.0)) p [] (w.0, w.1, omega arith) (All-none (λ (q : Part). (n : ℕ) × HasBound b o x 256 q n × (n ≤ w.0))); some = (0, p, omega arith, refl, w.1) }, at_least w.2 n.2)
   greatest_of (p ∷ q ∷ ps) e l h =
       let n = h 0 p (omega arith) in
-      let w = wide_has b o x p n.0 range n.1 in
+      let w = wide_has fall b o x p n.0 valid out n.1 in
       let g = greatest_of (q ∷ ps) e (omega arith) (λ k d i. h (suc k) d (omega arith)) in
       joined p (q ∷ ps) w.0 g.0 e w.1 (at_least w.2 n.2) g.1 g.2
 
@@ -88,8 +76,8 @@ choice {X} Q (x ∷ xs) h = step (h 0 x refl) (choice (λ k. Q (suc k)) xs (λ k
         at zero y f e g = let e1 : x ≡ y = cc in let e2 : head.0 ≡ f = cc in subst (λ z. Q 0 z f) e1 (subst (λ n. Q 0 x n) e2 head.1)
         at (suc k) y f e g = tail.2 k y f e g
 
-pub wide_accepted : WideIsAccepted
-wide_accepted b cert es v a = (
+pub wide_accepted : BoundsFallWithParts → WideIsAccepted
+wide_accepted fall b cert es v a = (
   fs,
   record {
     claims_count = a.claims_count;
@@ -100,7 +88,7 @@ wide_accepted b cert es v a = (
         let eo : o - 1 + 1 ≡ o = omega arith in
         subst (λ q. IsGreatestBound b q x 256 a.parts f) eo (c.2 (o - 1) x f ex ef).0;
     claimed = λ k f d ef ed.
-        let l = within_list fs k f ef in
+        let l = slice_get_within fs k f ef in
         let n1 = c.1 in
         let n2 = a.errors_count in
         let x = some_at b.outputs k (omega arith) in
@@ -108,7 +96,7 @@ wide_accepted b cert es v a = (
         at_least ((c.2 k x.0 f x.1 ef).1 e.0 e.1) (a.claimed k e.0 d e.1 ed);
   },
   λ k e f ee ef.
-      let l = within_list es k e ee in
+      let l = slice_get_within es k e ee in
       let n2 = a.errors_count in
       let x = some_at b.outputs k (omega arith) in
       (c.2 k x.0 f x.1 ef).1 e ee,
@@ -116,13 +104,13 @@ wide_accepted b cert es v a = (
   where
     pick : (k : ℕ) (x : Output) → slice_get b.outputs k ≡ Some x → (f : ℕ) × IsGreatestBound b (k + 1) x 256 a.parts f × ((e : ℕ) → slice_get es k ≡ Some e → f ≤ e)
     pick k x ex =
-        let l = within_list b.outputs k x ex in
+        let l = slice_get_within b.outputs k x ex in
         let n2 = a.errors_count in
         let e = some_at es k (omega arith) in
         let ek : k ≡ k + 1 - 1 = omega arith in
         let ex' : output_at b (k + 1) ≡ Some x = subst (λ j. slice_get b.outputs j ≡ Some x) ek ex in
         let g = a.greatest (k + 1) x e.0 (omega arith) ex' (subst (λ j. slice_get es j ≡ Some e.0) ek e.1) in
-        let w = greatest_of b (k + 1) x (IsValidOutput-at b (k + 1) x v ex').range a.parts e.0 (some_leaf (whole b) cert.nodes [] a.parts a.tree) g.each in
+        let w = greatest_of fall b (k + 1) x v ex' a.parts e.0 (some_leaf (whole b) cert.nodes [] a.parts a.tree) g.each in
         (w.0, w.1, λ d ed. same_le w.2 e.1 ed)
       where
         same_le : {p q r : ℕ} {s : Option ℕ} → p ≤ q → s ≡ Some q → s ≡ Some r → p ≤ r

@@ -1,10 +1,9 @@
 -- What an accepted certificate says.
-use Rattle.std.specs.Prelude.{◌≡◌, ℕ, ◌-◌, ◌≤◌, true, List, [], ◌∷◌, fold, All, Some, slice_get, Result, Ok, Err}
+use Rattle.std.specs.Prelude.{◌≡◌, ℕ, ◌-◌, ◌≤◌, true, List, fold, All, Some, slice_get, Result, Ok, Err}
 use Rattle.fz_num.specs.declared.dec.Dec.{Dec}
 use Rattle.fz_num.specs.Decimals.{distance}
 use Rattle.fz_num.specs.Fracs.{IsClose}
 use Rattle.fuzzy_meaning.specs.declared.block.Block.{Block}
-use Rattle.fuzzy_meaning.specs.declared.block.Input.{Input}
 use Rattle.fuzzy_meaning.specs.declared.block.Output.{Output}
 use Rattle.fuzzy_meaning.specs.Blocks.{IsValid, AreInputs, output_at}
 use Rattle.fuzzy_meaning.specs.Meaning.{exact_answer}
@@ -17,8 +16,8 @@ use Rattle.cert_check.specs.Trees.{Part, IsTree, lies, leaves_with}
 use Rattle.cert_check.specs.declared.checker.CheckFault.{CheckFault}
 use Rattle.cert_check.specs.Acceptance.{IsAccepted}
 use Rattle.cert_check.specs.Faults.{HasCheckFault}
-use Rattle.cert_check.specs.declared.text.CertRefusal.{CertRefusal}
-use Rattle.cert_check.specs.Refusals.{IsAcceptedText, HasRefusal}
+use Rattle.cert_check.specs.declared.text.TextFault.{TextFault}
+use Rattle.cert_check.specs.TextFaults.{IsAcceptedText, HasTextFault}
 
 -- each list of bytes of the box lies in exactly one leaf
 abbrev pub OneLeafHasTheBytes : Type 0
@@ -54,12 +53,12 @@ CheckFaultsAreOne =
     (b : Block) (h : ℕ) (cert : Cert) (f g : CheckFault) → IsValid b → HasCheckFault b h cert f → HasCheckFault b h cert g → f ≡ g
 
 -- the errors that a text is accepted with, or why it is refused
-abbrev pub IsTextAnswer : Block → ℕ → ℕ → List ℕ → Result (List ℕ) CertRefusal → Type 0
+abbrev pub IsTextAnswer : Block → ℕ → ℕ → List ℕ → Result (List ℕ) TextFault → Type 0
 IsTextAnswer b h version text (Ok errors) = IsAcceptedText b h version text errors
-IsTextAnswer b h version text (Err refusal) = HasRefusal b h version text refusal
+IsTextAnswer b h version text (Err refusal) = HasTextFault b h version text refusal
 
 -- a text of a version has at most one answer
 abbrev pub TextAnswersAreOne : Type 0
 TextAnswersAreOne =
-    (b : Block) (h version : ℕ) (text : List ℕ) (x y : Result (List ℕ) CertRefusal) → IsValid b → version ≤ 2
+    (b : Block) (h version : ℕ) (text : List ℕ) (x y : Result (List ℕ) TextFault) → IsValid b → version ≤ 2
     → IsTextAnswer b h version text x → IsTextAnswer b h version text y → x ≡ y

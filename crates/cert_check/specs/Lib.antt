@@ -2,7 +2,9 @@ pub mod Trees
 pub mod Acceptance
 pub mod Faults
 pub mod Walks
-pub mod Refusals
+pub mod TextFaults
 pub mod Laws
 pub mod SameBlocks
 pub mod Examples
+pub mod BoxLaws
+pub mod SameLeaves

@@ -10,7 +10,7 @@ use error_bound::{ByteBox, Interval};
 use fuzzy_meaning::Block;
 
 /// All bytes of all inputs.
-pub(crate) fn whole_box(block: &Block) -> ByteBox
+pub fn whole_box(block: &Block) -> ByteBox
     requires { length block.now.inputs ≤ 8 }
     ensures { result.0.items ≡ whole block.now }
 {
@@ -31,7 +31,7 @@ pub(crate) fn push(boxes: &mut Vec<ByteBox>, bytes: ByteBox)
     boxes.push(bytes).unwrap();
 }
 
-/// Puts the halves of a box onto the stack, the left one last.
+/// Puts the halves of a box onto the stack, the left one last, for which the box is cut in place.
 pub(crate) fn push_halves(
     boxes: &mut Vec<ByteBox>,
     bytes: ByteBox,
@@ -53,9 +53,11 @@ pub(crate) fn push_halves(
     match interval_cut(&bytes, place, cut) {
         None => Err(CheckFault::BadCut(line)),
         Some(Interval { from, to }) => {
-            let right = with_interval(&bytes, place, Interval { from: cut, to });
-            let left = with_interval(&bytes, place, Interval { from, to: cut - 1 });
+            let mut right = bytes.copied();
+            set_interval(&mut right, place, Interval { from: cut, to });
             push(boxes, right);
+            let mut left = bytes;
+            set_interval(&mut left, place, Interval { from, to: cut - 1 });
             push(boxes, left);
             Ok(())
         }
@@ -76,13 +78,10 @@ fn interval_cut(bytes: &ByteBox, place: usize, cut: u8) -> Option<Interval>
     }
 }
 
-/// The box with another interval at a place.
-fn with_interval(bytes: &ByteBox, place: usize, new: Interval) -> ByteBox
-    ensures { result.0.items ≡ set bytes.now.0.items place new }
+/// Puts another interval at a place of a box.
+fn set_interval(bytes: &mut ByteBox, place: usize, new: Interval)
+    requires { place < length bytes.old.0.items }
+    ensures { bytes.new.0.items ≡ set bytes.old.0.items place new }
 {
-    let mut intervals = ArrayVec::new();
-    for (k, interval) in bytes.0.as_slice().iter().enumerate() {
-        intervals.push(if k == place { new } else { *interval });
-    }
-    ByteBox(intervals)
+    bytes.0[place] = new;
 }

@@ -2,7 +2,7 @@
 ghost use Rattle.std.specs.Prelude.{◌≡◌, ◌≢◌, ◌↔◌, ◌≤◌, ◌<◌, ◌+◌, ◌-◌, ℕ, length, All, OnOk, IfOk, IfErr, IfSome, IsTrue, Some, slice_get};
 ghost use Rattle.fuzzy_meaning.specs.Blocks.{IsValid, output_at};
 ghost use Rattle.error_bound.specs.Boxes.{IsBoxOf};
-ghost use Rattle.error_bound.specs.Leaves.{Holds, IsPairFor, concludes_some as concludes_any};
+ghost use Rattle.error_bound.specs.Leaves.{Holds};
 ghost use Rattle.error_bound.specs.Bounds.{IsBound};
 ghost use Rattle.error_bound.specs.Reaches.{AreBlockCells, IsTable};
 ghost use Rattle.cert_check.specs.Trees.{part_of};
@@ -10,8 +10,8 @@ ghost use Rattle.cert_check.specs.Faults.{AllHold, IsPairFault, HasPartFault};
 ghost use Rattle.cert_check.specs.Walks.{Raises};
 
 use crate::checker::CheckFault;
-use error_bound::{BlockCells, BoxTable, ByteBox, Leaf};
-use fuzzy_meaning::{Block, Rule};
+use error_bound::{BlockCells, BoxTable, ByteBox, Leaf, is_pair_for};
+use fuzzy_meaning::Block;
 
 /// Raises the error of each output to the Bound of its pair on a box, or tells the first pair that
 /// is at fault.
@@ -64,31 +64,11 @@ fn pair_bound(
         (λ x. IsBound block.now table.now.bytes.0.items out x parts pair n)) }
     ensures fault { IfErr result (IsPairFault block.now table.now.bytes.0.items out pair line) }
 {
-    if !is_pair_for(block, pair.rule, pair.k, out) {
+    if !is_pair_for(block, &pair, out) {
         return Err(CheckFault::BadRule(line));
     }
     match table.bound(block, &pair, out, parts) {
         Ok(bound) => Ok(bound),
         Err(fault) => Err(CheckFault::Leaf(line, fault)),
     }
-}
-
-/// Whether a pair is silent, or names a rule that concludes a term of an output.
-fn is_pair_for(block: &Block, rule: u16, k: u8, out: u8) -> bool
-    ensures { IsTrue result ↔ IsPairFor block.now out (record { rule = rule; k = k }) }
-{
-    if rule == 0 || k == 0 {
-        return rule == 0 && k == 0;
-    }
-    match block.rules.as_slice().get(rule as usize - 1) {
-        Some(rule) => concludes_some(rule, out),
-        None => false,
-    }
-}
-
-/// Whether a rule concludes a term of an output.
-fn concludes_some(rule: &Rule, out: u8) -> bool
-    ensures { result ≡ concludes_any rule.now out }
-{
-    rule.concl.as_slice().iter().any(|c| c.0 == out)
 }

@@ -1,7 +1,7 @@
 //! The heater's certificate, worked by hand.
 ghost use Rattle.std.specs.Prelude.{◌≤◌, length};
 
-use crate::{CertRefusal, CheckFault, check, check_text, check_text16, check16};
+use crate::{CheckFault, TextFault, check, check_text, check_text16, check16};
 use box_tree::{CertFault, read};
 use error_bound::LeafFault;
 use fuzzy_meaning::heater;
@@ -12,7 +12,7 @@ use std::test::Fail;
 const HEATER: &[u8] = b"FZC 1\nclaim 19609\nsplit 1 128\nleaf 1 127\nleaf 2 127\n";
 
 /// The heater's error under a text of version 1, or why the text is refused.
-fn answer(alloc: Global, text: &[u8]) -> Result<Result<Option<u32>, CertRefusal>, Fail>
+fn answer(alloc: Global, text: &[u8]) -> Result<Result<Option<u32>, TextFault>, Fail>
     requires { length text.now ≤ 1048576 }
 {
     let block = heater(alloc)?;
@@ -82,7 +82,7 @@ const REFUSED: [(&[u8], CheckFault); 8] = [
 fn the_first_fault_of_a_certificate_is_told(rt: HostRuntime) -> Result<(), Fail> {
     for (text, fault) in REFUSED {
         assert!(rt; text.len() <= 1_048_576);
-        assert_eq!(rt; answer(rt.alloc(), text)?, Err(CertRefusal::Check(fault)));
+        assert_eq!(rt; answer(rt.alloc(), text)?, Err(TextFault::Check(fault)));
         let cert = read(rt.alloc(), text)?;
         let block = heater(rt.alloc())?;
         assert!(rt; check(rt.alloc(), &block, &cert).err() == Some(fault));
@@ -115,7 +115,7 @@ const FAULTY: [(&[u8], CertFault); 5] = [
 fn a_fault_of_the_text_comes_first(rt: HostRuntime) -> Result<(), Fail> {
     for (text, fault) in FAULTY {
         assert!(rt; text.len() <= 1_048_576);
-        assert_eq!(rt; answer(rt.alloc(), text)?, Err(CertRefusal::Text(fault)));
+        assert_eq!(rt; answer(rt.alloc(), text)?, Err(TextFault::Text(fault)));
     }
     Ok(())
 }

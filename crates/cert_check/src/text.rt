@@ -2,7 +2,7 @@
 ghost use Rattle.std.specs.Prelude.{◌≡◌, ◌≢◌, ◌≤◌, ℕ, List as Items, [], length, IfOk, IfErr};
 ghost use Rattle.fuzzy_meaning.specs.Blocks.{IsValid};
 ghost use Rattle.box_tree.specs.Reading.{HasRead};
-ghost use Rattle.cert_check.specs.Refusals.{IsAcceptedText, HasRefusal};
+ghost use Rattle.cert_check.specs.TextFaults.{IsAcceptedText, HasTextFault};
 
 use crate::checker::CheckFault;
 use crate::walk::Walk;
@@ -11,9 +11,10 @@ use fuzzy_meaning::Block;
 use std::alloc::Global;
 use thiserror::Error;
 
-/// Why a text is refused as a certificate.
+/// Why a text is refused as a certificate: by a fault of its lines, by a fault of the certificate that
+/// they spell, or for want of memory, which says nothing of the text.
 #[derive(Clone, Copy, PartialEq, Eq, Debug, Error)]
-pub enum CertRefusal {
+pub enum TextFault {
     /// The text has no certificate. It is never `CertFault::Memory`.
     #[error("{0}")]
     Text(CertFault),
@@ -28,28 +29,28 @@ pub enum CertRefusal {
 /// The errors that a text's certificate is accepted with, for answers that are bytes, or why the text
 /// is refused: its first fault as a text, or else that of its certificate. It makes no tree, and takes
 /// what memory it needs before the first node.
-pub fn check_text(alloc: Global, block: &Block, text: &[u8]) -> Result<Vec<u32>, CertRefusal>
+pub fn check_text(alloc: Global, block: &Block, text: &[u8]) -> Result<Vec<u32>, TextFault>
     requires block { IsValid block.now }
     requires text { length text.now ≤ 1048576 }
     ensures accepted { IfOk result (λ errors. IsAcceptedText block.now 1 1 text.now errors.items) }
-    ensures refused { IfErr result (λ refusal. refusal ≢ CertRefusal.Memory → HasRefusal block.now 1 1 text.now refusal) }
+    ensures refused { IfErr result (λ refusal. refusal ≢ TextFault.Memory → HasTextFault block.now 1 1 text.now refusal) }
 {
     match Lines::new(text) {
         Ok(lines) => errors_of(alloc, block, lines, 1),
-        Err(fault) => Err(CertRefusal::Text(fault)),
+        Err(fault) => Err(TextFault::Text(fault)),
     }
 }
 
 /// The same for answers of 16 bits, and texts of version 2.
-pub fn check_text16(alloc: Global, block: &Block, text: &[u8]) -> Result<Vec<u32>, CertRefusal>
+pub fn check_text16(alloc: Global, block: &Block, text: &[u8]) -> Result<Vec<u32>, TextFault>
     requires block { IsValid block.now }
     requires text { length text.now ≤ 1048576 }
     ensures accepted { IfOk result (λ errors. IsAcceptedText block.now 256 2 text.now errors.items) }
-    ensures refused { IfErr result (λ refusal. refusal ≢ CertRefusal.Memory → HasRefusal block.now 256 2 text.now refusal) }
+    ensures refused { IfErr result (λ refusal. refusal ≢ TextFault.Memory → HasTextFault block.now 256 2 text.now refusal) }
 {
     match Lines::new16(text) {
         Ok(lines) => errors_of(alloc, block, lines, 256),
-        Err(fault) => Err(CertRefusal::Text(fault)),
+        Err(fault) => Err(TextFault::Text(fault)),
     }
 }
 
@@ -60,7 +61,7 @@ fn errors_of(
     block: &Block,
     mut lines: Lines<'_>,
     parts: u16,
-) -> Result<Vec<u32>, CertRefusal>
+) -> Result<Vec<u32>, TextFault>
     requires block { IsValid block.now }
     requires lines { (version : ℕ) × (text : Items ℕ) × HasRead version text [] lines }
     requires parts_from { 1 ≤ parts }
@@ -68,22 +69,22 @@ fn errors_of(
     ensures accepted { (version : ℕ) (text : Items ℕ) → HasRead version text [] lines.entry
         → IfOk result (λ errors. IsAcceptedText block.now parts version text errors.items) }
     ensures refused { (version : ℕ) (text : Items ℕ) → HasRead version text [] lines.entry
-        → IfErr result (λ refusal. refusal ≢ CertRefusal.Memory → HasRefusal block.now parts version text refusal) }
+        → IfErr result (λ refusal. refusal ≢ TextFault.Memory → HasTextFault block.now parts version text refusal) }
 {
     let claims = lines.claims();
     let mut walk = match Walk::new(alloc, block, claims.as_slice(), parts) {
         Ok(walk) => walk,
-        Err(_) => return Err(CertRefusal::Memory),
+        Err(_) => return Err(TextFault::Memory),
     };
     loop {
         match lines.next() {
             Ok(Some(node)) => walk.take(&node),
             Ok(None) => break,
-            Err(fault) => return Err(CertRefusal::Text(fault)),
+            Err(fault) => return Err(TextFault::Text(fault)),
         }
     }
     match walk.finish() {
         Ok(errors) => Ok(errors),
-        Err(fault) => Err(CertRefusal::Check(fault)),
+        Err(fault) => Err(TextFault::Check(fault)),
     }
 }

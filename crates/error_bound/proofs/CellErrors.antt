@@ -4,8 +4,7 @@ use native.Mathlib.Nat.{mul-sub}
 use Rattle.std.specs.Prelude.{◌==◌}
 use Rattle.std.proofs.lemmas.Bool.{cases_lt}
 use Rattle.fz_num.specs.Fractions.{Fraction, over, IsProper, AtMost, IsNear, gap}
-use Rattle.fz_num.proofs.Order.{AtMost-refl, AtMost-trans, IsProper-lesser}
-use Rattle.fz_num.proofs.Gaps.{gap-near, gap-least}
+use Rattle.fz_num.proofs.Algebra.{AtMost-refl, AtMost-trans, IsProper-lesser, gap-near, gap-least}
 use Rattle.byte_scaling.specs.Cells.{IsFromTo, inside, IsInCell}
 use Rattle.fuzzy_meaning.specs.Places.{Points, rise_at, fall_at, degree_at}
 use Rattle.error_bound.specs.Places.{rise_end, low, high}

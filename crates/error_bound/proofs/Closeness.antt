@@ -7,13 +7,12 @@ use borrow.Author.Differences.{up, down}
 use Rattle.fz_num.specs.declared.dec.Dec.{Dec}
 use Rattle.fz_num.specs.Fractions.{over, up_div}
 use Rattle.fz_num.specs.Decimals.{distance}
-use Rattle.fz_num.specs.Fracs.{Quotient, IsClose}
-use Rattle.fz_num.proofs.Gaps.{le-up_div}
+use Rattle.fz_num.specs.Fracs.{IsClose}
+use Rattle.fz_num.proofs.Algebra.{le-up_div}
 use Rattle.fuzzy_meaning.specs.declared.block.Output.{Output}
 use Rattle.fuzzy_meaning.specs.Blocks.{IsWithin}
 use Rattle.fuzzy_meaning.specs.Meaning.{quotient_of}
-use Rattle.byte_scaling.specs.Cells.{nearest_byte, value_in}
-use Rattle.byte_scaling.proofs.CellLemmas.{nearest_byte-le}
+use Rattle.byte_scaling.specs.Cells.{nearest_byte, NearestIsByte, value_in}
 use Rattle.error_bound.specs.Errors.{apart}
 use Rattle.error_bound.specs.Bounds.{in_millionths, offset}
 use Rattle.error_bound.proofs.Sums.{Apart}
@@ -40,8 +39,8 @@ close_value h o n q x m wd hh hm ex a =
     record { dens = mul-pos (mul-pos (omega arith) (mul-pos (omega arith) hh)) (mul-pos hm (omega arith)); cross = omega arith }
 
 -- the default's byte in h parts against the default
-pub close_default : (h : ℕ) (o : Output) (d : Dec) → 0 < h → o.lo.0 <ℤ o.hi.0 → IsWithin o.lo o.hi d → IsClose (distance o.lo o.hi) (in_millionths (over (offset o d) (255 * distance o.lo o.hi))) (value_in h o (h * nearest_byte o d)) (quotient_of d)
-close_default h o d hh range within =
+pub close_default : NearestIsByte → (h : ℕ) (o : Output) (d : Dec) → 0 < h → o.lo.0 <ℤ o.hi.0 → IsWithin o.lo o.hi d → IsClose (distance o.lo o.hi) (in_millionths (over (offset o d) (255 * distance o.lo o.hi))) (value_in h o (h * nearest_byte o d)) (quotient_of d)
+close_default is_byte h o d hh range within =
     let w = distance o.lo o.hi in
     let s = nearest_byte o d in
     let u = distance o.lo d in
@@ -49,7 +48,7 @@ close_default h o d hh range within =
     let n = in_millionths (over f (255 * w)) in
     let wp : 0 < w = omega (arith, ints) in
     let hu : u ≤ w = omega (arith, ints, within.low, within.high) in
-    let hs : s ≤ 255 = nearest_byte-le o d range within in
+    let hs : s ≤ 255 = is_byte o d range within in
     let ms : s * w ≤ 255 * w = mul-le-mul_right w hs in
     let up_le = le-up_div (1000000 * f) (255 * w) (mul-pos (omega arith) wp) in
     let small : f ≤ 255 * w = omega arith in
@@ -61,8 +60,3 @@ close_default h o d hh range within =
     let up1 : (s * w) * h ≤ (u * 255 + f) * h = mul-le-mul_right h (omega arith) in
     let down1 : (u * 255) * h ≤ (s * w + f) * h = mul-le-mul_right h (omega arith) in
     close_value h o n (h * s) d.0 1 u hh (omega arith) (omega (arith, ints, within.low)) (record { up = omega arith; down = omega arith })
-
-pub IsClose-more : (w e f : ℕ) (p q : Quotient) → e ≤ f → IsClose w e p q → IsClose w f p q
-IsClose-more w e f p q h c =
-    let m : e * (w * (p.den * q.den)) ≤ f * (w * (p.den * q.den)) = mul-le-mul_right (w * (p.den * q.den)) h in
-    record { dens = c.dens; cross = (let a = c.cross in omega arith) }

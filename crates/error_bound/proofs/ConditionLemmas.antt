@@ -1,8 +1,7 @@
 -- Of a condition: its error is at most the greatest of its literals', and its truth and its level lie within its spans.
 use Rattle.std.proofs.Common.{ℕ, ◌-◌, ◌≤◌, min, max, arith}
 use Rattle.fz_num.specs.Fractions.{Fraction, IsProper, AtMost, lesser, greater, one_minus, one, none, IsNear}
-use Rattle.fz_num.proofs.Order.{AtMost-refl, AtMost-trans, IsProper-lesser, IsProper-greater, lesser-mono, greater-mono, AtMost-one_minus, AtMost-lesser_left, AtMost-greater}
-use Rattle.fz_num.proofs.Nearness.{IsNear-lesser, IsNear-greater, IsNear-one_minus}
+use Rattle.fz_num.proofs.Algebra.{AtMost-refl, AtMost-trans, IsProper-lesser, IsProper-greater, lesser-mono, greater-mono, AtMost-one_minus, AtMost-lesser_left, AtMost-greater, IsNear-lesser, IsNear-greater, IsNear-one_minus}
 use Rattle.fuzzy_meaning.specs.Conditions.{Condition, is, negation, all, any, Conditions, end, also, level, least_level, greatest_level}
 use Rattle.fuzzy_meaning.specs.Meaning.{truth, least_truth, greatest_truth}
 use Rattle.error_bound.specs.Spans.{Span, ByteSpan, span, least_span, greatest_span, byte_span, least_byte_span, greatest_byte_span, greatest_literal, greatest_among}

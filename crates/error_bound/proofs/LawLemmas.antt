@@ -1,23 +1,21 @@
 -- Laws of boxes and their errors.
-use Rattle.std.proofs.Common.{ℕ, ◌+◌, ◌-◌, ◌*◌, ◌<◌, ◌≤◌, List, arith, mul-le-mul_right}
+use Rattle.std.proofs.Common.{ℕ, ◌+◌, ◌-◌, ◌*◌, ◌<◌, ◌≤◌, arith, mul-le-mul_right}
 use Rattle.std.specs.Prelude.{◌==◌}
 use Rattle.fz_num.specs.Decimals.{distance}
 use Rattle.fz_num.specs.Fractions.{IsProper}
-use Rattle.fuzzy_meaning.specs.declared.block.Block.{Block}
 use Rattle.fuzzy_meaning.specs.declared.block.Input.{Input}
 use Rattle.fuzzy_meaning.specs.declared.block.Trapezoid.{Trapezoid}
-use Rattle.fuzzy_meaning.specs.Blocks.{IsValid, IsValidInput, IsValidTerm}
-use Rattle.fuzzy_meaning.proofs.BlockLemmas.{All-slice_get}
+use Rattle.fuzzy_meaning.specs.Blocks.{IsValidInput, IsValidTerm}
+use Rattle.fz_list.proofs.Algebra.{All-slice_get}
 use Rattle.byte_scaling.specs.Cells.{cell_start, cell_end}
 use Rattle.point_slope.specs.Tables.{row_of, grade_of}
 use Rattle.error_bound.specs.declared.boxes.Interval.{Interval}
 use Rattle.fuzzy_meaning.specs.Places.{points_of}
-use Rattle.error_bound.specs.Errors.{billion, IsTermError, AreTermErrors}
+use Rattle.error_bound.specs.Errors.{billion, IsTermError}
 use Rattle.error_bound.specs.Laws.{CellsHaveBounds, TermErrorsAre}
-use Rattle.error_bound.specs.Boxes.{IsBox}
 use Rattle.error_bound.proofs.Sides.{low_bounds, high_bounds}
 use Rattle.error_bound.proofs.Limits.{low_greatest, high_least}
-use Rattle.error_bound.specs.CellErrors.{term_error, term_errors}
+use Rattle.error_bound.specs.CellErrors.{term_error}
 use Rattle.error_bound.proofs.CellErrors.{cells_bounds, cells_least}
 use Rattle.error_bound.proofs.Literals.{width_pos}
 use Rattle.error_bound.proofs.PlaceLemmas.{IsPeaked-points}
@@ -52,13 +50,10 @@ term_error-is i t v vi vt h =
       least = λ f c. cells_least billion w (points_of i t) g v.from m f (IsPeaked-points i t vt) (width_pos i vi) (omega arith) (λ n h1 h2 x inn. c n h1 (omega arith) x inn);
     }
 
-pub term_errors-are : (b : Block) (box : List Interval) → IsValid b → IsBox box → AreTermErrors b box (term_errors b box)
+pub term_errors-are : TermErrorsAre
 term_errors-are b box valid some = record {
   error = λ i t x term v ex et ev.
       let vx : IsValidInput x = All-slice_get IsValidInput b.inputs (i - 1) x valid.inputs ex in
       let vt : IsValidTerm x.lo x.hi term = All-slice_get (IsValidTerm x.lo x.hi) x.terms (t - 1) term vx.terms et in
       rw (ex, et, ev) (term_error-is x term v vx vt (some.some (i - 1) v ev).0);
 }
-
-pub term_errors_found : TermErrorsAre
-term_errors_found b box valid some = (term_errors b box, term_errors-are b box valid some)

@@ -15,11 +15,11 @@ pub mod StrongLeaves
 pub mod SilentLeaves
 pub mod AnswerLemmas
 pub mod LawLemmas
-pub mod Uniqueness
 pub mod WideLemmas
 pub mod Nested
 pub mod NestedBounds
-pub mod Filling
 pub mod TableLemmas
 pub mod ConclusionLemmas
+pub mod PairLemmas
 pub mod FaultLemmas
+pub mod BestLemmas

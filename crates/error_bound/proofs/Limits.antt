@@ -6,7 +6,7 @@ use Rattle.fz_num.specs.Fractions.{Fraction, over, IsProper, AtMost, one, none}
 use Rattle.byte_scaling.specs.Cells.{IsFromTo, inside, at_end}
 use Rattle.fuzzy_meaning.specs.Places.{Points, rise_at, fall_at, degree_at}
 use Rattle.error_bound.specs.Places.{rise_until, rise_end, low, high}
-use Rattle.fz_num.proofs.Order.{AtMost-refl, AtMost-trans, AtMost-lesser_left, AtMost-lesser_right, AtMost-lesser, IsProper-lesser}
+use Rattle.fz_num.proofs.Algebra.{AtMost-refl, AtMost-trans, AtMost-lesser_left, AtMost-lesser_right, AtMost-lesser, IsProper-lesser}
 use Rattle.error_bound.proofs.Sides.{IsPeaked, by_rise, by_rise_to, by_fall, side_rise_proper, side_fall_proper, none_least, rise_one, fall_one, width_pos, side_end_proper, rise_to_one}
 
 -- a place just below e/m

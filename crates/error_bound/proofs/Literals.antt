@@ -1,5 +1,5 @@
 -- The literals of a block on a box: their grades are within the errors, and degrees and grades within the spans.
-use Rattle.std.proofs.Common.{◌≡◌, ⊎_elim, ℕ, zero, suc, ◌+◌, ◌-◌, ◌*◌, ◌<◌, ◌≤◌, min, max, Bool, true, false, List, [], ◌∷◌, length, Option, Some, None, refl, subst, arith, mul-le-mul_right, mul-pos}
+use Rattle.std.proofs.Common.{◌≡◌, ⊎_elim, ℕ, zero, suc, ◌+◌, ◌-◌, ◌*◌, ◌<◌, ◌≤◌, min, max, Bool, true, false, List, length, Option, Some, None, refl, subst, arith, mul-le-mul_right, mul-pos}
 use Rattle.std.specs.Prelude.{◌==◌, if◌then◌else◌, slice_get, slice_index}
 use Rattle.std.proofs.lemmas.Bool.{cases_lt}
 use Rattle.std.proofs.lemmas.Bool.Decides.{nat_tests}
@@ -8,40 +8,39 @@ use Rattle.std.proofs.lemmas.Option.{slice_get_within, slice_get-get_or}
 use Rattle.fz_num.specs.declared.dec.Dec.{Dec}
 use Rattle.fz_num.specs.Fractions.{Fraction, over, IsProper, AtMost, one}
 use Rattle.fz_num.specs.Decimals.{distance}
-use Rattle.fz_num.proofs.Order.{AtMost-trans, AtMost-lesser_left}
+use Rattle.fz_num.proofs.Algebra.{AtMost-trans, AtMost-lesser_left}
 use Rattle.fuzzy_meaning.specs.declared.block.Block.{Block}
 use Rattle.fuzzy_meaning.specs.declared.block.Input.{Input}
 use Rattle.fuzzy_meaning.specs.declared.block.Trapezoid.{Trapezoid}
 use Rattle.fuzzy_meaning.specs.Blocks.{IsValid, IsValidInput, IsValidTerm, input_at}
 use Rattle.fuzzy_meaning.specs.Degrees.{degree}
 use Rattle.fuzzy_meaning.specs.Meaning.{literal_degree}
-use Rattle.fuzzy_meaning.proofs.BlockLemmas.{All-slice_get}
+use Rattle.fz_list.proofs.Algebra.{All-slice_get, some_at}
 use Rattle.byte_scaling.specs.Cells.{IsFromTo, inside, at_end, IsInCell, cell_start, cell_end}
 use Rattle.point_slope.specs.Tables.{row_of, grade_of}
 use Rattle.point_slope.specs.Bytes.{literal_grade}
 use Rattle.error_bound.specs.declared.boxes.Interval.{Interval}
-use Rattle.fuzzy_meaning.specs.Places.{Points, points_of, rise_at, fall_at, degree_at}
+use Rattle.fuzzy_meaning.specs.Places.{Points, points_of, rise_at, fall_at, degree_at, NumbersHaveTheirDegrees}
 use Rattle.error_bound.specs.Boxes.{LieIn, LieInCells, degrees_over, grades_over, least_from, greatest_from, literal_span, literal_byte_span}
 use Rattle.error_bound.specs.Errors.{billion, IsTermError, AreTermErrors}
 use Rattle.error_bound.proofs.Sides.{low_bounds, high_bounds, side_rise_proper}
 use Rattle.error_bound.proofs.Limits.{degree_proper, rise_all}
 use Rattle.error_bound.proofs.CellErrors.{low_proper, high_proper}
 use Rattle.error_bound.proofs.ConditionLemmas.{IsWithinSpans, within_none}
-use Rattle.fuzzy_meaning.proofs.PlaceLemmas.{degree_at-number}
 
--- a cell of the interval's bytes lies over the interval
-in_place : (w p q v : ℕ) (x : Fraction) → 0 < w → IsProper x → p ≤ v → v ≤ q → IsFromTo (cell_start w v) (cell_end w v) (v == 255) x → IsFromTo (cell_start w p) (cell_end w q) (q == 255) x
-in_place w p q v x hw px h1 h2 (inside a b) =
-    let m1 : p * (w * x.den) ≤ v * (w * x.den) = mul-le-mul_right (w * x.den) h1 in
-    let m2 : v * (w * x.den) ≤ q * (w * x.den) = mul-le-mul_right (w * x.den) h2 in
+-- a place of an interval lies in each that has its bytes
+pub wider : (w p q p' q' : ℕ) (x : Fraction) → 0 < w → IsProper x → p ≤ p' → q' ≤ q → IsFromTo (cell_start w p') (cell_end w q') (q' == 255) x → IsFromTo (cell_start w p) (cell_end w q) (q == 255) x
+wider w p q p' q' x hw px h1 h2 (inside a b) =
+    let m1 : p * (w * x.den) ≤ p' * (w * x.den) = mul-le-mul_right (w * x.den) h1 in
+    let m2 : q' * (w * x.den) ≤ q * (w * x.den) = mul-le-mul_right (w * x.den) h2 in
     inside (record { cross = (let c = a.cross in omega arith) }) (record { cross = (let c = b.cross in omega arith) })
-in_place w p q v x hw px h1 h2 (at_end a b t) =
-    let e : v ≡ 255 = grind (arith, nat_tests) in
-    let m1 : p * (w * x.den) ≤ v * (w * x.den) = mul-le-mul_right (w * x.den) h1 in
-    let m2 : v * (w * x.den) ≤ q * (w * x.den) = mul-le-mul_right (w * x.den) h2 in
+wider w p q p' q' x hw px h1 h2 (at_end a b t) =
+    let e : q' ≡ 255 = grind (arith, nat_tests) in
+    let m1 : p * (w * x.den) ≤ p' * (w * x.den) = mul-le-mul_right (w * x.den) h1 in
+    let m2 : q' * (w * x.den) ≤ q * (w * x.den) = mul-le-mul_right (w * x.den) h2 in
     ⊎_elim
     (λ (l : 255 < q).
-    let m3 : suc v * (w * x.den) ≤ q * (w * x.den) = mul-le-mul_right (w * x.den) (omega arith) in
+    let m3 : suc q' * (w * x.den) ≤ q * (w * x.den) = mul-le-mul_right (w * x.den) (omega arith) in
     let some : 0 < w * x.den = mul-pos hw px.pos in
     inside (record { cross = (let c = a.cross in omega arith) }) (record { cross = (let c = b.cross in omega arith) }))
     (λ (l : q ≤ 255).
@@ -50,7 +49,7 @@ in_place w p q v x hw px h1 h2 (at_end a b t) =
     (cases_lt 255 q)
 
 pub in_interval : (w p q v : ℕ) (x : Fraction) → 0 < w → p ≤ v → v ≤ q → IsInCell w v x → IsFromTo (cell_start w p) (cell_end w q) (q == 255) x
-in_interval w p q v x hw h1 h2 c = in_place w p q v x hw c.proper h1 h2 c.place
+in_interval w p q v x hw h1 h2 c = wider w p q v v x hw c.proper h1 h2 c.place
 
 -- a number among n + 1
 pub least_le : (g : ℕ → ℕ) (p n v : ℕ) → p ≤ v → v ≤ p + n → least_from g p n ≤ g v
@@ -107,23 +106,17 @@ at_place i t v n e x er hw h1 h2 c =
 pub width_pos : (i : Input) → IsValidInput i → 0 < distance i.lo i.hi
 width_pos i v = let r = v.range in omega (arith, ints)
 
--- a place within a list has an element
-pub some_at : {X : Type 0} (xs : List X) (k : ℕ) → k < length xs → (x : X) × (slice_get xs k ≡ Some x)
-some_at [] k h = absurd (omega arith)
-some_at (x ∷ xs) zero h = (x, refl)
-some_at (x ∷ xs) (suc k) h = some_at xs k (omega arith)
-
 index_at : (xs : List ℕ) (k : ℕ) → k < length xs → slice_get xs k ≡ Some (slice_index xs k)
 index_at xs k h = slice_get-get_or xs k 0 h
 
-module _ (b : Block) (box : List Interval) (bytes : List ℕ) (xs : List Dec) (e : ℕ → ℕ → ℕ) (valid : IsValid b) (cells : LieInCells b bytes xs) (inside_box : LieIn box bytes) (errors : AreTermErrors b box e) where
+module _ (of_numbers : NumbersHaveTheirDegrees) (b : Block) (box : List Interval) (bytes : List ℕ) (xs : List Dec) (e : ℕ → ℕ → ℕ) (valid : IsValid b) (cells : LieInCells b bytes xs) (inside_box : LieIn box bytes) (errors : AreTermErrors b box e) where
   found : (i t : ℕ) (x : Input) (term : Trapezoid) (v : Interval) (n : ℕ) (y : Dec) → input_at b i ≡ Some x → slice_get x.terms (t - 1) ≡ Some term → slice_get box (i - 1) ≡ Some v → slice_get bytes (i - 1) ≡ Some n → slice_get xs (i - 1) ≡ Some y → IsWithinSpans billion (degree term y) (grade_of (row_of x term) n) (e i t) (degrees_over x term v) (grades_over x term v)
   found i t x term v n y ex et ev en ey =
       let vx : IsValidInput x = All-slice_get IsValidInput b.inputs (i - 1) x valid.inputs ex in
       let vt : IsValidTerm x.lo x.hi term = All-slice_get (IsValidTerm x.lo x.hi) x.terms (t - 1) term vx.terms et in
       let yw = cells.inputs.within (i - 1) x y ex ey in
       let w = inside_box.within (i - 1) v n ev en in
-      subst (λ f. IsWithinSpans billion f (grade_of (row_of x term) n) (e i t) (degrees_over x term v) (grades_over x term v)) (degree_at-number x term y vt yw.low) (at_place x term v n (e i t) (over (distance x.lo y) 1) (errors.error i t x term v ex et ev) (width_pos x vx) w.0 w.1 (cells.cell (i - 1) x n y ex en ey).cell)
+      subst (λ f. IsWithinSpans billion f (grade_of (row_of x term) n) (e i t) (degrees_over x term v) (grades_over x term v)) (of_numbers x term y vt yw.low) (at_place x term v n (e i t) (over (distance x.lo y) 1) (errors.error i t x term v ex et ev) (width_pos x vx) w.0 w.1 (cells.cell (i - 1) x n y ex en ey).cell)
 
   by_term : (i t : ℕ) (x : Input) → input_at b i ≡ Some x → (o : Option Trapezoid) → slice_get x.terms (t - 1) ≡ o → IsWithinSpans billion (literal_degree b xs i t) (literal_grade b bytes i t) (e i t) (literal_span b box i t) (literal_byte_span b box i t)
   by_term i t x ex None et = rw (ex, et) (within_none billion (e i t))

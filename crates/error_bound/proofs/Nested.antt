@@ -6,7 +6,7 @@ use Rattle.std.proofs.lemmas.Bool.Decides.{nat_tests}
 use Rattle.std.proofs.lemmas.Option.{slice_get_within}
 use Rattle.fz_num.specs.Fractions.{Fraction, over, IsProper, AtMost, one_minus, times, one, none}
 use Rattle.fz_num.specs.Decimals.{distance}
-use Rattle.fz_num.proofs.Order.{AtMost-refl, AtMost-trans, IsProper-lesser, IsProper-greater, lesser-mono, greater-mono, AtMost-one_minus}
+use Rattle.fz_num.proofs.Algebra.{AtMost-refl, AtMost-trans, IsProper-lesser, IsProper-greater, lesser-mono, greater-mono, AtMost-one_minus}
 use Rattle.fuzzy_meaning.specs.declared.block.Block.{Block}
 use Rattle.fuzzy_meaning.specs.declared.block.Input.{Input}
 use Rattle.fuzzy_meaning.specs.declared.block.Rule.{Rule}
@@ -14,7 +14,7 @@ use Rattle.fuzzy_meaning.specs.declared.block.Trapezoid.{Trapezoid}
 use Rattle.fuzzy_meaning.specs.Blocks.{IsValid, IsValidInput, IsValidTerm, input_at}
 use Rattle.fuzzy_meaning.specs.Conditions.{Condition, is, negation, all, any, Conditions, end, also, condition_of}
 use Rattle.fuzzy_meaning.specs.Meaning.{weight_of}
-use Rattle.fuzzy_meaning.proofs.BlockLemmas.{All-slice_get}
+use Rattle.fz_list.proofs.Algebra.{All-slice_get, some_at}
 use Rattle.byte_scaling.specs.Cells.{IsFromTo, inside, at_end, cell_start, cell_end}
 use Rattle.byte_scaling.specs.Weights.{weight_byte_of}
 use Rattle.point_slope.specs.Tables.{row_of, grade_of}
@@ -22,13 +22,12 @@ use Rattle.error_bound.specs.declared.boxes.Interval.{Interval}
 use Rattle.error_bound.specs.declared.boxes.Leaf.{Leaf}
 use Rattle.fuzzy_meaning.specs.Places.{points_of}
 use Rattle.error_bound.specs.Spans.{Span, ByteSpan, span, least_span, greatest_span, byte_span, least_byte_span, greatest_byte_span}
-use Rattle.error_bound.specs.Boxes.{degrees_over, grades_over, least_from, greatest_from, literal_span, literal_byte_span, rule_span, rule_byte_span}
+use Rattle.error_bound.specs.Boxes.{degrees_over, grades_over, least_from, greatest_from, literal_span, literal_byte_span, rule_span, rule_byte_span, IsBox}
 use Rattle.error_bound.specs.Leaves.{Holds, strong, silent}
 use Rattle.error_bound.specs.Laws.{IsInside, LeavesHoldInside}
-use Rattle.error_bound.specs.Boxes.{IsBox}
 use Rattle.error_bound.proofs.LawLemmas.{cells_bounded}
 use Rattle.error_bound.proofs.CellErrors.{low_proper, high_proper}
-use Rattle.error_bound.proofs.Literals.{some_at, width_pos, least_le, le_greatest}
+use Rattle.error_bound.proofs.Literals.{wider, width_pos, least_le, le_greatest}
 use Rattle.error_bound.proofs.SilentLeaves.{none_below}
 
 -- the first span lies within the second
@@ -40,25 +39,6 @@ pub record IsNarrower (s r : Span) : Type 0 where
 pub record IsNarrowerByte (s r : ByteSpan) : Type 0 where
   pub low : r.low ≤ s.low
   pub high : s.high ≤ r.high
-
-wider : (w p q p' q' : ℕ) (x : Fraction) → 0 < w → IsProper x → p ≤ p' → q' ≤ q → IsFromTo (cell_start w p') (cell_end w q') (q' == 255) x → IsFromTo (cell_start w p) (cell_end w q) (q == 255) x
-wider w p q p' q' x hw px h1 h2 (inside a b) =
-    let m1 : p * (w * x.den) ≤ p' * (w * x.den) = mul-le-mul_right (w * x.den) h1 in
-    let m2 : q' * (w * x.den) ≤ q * (w * x.den) = mul-le-mul_right (w * x.den) h2 in
-    inside (record { cross = (let c = a.cross in omega arith) }) (record { cross = (let c = b.cross in omega arith) })
-wider w p q p' q' x hw px h1 h2 (at_end a b t) =
-    let e : q' ≡ 255 = grind (arith, nat_tests) in
-    let m1 : p * (w * x.den) ≤ p' * (w * x.den) = mul-le-mul_right (w * x.den) h1 in
-    let m2 : q' * (w * x.den) ≤ q * (w * x.den) = mul-le-mul_right (w * x.den) h2 in
-    ⊎_elim
-    (λ (l : 255 < q).
-    let m3 : suc q' * (w * x.den) ≤ q * (w * x.den) = mul-le-mul_right (w * x.den) (omega arith) in
-    let some : 0 < w * x.den = mul-pos hw px.pos in
-    inside (record { cross = (let c = a.cross in omega arith) }) (record { cross = (let c = b.cross in omega arith) }))
-    (λ (l : q ≤ 255).
-    let eq : q ≡ 255 = omega arith in
-    at_end (record { cross = (let c = a.cross in omega arith) }) (record { cross = (let c = b.cross in omega arith) }) (grind (arith, nat_tests)))
-    (cases_lt 255 q)
 
 -- the least of some is at least what is at most each
 le_least : (g : ℕ → ℕ) (p n m : ℕ) → ((v : ℕ) → p ≤ v → v ≤ p + n → m ≤ g v) → m ≤ least_from g p n

@@ -1,5 +1,5 @@
 -- On a smaller box no eps rises, and no Bound.
-use Rattle.std.proofs.Common.{◌≡◌, ℕ, zero, suc, ◌+◌, ◌-◌, ◌*◌, ◌<◌, ◌≤◌, max, Bool, true, false, List, [], ◌∷◌, length, arith, mul-le-mul_right, mul-pos}
+use Rattle.std.proofs.Common.{◌≡◌, ℕ, zero, suc, ◌+◌, ◌-◌, ◌*◌, ◌<◌, ◌≤◌, max, Bool, true, false, List, [], ◌∷◌, length, arith, mul-le-mul_right, mul-pos, refl, sym, ap, ◌∙◌, Some}
 use Rattle.std.specs.Prelude.{All, slice_get, ◌==◌, if◌then◌else◌, ◌<ℤ◌}
 use Rattle.std.proofs.lemmas.Int.{ints}
 use Rattle.fz_num.specs.declared.dec.Dec.{Dec}
@@ -8,20 +8,22 @@ use Rattle.fz_num.specs.Decimals.{distance}
 use Rattle.fuzzy_meaning.specs.declared.block.Block.{Block}
 use Rattle.fuzzy_meaning.specs.declared.block.Output.{Output}
 use Rattle.fuzzy_meaning.specs.declared.block.Rule.{Rule}
-use Rattle.fuzzy_meaning.specs.Blocks.{IsValid, IsValidRule, HasTerm, IsValidCondition, AllValidConditions}
+use Rattle.fuzzy_meaning.specs.Blocks.{IsValid, IsValidRule, HasTerm, IsValidCondition, AllValidConditions, IsValidOutput, AreValidConditions}
 use Rattle.fuzzy_meaning.specs.Conditions.{Condition, is, negation, all, any, Conditions, end, also, condition_of}
 use Rattle.fuzzy_meaning.specs.Rules.{concludes}
-use Rattle.fuzzy_meaning.proofs.BlockLemmas.{IsValidOutput-at, IsSomeAnd-some, IsSomeAnd-within}
-use Rattle.fuzzy_meaning.proofs.ConditionLemmas.{all_parts}
+use Rattle.fz_list.proofs.Algebra.{IsSomeAnd-some, IsSomeAnd-within, some_at, All-slice_get}
 use Rattle.error_bound.specs.declared.boxes.Interval.{Interval}
 use Rattle.error_bound.specs.declared.boxes.Leaf.{Leaf}
 use Rattle.error_bound.specs.Spans.{greatest_literal, greatest_among}
 use Rattle.error_bound.specs.Errors.{billion, AreTermErrors, rule_error, weight_error, floor_error, output_error_among}
 use Rattle.error_bound.specs.Bounds.{plus, errors_from, IsBound, greatest_offset, silent_bound, strong_bound}
-use Rattle.error_bound.proofs.Literals.{some_at}
 use Rattle.error_bound.proofs.AnswerLemmas.{bound_strong}
 use Rattle.error_bound.proofs.WideLemmas.{in_millionths-mono}
-use Rattle.error_bound.specs.Laws.{IsInside, BoundsFallInside}
+use Rattle.error_bound.specs.Laws.{IsInside, BoundsFallInside, BoundsAreDetermined}
+
+all_parts : (b : Block) (cs : Conditions) → AreValidConditions b cs → AllValidConditions b cs
+all_parts b end h = absurd h
+all_parts b (also c cs) h = h
 
 max-mono : (a b c d : ℕ) → a ≤ c → b ≤ d → max a b ≤ max c d
 max-mono a b c d h k = omega arith
@@ -101,4 +103,21 @@ bound_inside b small box o x h leaf n m valid range hh count ins p q =
     by_k {s} {r} (suc k) l = moved (bound_strong x h (suc k) s (omega arith)) (bound_strong x h (suc k) r (omega arith)) (strong-less x h s r (suc k) range hh (omega arith) l)
 
 pub bounds_fall : BoundsFallInside
-bounds_fall b small box o x h leaf n m valid ex hh count ins p q = bound_inside b small box o x h leaf n m valid (IsValidOutput-at b o x valid ex).range hh count ins p q
+bounds_fall b small box o x h leaf n m valid ex hh count ins p q = bound_inside b small box o x h leaf n m valid (All-slice_get IsValidOutput b.outputs (o - 1) x valid.outputs ex).range hh count ins p q
+
+inside_itself : (box : List Interval) → IsInside box box
+inside_itself box = record { count = refl; within = at }
+  where
+    at : (k : ℕ) (u v : Interval) → slice_get box k ≡ Some u → slice_get box k ≡ Some v → (v.from ≤ u.from) × (u.to ≤ v.to)
+    at k u v e f =
+        let same : u ≡ v = cc in
+        let a : u.from ≡ v.from = ap (λ i. i.from) same in
+        let c : u.to ≡ v.to = ap (λ i. i.to) same in
+        (omega arith, omega arith)
+
+pub bounds_unique : BoundsAreDetermined
+bounds_unique b box o x h leaf n m valid count p q =
+    let there = less_errors b box box p.errors q.errors count (inside_itself box) p.are_errors q.are_errors valid o 1 x.singletons in
+    let back = less_errors b box box q.errors p.errors count (inside_itself box) q.are_errors p.are_errors valid o 1 x.singletons in
+    let same : errors_from b p.errors o 1 x.singletons ≡ errors_from b q.errors o 1 x.singletons = omega (arith, there, back) in
+    p.is ∙ ap (λ k. if leaf.k == 0 then silent_bound x else strong_bound x h k leaf.k) same ∙ sym q.is

@@ -2,7 +2,7 @@
 use Rattle.std.proofs.Common.{◌≡◌, ⊎_elim, ℕ, ◌+◌, ◌*◌, ◌<◌, ◌≤◌, max, List, [], ◌∷◌, sym, subst, arith, mul-le-mul_right, le_of_mul-le-mul_right, mul-pos}
 use Rattle.std.proofs.lemmas.Bool.{cases_lt}
 use Rattle.fz_num.specs.Fractions.{Fraction, IsProper, IsNear, over, up_div}
-use Rattle.fz_num.proofs.Gaps.{le-up_div}
+use Rattle.fz_num.proofs.Algebra.{le-up_div}
 use Rattle.error_bound.specs.Errors.{apart}
 use Rattle.error_bound.specs.Bounds.{plus, in_millionths}
 use Rattle.error_bound.proofs.Sums.{Apart, term_le}

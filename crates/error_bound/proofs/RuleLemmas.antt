@@ -6,8 +6,7 @@ use Rattle.std.proofs.lemmas.Bool.Decides.{nat_tests}
 use Rattle.std.proofs.lemmas.Int.{ints}
 use Rattle.fz_num.specs.declared.dec.Dec.{Dec}
 use Rattle.fz_num.specs.Fractions.{Fraction, IsProper, AtMost, greater, times, one, IsNear, up_div}
-use Rattle.fz_num.proofs.Order.{AtMost-trans, AtMost-greater_left, AtMost-greater_right}
-use Rattle.fz_num.proofs.Gaps.{le-up_div}
+use Rattle.fz_num.proofs.Algebra.{AtMost-trans, AtMost-greater_left, AtMost-greater_right, le-up_div}
 use Rattle.fuzzy_meaning.specs.declared.block.Block.{Block}
 use Rattle.fuzzy_meaning.specs.declared.block.Rule.{Rule}
 use Rattle.fuzzy_meaning.specs.Blocks.{IsWeight}

@@ -14,8 +14,7 @@ use Rattle.fuzzy_meaning.specs.declared.block.Block.{Block}
 use Rattle.fuzzy_meaning.specs.declared.block.Output.{Output}
 use Rattle.fuzzy_meaning.specs.Blocks.{IsWithin, IsWeight, HasSingleton}
 use Rattle.fuzzy_meaning.specs.Meaning.{literal_degree, mass, Share, shares_from, common_den, total_mass, weighted_sum}
-use Rattle.byte_scaling.specs.Cells.{nearest_byte}
-use Rattle.byte_scaling.proofs.CellLemmas.{nearest_byte-le}
+use Rattle.byte_scaling.specs.Cells.{nearest_byte, NearestIsByte}
 use Rattle.point_slope.specs.Bytes.{ByteShare, literal_grade, byte_mass, byte_shares_from, total_mass as byte_total, weighted_sum as byte_weighted}
 use Rattle.error_bound.specs.declared.boxes.Interval.{Interval}
 use Rattle.error_bound.specs.Boxes.{literal_span, literal_byte_span}
@@ -92,12 +91,12 @@ within_width : (lo hi u : Dec) → lo.0 <ℤ hi.0 → IsWithin lo hi u → dista
 within_width lo hi u r h = omega (arith, ints, h.low, h.high)
 
 module _ (b : Block) (box : List Interval) (bytes : List ℕ) (xs : List Dec) (e : ℕ → ℕ → ℕ) (l : (i t : ℕ) → IsWithinSpans billion (literal_degree b xs i t) (literal_grade b bytes i t) (e i t) (literal_span b box i t) (literal_byte_span b box i t)) (hw : All (λ r. IfSome r.weight IsWeight) b.rules) where
-  pub rows_ok : (o : ℕ) (x : Output) (t : ℕ) (us : List Dec) → x.lo.0 <ℤ x.hi.0 → All (IsWithin x.lo x.hi) us → AllOk billion (distance x.lo x.hi) (rows_from b bytes xs e o x t us)
-  rows_ok o x t [] r h = tt
-  rows_ok o x t (u ∷ us) r h =
+  pub rows_ok : NearestIsByte → (o : ℕ) (x : Output) (t : ℕ) (us : List Dec) → x.lo.0 <ℤ x.hi.0 → All (IsWithin x.lo x.hi) us → AllOk billion (distance x.lo x.hi) (rows_from b bytes xs e o x t us)
+  rows_ok is_byte o x t [] r h = tt
+  rows_ok is_byte o x t (u ∷ us) r h =
       let m = mass_held b box bytes xs e l o t b.rules hw in
       let hu = h 0 u (omega arith) in
-      (record { u_in = within_width x.lo x.hi u r hu; s_in = nearest_byte-le x u r hu; proper = m.proper; near = m.near }, rows_ok o x (t + 1) us r (λ i d k. h (suc i) d (omega arith)))
+      (record { u_in = within_width x.lo x.hi u r hu; s_in = is_byte x u r hu; proper = m.proper; near = m.near }, rows_ok is_byte o x (t + 1) us r (λ i d k. h (suc i) d (omega arith)))
 
 -- what a rule concludes is a term of the block
 both_true : (a c : Bool) → (a && c) ≡ true → (a ≡ true) × (c ≡ true)

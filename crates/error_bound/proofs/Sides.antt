@@ -7,7 +7,7 @@ use Rattle.fz_num.specs.Fractions.{Fraction, over, IsProper, AtMost, IsBelow, on
 use Rattle.byte_scaling.specs.Cells.{IsFromTo, inside, at_end}
 use Rattle.fuzzy_meaning.specs.Places.{Points, rise_at, fall_at, degree_at}
 use Rattle.error_bound.specs.Places.{rise_until, rise_end, low, high}
-use Rattle.fz_num.proofs.Order.{AtMost-refl, lesser-mono}
+use Rattle.fz_num.proofs.Algebra.{AtMost-refl, lesser-mono}
 
 pub record IsPeaked (t : Points) : Type 0 where
   pub peak : t.b ≤ t.c

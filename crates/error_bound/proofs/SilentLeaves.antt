@@ -6,7 +6,7 @@ use Rattle.std.proofs.lemmas.List.Sums.{sum_by-cons}
 use Rattle.fz_num.specs.declared.dec.Dec.{Dec}
 use Rattle.fz_num.specs.Fractions.{Fraction, IsProper, AtMost, greater}
 use Rattle.fz_num.specs.Fracs.{Quotient}
-use Rattle.fz_num.proofs.Order.{by_greater}
+use Rattle.fz_num.proofs.Algebra.{by_greater}
 use Rattle.fuzzy_meaning.specs.declared.block.Block.{Block}
 use Rattle.fuzzy_meaning.specs.declared.block.Output.{Output}
 use Rattle.fuzzy_meaning.specs.declared.block.Rule.{Rule}

@@ -1,5 +1,5 @@
 -- A strong leaf's answers are near the exact ones.
-use Rattle.std.proofs.Common.{◌≡◌, ℕ, ◌+◌, ◌*◌, ◌<◌, ◌≤◌, false, cond, List, length, Some, sym, ap, ap₂, subst, arith}
+use Rattle.std.proofs.Common.{◌≡◌, ℕ, ◌+◌, ◌*◌, ◌<◌, ◌≤◌, false, cond, List, length, Some, sym, ap, ap₂, subst, arith, ◌-◌}
 use Rattle.std.specs.Prelude.{All, IfSome, ◌==◌, slice_get}
 use Rattle.std.proofs.lemmas.Int.{ints}
 use Rattle.std.proofs.lemmas.Bool.Decides.{nat_tests}
@@ -7,14 +7,14 @@ use Rattle.fz_num.specs.declared.dec.Dec.{Dec}
 use Rattle.fz_num.specs.Fractions.{over}
 use Rattle.fz_num.specs.Decimals.{distance}
 use Rattle.fz_num.specs.Fracs.{Quotient, IsClose}
-use Rattle.fz_num.proofs.Order.{AtMost-trans}
+use Rattle.fz_num.proofs.Algebra.{AtMost-trans}
 use Rattle.fuzzy_meaning.specs.declared.block.Block.{Block}
 use Rattle.fuzzy_meaning.specs.declared.block.Output.{Output}
 use Rattle.fuzzy_meaning.specs.declared.block.Rule.{Rule}
-use Rattle.fuzzy_meaning.specs.Blocks.{IsValid, IsValidRule, IsWeight, HasSingleton, output_at}
+use Rattle.fuzzy_meaning.specs.Blocks.{IsValid, IsValidRule, IsWeight, HasSingleton, output_at, IsValidOutput}
 use Rattle.fuzzy_meaning.specs.Meaning.{literal_degree, strength, mass, Share, shares, total_mass, weighted_sum, centre}
-use Rattle.fuzzy_meaning.proofs.BlockLemmas.{All-slice_get, IsSomeAnd-some, IsValidOutput-at}
-use Rattle.byte_scaling.specs.Cells.{value_in}
+use Rattle.fz_list.proofs.Algebra.{All-slice_get, IsSomeAnd-some}
+use Rattle.byte_scaling.specs.Cells.{NearestIsByte, value_in}
 use Rattle.point_slope.specs.Bytes.{literal_grade, byte_strength, byte_mass, byte_shares, total_mass as byte_total, weighted_sum as byte_weighted}
 use Rattle.error_bound.specs.declared.boxes.Interval.{Interval}
 use Rattle.error_bound.specs.Boxes.{literal_span, literal_byte_span, rule_span, rule_byte_span}
@@ -41,12 +41,12 @@ pub record IsFiring (b : Block) (bytes : List ℕ) (xs : List Dec) (o : ℕ) (x 
   pub close : (q : ℕ) (otherwise : Quotient) → q * byte_total (byte_shares b bytes o x) ≤ h * byte_weighted (byte_shares b bytes o x) → h * byte_weighted (byte_shares b bytes o x) ≤ (q + 1) * byte_total (byte_shares b bytes o x) → IsClose (distance x.lo x.hi) n (value_in h x q) (centre (shares b xs o x) otherwise)
 
 module _ (b : Block) (box : List Interval) (bytes : List ℕ) (xs : List Dec) (e : ℕ → ℕ → ℕ) (valid : IsValid b) (l : (i t : ℕ) → IsWithinSpans billion (literal_degree b xs i t) (literal_grade b bytes i t) (e i t) (literal_span b box i t) (literal_byte_span b box i t)) where
-  pub firing : (o : ℕ) (x : Output) (h : ℕ) (n : ℕ) (r : Rule) (k : ℕ) → output_at b o ≡ Some x → 0 < h → 0 < k → slice_get b.rules n ≡ Some r → IsStrong b box o r k → IsFiring b bytes xs o x h (strong_bound x h (errors_from b e o 1 x.singletons) k)
-  firing o x h n r k ex hh hk er s =
+  pub firing : NearestIsByte → (o : ℕ) (x : Output) (h : ℕ) (n : ℕ) (r : Rule) (k : ℕ) → output_at b o ≡ Some x → 0 < h → 0 < k → slice_get b.rules n ≡ Some r → IsStrong b box o r k → IsFiring b bytes xs o x h (strong_bound x h (errors_from b e o 1 x.singletons) k)
+  firing is_byte o x h n r k ex hh hk er s =
       let w = distance x.lo x.hi in
       let rs = rows_from b bytes xs e o x 1 x.singletons in
       let ss = shares b xs o x in
-      let vx = IsValidOutput-at b o x valid ex in
+      let vx = All-slice_get IsValidOutput b.outputs (o - 1) x valid.outputs ex in
       let range = vx.range in
       let wp : 0 < w = omega (arith, ints) in
       let vr : IsValidRule b r = All-slice_get (IsValidRule b) b.rules n r valid.rules er in
@@ -62,7 +62,7 @@ module _ (b : Block) (box : List Interval) (bytes : List ℕ) (xs : List Dec) (e
       let m2 : byte_strength b bytes r ≤ byte_mass b bytes o s.term = ml.1 in
       let m0 : 1 ≤ (rule_byte_span b box r).low = s.byte_low in
       let hv = rows_heavy b bytes xs e o x k 1 s.term x.singletons t_from (omega arith) a2 (at_least m0 m1 m2) in
-      let ok = rows_ok b box bytes xs e l hw o x 1 x.singletons range vx.singletons in
+      let ok = rows_ok b box bytes xs e l hw is_byte o x 1 x.singletons range vx.singletons in
       let sm = same_sum b bytes xs e o x 1 x.singletons vx.singletons in
       let gt = byte_total_is b bytes xs e o x 1 x.singletons in
       let wt = byte_weighted_is b bytes xs e o x 1 x.singletons in

@@ -7,14 +7,13 @@ use Rattle.fuzzy_meaning.specs.declared.block.Input.{Input}
 use Rattle.fuzzy_meaning.specs.declared.block.Rule.{Rule}
 use Rattle.fuzzy_meaning.specs.declared.block.Trapezoid.{Trapezoid}
 use Rattle.fuzzy_meaning.specs.Blocks.{HasTerm, input_at}
-use Rattle.fuzzy_meaning.proofs.BlockLemmas.{IsSomeAnd-some, IsSomeAnd-within}
+use Rattle.fz_list.proofs.Algebra.{IsSomeAnd-some, IsSomeAnd-within, some_at}
 use Rattle.error_bound.specs.declared.boxes.Interval.{Interval}
 use Rattle.error_bound.specs.declared.reaches.Reach.{Reach}
 use Rattle.error_bound.specs.declared.rules.BoxTable.{BoxTable}
 use Rattle.error_bound.specs.declared.tables.Row.{Row}
 use Rattle.error_bound.specs.declared.tables.BoxTerms.{BoxTerms}
 use Rattle.error_bound.specs.Reaches.{AreBoxTerms, IsReachOfTerm, IsReachOfLiteral, IsReachOfRule, IsTable}
-use Rattle.error_bound.proofs.Literals.{some_at}
 
 as_literal : (b : Block) (box : List Interval) (i t : ℕ) (x : Input) (term : Trapezoid) (v : Interval) (r : Reach) → input_at b i ≡ Some x → slice_get x.terms (t - 1) ≡ Some term → slice_get box (i - 1) ≡ Some v → IsReachOfTerm x term v r → IsReachOfLiteral b box i t r
 as_literal b box i t x term v r ex et ev h = record { value = rw (ex, et, ev) h.value; bytes = rw (ex, et, ev) h.bytes; error = rw (ex, et, ev) h.error; small = h.small }

@@ -11,6 +11,7 @@ use Rattle.fuzzy_meaning.specs.Places.{points_of}
 use Rattle.error_bound.specs.Places.{AreBounds}
 use Rattle.error_bound.specs.Boxes.{IsBox, degrees_over}
 use Rattle.error_bound.specs.Errors.{AreTermErrors}
+use Rattle.error_bound.specs.CellErrors.{term_errors}
 use Rattle.error_bound.specs.Leaves.{Holds}
 use Rattle.error_bound.specs.Bounds.{IsBound}
 use Rattle.error_bound.specs.declared.boxes.Leaf.{Leaf}
@@ -21,9 +22,9 @@ CellsHaveBounds = (i : Input) (t : Trapezoid) (v : Interval) → IsValidInput i 
     let w = distance i.lo i.hi in
     AreBounds (points_of i t) (cell_start w v.from) (cell_end w v.to) (v.to == 255) (degrees_over i t v).low (degrees_over i t v).high
 
--- there is an eps of each term over a box
+-- over a box the eps of each term is the greatest gap at the low and at the high of each cell
 abbrev pub TermErrorsAre : Type 0
-TermErrorsAre = (b : Block) (box : List Interval) → IsValid b → IsBox box → (e : ℕ → ℕ → ℕ) × AreTermErrors b box e
+TermErrorsAre = (b : Block) (box : List Interval) → IsValid b → IsBox box → AreTermErrors b box (term_errors b box)
 
 -- each interval of the first lies within that of the second
 pub record IsInside (small box : List Interval) : Type 0 where
@@ -37,6 +38,12 @@ LeavesHoldInside = (b : Block) (small box : List Interval) (o : ℕ) (leaf : Lea
 -- and its Bound there is no greater
 abbrev pub BoundsFallInside : Type 0
 BoundsFallInside = (b : Block) (small box : List Interval) (o : ℕ) (x : Output) (h : ℕ) (leaf : Leaf) (n m : ℕ) → IsValid b → output_at b o ≡ Some x → 1 ≤ h → length box ≡ length b.inputs → IsInside small box → IsBound b small o x h leaf n → IsBound b box o x h leaf m → n ≤ m
+
+-- nor is it for answers in more parts to a byte than one
+abbrev pub BoundsFallWithParts : Type 0
+BoundsFallWithParts =
+    (b : Block) (box : List Interval) (o : ℕ) (x : Output) (h : ℕ) (leaf : Leaf) (n : ℕ) → IsValid b → output_at b o ≡ Some x
+    → 1 ≤ h → IsBound b box o x 1 leaf n → (m : ℕ) × IsBound b box o x h leaf m × (m ≤ n)
 
 -- a leaf has one Bound on a box
 abbrev pub BoundsAreDetermined : Type 0

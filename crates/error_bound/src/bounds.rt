@@ -1,8 +1,9 @@
 //! The Bound of a leaf.
-ghost use Rattle.std.specs.Prelude.{◌≡◌, ◌≤◌, ◌<◌, ◌+◌, ◌*◌, min, length, IfSome};
+ghost use Rattle.std.specs.Prelude.{◌≡◌, ◌≤◌, ◌<◌, ◌+◌, ◌*◌, ℕ, min, max, All, slice_index, if◌then◌else◌};
 ghost use Rattle.fz_num.specs.Fractions.{up_div};
 ghost use Rattle.fz_num.specs.Decimals.{distance};
-ghost use Rattle.fuzzy_meaning.specs.Blocks.{IsValidOutput, IsWithin, output_at};
+ghost use Rattle.fuzzy_meaning.specs.Blocks.{IsValid, IsValidOutput, IsWithin};
+ghost use Rattle.fuzzy_meaning.specs.Rules.{concludes as concludes_it};
 ghost use Rattle.error_bound.specs.Bounds.{offset as offset_of, greatest_offset as greatest_offset_of, strong_bound as strong_bound_of, silent_bound as silent_bound_of, errors_from};
 ghost use Rattle.error_bound.specs.CellErrors.{term_errors};
 ghost use Rattle.error_bound.specs.Errors.{output_error as output_error_of};
@@ -10,7 +11,7 @@ ghost use Rattle.error_bound.specs.Reaches.{IsTable};
 
 use crate::rules::BoxTable;
 use byte_scaling::near;
-use fuzzy_meaning::{Block, Output, concludes};
+use fuzzy_meaning::{Block, Output, Rule};
 use fz_num::Dec;
 
 /// The Bound of a strong leaf, in millionths of the output's range, for answers in so many parts to
@@ -104,32 +105,48 @@ impl BoxTable {
     /// The sum of the errors of an output's terms, in parts of 10^9.
     pub(crate) fn sum_of_errors(&self, block: &Block, output: &Output, out: u8) -> u64
         requires table { IsTable block.now self.now }
+        requires block { IsValid block.now }
         requires output { IsValidOutput output.now }
-        requires rules { length block.now.rules ≤ 256 }
         ensures value { result ≡ errors_from block.now (term_errors block.now self.now.bytes.0.items) out 1 output.now.singletons }
         ensures small { result ≤ 45000000000 }
     {
+        let errors = self.errors_by_term(block, out);
         let mut sum = 0;
         for k in (0..output.singletons.len()).rev() {
-            sum = self.output_error(block, out, k as u8 + 1) + sum;
+            sum = errors[k] + sum;
         }
         sum
     }
 
-    /// The greatest error of the rules that conclude a term of an output.
-    fn output_error(&self, block: &Block, out: u8, term: u8) -> u64
+    /// The errors of an output's terms, from the first on: each the greatest of the rules that conclude it.
+    fn errors_by_term(&self, block: &Block, out: u8) -> [u64; 15]
         requires table { IsTable block.now self.now }
-        requires rules { length block.now.rules ≤ 256 }
-        ensures value { result ≡ output_error_of block.now (term_errors block.now self.now.bytes.0.items) out term }
-        ensures small { result ≤ 3000000000 }
+        requires block { IsValid block.now }
+        ensures value { (t : ℕ) → t < 15 → slice_index result t
+            ≡ output_error_of block.now (term_errors block.now self.now.bytes.0.items) out (t + 1) }
+        ensures small { (t : ℕ) → t < 15 → slice_index result t ≤ 3000000000 }
     {
+        let mut errors = [0; 15];
         let rules = block.rules.as_slice();
-        let mut greatest = 0;
-        for k in (0..rules.len()).rev() {
-            if concludes(&rules[k], out, term) {
-                greatest = self.rules[k].error.max(greatest);
-            }
+        for n in (0..rules.len()).rev() {
+            raise_terms(&mut errors, &rules[n], out, self.rules[n].error);
         }
-        greatest
+        errors
+    }
+}
+
+/// Raises to a rule's error those of the terms of an output that it concludes.
+fn raise_terms(errors: &mut [u64; 15], rule: &Rule, out: u8, error: u64)
+    requires { All (λ c. (1 ≤ c.1) × (c.1 ≤ 15)) rule.now.concl }
+    ensures { (t : ℕ) → t < 15 → slice_index errors.new t ≡ (if concludes_it rule.now out (t + 1)
+        then max error (slice_index errors.old t) else slice_index errors.old t) }
+{
+    let conclusions = rule.concl.as_slice();
+    for k in (0..conclusions.len()).rev() {
+        let (output, term) = conclusions[k];
+        if output == out {
+            let place = term as usize - 1;
+            errors[place] = errors[place].max(error);
+        }
     }
 }

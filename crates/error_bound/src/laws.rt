@@ -1,7 +1,10 @@
 //! Laws of the definitions.
-ghost use Rattle.error_bound.specs.Laws.{CellsHaveBounds, TermErrorsAre, LeavesHoldInside, BoundsFallInside, BoundsAreDetermined};
+ghost use Rattle.error_bound.specs.Laws.{CellsHaveBounds, TermErrorsAre, LeavesHoldInside, BoundsFallInside, BoundsFallWithParts, BoundsAreDetermined};
 ghost use Rattle.error_bound.specs.Answers.{AnswersAreNear};
 ghost use Rattle.error_bound.specs.Faults.{FaultyLeavesFail, LeafFaultsAreOne};
+
+use byte_scaling::nearest_is_byte;
+use fuzzy_meaning::numbers_have_their_degrees;
 
 /// `low` and `high` are the greatest lower and the least upper bound of a term's degrees over the
 /// cells of an interval.
@@ -9,7 +12,7 @@ pub fn cells_have_bounds()
     ensures { CellsHaveBounds }
 {}
 
-/// Over a box each term of a valid block has one eps.
+/// Over a box the eps of a term is the greatest gap at the low and at the high of each of its cells.
 pub fn term_errors_are()
     ensures { TermErrorsAre }
 {}
@@ -18,7 +21,10 @@ pub fn term_errors_are()
 /// exact answer, or both are those before.
 pub fn answers_are_near()
     ensures { AnswersAreNear }
-{}
+{
+    numbers_have_their_degrees();
+    nearest_is_byte();
+}
 
 /// A leaf that holds on a box holds on each box inside it.
 pub fn leaves_hold_inside()
@@ -28,6 +34,11 @@ pub fn leaves_hold_inside()
 /// A leaf's Bound is no greater on a box inside its own.
 pub fn bounds_fall_inside()
     ensures { BoundsFallInside }
+{}
+
+/// A leaf's Bound is no greater for answers in more parts to a byte.
+pub fn bounds_fall_with_parts()
+    ensures { BoundsFallWithParts }
 {}
 
 /// A leaf has one Bound on a box.

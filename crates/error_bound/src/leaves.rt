@@ -146,6 +146,20 @@ fn up_nano(f: Frac) -> Nano
     Nano(((f.num as u128 * 1_000_000_000 + (den - 1)) / den) as u64)
 }
 
+/// Whether a pair may stand for an output: both of its numbers are 0, or it names a rule that
+/// concludes a term of the output.
+pub fn is_pair_for(block: &Block, leaf: &Leaf, out: u8) -> bool
+    ensures { IsTrue result ↔ IsPairFor block.now out leaf.now }
+{
+    if leaf.rule == 0 || leaf.k == 0 {
+        return leaf.rule == 0 && leaf.k == 0;
+    }
+    match block.rules.as_slice().get(leaf.rule as usize - 1) {
+        Some(rule) => concludes_some(rule, out),
+        None => false,
+    }
+}
+
 /// Whether a rule concludes a term of an output.
 pub(crate) fn concludes_some(rule: &Rule, out: u8) -> bool
     ensures { result ≡ concludes_any rule.now out }

@@ -7,6 +7,7 @@
 //! many boxes the [`BlockCells`]; only these take memory.
 #![tactic(auto)]
 
+mod best_leaves;
 mod bounds;
 mod boxes;
 mod cells;
@@ -18,14 +19,16 @@ mod reaches;
 mod rules;
 mod tables;
 
+pub use best_leaves::{best_bounds_are_least, best_leaves_are_one, best_leaves_hold};
 pub use boxes::{ByteBox, Interval, Leaf, LeafFault};
 pub use cells::term_error;
 pub use choosing::best;
 pub use laws::{
-    answers_are_near, bounds_are_determined, bounds_fall_inside, cells_have_bounds,
-    faulty_leaves_fail, leaf_faults_are_one, leaves_hold_inside, term_errors_are,
+    answers_are_near, bounds_are_determined, bounds_fall_inside, bounds_fall_with_parts,
+    cells_have_bounds, faulty_leaves_fail, leaf_faults_are_one, leaves_hold_inside,
+    term_errors_are,
 };
-pub use leaves::{leaf_bound, leaf_bound16};
+pub use leaves::{is_pair_for, leaf_bound, leaf_bound16};
 pub use rules::BoxTable;
 pub use tables::BlockCells;
 

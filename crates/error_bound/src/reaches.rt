@@ -9,7 +9,7 @@ ghost use Rattle.error_bound.specs.Reaches.{span_of, byte_span_of, IsSmall, AreB
 
 use crate::degrees::{Degrees, NONE, ONE};
 use crate::tables::BoxTerms;
-use fuzzy_meaning::{Block, Cond};
+use fuzzy_meaning::{Block, Cond, parts_are_valid};
 
 /// From the least to the greatest truth, of degrees and over bytes, and how far these may be apart,
 /// in parts of 10^9.
@@ -102,6 +102,7 @@ pub(crate) fn reach_of(cond: &Cond, block: &Block, terms: &BoxTerms) -> Reach
     ensures error { result.error ≡ greatest_literal (term_errors block.now terms.now.bytes.0.items) (condition_of cond.now) }
     ensures small { IsSmall result }
 {
+    parts_are_valid();
     match cond {
         Cond::Is(input, term) => of_literal(block, *input, *term, terms),
         Cond::Not(inner) => reach_of(inner, block, terms).one_minus(),

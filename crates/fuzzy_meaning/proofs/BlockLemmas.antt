@@ -1,30 +1,16 @@
 -- What a valid block has at its numbers.
-use Rattle.std.proofs.Common.{◌≡◌, ℕ, zero, suc, ◌-◌, ◌<◌, ◌≤◌, List, [], ◌∷◌, length, get_or, Option, Some, None, slice_get, refl, subst, arith}
-use Rattle.std.specs.Prelude.{All, IsSomeAnd, IfSome, ◌≤ℤ◌}
+use Rattle.std.proofs.Common.{◌≡◌, ℕ, ◌-◌, ◌<◌, ◌≤◌, List, length, get_or, Option, Some, None, slice_get, refl, arith}
+use Rattle.std.specs.Prelude.{IfSome, ◌≤ℤ◌}
 use Rattle.std.proofs.lemmas.Int.{ints}
-use Rattle.std.proofs.lemmas.Option.{slice_get_within, get_or_from_slice_get, slice_get_read, slice_get-get_or}
+use Rattle.std.proofs.lemmas.Option.{slice_get_read, slice_get-get_or}
 use Rattle.fz_num.specs.declared.dec.Dec.{Dec}
 use Rattle.fuzzy_meaning.specs.declared.block.Block.{Block}
 use Rattle.fuzzy_meaning.specs.declared.block.Input.{Input}
-use Rattle.fuzzy_meaning.specs.declared.block.Output.{Output}
 use Rattle.fuzzy_meaning.specs.declared.block.Trapezoid.{Trapezoid}
-use Rattle.fuzzy_meaning.specs.Blocks.{IsValid, IsValidInput, IsValidOutput, IsValidTerm, IsTrapezoid, IsInScale, IsWithin, HasTerm, AreInputs, output_at}
+use Rattle.fuzzy_meaning.specs.Blocks.{IsValid, IsValidInput, IsValidTerm, IsTrapezoid, IsInScale, IsWithin, HasTerm, AreInputs}
 use Rattle.fuzzy_meaning.specs.Degrees.{degree}
 use Rattle.fuzzy_meaning.specs.Meaning.{literal_degree}
-
--- what holds of each element holds of the one at a place
-pub All-slice_get : {X : Type 0} (P : X → Type 0) (xs : List X) (i : ℕ) (x : X) → All P xs → slice_get xs i ≡ Some x → P x
-All-slice_get P xs i x h e = subst P (get_or_from_slice_get xs i x x e) (h i x (slice_get_within xs i x e))
-
--- what holds of the element that there is
-pub IsSomeAnd-some : {X : Type 0} (P : X → Type 0) (o : Option X) (x : X) → o ≡ Some x → IsSomeAnd o P → P x
-IsSomeAnd-some P o x e h = subst (λ y. IsSomeAnd y P) e h
-
--- a place that has an element lies within the list
-pub IsSomeAnd-within : {X : Type 0} (P : X → Type 0) (xs : List X) (i : ℕ) → IsSomeAnd (slice_get xs i) P → i < length xs
-IsSomeAnd-within P [] i h = absurd h
-IsSomeAnd-within P (x ∷ xs) zero h = omega arith
-IsSomeAnd-within P (x ∷ xs) (suc i) h = let l : i < length xs = IsSomeAnd-within P xs i h in omega arith
+use Rattle.fz_list.proofs.Algebra.{All-slice_get, IsSomeAnd-some, IsSomeAnd-within}
 
 in_scale : (lo hi x : Dec) → IsInScale lo.0 → IsInScale hi.0 → lo.0 ≤ℤ x.0 → x.0 ≤ℤ hi.0 → IsInScale x.0
 in_scale lo hi x l h from to = record { low = omega (arith, ints); high = omega (arith, ints) }
@@ -81,7 +67,3 @@ IsLiteral-read b xs i t input e y has are is =
     let count = are.count in
     let in_xs : i - 1 < length xs = omega arith in
     record { input_is = input_is; term_is = slice_get-get_or input.terms (t - 1) e in_terms; x_is = slice_get-get_or xs (i - 1) y in_xs }
-
--- an output that a number names is valid
-pub IsValidOutput-at : (b : Block) (o : ℕ) (x : Output) → IsValid b → output_at b o ≡ Some x → IsValidOutput x
-IsValidOutput-at b o x v e = All-slice_get IsValidOutput b.outputs (o - 1) x v.outputs e

@@ -1,5 +1,5 @@
 -- The examples are valid.
-use Rattle.std.proofs.Common.{◌≡◌, ℕ, zero, suc, ◌+◌, ◌≤◌, List, [], ◌∷◌, length, None, sym, ap, ◌∙◌, subst, arith, rules}
+use Rattle.std.proofs.Common.{◌≡◌, ℕ, zero, suc, ◌+◌, ◌≤◌, [], ◌∷◌, length, None, sym, ap, ◌∙◌, subst, arith, rules}
 use Rattle.std.specs.Prelude.{All, IfSome, sum_by, pos}
 use Rattle.std.specs.Global.{Box}
 use Rattle.std.proofs.lemmas.Int.{ints}
@@ -13,19 +13,13 @@ use Rattle.fuzzy_meaning.specs.declared.block.Cond.{Cond, Is, Not', the_lemmas}
 use Rattle.fuzzy_meaning.specs.Blocks.{IsValid, IsValidInput, IsValidOutput, IsValidTerm, IsValidRule, IsValidCondition, IsInScale, IsWithin, IsWeight, HasSingleton, rule_size}
 use Rattle.fuzzy_meaning.specs.Conditions.{Condition, is, negation, condition_of, depth, nodes}
 use Rattle.fuzzy_meaning.specs.Examples.{dec, cold, hot, heater, step_at, latch, nots, full_term, full_input, full_output, full_rule, full, ExamplesAreValid}
+use Rattle.fz_list.proofs.Algebra.{All-cons, All-none}
 
 pub condition_of-Is : (i t : ℕ) → condition_of (Is i t) ≡ is i t
 condition_of-Is i t = search (rules, the_lemmas)
 
 pub condition_of-Not : (p : Box (Unit {0})) (c : Cond) → condition_of (Not' p c) ≡ negation (condition_of c)
 condition_of-Not p c = search (rules, the_lemmas)
-
-All-cons : {X : Type 0} (P : X → Type 0) (x : X) (xs : List X) → P x → All P xs → All P (x ∷ xs)
-All-cons P x xs h t zero d l = h
-All-cons P x xs h t (suc k) d l = t k d (omega arith)
-
-All-none : {X : Type 0} (P : X → Type 0) → All P []
-All-none P k d l = absurd (omega arith)
 
 scale : (n : ℕ) → n ≤ 1000000000 → IsInScale (pos n)
 scale n h = record { low = omega (arith, ints); high = omega (arith, ints) }

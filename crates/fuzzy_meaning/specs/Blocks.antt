@@ -1,12 +1,13 @@
 -- Valid blocks.
-use Rattle.std.specs.Prelude.{◌≡◌, ℕ, ◌+◌, ◌-◌, ◌≤◌, List, length, All, sum_by, slice_get, Option, Some, IfSome, IsSomeAnd, option_and_then, ℤ, pos, neg_ℤ, ◌≤ℤ◌, ◌<ℤ◌}
+use Rattle.std.specs.Prelude.{◌≡◌, ℕ, ◌+◌, ◌-◌, ◌≤◌, List, length, All, sum_by, map, slice_get, Option, Some, IfSome, IsSomeAnd, option_and_then, ℤ, pos, neg_ℤ, ◌≤ℤ◌, ◌<ℤ◌}
 use Rattle.fz_num.specs.declared.dec.Dec.{Dec}
 use Rattle.fuzzy_meaning.specs.declared.block.Block.{Block}
 use Rattle.fuzzy_meaning.specs.declared.block.Input.{Input}
 use Rattle.fuzzy_meaning.specs.declared.block.Output.{Output}
 use Rattle.fuzzy_meaning.specs.declared.block.Rule.{Rule}
+use Rattle.fuzzy_meaning.specs.declared.block.Cond.{Cond}
 use Rattle.fuzzy_meaning.specs.declared.block.Trapezoid.{Trapezoid}
-use Rattle.fuzzy_meaning.specs.Conditions.{Condition, is, negation, all, any, Conditions, end, also, condition_of, depth, nodes}
+use Rattle.fuzzy_meaning.specs.Conditions.{Condition, is, negation, all, any, Conditions, end, also, conditions, condition_of, depth, nodes}
 
 -- inputs, outputs and terms count from 1
 abbrev pub input_at : Block → ℕ → Option Input
@@ -124,3 +125,9 @@ pub record IsValid (b : Block) : Type 0 where
 pub record AreInputs (b : Block) (xs : List Dec) : Type 0 where
   pub count : length xs ≡ length b.inputs
   pub within : (k : ℕ) (i : Input) (x : Dec) → slice_get b.inputs k ≡ Some i → slice_get xs k ≡ Some x → IsWithin i.lo i.hi x
+
+-- each part of a valid AND or OR is valid
+abbrev pub PartsAreValid : Type 0
+PartsAreValid =
+    (b : Block) (parts : List Cond) (k : ℕ) (c : Cond) → AreValidConditions b (conditions (map condition_of parts))
+    → slice_get parts k ≡ Some c → IsValidCondition b (condition_of c)

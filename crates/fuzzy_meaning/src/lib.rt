@@ -10,6 +10,7 @@ mod answers;
 mod block;
 mod degrees;
 mod examples;
+mod laws;
 mod masses;
 mod truths;
 
@@ -17,6 +18,7 @@ pub use answers::exact;
 pub use block::{Block, Cond, Input, Output, Rule, Trapezoid};
 pub use degrees::{degree, numbers_have_their_degrees};
 pub use examples::{examples_are_valid, heater};
+pub use laws::parts_are_valid;
 pub use masses::{concludes, mass, strength};
 pub use truths::truth;
 

@@ -1,3 +1,1 @@
-pub mod Gaps
-pub mod Order
-pub mod Nearness
+pub mod Algebra

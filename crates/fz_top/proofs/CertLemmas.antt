@@ -17,12 +17,12 @@ use Rattle.error_bound.specs.declared.boxes.Interval.{Interval}
 use Rattle.error_bound.specs.declared.boxes.Leaf as the
 use Rattle.cert_check.specs.declared.checker.CheckFault.{CheckFault}
 use Rattle.cert_check.specs.declared.checker.CheckFault.TheVariants as check
-use Rattle.cert_check.specs.declared.text.CertRefusal.{CertRefusal as TheRefusal}
-use Rattle.cert_check.specs.declared.text.CertRefusal.TheVariants as refusal
+use Rattle.cert_check.specs.declared.text.TextFault.{TextFault as TheRefusal}
+use Rattle.cert_check.specs.declared.text.TextFault.TheVariants as refusal
 use Rattle.cert_check.specs.Faults.{IsPairFault, bad_rule, fails, HasTreeFault, bad_cut, bad_leaf, HasCheckFault}
 use Rattle.cert_check.specs.Faults.{outputs, tree, claimed}
 use Rattle.cert_check.specs.Laws.{TextAnswersAreOne}
-use Rattle.cert_check.specs.Refusals.{HasRefusal, of_text, of_cert}
+use Rattle.cert_check.specs.TextFaults.{HasTextFault, of_text, of_cert}
 use Rattle.fuzzy_meaning.specs.SameBlocks.{IsSameBlock}
 use Rattle.cert_check.specs.SameBlocks.{SameBlocksAnswerAlike}
 use Rattle.fz_top.specs.Certs.{AcceptsCert, HasCertFault, cert_refusals, version, status_of}
@@ -40,7 +40,7 @@ refusal_of (told.Text f) = refusal.Text f
 refusal_of (told.Check f) = refusal.Check f
 
 has_refusal : (width : Width) (block : Block) (text : List ℕ) (f : CertRefusal) → HasCertFault width block text f
-    → HasRefusal block (parts width) (version width) text (refusal_of f)
+    → HasTextFault block (parts width) (version width) text (refusal_of f)
 has_refusal width block text (told.Text f) h = h
 has_refusal width block text (told.Check f) h = h
 
@@ -86,25 +86,25 @@ as_errors P answer (Err s) same h = tt
 as_errors P answer (Ok es) same h = subst (λ a. IfOk a (λ fs. P fs.items)) same h
 
 as_refusal : (width : Width) (block : Block) (text : List ℕ) (r : TheRefusal)
-    → (r ≢ refusal.Memory → HasRefusal block (parts width) (version width) text r)
+    → (r ≢ refusal.Memory → HasTextFault block (parts width) (version width) text r)
     → IsRefusal (cert_refusals width block text) (status_of r)
 as_refusal width block text refusal.Memory h = tt
 as_refusal width block text (refusal.Text f) h = let is = h (λ e. let z : ⊥ = cc in z) in (text_is is, is)
   where
-    text_is : HasRefusal block (parts width) (version width) text (refusal.Text f) → f ≢ cert.Memory
+    text_is : HasTextFault block (parts width) (version width) text (refusal.Text f) → f ≢ cert.Memory
     text_is (of_text g fault) = text_carries (version width) text g fault
 as_refusal width block text (refusal.Check f) h = let is = h (λ e. let z : ⊥ = cc in z) in (check_is is, is)
   where
-    check_is : HasRefusal block (parts width) (version width) text (refusal.Check f) → f ≢ check.Memory
+    check_is : HasTextFault block (parts width) (version width) text (refusal.Check f) → f ≢ check.Memory
     check_is (of_cert c g spelled fault) = check_carries block (parts width) c g fault
 
 pub as_status : (width w : Width) (block : Block) (text : List ℕ) (answer : Result (Vec ℕ) TheRefusal)
     (result : Result (Vec ℕ) Status) → w ≡ width
     → IfErr result (λ s. (r : TheRefusal) × (answer ≡ Err r) × (s ≡ status_of r))
-    → IfErr answer (λ r. r ≢ refusal.Memory → HasRefusal block (parts width) (version width) text r)
+    → IfErr answer (λ r. r ≢ refusal.Memory → HasTextFault block (parts width) (version width) text r)
     → IfErr result (IsRefusal (cert_refusals w block text))
 as_status width w block text answer (Ok es) at same h = tt
 as_status width w block text answer (Err s) at (r, is, told) h =
     subst (λ v. IsRefusal (cert_refusals v block text) s) (sym at)
     (subst (λ x. IsRefusal (cert_refusals width block text) x) (sym told)
-    (as_refusal width block text r (subst (λ a. IfErr a (λ q. q ≢ refusal.Memory → HasRefusal block (parts width) (version width) text q)) is h)))
+    (as_refusal width block text r (subst (λ a. IfErr a (λ q. q ≢ refusal.Memory → HasTextFault block (parts width) (version width) text q)) is h)))

@@ -5,9 +5,9 @@ use Rattle.codegen.specs.Widths.{parts}
 use Rattle.codegen.specs.declared.firmware.Firmware.{Firmware}
 use Rattle.codegen.specs.declared.width.Width.{Width}
 use Rattle.codegen.specs.declared.width.Width.TheVariants.{Byte, Word}
-use Rattle.cert_check.specs.Refusals.{IsAcceptedText, HasRefusal}
-use Rattle.cert_check.specs.declared.text.CertRefusal.{CertRefusal as TheRefusal}
-use Rattle.cert_check.specs.declared.text.CertRefusal.TheVariants as refusal
+use Rattle.cert_check.specs.TextFaults.{IsAcceptedText, HasTextFault}
+use Rattle.cert_check.specs.declared.text.TextFault.{TextFault as TheRefusal}
+use Rattle.cert_check.specs.declared.text.TextFault.TheVariants as refusal
 use Rattle.fz_top.specs.Firmwares.{GivesFirmware}
 use Rattle.fz_status.specs.Refusals.{Refusals}
 use Rattle.fz_status.specs.declared.status.CertRefusal.{CertRefusal}
@@ -26,8 +26,8 @@ AcceptsCert width block cert errors = IsAcceptedText block (parts width) (versio
 
 -- why the block refuses it
 abbrev pub HasCertFault : Width → Block → List ℕ → CertRefusal → Type 0
-HasCertFault width block cert (told.Text f) = HasRefusal block (parts width) (version width) cert (refusal.Text f)
-HasCertFault width block cert (told.Check f) = HasRefusal block (parts width) (version width) cert (refusal.Check f)
+HasCertFault width block cert (told.Text f) = HasTextFault block (parts width) (version width) cert (refusal.Text f)
+HasCertFault width block cert (told.Check f) = HasTextFault block (parts width) (version width) cert (refusal.Check f)
 
 abbrev pub cert_refusals : Width → Block → List ℕ → Refusals
 cert_refusals width block cert (status.Cert f) = HasCertFault width block cert f

@@ -1,11 +1,11 @@
 //! The errors that a certificate is accepted with.
 ghost use Rattle.std.specs.Prelude.{◌≡◌, ◌≤◌, length, IfOk, IfErr, Ok, Err};
 ghost use Rattle.fuzzy_meaning.specs.Blocks.{IsValid};
-ghost use Rattle.cert_check.specs.declared.text.CertRefusal.{CertRefusal as TheRefusal};
+ghost use Rattle.cert_check.specs.declared.text.TextFault.{TextFault as TheRefusal};
 ghost use Rattle.fz_top.specs.Certs.{AcceptsCert, cert_refusals, status_of};
 ghost use Rattle.fz_status.specs.Refusals.{IsRefusal};
 
-use cert_check::{CertRefusal as Refusal, check_text, check_text16};
+use cert_check::{TextFault as Refusal, check_text, check_text16};
 use codegen::Width;
 use fuzzy_meaning::Block;
 use fz_status::{CertRefusal, Status};

@@ -3,7 +3,7 @@ ghost use Rattle.std.specs.Prelude.{◌≡◌, ◌-◌, ◌≤◌, length, ◌++
 ghost use Rattle.fuzzy_meaning.specs.Blocks.{IsValid, IsValidInput, IsValidTerm};
 ghost use Rattle.point_slope.specs.Tables.{slope_of, row_of, rows_of, table_of};
 
-use byte_scaling::byte_within;
+use byte_scaling::{byte_within, bytes_ascend};
 use fuzzy_meaning::{Block, Input, Trapezoid};
 use fz_list::Memory;
 use std::alloc::Global;
@@ -36,6 +36,7 @@ fn row_of_term(input: &Input, term: &Trapezoid) -> [u8; 4]
     requires term { IsValidTerm input.now.lo input.now.hi term.now }
     ensures { result ≡ row_of input.now term.now }
 {
+    bytes_ascend();
     let (first, rise) = match term.a {
         None => (0, 0),
         Some(a) => {

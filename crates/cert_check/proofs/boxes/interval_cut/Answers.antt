@@ -1,8 +1,7 @@
-use Rattle.std.proofs.Common.{◌≤◌, length, sym, arith, ◌≡◌, Some, subst}
+use Rattle.std.proofs.Common.{◌≤◌, length, sym, arith, ◌≡◌, Some, subst, refl}
 use Rattle.std.specs.Prelude.{slice_get, IfNone}
-use Rattle.std.proofs.lemmas.Option.{slice_get_past}
+use Rattle.std.proofs.lemmas.Option.{slice_get_past, slice_get_read}
 use Rattle.cert_check.specs.Trees.{IsCut}
-use Rattle.cert_check.proofs.PairLemmas.{at_place}
 use Rattle.cert_check.proofs.CutLemmas.{cut_at, cut_inside, cut_nowhere}
 use Rattle.cert_check.proofs.boxes.interval_cut.Goals.{else-interval-cut-via-then-interval-cut+else-cut-interval, else-interval-cut-via-else-interval-cut}
 use Rattle.cert_check.proofs.boxes.interval_cut.Goals as goal
@@ -21,7 +20,7 @@ returns-then-cut-interval-clause-inside c =
     let v = c.in_ok-interval.field-0.now in
     let place = c.args.place in
     let e = subst (λ xs. slice_get xs place ≡ Some v) c.as_slice.ensures.value
-    (at_place c.as_slice.result.now place v l.3.0 (l.3.1 v)) in
+    (slice_get_read c.as_slice.result.now (length c.as_slice.result.now) place v refl l.3.0 (l.3.1 v)) in
     (cut_at place c.args.cut c.args.bytes.now.0.items v e c.if-interval-cut.true c.if-cut-interval.true, e)
 
 pub returns-else-interval-cut-clause-none : goal.returns-else-interval-cut-clause-none
@@ -30,7 +29,7 @@ returns-else-interval-cut-clause-none c = λ cut.
     let v = c.in_ok-interval.field-0.now in
     let place = c.args.place in
     let e = subst (λ xs. slice_get xs place ≡ Some v) c.as_slice.ensures.value
-    (at_place c.as_slice.result.now place v l.3.0 (l.3.1 v)) in
+    (slice_get_read c.as_slice.result.now (length c.as_slice.result.now) place v refl l.3.0 (l.3.1 v)) in
     let h = cut_inside place c.args.cut c.args.bytes.now.0.items v e cut in
     let h0 = h.0 in
     let h1 = h.1 in

@@ -1,7 +1,9 @@
-use Rattle.std.proofs.Common.{◌-◌, ◌∷◌, List, ap, ap₂, arith, ◌∙◌}
+use Rattle.std.proofs.Common.{◌≡◌, ◌-◌, ◌∷◌, List, ap, ap₂, arith, ◌∙◌}
+use Rattle.std.specs.Prelude.{set}
 use Rattle.error_bound.specs.declared.boxes.Interval.{Interval}
 use Rattle.cert_check.proofs.CutLemmas.{cut_inside, set-left, set-right}
 use Rattle.cert_check.proofs.WalkLemmas.{few_below, stack-length}
+use Rattle.cert_check.specs.Trees.{left_of, right_of}
 use Rattle.cert_check.specs.Walks.{stack_of}
 use Rattle.cert_check.proofs.boxes.push_halves.Goals as goal
 
@@ -29,7 +31,10 @@ returns-in-Some-clause-boxes c =
     let place = c.args.input - 1 in
     let box = c.args.bytes.0.items in
     let i = c.in-Some.ensures.inside in
-    let left = c.with_interval-left.ensures ∙ set-left place c.args.cut box c.in-Some.field-0 i.1 in
-    let right = c.with_interval-right.ensures ∙ set-right place c.args.cut box c.in-Some.field-0 i.1 in
+    let v = c.in-Some.field-0 in
+    let left : c.set_interval-in-Some.new.bytes.0.items ≡ left_of place c.args.cut box = c.set_interval-in-Some.ensures ∙ set-left place c.args.cut box v i.1 in
+    let right : c.set_interval.new.bytes.0.items ≡ right_of place c.args.cut box =
+    c.set_interval.ensures ∙ ap (λ (x : List Interval). set x place (record { from = c.args.cut; to = v.to })) c.copied-right.ensures
+    ∙ set-right place c.args.cut box v i.1 in
     c.push-in-Some.ensures.boxes ∙ ap₂ (λ (x : List Interval) (xs : List (List Interval)). x ∷ xs) left
     (c.push.ensures.boxes ∙ ap (λ (x : List Interval). x ∷ stack_of c.args.boxes.now.items) right)

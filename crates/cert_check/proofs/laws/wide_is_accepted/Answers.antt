@@ -2,4 +2,4 @@ use Rattle.cert_check.proofs.WideAccepted.{wide_accepted}
 use Rattle.cert_check.proofs.laws.wide_is_accepted.Goals as goal
 
 pub returns : goal.returns
-returns c = wide_accepted
+returns c = wide_accepted c.bounds_fall_with_parts.ensures

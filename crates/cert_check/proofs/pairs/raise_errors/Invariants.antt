@@ -1,6 +1,6 @@
 use Rattle.std.proofs.Common.{◌≡◌, ℕ, ◌+◌, ◌≤◌, length}
 use Rattle.std.specs.Prelude.{slice_index}
-use Rattle.error_bound.proofs.Filling.{AreFilled}
+use Rattle.fz_list.proofs.Algebra.{AreFilled}
 use Rattle.cert_check.specs.Trees.{leaves_of}
 use Rattle.cert_check.specs.Faults.{HoldBefore}
 use Rattle.cert_check.proofs.PairLemmas.{IsRaised}

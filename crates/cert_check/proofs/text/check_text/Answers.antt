@@ -1,4 +1,4 @@
-use Rattle.cert_check.specs.Refusals.{of_text}
+use Rattle.cert_check.specs.TextFaults.{of_text}
 use Rattle.cert_check.proofs.text.check_text.Goals as goal
 
 pub returns-in-Err-clause-refused : goal.returns-in-Err-clause-refused

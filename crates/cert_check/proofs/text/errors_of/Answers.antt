@@ -1,6 +1,6 @@
 use Rattle.std.proofs.Common.{ℕ, List, [], ◌∷◌, ◌++◌, length, sym, ◌∙◌, subst}
 use Rattle.box_tree.specs.Reading.{claims_of}
-use Rattle.cert_check.specs.Refusals.{of_text, of_cert}
+use Rattle.cert_check.specs.TextFaults.{of_text, of_cert}
 use Rattle.cert_check.specs.Walks.{AreFirst}
 use Rattle.cert_check.proofs.DriverLemmas.{IsWalkOver, still_over, is_cert, accepted_over, fault_over, first_of_text}
 use Rattle.cert_check.proofs.text.errors_of.Goals as goal

@@ -3,7 +3,7 @@ use Rattle.std.specs.Prelude.{slice_get, slice_index, IfSome}
 use Rattle.fuzzy_meaning.specs.declared.block.Input.{Input}
 use Rattle.fuzzy_meaning.specs.declared.block.Trapezoid.{Trapezoid}
 use Rattle.fuzzy_meaning.specs.Blocks.{IsValidInput, IsValidTerm}
-use Rattle.fuzzy_meaning.proofs.BlockLemmas.{All-slice_get}
+use Rattle.fz_list.proofs.Algebra.{All-slice_get}
 use Rattle.error_bound.specs.declared.boxes.Interval.{Interval}
 use Rattle.error_bound.specs.declared.cells.TermCells.{TermCells}
 use Rattle.error_bound.specs.Boxes.{greatest_from}

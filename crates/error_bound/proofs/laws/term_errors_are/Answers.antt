@@ -1,5 +1,5 @@
-use Rattle.error_bound.proofs.LawLemmas.{term_errors_found}
+use Rattle.error_bound.proofs.LawLemmas.{term_errors-are}
 use Rattle.error_bound.proofs.laws.term_errors_are.Goals as goal
 
 pub returns : goal.returns
-returns c = term_errors_found
+returns c = term_errors-are

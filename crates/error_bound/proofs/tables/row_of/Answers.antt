@@ -1,4 +1,4 @@
-use Rattle.std.proofs.Common.{◌≡◌, ℕ, ◌<◌, [], length, get_or, None, refl, sym, ap, ◌∙◌, subst, arith}
+use Rattle.std.proofs.Common.{◌≡◌, ℕ, [], length, get_or, None, refl, sym, ap, ◌∙◌, subst, arith}
 use Rattle.std.specs.Prelude.{slice_get, Some, pos}
 use Rattle.std.proofs.lemmas.Option.{slice_get_within, slice_get-get_or, get_or_from_slice_get}
 use Rattle.std.proofs.lemmas.List.{length-set}
@@ -6,7 +6,7 @@ use Rattle.fuzzy_meaning.specs.declared.block.Trapezoid.{Trapezoid}
 use Rattle.error_bound.specs.declared.cells.TermCells.{TermCells}
 use Rattle.error_bound.specs.declared.reaches.Reach.{Reach}
 use Rattle.error_bound.specs.Reaches.{AreTermCells, IsReachOfTerm}
-use Rattle.error_bound.proofs.Filling.{AreFilled-more}
+use Rattle.fz_list.proofs.Algebra.{AreFilled-more}
 use Rattle.error_bound.proofs.tables.row_of.Goals as goal
 
 abbrev no_term : Trapezoid

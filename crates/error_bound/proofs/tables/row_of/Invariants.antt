@@ -1,6 +1,6 @@
 use Rattle.std.proofs.Common.{◌≡◌, length}
 use Rattle.error_bound.specs.Reaches.{IsReachOfTerm}
-use Rattle.error_bound.proofs.Filling.{AreFilled}
+use Rattle.fz_list.proofs.Algebra.{AreFilled}
 use Rattle.error_bound.proofs.tables.row_of.Given as goal
 
 abbrev pub invariant-loop-t : goal.invariant-loop-t

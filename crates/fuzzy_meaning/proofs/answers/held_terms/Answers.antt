@@ -4,12 +4,12 @@ use Rattle.std.proofs.lemmas.Int.{ints}
 use Rattle.std.proofs.lemmas.List.{drop_all}
 use Rattle.fz_num.specs.Fracs.{fraction_of}
 use Rattle.fz_num.specs.declared.dec.Dec.{Dec}
-use Rattle.fuzzy_meaning.specs.Blocks.{IsWithin}
+use Rattle.fuzzy_meaning.specs.Blocks.{IsWithin, IsValidOutput}
 use Rattle.fuzzy_meaning.specs.Holding.{shares_of, AreSmall, Reduces}
 use Rattle.fuzzy_meaning.specs.Meaning.{Share, shares_from, heavy_shares}
-use Rattle.fuzzy_meaning.proofs.BlockLemmas.{IsValidOutput-at}
 use Rattle.fuzzy_meaning.proofs.ShareLemmas.{Reduces-nil, Reduces-cons, Reduces-drop, heavy_shares-yes, heavy_shares-no, shares_from-drop, length-heavy-drop}
 use Rattle.fuzzy_meaning.proofs.answers.held_terms.Goals as goal
+use Rattle.fz_list.proofs.Algebra.{All-slice_get}
 
 abbrev zero_dec : Dec
 zero_dec = record { 0 = pos 0 }
@@ -26,7 +26,7 @@ loop-k-init c =
 pub overflow_cast-k : goal.overflow_cast-k
 overflow_cast-k c =
     let x = c.args.output.now in
-    let v = IsValidOutput-at c.args.block.now c.args.out x c.requires.block c.requires.output in
+    let v = All-slice_get IsValidOutput c.args.block.now.outputs (c.args.out - 1) x c.requires.block.outputs c.requires.output in
     let few : length x.singletons ≤ 15 = v.few_terms in
     let same : length c.as_slice-singletons.result.now ≡ length x.singletons = ap length c.as_slice-singletons.ensures in
     let upto : c.loop-k.k ≤ length c.as_slice-singletons.result.now = c.loop-k.auto.k in
@@ -36,7 +36,7 @@ overflow_cast-k c =
 pub overflow_add-k : goal.overflow_add-k
 overflow_add-k c =
     let x = c.args.output.now in
-    let v = IsValidOutput-at c.args.block.now c.args.out x c.requires.block c.requires.output in
+    let v = All-slice_get IsValidOutput c.args.block.now.outputs (c.args.out - 1) x c.requires.block.outputs c.requires.output in
     let few : length x.singletons ≤ 15 = v.few_terms in
     let same : length c.as_slice-singletons.result.now ≡ length x.singletons = ap length c.as_slice-singletons.ensures in
     let upto : c.loop-k.k ≤ length c.as_slice-singletons.result.now = c.loop-k.auto.k in
@@ -48,7 +48,7 @@ with-requires-clause-term c =
     let x = c.args.output.now in
     let us = c.as_slice-singletons.result.now in
     let j = c.loop-k.k - 1 in
-    let v = IsValidOutput-at c.args.block.now c.args.out x c.requires.block c.requires.output in
+    let v = All-slice_get IsValidOutput c.args.block.now.outputs (c.args.out - 1) x c.requires.block.outputs c.requires.output in
     let same : length us ≡ length x.singletons = ap length c.as_slice-singletons.ensures in
     let in_us : j < length x.singletons = omega arith in
     let within = v.singletons j zero_dec in_us in

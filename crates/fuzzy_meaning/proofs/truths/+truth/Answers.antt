@@ -3,7 +3,7 @@ use Rattle.std.proofs.lemmas.Option.{slice_get_read}
 use Rattle.fuzzy_meaning.specs.declared.block.Cond.{the_lemmas}
 use Rattle.fuzzy_meaning.specs.Blocks.{IsValidCondition}
 use Rattle.fuzzy_meaning.specs.Conditions.{all, any, conditions, condition_of}
-use Rattle.fuzzy_meaning.proofs.ConditionLemmas.{valid_part, all_parts}
+use Rattle.fuzzy_meaning.proofs.ConditionLemmas.{parts_valid}
 use Rattle.fuzzy_meaning.proofs.truths.+truth.Goals as goal
 
 pub truth-requires-in-loop-k : goal.truth-requires-in-loop-k
@@ -14,7 +14,7 @@ truth-requires-in-loop-k t c =
     let valid = subst (λ x. IsValidCondition b x) same c.requires.cond in
     let within : c.loop-k.k - 1 < length items = search rules in
     let part = slice_get_read items (length items) (c.loop-k.k - 1) c.index.result.now refl within c.index.ensures in
-    (search (rules, the_lemmas), (valid_part b items (c.loop-k.k - 1) c.index.result.now (all_parts b (conditions (map condition_of items)) valid) part, (c.requires.block, c.requires.xs)))
+    (search (rules, the_lemmas), (parts_valid b items (c.loop-k.k - 1) c.index.result.now valid part, (c.requires.block, c.requires.xs)))
 
 pub truth-requires-in-loop-k-2 : goal.truth-requires-in-loop-k-2
 truth-requires-in-loop-k-2 t c =
@@ -24,4 +24,4 @@ truth-requires-in-loop-k-2 t c =
     let valid = subst (λ x. IsValidCondition b x) same c.requires.cond in
     let within : c.loop-k-2.k - 1 < length items = search rules in
     let part = slice_get_read items (length items) (c.loop-k-2.k - 1) c.index-in-loop-k-2.result.now refl within c.index-in-loop-k-2.ensures in
-    (search (rules, the_lemmas), (valid_part b items (c.loop-k-2.k - 1) c.index-in-loop-k-2.result.now (all_parts b (conditions (map condition_of items)) valid) part, (c.requires.block, c.requires.xs)))
+    (search (rules, the_lemmas), (parts_valid b items (c.loop-k-2.k - 1) c.index-in-loop-k-2.result.now valid part, (c.requires.block, c.requires.xs)))

@@ -6,7 +6,7 @@ use Rattle.fuzzy_meaning.specs.declared.block.Block.{Block}
 use Rattle.fuzzy_meaning.specs.declared.block.Output.{Output}
 use Rattle.fuzzy_meaning.specs.declared.block.Rule.{Rule}
 use Rattle.fuzzy_meaning.specs.Blocks.{IsValid, output_at}
-use Rattle.fuzzy_meaning.proofs.BlockLemmas.{IsSomeAnd-some, IsSomeAnd-within}
+use Rattle.fz_list.proofs.Algebra.{IsSomeAnd-some, IsSomeAnd-within, some_at}
 use Rattle.error_bound.specs.declared.boxes.Leaf.{Leaf}
 use Rattle.error_bound.specs.declared.rules.BoxTable.{BoxTable}
 use Rattle.error_bound.specs.Boxes.{rule_byte_span}
@@ -15,7 +15,6 @@ use Rattle.error_bound.specs.CellErrors.{term_errors}
 use Rattle.error_bound.specs.Leaves.{concludes_some, rule_at, IsPairFor, strong, silent}
 use Rattle.error_bound.specs.Faults.{HasLeafFault, IsStrongFault, of_strong, of_silent}
 use Rattle.error_bound.specs.Reaches.{span_of, IsTable}
-use Rattle.error_bound.proofs.Literals.{some_at}
 use Rattle.error_bound.proofs.AnswerLemmas.{bound_strong, bound_silent}
 use Rattle.error_bound.proofs.LawLemmas.{term_errors-are}
 use Rattle.error_bound.proofs.ConclusionLemmas.{any-term}

@@ -1,4 +1,4 @@
-use Rattle.std.proofs.Common.{◌≡◌, ℕ, length, get_or, Some, refl, ap, ◌∙◌, sym, subst, arith}
+use Rattle.std.proofs.Common.{◌≡◌, ℕ, length, get_or, Some, refl, ap, ◌∙◌, subst, arith}
 use Rattle.std.specs.Prelude.{slice_get}
 use Rattle.std.proofs.lemmas.Option.{slice_get_within, get_or_from_slice_get}
 use Rattle.std.proofs.lemmas.List.{length-set}
@@ -7,7 +7,7 @@ use Rattle.error_bound.specs.declared.boxes.ByteBox.{ByteBox}
 use Rattle.error_bound.specs.declared.reaches.Reach.{Reach}
 use Rattle.error_bound.specs.Boxes.{IsBoxOf}
 use Rattle.error_bound.specs.Reaches.{IsReachOfRule}
-use Rattle.error_bound.proofs.Filling.{AreFilled-more}
+use Rattle.fz_list.proofs.Algebra.{AreFilled-more}
 use Rattle.error_bound.proofs.rules.BoxTable.of_terms.Goals as goal
 
 pub loop-n-init : goal.loop-n-init

@@ -1,6 +1,6 @@
 use Rattle.std.proofs.Common.{◌≡◌, length}
 use Rattle.error_bound.specs.Reaches.{IsReachOfRule}
-use Rattle.error_bound.proofs.Filling.{AreFilled}
+use Rattle.fz_list.proofs.Algebra.{AreFilled}
 use Rattle.error_bound.proofs.rules.BoxTable.of_terms.Given as goal
 
 abbrev pub invariant-loop-n : goal.invariant-loop-n

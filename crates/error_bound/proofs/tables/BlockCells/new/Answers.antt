@@ -1,10 +1,10 @@
-use Rattle.std.proofs.Common.{◌≡◌, ℕ, ◌+◌, ◌<◌, List, [], ◌∷◌, ◌++◌, length, length-append, get_or, Some, refl, sym, ap, ◌∙◌, subst, arith}
+use Rattle.std.proofs.Common.{◌≡◌, ℕ, ◌+◌, [], ◌∷◌, ◌++◌, length, length-append, get_or, Some, sym, ap, ◌∙◌, subst, arith}
 use Rattle.std.specs.Prelude.{slice_get}
 use Rattle.std.proofs.lemmas.Option.{slice_get_within, get_or_from_slice_get}
 use Rattle.fuzzy_meaning.specs.declared.block.Input.{Input}
 use Rattle.error_bound.specs.declared.tables.InputCells.{InputCells}
 use Rattle.error_bound.specs.Reaches.{AreInputCells, all_bytes}
-use Rattle.error_bound.proofs.Filling.{AreFilled, AreFilled-push}
+use Rattle.fz_list.proofs.Algebra.{AreFilled, AreFilled-push}
 use Rattle.error_bound.proofs.tables.BlockCells.new.Goals as goal
 
 pub loop-input-init : goal.loop-input-init

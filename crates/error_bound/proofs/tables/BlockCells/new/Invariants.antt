@@ -1,6 +1,6 @@
 use Rattle.std.proofs.Common.{◌≡◌, length}
 use Rattle.error_bound.specs.Reaches.{AreInputCells, all_bytes}
-use Rattle.error_bound.proofs.Filling.{AreFilled}
+use Rattle.fz_list.proofs.Algebra.{AreFilled}
 use Rattle.error_bound.proofs.tables.BlockCells.new.Given as goal
 
 abbrev pub invariant-loop-input : goal.invariant-loop-input

@@ -6,7 +6,7 @@ use Rattle.fuzzy_meaning.specs.declared.block.Input.{Input}
 use Rattle.error_bound.specs.declared.boxes.Interval.{Interval}
 use Rattle.error_bound.specs.declared.tables.Row.{Row}
 use Rattle.error_bound.specs.Reaches.{AreInputReaches}
-use Rattle.error_bound.proofs.Filling.{AreFilled-more}
+use Rattle.fz_list.proofs.Algebra.{AreFilled-more}
 use Rattle.error_bound.proofs.tables.BoxTerms.new.Goals as goal
 
 pub loop-i-init : goal.loop-i-init

@@ -5,7 +5,7 @@ use Rattle.std.proofs.lemmas.List.{length-set}
 use Rattle.fuzzy_meaning.specs.declared.block.Trapezoid.{Trapezoid}
 use Rattle.error_bound.specs.declared.cells.TermCells.{TermCells}
 use Rattle.error_bound.specs.Reaches.{AreTermCells}
-use Rattle.error_bound.proofs.Filling.{AreFilled-more}
+use Rattle.fz_list.proofs.Algebra.{AreFilled-more}
 use Rattle.error_bound.proofs.tables.InputCells.new.Goals as goal
 
 pub loop-t-init : goal.loop-t-init

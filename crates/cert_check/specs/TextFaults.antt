@@ -1,0 +1,23 @@
+-- Texts whose certificates are accepted, and why others are refused.
+use Rattle.std.specs.Prelude.{ℕ, List}
+use Rattle.fuzzy_meaning.specs.declared.block.Block.{Block}
+use Rattle.box_tree.specs.declared.cert.Cert.{Cert}
+use Rattle.box_tree.specs.declared.cert.CertFault.{CertFault}
+use Rattle.box_tree.specs.Certificates.{CertText, HasFault}
+use Rattle.cert_check.specs.declared.checker.CheckFault.{CheckFault}
+use Rattle.cert_check.specs.declared.text.TextFault.{TextFault}
+use Rattle.cert_check.specs.declared.text.TextFault.TheVariants as refusal
+use Rattle.cert_check.specs.Acceptance.{IsAccepted}
+use Rattle.cert_check.specs.Faults.{HasCheckFault}
+
+-- the text is that of a certificate that is accepted, with these errors, for answers in h parts to a byte
+pub record IsAcceptedText (b : Block) (h version : ℕ) (text errors : List ℕ) : Type 0 where
+  pub cert : Cert
+  pub spelled : CertText version text cert
+  pub accepted : IsAccepted b h cert errors
+
+-- the text has a first fault, or it is that of a certificate that has one
+pub data HasTextFault (b : Block) (h version : ℕ) (text : List ℕ) : TextFault → Type 0 where
+  of_text : (f : CertFault) → HasFault version text f → HasTextFault b h version text (refusal.Text f)
+  of_cert : (cert : Cert) (f : CheckFault) → CertText version text cert → HasCheckFault b h cert f
+      → HasTextFault b h version text (refusal.Check f)
