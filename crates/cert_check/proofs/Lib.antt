@@ -12,3 +12,5 @@ pub mod DriverLemmas
 pub mod FaultLemmas
 pub mod FirstFaults
 pub mod SameBlocks
+pub mod BoxLemmas
+pub mod SameLeaves

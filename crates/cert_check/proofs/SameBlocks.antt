@@ -43,10 +43,10 @@ same_rules (p ∷ ps) [] alike = absurd alike
 same_rules (p ∷ ps) (q ∷ qs) alike =
     (record { condition = sym alike.0.condition; weight = sym alike.0.weight; conclusions = sym alike.0.conclusions }, same_rules ps qs alike.1)
 
-turned : (p q : Block) → IsSameBlock p q → IsSameBlock q p
+pub turned : (p q : Block) → IsSameBlock p q → IsSameBlock q p
 turned p q same = record { inputs = sym same.inputs; outputs = sym same.outputs; rules = same_rules p.rules q.rules same.rules }
 
-other_rule : (ps qs : List Rule) → AllZip IsSameRule ps qs → (n : ℕ) (r : Rule) → slice_get ps n ≡ Some r → (s : Rule) × (slice_get qs n ≡ Some s) × IsSameRule r s
+pub other_rule : (ps qs : List Rule) → AllZip IsSameRule ps qs → (n : ℕ) (r : Rule) → slice_get ps n ≡ Some r → (s : Rule) × (slice_get qs n ≡ Some s) × IsSameRule r s
 other_rule [] [] alike n r e = absurd (let z : ⊥ = cc in z)
 other_rule [] (q ∷ qs) alike n r e = absurd alike
 other_rule (p ∷ ps) [] alike n r e = absurd alike
@@ -75,12 +75,12 @@ among_same e o t (p ∷ ps) [] alike = absurd alike
 among_same e o t (p ∷ ps) (q ∷ qs) alike = rw (alike.0.conclusions, error_same e p q alike.0, among_same e o t ps qs alike.1) refl
 
 module _ (p q : Block) (same : IsSameBlock p q) where
-  span_same : (box : List Interval) (r s : Rule) → IsSameRule r s → rule_span p box r ≡ rule_span q box s
+  pub span_same : (box : List Interval) (r s : Rule) → IsSameRule r s → rule_span p box r ≡ rule_span q box s
   span_same box r s e =
       ap (λ (is : List Input). span_in is box (condition_of r.cond) r.weight) same.inputs ∙ ap (λ c. span_in q.inputs box c r.weight) e.condition
       ∙ ap (λ w. span_in q.inputs box (condition_of s.cond) w) e.weight
 
-  bytes_same : (box : List Interval) (r s : Rule) → IsSameRule r s → rule_byte_span p box r ≡ rule_byte_span q box s
+  pub bytes_same : (box : List Interval) (r s : Rule) → IsSameRule r s → rule_byte_span p box r ≡ rule_byte_span q box s
   bytes_same box r s e =
       ap (λ (is : List Input). bytes_in is box (condition_of r.cond) r.weight) same.inputs ∙ ap (λ c. bytes_in q.inputs box c r.weight) e.condition
       ∙ ap (λ w. bytes_in q.inputs box (condition_of s.cond) w) e.weight
@@ -93,7 +93,7 @@ module _ (p q : Block) (same : IsSameBlock p q) where
     byte_high = subst (λ x. x.high ≡ 0) (bytes_same box r s e) h.byte_high;
   }
 
-  holds : (box : List Interval) (o : ℕ) (leaf : the.Leaf) → Holds p box o leaf → Holds q box o leaf
+  pub holds : (box : List Interval) (o : ℕ) (leaf : the.Leaf) → Holds p box o leaf → Holds q box o leaf
   holds box o leaf (strong r some_rule some_part small at h) =
       let w = other_rule p.rules q.rules same.rules (leaf.rule - 1) r at in
       strong w.0 some_rule some_part small w.1 (record {
@@ -152,7 +152,7 @@ module _ (p q : Block) (same : IsSameBlock p q) where
   bound_same : (e : ℕ → ℕ → ℕ) (o : ℕ) (x : Output) (h : ℕ) (leaf : the.Leaf) → bound p e o x h leaf ≡ bound q e o x h leaf
   bound_same e o x h leaf = ap (λ n. bound_of x h leaf n) (errors_same e o 1 x.singletons)
 
-  is_bound : (box : List Interval) (o : ℕ) (x : Output) (h : ℕ) (leaf : the.Leaf) (n : ℕ) → IsBound p box o x h leaf n → IsBound q box o x h leaf n
+  pub is_bound : (box : List Interval) (o : ℕ) (x : Output) (h : ℕ) (leaf : the.Leaf) (n : ℕ) → IsBound p box o x h leaf n → IsBound q box o x h leaf n
   is_bound box o x h leaf n b = record {
     errors = b.errors;
     are_errors = record { error = λ i t y term v ey et ev. b.are_errors.error i t y term v (ap (λ (is : List Input). slice_get is (i - 1)) same.inputs ∙ ey) et ev };

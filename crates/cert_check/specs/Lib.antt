@@ -6,3 +6,5 @@ pub mod TextFaults
 pub mod Laws
 pub mod SameBlocks
 pub mod Examples
+pub mod BoxLaws
+pub mod SameLeaves

@@ -10,7 +10,7 @@ use error_bound::{ByteBox, Interval};
 use fuzzy_meaning::Block;
 
 /// All bytes of all inputs.
-pub(crate) fn whole_box(block: &Block) -> ByteBox
+pub fn whole_box(block: &Block) -> ByteBox
     requires { length block.now.inputs ≤ 8 }
     ensures { result.0.items ≡ whole block.now }
 {

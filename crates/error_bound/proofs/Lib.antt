@@ -22,3 +22,4 @@ pub mod TableLemmas
 pub mod ConclusionLemmas
 pub mod PairLemmas
 pub mod FaultLemmas
+pub mod BestLemmas

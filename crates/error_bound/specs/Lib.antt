@@ -10,3 +10,4 @@ pub mod Answers
 pub mod Laws
 pub mod CellErrors
 pub mod Reaches
+pub mod BestLeaves

@@ -7,6 +7,7 @@
 //! many boxes the [`BlockCells`]; only these take memory.
 #![tactic(auto)]
 
+mod best_leaves;
 mod bounds;
 mod boxes;
 mod cells;
@@ -18,6 +19,7 @@ mod reaches;
 mod rules;
 mod tables;
 
+pub use best_leaves::{best_bounds_are_least, best_leaves_are_one, best_leaves_hold};
 pub use boxes::{ByteBox, Interval, Leaf, LeafFault};
 pub use cells::term_error;
 pub use choosing::best;

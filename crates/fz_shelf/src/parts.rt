@@ -3,7 +3,8 @@ ghost use Rattle.std.specs.Prelude.{◌≡◌, ◌/◌, ◌%◌, [], ◌∷◌, 
 ghost use Rattle.hex.specs.Hex.{encode_upper};
 ghost use Rattle.fz_shelf.specs.Faults.{HasCause};
 ghost use Rattle.fz_shelf.specs.Told.{gained, GainedPart, HasRoom};
-ghost use Rattle.fz_shelf.specs.Parts.{address_digits, byte_digits, part_text, parts_text};
+ghost use Rattle.fz_shelf.specs.Parts.{address_digits, behind_blank, byte_digits, part_text, parts_text};
+ghost use Rattle.std.specs.List.{flat_map};
 
 use crate::whole::put_all;
 use crate::{Failed, Sink};
@@ -20,6 +21,8 @@ pub enum Part<'a> {
     Address(u16),
     /// The byte as two hexadecimal digits in upper case.
     Byte(u8),
+    /// The bytes in decimal, each behind a blank.
+    Numbers(&'a [u8]),
 }
 
 /// Puts the parts one after the other.
@@ -51,7 +54,34 @@ fn put_part<S: Sink>(sink: &mut S, part: &Part) -> Result<(), Failed>
         }
         Part::Address(address) => put_all(sink, &digits_of_address(*address)),
         Part::Byte(byte) => put_all(sink, &digits_of_byte(*byte)),
+        Part::Numbers(numbers) => put_numbers(sink, numbers),
     }
+}
+
+fn put_numbers<S: Sink>(sink: &mut S, numbers: &[u8]) -> Result<(), Failed>
+    ensures whole { OnOk result (S.told sink.new ≡ gained (S.told sink.old) (flat_map behind_blank numbers.now)) }
+    ensures part { GainedPart (S.told sink.old) (S.told sink.new) (flat_map behind_blank numbers.now) }
+    ensures cause { HasCause (S.faults sink.old) (S.faults sink.new) result }
+    ensures sound { S.sound sink.old → S.sound sink.new }
+    ensures steady { S.sound sink.old
+        → HasRoom (S.told sink.old) (length (flat_map behind_blank numbers.now)) → IsOk result }
+{
+    for number in numbers {
+        put_behind_blank(sink, *number)?;
+    }
+    Ok(())
+}
+
+fn put_behind_blank<S: Sink>(sink: &mut S, number: u8) -> Result<(), Failed>
+    ensures whole { OnOk result (S.told sink.new ≡ gained (S.told sink.old) (behind_blank number)) }
+    ensures part { GainedPart (S.told sink.old) (S.told sink.new) (behind_blank number) }
+    ensures cause { HasCause (S.faults sink.old) (S.faults sink.new) result }
+    ensures sound { S.sound sink.old → S.sound sink.new }
+    ensures steady { S.sound sink.old → HasRoom (S.told sink.old) (length (behind_blank number)) → IsOk result }
+{
+    put_all(sink, b" ")?;
+    let mut buffer = Buffer::new();
+    put_all(sink, buffer.format(number).as_bytes())
 }
 
 const DIGITS: &[u8; 16] = b"0123456789ABCDEF";

@@ -41,9 +41,11 @@ bytes_counted (i ∷ is) (d ∷ ds) h = ap suc (bytes_counted is ds h.1)
 bytes_small : (is : List Input) (ds : List Dec) → All (λ v. v < 2 ^ 8) (bytes_of is ds)
 bytes_small [] ds = none _
 bytes_small (i ∷ is) [] = none _
-bytes_small (i ∷ is) (d ∷ ds) = All-cons (λ v. v < 2 ^ 8) (byte_of i d) (bytes_of is ds) (byte_small i d) (bytes_small is ds)
+bytes_small (i ∷ is) (d ∷ ds) =
+    All-cons (λ v. v < 2 ^ 8) (byte_of i d) (bytes_of is ds) (byte_small i d) (bytes_small is ds)
 
-pub input_bytes_fit : (b : Block) (rows : List Fields) (values : List Sample) → SpellSamples b.inputs rows values → All (AreInputBytes b) (map input_bytes values)
+pub input_bytes_fit : (b : Block) (rows : List Fields) (values : List Sample) → SpellSamples b.inputs rows values
+    → All (AreInputBytes b) (map input_bytes values)
 input_bytes_fit b [] [] h = none _
 input_bytes_fit b [] (s ∷ ss) h = absurd h
 input_bytes_fit b (r ∷ rs) [] h = absurd h
@@ -53,7 +55,8 @@ input_bytes_fit b (r ∷ rs) (s ∷ ss) h =
 
 -- ---- the answers of rows
 
-instructions_within : (w : Width) (b : Block) (before : ℕ → ℕ) (samples : List (List ℕ)) (rows : List (RowSeen (List ℕ)))
+instructions_within : (w : Width) (b : Block) (before : ℕ → ℕ) (samples : List (List ℕ))
+    (rows : List (RowSeen (List ℕ)))
     → AreAnswersOf w b before samples (map answer_of_row rows) → All (λ r. r.instrs ≤ instruction_bound w b) rows
 instructions_within w b before [] [] answers = none _
 instructions_within w b before [] (r ∷ rows) answers = absurd answers
@@ -67,7 +70,8 @@ width_again Byte = refl
 width_again Word = refl
 
 -- what run_on answers of accepted files is a certified run
-module _ (near : AnswersAreWithinErrors) (run : Run) (files : Files) (block : Block) (firmware : Firmware) (errors : List ℕ)
+module _ (near : AnswersAreWithinErrors) (run : Run) (files : Files) (block : Block) (firmware : Firmware)
+    (errors : List ℕ)
     (samples slice : List Sample) (plan : List Request) (rows : List (RowSeen (List ℕ))) (left : ℕ)
     (a : Accepts run.width files block firmware errors samples plan) (same : slice ≡ samples)
     (ran : rows ≡ (firmware_rows firmware (map input_bytes slice) plan run.flags).rows)
@@ -103,11 +107,13 @@ module _ (near : AnswersAreWithinErrors) (run : Run) (files : Files) (block : Bl
     in_range = a.in_range;
     plan = plan;
     good_plan = a.good_plan;
-    ran = subst (λ (ss : List Sample). rows ≡ (firmware_rows firmware (map input_bytes ss) plan run.flags).rows) same ran;
+    ran =
+        subst (λ (ss : List Sample). rows ≡ (firmware_rows firmware (map input_bytes ss) plan run.flags).rows) same ran;
     uninterrupted = under.answers.uninterrupted;
     within = within;
     bound = bound_is;
-    instructions = subst (λ (n : ℕ). All (λ (r : RowSeen (List ℕ)). r.instrs ≤ n) rows) (sym a.compiled.compiled.instructions)
+    instructions =
+        subst (λ (n : ℕ). All (λ (r : RowSeen (List ℕ)). r.instrs ≤ n) rows) (sym a.compiled.compiled.instructions)
         (instructions_within (width_of firmware.wide) block (λ o. 0) (map input_bytes samples) rows under.answers.answers);
     steps = subst (λ (w : Width). All (λ (r : RowSeen (List ℕ)). r.steps ≤ step_bound w block) rows) width under.answers.steps;
     follows = under;

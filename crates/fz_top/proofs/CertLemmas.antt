@@ -9,7 +9,8 @@ use Rattle.fuzzy_meaning.specs.Blocks.{IsValid}
 use Rattle.codegen.specs.Widths.{parts}
 use Rattle.codegen.specs.declared.width.Width.{Width}
 use Rattle.codegen.specs.declared.width.Width.TheVariants.{Byte, Word}
-use Rattle.box_tree.specs.Certificates.{HasFault, bad_version, no_version, bad_claims, no_claims, bad_node, left_open, late, many_leaves}
+use Rattle.box_tree.specs.Certificates.{HasFault, bad_version, no_version, bad_claims, no_claims, bad_node, left_open}
+use Rattle.box_tree.specs.Certificates.{late, many_leaves}
 use Rattle.box_tree.specs.declared.cert.CertFault.{CertFault}
 use Rattle.box_tree.specs.declared.cert.CertFault.TheVariants as cert
 use Rattle.box_tree.specs.declared.cert.Cert.{Cert}
@@ -20,16 +21,17 @@ use Rattle.cert_check.specs.declared.checker.CheckFault.{CheckFault}
 use Rattle.cert_check.specs.declared.checker.CheckFault.TheVariants as check
 use Rattle.cert_check.specs.declared.text.TextFault.{TextFault as TheRefusal}
 use Rattle.cert_check.specs.declared.text.TextFault.TheVariants as refusal
-use Rattle.cert_check.specs.Faults.{IsPairFault, bad_rule, fails, HasTreeFault, bad_cut, bad_leaf, HasCheckFault, outputs, tree, claimed}
+use Rattle.cert_check.specs.Faults.{IsPairFault, bad_rule, fails, HasTreeFault, bad_cut, bad_leaf, HasCheckFault}
+use Rattle.cert_check.specs.Faults.{outputs, tree, claimed}
 use Rattle.cert_check.specs.Laws.{TextAnswersAreOne}
 use Rattle.cert_check.specs.TextFaults.{HasTextFault, of_text, of_cert}
 use Rattle.fuzzy_meaning.specs.SameBlocks.{IsSameBlock}
 use Rattle.cert_check.specs.SameBlocks.{SameBlocksAnswerAlike}
-use Rattle.fz_top.specs.Certs.{AcceptsCert, HasCertFault, version, status_of}
-use Rattle.fz_top.specs.Refusals.{IsRefusal, never}
-use Rattle.fz_top.specs.declared.status.CertRefusal.{CertRefusal}
-use Rattle.fz_top.specs.declared.status.CertRefusal.TheVariants as told
-use Rattle.fz_top.specs.declared.status.Status.{Status}
+use Rattle.fz_top.specs.Certs.{AcceptsCert, HasCertFault, cert_refusals, version, status_of}
+use Rattle.fz_status.specs.Refusals.{IsRefusal}
+use Rattle.fz_status.specs.declared.status.CertRefusal.{CertRefusal}
+use Rattle.fz_status.specs.declared.status.CertRefusal.TheVariants as told
+use Rattle.fz_status.specs.declared.status.Status.{Status}
 
 few_versions : (width : Width) → version width ≤ 2
 few_versions Byte = omega arith
@@ -44,7 +46,8 @@ has_refusal : (width : Width) (block : Block) (text : List ℕ) (f : CertRefusal
 has_refusal width block text (told.Text f) h = h
 has_refusal width block text (told.Check f) h = h
 
-pub cert_apart : TextAnswersAreOne → SameBlocksAnswerAlike → (width : Width) (text errors : List ℕ) (block other : Block) → IsValid block → IsSameBlock other block
+pub cert_apart : TextAnswersAreOne → SameBlocksAnswerAlike → (width : Width) (text errors : List ℕ)
+    (block other : Block) → IsValid block → IsSameBlock other block
     → AcceptsCert width block text errors → (f : CertRefusal) → HasCertFault width other text f → ⊥
 cert_apart answers alike width text errors block other valid blocks accepts f fault =
     let refused = alike other block (parts width) (version width) text (Err (refusal_of f)) blocks (has_refusal width other text f fault) in
@@ -63,7 +66,8 @@ text_carries v text _ (left_open claims nodes n begins some) e = cc
 text_carries v text _ (late claims nodes node behind begins good) e = cc
 text_carries v text _ (many_leaves claims nodes n pairs behind begins good some all) e = cc
 
-pair_carries : (b : Block) (box : List Interval) (o : ℕ) (leaf : the.Leaf) (line : ℕ) (f : CheckFault) → IsPairFault b box o leaf line f → f ≢ check.Memory
+pair_carries : (b : Block) (box : List Interval) (o : ℕ) (leaf : the.Leaf) (line : ℕ) (f : CheckFault)
+    → IsPairFault b box o leaf line f → f ≢ check.Memory
 pair_carries b box o leaf line _ (bad_rule none) e = cc
 pair_carries b box o leaf line _ (fails g pair h) e = cc
 
@@ -78,12 +82,14 @@ check_carries b h c _ (claimed es k over count a) e = cc
 
 -- ---- the checker's answer as a status
 
-pub as_errors : (P : List ℕ → Type 0) (answer : Result (Vec ℕ) TheRefusal) (result : Result (Vec ℕ) Status) → IfOk result (λ es. answer ≡ Ok es) → IfOk answer (λ es. P es.items) → IfOk result (λ es. P es.items)
+pub as_errors : (P : List ℕ → Type 0) (answer : Result (Vec ℕ) TheRefusal) (result : Result (Vec ℕ) Status)
+    → IfOk result (λ es. answer ≡ Ok es) → IfOk answer (λ es. P es.items) → IfOk result (λ es. P es.items)
 as_errors P answer (Err s) same h = tt
 as_errors P answer (Ok es) same h = subst (λ a. IfOk a (λ fs. P fs.items)) same h
 
-as_refusal : (width : Width) (block : Block) (text : List ℕ) (r : TheRefusal) → (r ≢ refusal.Memory → HasTextFault block (parts width) (version width) text r)
-    → IsRefusal (record never { cert = HasCertFault width block text }) (status_of r)
+as_refusal : (width : Width) (block : Block) (text : List ℕ) (r : TheRefusal)
+    → (r ≢ refusal.Memory → HasTextFault block (parts width) (version width) text r)
+    → IsRefusal (cert_refusals width block text) (status_of r)
 as_refusal width block text refusal.Memory h = tt
 as_refusal width block text (refusal.Text f) h = let is = h (λ e. let z : ⊥ = cc in z) in (text_is is, is)
   where
@@ -94,12 +100,13 @@ as_refusal width block text (refusal.Check f) h = let is = h (λ e. let z : ⊥ 
     check_is : HasTextFault block (parts width) (version width) text (refusal.Check f) → f ≢ check.Memory
     check_is (of_cert c g spelled fault) = check_carries block (parts width) c g fault
 
-pub as_status : (width w : Width) (block : Block) (text : List ℕ) (answer : Result (Vec ℕ) TheRefusal) (result : Result (Vec ℕ) Status) → w ≡ width
+pub as_status : (width w : Width) (block : Block) (text : List ℕ) (answer : Result (Vec ℕ) TheRefusal)
+    (result : Result (Vec ℕ) Status) → w ≡ width
     → IfErr result (λ s. (r : TheRefusal) × (answer ≡ Err r) × (s ≡ status_of r))
     → IfErr answer (λ r. r ≢ refusal.Memory → HasTextFault block (parts width) (version width) text r)
-    → IfErr result (IsRefusal (record never { cert = HasCertFault w block text }))
+    → IfErr result (IsRefusal (cert_refusals w block text))
 as_status width w block text answer (Ok es) at same h = tt
 as_status width w block text answer (Err s) at (r, is, told) h =
-    subst (λ v. IsRefusal (record never { cert = HasCertFault v block text }) s) (sym at)
-    (subst (λ x. IsRefusal (record never { cert = HasCertFault width block text }) x) (sym told)
+    subst (λ v. IsRefusal (cert_refusals v block text) s) (sym at)
+    (subst (λ x. IsRefusal (cert_refusals width block text) x) (sym told)
     (as_refusal width block text r (subst (λ a. IfErr a (λ q. q ≢ refusal.Memory → HasTextFault block (parts width) (version width) text q)) is h)))

@@ -1,10 +1,8 @@
 -- Contents that make a deed make no fault.
-use Rattle.std.proofs.Common.{◌≡◌, ◌≢◌, ℕ, List, [], ◌∷◌, refl, sym, ◌∙◌, subst, ap}
-use Rattle.std.specs.Prelude.{map, Err}
-use Rattle.std.specs.List.{AllZip}
+use Rattle.std.proofs.Common.{◌≡◌, ℕ, List, sym, ◌∙◌, subst, ap}
+use Rattle.std.specs.Prelude.{Err}
 use Rattle.fuzzy_meaning.specs.declared.block.Block.{Block}
 use Rattle.fuzzy_meaning.specs.declared.block.Input.{Input}
-use Rattle.fuzzy_meaning.specs.declared.block.Rule.{Rule}
 use Rattle.fcl_syntax.specs.Readings.{FirstFaultsAreOne}
 use Rattle.fcl_syntax.specs.View.{view}
 use Rattle.fuzzy_meaning.specs.SameBlocks.{IsSameBlock}
@@ -14,9 +12,7 @@ use Rattle.rule_layout.specs.Alike.{LayoutsAreOne, LimitsHaveNoFault}
 use Rattle.rule_layout.specs.Layouts.{IsWithinLimits}
 use Rattle.trace_io.specs.OneReading.{SpelledTracesHaveNoFault}
 use Rattle.trace_io.specs.Traces.{Spells}
-use Rattle.trace_io.specs.declared.sample.Sample.{Sample}
-use Rattle.trace_io.specs.declared.sample.TraceFault.{TraceFault}
-use Rattle.trace_io.specs.declared.sample.TraceFault.TheVariants as trace
+use Rattle.cpu12_asm.specs.Sources.{assembled}
 use Rattle.cpu12_asm.specs.declared.image.Image.{Image}
 use Rattle.cpu12_parts.specs.State.{State}
 use Rattle.cpu12_emul.specs.Image.{ImagesLoadAlike, image_memory}
@@ -41,23 +37,28 @@ use Rattle.fz_top.specs.Certs.{AcceptsCert}
 use Rattle.fz_top.specs.Check.{check_in, check_refusals}
 use Rattle.fz_top.proofs.CertLemmas.{cert_apart}
 use Rattle.fz_top.specs.Firmwares.{GivesFirmware, RefusesText, text_refusals}
-use Rattle.fz_top.specs.CertifiedRun.{Files}
-use Rattle.fz_top.specs.Run.{RunGives, run_refusals}
+use Rattle.fz_top.specs.CertifiedRun.{CertifiedRun, Files, Report}
+use Rattle.fz_top.specs.Run.{run_refusals}
 use Rattle.fz_top.specs.declared.run.Run.{Run}
 use Rattle.fz_top.specs.Deeds.{Deed}
-use Rattle.fz_top.specs.Refusals.{CarriesNoMemory}
+use Rattle.fz_status.specs.Refusals.{CarriesNoMemory, Refusals, Refuses}
 use Rattle.fz_top.specs.Runs.{DeedsHaveNoFault, Runs, World}
-use Rattle.fz_top.specs.Texts.{Text}
+use Rattle.fz_status.specs.Words.{Text}
 use Rattle.fz_top.specs.declared.command.Command.{Command}
 use Rattle.fz_top.specs.declared.command.Command.TheVariants as command
 use Rattle.fz_top.specs.declared.exec.Exec.{Exec}
-use Rattle.fz_top.specs.declared.status.ImageFault.{ImageFault}
-use Rattle.fz_top.specs.declared.status.ImageFault.TheVariants as fault
-use Rattle.fz_top.specs.declared.status.FclFault.{FclFault}
-use Rattle.fz_top.specs.declared.status.FclFault.TheVariants as fcl
-use Rattle.fz_top.specs.declared.status.Status.{Status}
-use Rattle.fz_top.specs.declared.status.Status.TheVariants as status
-use Rattle.fz_top.proofs.StatusLemmas.{AreImpossible, Kind, done, failed_read, failed_write, kind_of, long_read, no_command, no_memory, none_refuses, of_contents, refusals_carry}
+use Rattle.fz_status.specs.declared.status.ImageFault.{ImageFault}
+use Rattle.fz_status.specs.declared.status.ImageFault.TheVariants as fault
+use Rattle.fz_status.specs.declared.status.FclFault.{FclFault}
+use Rattle.fz_status.specs.declared.status.FclFault.TheVariants as fcl
+use Rattle.fz_status.specs.declared.status.Status.{Status}
+use Rattle.fz_status.specs.declared.status.Status.TheVariants as status
+use Rattle.fz_top.proofs.StatusLemmas.{Kind, done, failed_read, failed_write, kind_of, long_read, no_command}
+use Rattle.fz_top.proofs.StatusLemmas.{no_memory, of_contents}
+
+-- no status is one of these refusals
+abbrev NoneRefuses : Refusals → Type 0
+NoneRefuses why = (s : Status) → Refuses why s → ⊥
 
 module _ (first : FirstFaultsAreOne) (load : LoadFaultsAreOne) (alike : SpelledBlocksAreOne)
     (layouts : LayoutsAreOne) (limits : LimitsHaveNoFault) (traces : SpelledTracesHaveNoFault)
@@ -67,32 +68,28 @@ module _ (first : FirstFaultsAreOne) (load : LoadFaultsAreOne) (alike : SpelledB
   -- a text that gives firmware is not refused
   text_apart : (text : List ℕ) (block : Block) → SpellsBlock text block → IsWithinLimits block
       → (f : FclFault) → CarriesNoMemory (status.Fcl f) → RefusesText text f → ⊥
-  text_apart text block spelled within (fcl.Syntax f) carries refuses = (first text).1 f (view spelled.tree) refuses spelled.spelled
+  text_apart text block spelled within (fcl.Syntax f) carries refuses =
+      (first text).1 f (view spelled.tree) refuses spelled.spelled
   text_apart text block spelled within (fcl.Load f) carries refuses = (load text).1 f block refuses spelled
   text_apart text block spelled within (fcl.Layout f) carries refuses =
       let same = alike text refuses.0 block refuses.1 spelled in
       limits block f within carries (layouts.fault refuses.0 block f same refuses.2)
 
-  text_impossible : (text : List ℕ) (block : Block) → SpellsBlock text block → IsWithinLimits block
-      → AreImpossible (text_refusals text)
-  text_impossible text block spelled within = record {
-    fcl = text_apart text block spelled within;
-    image = λ f no is. is;
-    cert = λ f no is. is;
-    trace = λ f no is. is;
-    plan = λ f no is. is;
-    asm = λ f no is. is;
-    trap = λ pc byte is. is;
-    budget = λ steps is. is;
-  }
+  text_stands : (text : List ℕ) (block : Block) → SpellsBlock text block → IsWithinLimits block
+      → NoneRefuses (text_refusals text)
+  text_stands text block spelled within (status.Fcl f) is = text_apart text block spelled within f is.0 is.1
+  text_stands text block spelled within s is = is.1
 
   -- an image that is one firmware's is not refused as another's of the same text
-  image_apart : (width : Width) (text image : List ℕ) (block : Block) (firmware : Firmware) → GivesFirmware width text block firmware
+  image_apart : (width : Width) (text image : List ℕ) (block : Block) (firmware : Firmware)
+      → GivesFirmware width text block firmware
       → GivesImage image firmware.image → (f : ImageFault) → CarriesNoMemory (status.Image f)
-      → (other : Block) (others : Firmware) → GivesFirmware width text other others → RefusesImage image others.image f → ⊥
+      → (other : Block) (others : Firmware) → GivesFirmware width text other others
+      → RefusesImage image others.image f → ⊥
   image_apart width text image block firmware gives is f carries other others gives_other refuses = go f refuses
     where
-      one : ((at : ℕ) → byte_at firmware.image.bytes at ≡ byte_at others.image.bytes at) × (firmware.image.start ≡ others.image.start)
+      one : ((at : ℕ) → byte_at firmware.image.bytes at ≡ byte_at others.image.bytes at)
+          × (firmware.image.start ≡ others.image.start)
       one = firmwares block other firmware others (alike text block other gives.spelled gives_other.spelled)
           (gives.wide ∙ sym gives_other.wide) gives.compiled gives_other.compiled
 
@@ -103,96 +100,84 @@ module _ (first : FirstFaultsAreOne) (load : LoadFaultsAreOne) (alike : SpelledB
       go (fault.Start got wanted) why =
           why.3 (why.4 ∙ (images image why.0 firmware.image why.1 is).0 ∙ one.1 ∙ sym why.5)
 
-  run_impossible : (run : Run) (files : Files) (deed : Deed) → RunGives run files deed → AreImpossible (run_refusals run files)
-  run_impossible run files deed gives =
-      let c = gives.certified in
-      let alike_to : (other : Block) → SpellsBlock files.fcl other → IsSameBlock other c.block =
-      λ other spelled. alike files.fcl other c.block spelled c.compiled.spelled in
-      record {
-        fcl = text_apart files.fcl c.block c.compiled.spelled c.compiled.limits;
-        image = λ f no refuses. image_apart run.width files.fcl files.image c.block c.firmware c.compiled c.image f no
-            refuses.0 refuses.1 refuses.2 refuses.3;
-        cert = λ f no refuses. cert_apart certs blocks run.width files.cert gives.report.errors c.block refuses.0
-            c.compiled.spelled.valid (alike_to refuses.0 refuses.2.spelled) c.accepted f refuses.3.1;
-        trace = λ f no refuses. traces refuses.0.inputs files.trace c.samples f
-            (subst (λ (is : List Input). Spells is files.trace c.samples) (sym (alike_to refuses.0 refuses.2.spelled).inputs) c.in_range)
-            refuses.3.3;
-        plan = λ f no refuses. plans files.plan c.plan f c.good_plan refuses.3.5;
-        asm = λ f no is. is;
-        trap = λ pc byte is. is;
-        budget = λ steps is. is;
-      }
+  run_stands : (run : Run) (files : Files) (report : Report) → CertifiedRun run.width run.flags files report
+      → NoneRefuses (run_refusals run files)
+  run_stands run files report c (status.Fcl f) is = text_apart files.fcl c.block c.compiled.spelled c.compiled.limits f is.0 is.1
+  run_stands run files report c (status.Image f) (carries, other, others, gives, refuses) =
+      image_apart run.width files.fcl files.image c.block c.firmware c.compiled c.image f carries other others gives refuses
+  run_stands run files report c (status.Cert f) (carries, other, others, gives, refuses) =
+      let same = alike files.fcl other c.block gives.spelled c.compiled.spelled in
+      cert_apart certs blocks run.width files.cert report.errors c.block other c.compiled.spelled.valid same c.accepted f refuses.1
+  run_stands run files report c (status.Trace f) (carries, other, others, gives, refuses) =
+      let same = alike files.fcl other c.block gives.spelled c.compiled.spelled in
+      traces other.inputs files.trace c.samples f
+      (subst (λ (is : List Input). Spells is files.trace c.samples) (sym same.inputs) c.in_range) refuses.3
+  run_stands run files report c (status.Plan f) (carries, other, others, gives, refuses) =
+      plans files.plan c.plan f c.good_plan refuses.5
+  run_stands run files report c s is = is.1
 
-  check_impossible : (width : Width) (text cert errors : List ℕ) (block : Block) → SpellsBlock text block → IsWithinLimits block
-      → AcceptsCert width block cert errors → AreImpossible (check_refusals (check_in width) text cert)
-  check_impossible width text cert errors block spelled within accepts = record {
-    fcl = text_apart text block spelled within;
-    image = λ f no is. is;
-    cert = λ f no refuses. cert_apart certs blocks width cert errors block refuses.0 spelled.valid
-        (alike text refuses.0 block refuses.2.spelled spelled) accepts f refuses.3;
-    trace = λ f no is. is;
-    plan = λ f no is. is;
-    asm = λ f no is. is;
-    trap = λ pc byte is. is;
-    budget = λ steps is. is;
-  }
+  check_stands : (width : Width) (text cert errors : List ℕ) (block : Block) → SpellsBlock text block
+      → IsWithinLimits block
+      → AcceptsCert width block cert errors → NoneRefuses (check_refusals (check_in width) text cert)
+  check_stands width text cert errors block spelled within accepts (status.Fcl f) is =
+      text_apart text block spelled within f is.0 is.1
+  check_stands width text cert errors block spelled within accepts (status.Cert f) (carries, other, others, gives, refuses) =
+      let same = alike text other block gives.spelled spelled in
+      cert_apart certs blocks width cert errors block other spelled.valid same accepts f refuses
+  check_stands width text cert errors block spelled within accepts s is = is.1
 
-  source_impossible : (source : List ℕ) (deed : Deed) → AsmGives source deed → AreImpossible (source_refusals source)
-  source_impossible source deed gives = record {
-    fcl = λ f no is. is;
-    image = λ f no is. is;
-    cert = λ f no is. is;
-    trace = λ f no is. is;
-    plan = λ f no is. is;
-    asm = λ f no is. let yes = gives.assembles.assembled in cc;
-    trap = λ pc byte is. is;
-    budget = λ steps is. is;
-  }
+  source_stands : (source : List ℕ) (deed : Deed) → AsmGives source deed → NoneRefuses (source_refusals source)
+  source_stands source deed gives (status.Asm f) is =
+      let yes = gives.assembles.assembled in
+      let no : assembled source ≡ Err f = is.1 in
+      cc
+  source_stands source deed gives s is = is.1
 
   -- two runs of one image end alike
-  ends_alike : (exec : Exec) (text : List ℕ) (e f : RunEnd) (t u : State) → Ends exec text e t → Ends exec text f u → e ≡ f
+  ends_alike : (exec : Exec) (text : List ℕ) (e f : RunEnd) (t u : State) → Ends exec text e t → Ends exec text f u
+      → e ≡ f
   ends_alike exec text e f t u one other =
       let bytes = (images text one.image other.image one.spelled other.spelled).1 in
       let same = ap reset_with (loads one.image.bytes other.image.bytes bytes) in
       (ends exec.flags exec.steps (reset_with (image_memory other.image.bytes)) t u e f
       (subst (λ (s : State). EndsRun exec.flags exec.steps s e t) same one.ends) other.ends).0
 
-  records_apart : (text : List ℕ) (image : Image) → GivesImage text image → (f : ImageFault) → CarriesNoMemory (status.Image f) → RefusesRecords text f → ⊥
+  records_apart : (text : List ℕ) (image : Image) → GivesImage text image → (f : ImageFault)
+      → CarriesNoMemory (status.Image f) → RefusesRecords text f → ⊥
   records_apart text image gives (fault.Records f) carries refuses = good text image f gives refuses
   records_apart text image gives (fault.Byte at got wanted) carries refuses = refuses
   records_apart text image gives (fault.Start got wanted) carries refuses = refuses
 
-  exec_impossible : (exec : Exec) (text : List ℕ) (deed : Deed) → ExecGives exec text deed → AreImpossible (exec_refusals exec text)
-  exec_impossible exec text deed gives = record {
-    fcl = λ f no is. is;
-    image = records_apart text gives.arrives.image gives.arrives.spelled;
-    cert = λ f no is. is;
-    trace = λ f no is. is;
-    plan = λ f no is. is;
-    asm = λ f no is. is;
-    trap = λ pc byte is. (let same = ends_alike exec text (end.Arrived gives.steps) (end.Trap pc byte) gives.last is.0 gives.arrives is.1 in cc);
-    budget = λ n is. (let same = ends_alike exec text (end.Arrived gives.steps) (end.Budget n) gives.last is.0 gives.arrives is.1 in cc);
-  }
+  exec_stands : (exec : Exec) (text : List ℕ) (deed : Deed) → ExecGives exec text deed
+      → NoneRefuses (exec_refusals exec text)
+  exec_stands exec text deed gives (status.Image f) is =
+      records_apart text gives.arrives.image gives.arrives.spelled f is.0 is.1
+  exec_stands exec text deed gives (status.Trap pc byte) (carries, last, ends_so) =
+      let same = ends_alike exec text (end.Arrived gives.steps) (end.Trap pc byte) gives.last last gives.arrives ends_so in cc
+  exec_stands exec text deed gives (status.Budget n) (carries, last, ends_so) =
+      let same = ends_alike exec text (end.Arrived gives.steps) (end.Budget n) gives.last last gives.arrives ends_so in cc
+  exec_stands exec text deed gives s is = is.1
 
   pub apart : DeedsHaveNoFault
   unfolding Makes
-  apart command.Asm contents deed s makes fault = none_refuses _ (source_impossible _ deed makes) s fault
+  apart command.Asm contents deed s makes fault = source_stands _ deed makes s fault
   apart (command.Check check) contents deed s makes fault =
-      none_refuses _ (check_impossible check.width _ _ makes.errors makes.block makes.gives.spelled makes.gives.limits makes.accepts) s fault
+      check_stands check.width _ _ makes.errors makes.block makes.gives.spelled makes.gives.limits makes.accepts s fault
   apart (command.Compile compile) contents deed s makes fault =
-      none_refuses _ (text_impossible _ makes.block makes.gives.spelled makes.gives.limits) s fault
-  apart (command.Exec exec) contents deed s makes fault = none_refuses _ (exec_impossible exec _ deed makes) s fault
-  apart (command.Run run) contents deed s makes fault = none_refuses _ (run_impossible run _ deed makes) s fault
+      text_stands _ makes.block makes.gives.spelled makes.gives.limits s fault
+  apart (command.Exec exec) contents deed s makes fault = exec_stands exec _ deed makes s fault
+  apart (command.Run run) contents deed s makes fault = run_stands run _ makes.report makes.certified s fault
 
 -- ---- a fault that is made is no want of memory
 
-faults_carry : (command : Command) (contents : List (List ℕ)) (s : Status) → Makes command contents (Err s) → CarriesNoMemory s
+faults_carry : (command : Command) (contents : List (List ℕ)) (s : Status) → Makes command contents (Err s)
+    → CarriesNoMemory s
 unfolding Makes
-faults_carry command.Asm contents s makes = refusals_carry _ s makes
-faults_carry (command.Check check) contents s makes = refusals_carry _ s makes
-faults_carry (command.Compile compile) contents s makes = refusals_carry _ s makes
-faults_carry (command.Exec exec) contents s makes = refusals_carry _ s makes
-faults_carry (command.Run run) contents s makes = refusals_carry _ s makes
+faults_carry command.Asm contents s makes = makes.0
+faults_carry (command.Check check) contents s makes = makes.0
+faults_carry (command.Compile compile) contents s makes = makes.0
+faults_carry (command.Exec exec) contents s makes = makes.0
+faults_carry (command.Run run) contents s makes = makes.0
 
 pub carries : (words : List Text) (old new : World) (s : Status) → Runs words old new s → CarriesNoMemory s
 carries words old new s runs = go s (kind_of s) runs

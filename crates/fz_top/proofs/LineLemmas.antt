@@ -1,5 +1,6 @@
 -- Lines that are written number by number.
-use Rattle.std.proofs.Common.{refl, ◌≡◌, ◌<◌, ◌+◌, ℕ, List, [], ◌∷◌, ◌++◌, length, take, get_or, sym, ◌∙◌, ap, ap₂, arith, append_assoc, add-one}
+use Rattle.std.proofs.Common.{refl, ◌≡◌, ◌<◌, ◌+◌, ℕ, List, [], ◌∷◌, ◌++◌, length, take, get_or, sym, ◌∙◌, ap, ap₂}
+use Rattle.std.proofs.Common.{arith, append_assoc, add-one}
 use Rattle.std.specs.Prelude.{codes, decimal, flat_map, map, String, string_bytes}
 use Rattle.std.specs.declared.alloc.Global.{Global}
 use Rattle.std.proofs.Math.Seq.{take-suc}
@@ -8,7 +9,8 @@ use Rattle.fz_shelf.specs.Lines.{text_of}
 use Rattle.fz_run.specs.Rows.{boundary_seen, frames_seen, row_seen}
 use Rattle.fz_run.specs.declared.rows.Row.{Row}
 use Rattle.fz_top.specs.Check.{check_lines}
-use Rattle.fz_top.specs.Lines.{counted, error_line, line, newline}
+use Rattle.fz_status.specs.FaultLines.{newline}
+use Rattle.fz_top.specs.Lines.{counted, error_line, line}
 use Rattle.fz_top.specs.Run.{frame_line, numbers, report_of, row_lines, run_lines, sample_line}
 
 pub numbers-snoc : (ns : List ℕ) (n : ℕ) → numbers (ns ++ n ∷ []) ≡ numbers ns ++ (codes " " ++ decimal n)
@@ -16,7 +18,8 @@ numbers-snoc [] n = ap (λ (l : List ℕ). codes " " ++ l) (append-nil (decimal 
 numbers-snoc (m ∷ ns) n = ap (λ (l : List ℕ). codes " " ++ (decimal m ++ l)) (numbers-snoc ns n) ∙ ap (λ (l : List ℕ). codes " " ++ l) (sym (append_assoc (decimal m) (numbers ns) (codes " " ++ decimal n)))
 
 -- the text so far with one number more
-pub number_more : (before now next : List ℕ) (ns : List ℕ) (i d : ℕ) → i < length ns → now ≡ before ++ numbers (take i ns) → next ≡ now ++ (codes " " ++ decimal (get_or ns i d))
+pub number_more : (before now next : List ℕ) (ns : List ℕ) (i d : ℕ) → i < length ns
+    → now ≡ before ++ numbers (take i ns) → next ≡ now ++ (codes " " ++ decimal (get_or ns i d))
     → next ≡ before ++ numbers (take (i + 1) ns)
 number_more before now next ns i d lt so_far step =
     let more : take (i + 1) ns ≡ take i ns ++ get_or ns i d ∷ [] = rw add-one (take-suc ns i d lt) in
@@ -24,12 +27,14 @@ number_more before now next ns i d lt so_far step =
     ∙ append_assoc before (numbers (take i ns)) (codes " " ++ decimal (get_or ns i d))
     ∙ ap (λ (l : List ℕ). before ++ l) (sym (numbers-snoc (take i ns) (get_or ns i d)) ∙ ap numbers (sym more))
 
-pub text_of-snoc : (lines : List (String Global)) (l : String Global) → text_of (lines ++ l ∷ []) ≡ text_of lines ++ string_bytes l
+pub text_of-snoc : (lines : List (String Global)) (l : String Global)
+    → text_of (lines ++ l ∷ []) ≡ text_of lines ++ string_bytes l
 text_of-snoc [] l = append-nil (string_bytes l)
 text_of-snoc (x ∷ lines) l = ap (λ (t : List ℕ). string_bytes x ++ t) (text_of-snoc lines l) ∙ sym (append_assoc (string_bytes x) (text_of lines) (string_bytes l))
 
 -- the text so far with one line more
-pub line_more : (before items_text line_text next_text : List ℕ) (items next : List (String Global)) (line : String Global)
+pub line_more : (before items_text line_text next_text : List ℕ) (items next : List (String Global))
+    (line : String Global)
     → text_of items ≡ before ++ items_text → next ≡ items ++ line ∷ [] → string_bytes line ≡ line_text
     → next_text ≡ items_text ++ line_text → text_of next ≡ before ++ next_text
 line_more before items_text line_text next_text items next line so_far added is whole =
@@ -59,7 +64,8 @@ pub counted-map : {X Y : Type 0} (f : ℕ → Y → List ℕ) (g : X → Y) (k :
 counted-map f g k [] = refl
 counted-map f g k (x ∷ xs) = ap (λ (t : List ℕ). f k (g x) ++ t) (counted-map f g (k + 1) xs)
 
-pub flat-map : {X Y : Type 0} (f : Y → List ℕ) (g : X → Y) (xs : List X) → flat_map f (map g xs) ≡ flat_map (λ x. f (g x)) xs
+pub flat-map : {X Y : Type 0} (f : Y → List ℕ) (g : X → Y) (xs : List X)
+    → flat_map f (map g xs) ≡ flat_map (λ x. f (g x)) xs
 flat-map f g [] = refl
 flat-map f g (x ∷ xs) = ap (λ (t : List ℕ). f (g x) ++ t) (flat-map f g xs)
 
@@ -89,7 +95,8 @@ module _ (k instructions steps resumed frames : ℕ) (bytes answers : List ℕ) 
       ++ (codes " steps " ++ (decimal steps ++ (codes " resumed " ++ (decimal resumed
       ++ (codes " frames " ++ (decimal frames ++ newline)))))))))))))
 
-  pub sample_written : (t0 t1 t2 t3 t4 t5 t6 t7 t8 t9 : List ℕ) → t0 ≡ codes "sample " → t1 ≡ t0 ++ (decimal k ++ codes " bytes")
+  pub sample_written : (t0 t1 t2 t3 t4 t5 t6 t7 t8 t9 : List ℕ) → t0 ≡ codes "sample "
+      → t1 ≡ t0 ++ (decimal k ++ codes " bytes")
       → t2 ≡ t1 ++ numbers bytes → t3 ≡ t2 ++ codes " answers" → t4 ≡ t3 ++ numbers answers
       → t5 ≡ t4 ++ (codes " instructions " ++ decimal instructions) → t6 ≡ t5 ++ (codes " steps " ++ decimal steps)
       → t7 ≡ t6 ++ (codes " resumed " ++ decimal resumed) → t8 ≡ t7 ++ (codes " frames " ++ decimal frames)

@@ -1,5 +1,6 @@
 -- A run from its parts.
-use Rattle.std.proofs.Common.{◌≡◌, ◌⊎◌, ◌<◌, inl, inr, ⊎_elim, ℕ, List, [], ◌∷◌, ◌++◌, length, refl, sym, ◌∙◌, ap, subst, arith}
+use Rattle.std.proofs.Common.{◌≡◌, ◌⊎◌, ◌<◌, inl, inr, ⊎_elim, ℕ, List, [], ◌∷◌, ◌++◌, length, refl, sym, ◌∙◌, ap}
+use Rattle.std.proofs.Common.{subst, arith}
 use Rattle.std.specs.Prelude.{Option, Some, None, Result, Ok, Err}
 use Rattle.fz_shelf.specs.Faults.{Rose}
 use Rattle.fz_shelf.specs.Told.{Taken, HasRoom}
@@ -8,16 +9,20 @@ use Rattle.fz_shelf.specs.Log.{Log}
 use Rattle.fz_shelf.specs.Reading.{Counts}
 use Rattle.std.specs.declared.alloc.Global.{Global}
 use Rattle.std.specs.declared.vec.Vec.{Vec}
-use Rattle.fz_top.specs.Texts.{Text, word_at, bytes_of}
+use Rattle.fz_status.specs.Words.{Text, word_at}
+use Rattle.fz_top.specs.Contents.{bytes_of}
 use Rattle.fz_top.specs.Commands.{Makes, command_in, inputs_of}
 use Rattle.fz_top.specs.Reads.{ReadsWhole, AreHeld, AreThere, names_at, StopsBy}
 use Rattle.fz_top.specs.Deeds.{Deed, IsFaultOf}
-use Rattle.fz_top.specs.Runs.{CanBeDone, DeedsHaveNoFault, HasNoFault, Faulted, IsMade, Untouched, IsReadFault, IsTooLong, IsWriteFault, Settles, status_of, IsReady, AreKnown, FileFits, World, world, Worked, Delivered, WriteFailed, PutFailed, ChangesOnly, IsWritten, Runs}
+use Rattle.fz_top.specs.Runs.{CanBeDone, DeedsHaveNoFault, HasNoFault, Faulted, IsMade, Untouched, IsReadFault}
+use Rattle.fz_top.specs.Runs.{IsTooLong, IsWriteFault, Settles, status_of, IsReady, AreKnown, FileFits, World, world}
+use Rattle.fz_top.specs.Runs.{Worked, Delivered, WriteFailed, PutFailed, ChangesOnly, IsWritten, Runs}
 use Rattle.fz_top.specs.declared.command.Command.{Command}
 use Rattle.fz_top.specs.declared.reading.Stop.TheVariants as stop
-use Rattle.fz_top.specs.declared.status.Status.{Status}
-use Rattle.fz_top.specs.declared.status.Status.TheVariants as status
-use Rattle.fz_top.proofs.StatusLemmas.{Kind, done, failed_read, failed_write, kind_of, long_read, no_command, no_memory, of_contents}
+use Rattle.fz_status.specs.declared.status.Status.{Status}
+use Rattle.fz_status.specs.declared.status.Status.TheVariants as status
+use Rattle.fz_top.proofs.StatusLemmas.{Kind, done, failed_read, failed_write, kind_of, long_read, no_command}
+use Rattle.fz_top.proofs.StatusLemmas.{no_memory, of_contents}
 
 -- what was read and made, before anything is written
 pub record Made (words : List Text) (f0 f1 : Names) (k0 k1 : Counts) (a0 a1 : Log) (deed : Deed) : Type 0 where
@@ -28,8 +33,10 @@ pub record Made (words : List Text) (f0 f1 : Names) (k0 k1 : Counts) (a0 a1 : Lo
   pub whole : ReadsWhole words (inputs_of command) f0 k0 k1 a0 a1 contents
   pub outcome : Makes command contents (Ok deed)
 
-pub make : (words : List Text) (f0 f1 : Names) (k0 k1 : Counts) (a0 a1 : Log) (command : Command) (places : List ℕ) (contents slice : List (Vec ℕ Global)) (deed : Deed)
-    → Some command ≡ command_in words → f1 ≡ f0 → places ≡ inputs_of command → ReadsWhole words places f0 k0 k1 a0 a1 (bytes_of contents) → slice ≡ contents
+pub make : (words : List Text) (f0 f1 : Names) (k0 k1 : Counts) (a0 a1 : Log) (command : Command) (places : List ℕ)
+    (contents slice : List (Vec ℕ Global)) (deed : Deed)
+    → Some command ≡ command_in words → f1 ≡ f0 → places ≡ inputs_of command
+    → ReadsWhole words places f0 k0 k1 a0 a1 (bytes_of contents) → slice ≡ contents
     → Makes command (bytes_of slice) (Ok deed) → Made words f0 f1 k0 k1 a0 a1 deed
 make words f0 f1 k0 k1 a0 a1 command places contents slice deed is files at whole same outcome = record {
   command = command;
@@ -40,7 +47,8 @@ make words f0 f1 k0 k1 a0 a1 command places contents slice deed is files at whol
   outcome = subst (λ (cs : List (Vec ℕ Global)). Makes command (bytes_of cs) (Ok deed)) same outcome;
 }
 
-module _ (words : List Text) (f0 f1 f2 : Names) (k0 k1 k2 : Counts) (a0 a1 a2 : Log) (t0 t2 : Option Taken) (e0 e2 : ℕ) (deed : Deed) (made : Made words f0 f1 k0 k1 a0 a1 deed) (asked : a2 ≡ a1) where
+module _ (words : List Text) (f0 f1 f2 : Names) (k0 k1 k2 : Counts) (a0 a1 a2 : Log) (t0 t2 : Option Taken)
+    (e0 e2 : ℕ) (deed : Deed) (made : Made words f0 f1 k0 k1 a0 a1 deed) (asked : a2 ≡ a1) where
   worked : Worked words (world f0 k0 a0 t0 e0) (world f2 k2 a2 t2 e2) (Ok deed)
   worked = record {
     command = made.command;
@@ -54,10 +62,13 @@ module _ (words : List Text) (f0 f1 f2 : Names) (k0 k1 k2 : Counts) (a0 a1 a2 : 
   written : IsWritten words deed.file f1 f2 → IsWritten words deed.file f0 f2
   written w = subst (λ (f : Names). IsWritten words deed.file f f2) made.files w
 
-  pub ran : Delivered words deed (world f1 k1 a1 t0 e0) (world f2 k2 a2 t2 e2) → Runs words (world f0 k0 a0 t0 e0) (world f2 k2 a2 t2 e2) status.Ok
+  pub ran : Delivered words deed (world f1 k1 a1 t0 e0) (world f2 k2 a2 t2 e2)
+      → Runs words (world f0 k0 a0 t0 e0) (world f2 k2 a2 t2 e2) status.Ok
   ran d = (deed, worked, record { others = subst (λ (f : Names). ChangesOnly words deed.file f f2) made.files d.others; written = written d.written; told = d.told; counts = d.counts ∙ made.whole.counts; faults = d.faults })
 
-  pub broke : ChangesOnly words deed.file f1 f2 → WriteFailed deed (world f1 k1 a1 t0 e0) (world f2 k2 a2 t2 e2) ⊎ PutFailed words deed (world f1 k1 a1 t0 e0) (world f2 k2 a2 t2 e2)
+  pub broke : ChangesOnly words deed.file f1 f2
+      → WriteFailed deed (world f1 k1 a1 t0 e0) (world f2 k2 a2 t2 e2)
+      ⊎ PutFailed words deed (world f1 k1 a1 t0 e0) (world f2 k2 a2 t2 e2)
       → Runs words (world f0 k0 a0 t0 e0) (world f2 k2 a2 t2 e2) status.WriteFault
   broke only (inl w) = (
     deed,
@@ -84,18 +95,23 @@ module _ (words : List Text) (f0 f1 f2 : Names) (k0 k1 k2 : Counts) (a0 a1 a2 : 
   )
 
 -- the contents were refused, or memory was wanted for what they make
-pub stopped : (words : List Text) (f0 f1 : Names) (k0 k1 : Counts) (a0 a1 : Log) (t0 : Option Taken) (e0 : ℕ) (command : Command) (places : List ℕ) (contents slice : List (Vec ℕ Global)) (s : Status)
-    → Some command ≡ command_in words → f1 ≡ f0 → places ≡ inputs_of command → ReadsWhole words places f0 k0 k1 a0 a1 (bytes_of contents) → slice ≡ contents
+pub stopped : (words : List Text) (f0 f1 : Names) (k0 k1 : Counts) (a0 a1 : Log) (t0 : Option Taken) (e0 : ℕ)
+    (command : Command) (places : List ℕ) (contents slice : List (Vec ℕ Global)) (s : Status)
+    → Some command ≡ command_in words → f1 ≡ f0 → places ≡ inputs_of command
+    → ReadsWhole words places f0 k0 k1 a0 a1 (bytes_of contents) → slice ≡ contents
     → IsFaultOf (Makes command (bytes_of slice)) s → Runs words (world f0 k0 a0 t0 e0) (world f1 k1 a1 t0 e0) s
-stopped words f0 f1 k0 k1 a0 a1 t0 e0 command places contents slice s is files at whole same fault = go s (kind_of s) fault
+stopped words f0 f1 k0 k1 a0 a1 t0 e0 command places contents slice s is files at whole same fault =
+    go s (kind_of s) fault
   where
     counts : k1 ≡ k0
     counts = whole.counts
 
     untouched : Untouched (world f0 k0 a0 t0 e0) (world f1 k1 a1 t0 e0)
-    untouched = record { files = files; writes = ap (λ (k : Counts). k.writes) whole.counts; told = refl; faults = refl }
+    untouched =
+        record { files = files; writes = ap (λ (k : Counts). k.writes) whole.counts; told = refl; faults = refl }
 
-    faulted : (t : Status) → Makes command (bytes_of slice) (Err t) → Faulted words (world f0 k0 a0 t0 e0) (world f1 k1 a1 t0 e0) t
+    faulted : (t : Status) → Makes command (bytes_of slice) (Err t)
+        → Faulted words (world f0 k0 a0 t0 e0) (world f1 k1 a1 t0 e0) t
     faulted t makes =
         let all : ReadsWhole words (inputs_of command) f0 k0 k1 a0 a1 (bytes_of contents) = subst (λ (ps : List ℕ). ReadsWhole words ps f0 k0 k1 a0 a1 (bytes_of contents)) at whole in
         record {
@@ -111,7 +127,8 @@ stopped words f0 f1 k0 k1 a0 a1 t0 e0 command places contents slice s is files a
           untouched = untouched;
         }
 
-    go : (t : Status) → Kind t → IsFaultOf (Makes command (bytes_of slice)) t → Runs words (world f0 k0 a0 t0 e0) (world f1 k1 a1 t0 e0) t
+    go : (t : Status) → Kind t → IsFaultOf (Makes command (bytes_of slice)) t
+        → Runs words (world f0 k0 a0 t0 e0) (world f1 k1 a1 t0 e0) t
     go _ done fault = absurd fault
     go _ no_command fault = absurd fault
     go _ (failed_read p) fault = absurd fault
@@ -120,7 +137,8 @@ stopped words f0 f1 k0 k1 a0 a1 t0 e0 command places contents slice s is files a
     go _ (long_read p) fault = absurd fault
     go _ (of_contents t of) fault = of.runs words _ _ (faulted t (of.made command (bytes_of slice) fault))
 
-known_held : (files : Names) (ns : List Text) (cs cs' : List (List ℕ)) → AreKnown files ns cs → AreHeld files ns cs' → cs' ≡ cs
+known_held : (files : Names) (ns : List Text) (cs cs' : List (List ℕ)) → AreKnown files ns cs → AreHeld files ns cs'
+    → cs' ≡ cs
 known_held files [] [] [] known held = refl
 known_held files [] [] (x ∷ cs') known held = absurd held
 known_held files [] (c ∷ cs) cs' known held = absurd known
@@ -135,17 +153,21 @@ same_command : {a b : Command} → {o : Option Command} → o ≡ Some a → o �
 same_command {a} {b} {o} x y = cc (x, y)
 
 -- what a ready run makes of its words
-module _ (words : List Text) (files : Names) (command : Command) (contents : List (List ℕ)) (is : command_in words ≡ Some command)
+module _ (words : List Text) (files : Names) (command : Command) (contents : List (List ℕ))
+    (is : command_in words ≡ Some command)
     (known : AreKnown files (names_at words (inputs_of command)) contents) where
-  pub makes_same : (other : Command) (cs : List (List ℕ)) (r : Result Deed Status) → command_in words ≡ Some other → AreHeld files (names_at words (inputs_of other)) cs → Makes other cs r → Makes command contents r
+  pub makes_same : (other : Command) (cs : List (List ℕ)) (r : Result Deed Status) → command_in words ≡ Some other
+      → AreHeld files (names_at words (inputs_of other)) cs → Makes other cs r → Makes command contents r
   makes_same other cs r other_is held makes =
       let same = same_command other_is is in
       let held' : AreHeld files (names_at words (inputs_of command)) cs = subst (λ (c : Command). AreHeld files (names_at words (inputs_of c)) cs) same held in
       let all : cs ≡ contents = known_held files (names_at words (inputs_of command)) contents cs known held' in
       subst (λ (xs : List (List ℕ)). Makes command xs r) all (subst (λ (c : Command). Makes c cs r) same makes)
 
-pub room_of : (words : List Text) (f0 f1 : Names) (k0 k1 : Counts) (a0 a1 : Log) (t0 : Option Taken) (e0 : ℕ) (deed : Deed) (made : Made words f0 f1 k0 k1 a0 a1 deed) (command : Command) (contents : List (List ℕ))
-    → IsReady words (world f0 k0 a0 t0 e0) command contents → FileFits words deed.file f1 × HasRoom t0 (length deed.text)
+pub room_of : (words : List Text) (f0 f1 : Names) (k0 k1 : Counts) (a0 a1 : Log) (t0 : Option Taken) (e0 : ℕ)
+    (deed : Deed) (made : Made words f0 f1 k0 k1 a0 a1 deed) (command : Command) (contents : List (List ℕ))
+    → IsReady words (world f0 k0 a0 t0 e0) command contents → FileFits words deed.file f1
+    × HasRoom t0 (length deed.text)
 room_of words f0 f1 k0 k1 a0 a1 t0 e0 deed made command contents ready =
     let room = ready.room deed (makes_same words f0 command contents ready.is ready.known made.command made.contents (Ok deed) made.is made.whole.held made.outcome) in
     (subst (λ (f : Names). FileFits words deed.file f) (sym made.files) room.0, room.1)
@@ -154,9 +176,11 @@ known_there : (files : Names) (ns : List Text) (cs : List (List ℕ)) → AreKno
 known_there files [] [] known = tt
 known_there files [] (c ∷ cs) known = absurd known
 known_there files (n ∷ ns) [] known = absurd known
-known_there files (n ∷ ns) (c ∷ cs) known = (subst (λ (f : File). IsThere f) (sym known.0.1) tt, known_there files ns cs known.2)
+known_there files (n ∷ ns) (c ∷ cs) known =
+    (subst (λ (f : File). IsThere f) (sym known.0.1) tt, known_there files ns cs known.2)
 
-not_long : (files : Names) (words : List Text) (before after : List ℕ) (p : ℕ) (cs : List (List ℕ)) → AreKnown files (names_at words (before ++ p ∷ after)) cs → IsLong (files (word_at words p)) → ⊥
+not_long : (files : Names) (words : List Text) (before after : List ℕ) (p : ℕ) (cs : List (List ℕ))
+    → AreKnown files (names_at words (before ++ p ∷ after)) cs → IsLong (files (word_at words p)) → ⊥
 not_long files words [] after p [] known long = absurd known
 not_long files words [] after p (c ∷ cs) known long =
     let over : 1048576 < length c = subst (λ (f : File). IsLong f) known.0.1 long in
@@ -164,10 +188,12 @@ not_long files words [] after p (c ∷ cs) known long =
 not_long files words (b ∷ before) after p [] known long = absurd known
 not_long files words (b ∷ before) after p (c ∷ cs) known long = not_long files words before after p cs known.2 long
 
-module _ (words : List Text) (old new : World) (command : Command) (contents : List (List ℕ)) (is : command_in words ≡ Some command)
+module _ (words : List Text) (old new : World) (command : Command) (contents : List (List ℕ))
+    (is : command_in words ≡ Some command)
     (known : AreKnown old.files (names_at words (inputs_of command)) contents) where
   made_by : (r : Result Deed Status) → Worked words old new r → IsMade (Makes command contents) (status_of r)
-  made_by r w = (r, makes_same words old.files command contents is known w.command w.contents r w.is w.held w.outcome, refl)
+  made_by r w =
+      (r, makes_same words old.files command contents is known w.command w.contents r w.is w.held w.outcome, refl)
 
   settles_as : (s : Status) → Kind s → Runs words old new s → Settles (Makes command contents) s
   settles_as _ done runs = inl (made_by (Ok runs.0) runs.1)
@@ -186,8 +212,10 @@ module _ (words : List Text) (old new : World) (command : Command) (contents : L
   pub settles : (s : Status) → Runs words old new s → Settles (Makes command contents) s
   settles s runs = settles_as s (kind_of s) runs
 
-  pub completes : (s : Status) → Runs words old new s → (IsReadFault s → ⊥) → (IsWriteFault s → ⊥) → IsMade (Makes command contents) s ⊎ (s ≡ status.Memory)
-  completes s runs no_read no_write = ⊎_elim inl (⊎_elim inr (⊎_elim (λ r. absurd (no_read r)) (λ w. absurd (no_write w)))) (settles s runs)
+  pub completes : (s : Status) → Runs words old new s → (IsReadFault s → ⊥) → (IsWriteFault s → ⊥)
+      → IsMade (Makes command contents) s ⊎ (s ≡ status.Memory)
+  completes s runs no_read no_write =
+      ⊎_elim inl (⊎_elim inr (⊎_elim (λ r. absurd (no_read r)) (λ w. absurd (no_write w)))) (settles s runs)
 
   pub there : AreThere old.files (names_at words (inputs_of command))
   there = known_there old.files (names_at words (inputs_of command)) contents known
@@ -197,16 +225,19 @@ module _ (words : List Text) (old new : World) (command : Command) (contents : L
 abbrev IsDone : Status → Type 0
 IsDone s = (s ≡ status.Ok) ⊎ (s ≡ status.Memory)
 
-pub does : (apart : DeedsHaveNoFault) (words : List Text) (old new : World) (command : Command) (contents : List (List ℕ)) (deed : Deed) → CanBeDone words old.files command contents deed
+pub does : (apart : DeedsHaveNoFault) (words : List Text) (old new : World) (command : Command)
+    (contents : List (List ℕ)) (deed : Deed) → CanBeDone words old.files command contents deed
     → (s : Status) → Runs words old new s → (IsReadFault s → ⊥) → (IsWriteFault s → ⊥) → IsDone s
-does apart words old new command contents deed can s runs no_read no_write = go (completes words old new command contents can.is can.known s runs no_read no_write)
+does apart words old new command contents deed can s runs no_read no_write =
+    go (completes words old new command contents can.is can.known s runs no_read no_write)
   where
     go : IsMade (Makes command contents) s ⊎ (s ≡ status.Memory) → IsDone s
     go (inr memory) = inr memory
     go (inl (Ok made, makes, is)) = inl is
     go (inl (Err t, makes, is)) = absurd (apart command contents deed t can.makes makes)
 
-pub no_read_fault : (words : List Text) (old new : World) → HasNoFault old new → (s : Status) → Runs words old new s → IsReadFault s → ⊥
+pub no_read_fault : (words : List Text) (old new : World) → HasNoFault old new → (s : Status) → Runs words old new s
+    → IsReadFault s → ⊥
 no_read_fault words old new none s runs is = go s (kind_of s) runs is
   where
     go : (t : Status) → Kind t → Runs words old new t → IsReadFault t → ⊥
@@ -218,7 +249,8 @@ no_read_fault words old new none s runs is = go s (kind_of s) runs is
     go _ (long_read p) at is = is
     go _ (of_contents t of) at is = of.no_read is
 
-pub no_write_fault : (words : List Text) (old new : World) → HasNoFault old new → (s : Status) → Runs words old new s → IsWriteFault s → ⊥
+pub no_write_fault : (words : List Text) (old new : World) → HasNoFault old new → (s : Status) → Runs words old new s
+    → IsWriteFault s → ⊥
 no_write_fault words old new none s runs is = go s (kind_of s) runs is
   where
     go : (t : Status) → Kind t → Runs words old new t → IsWriteFault t → ⊥
@@ -233,7 +265,8 @@ no_write_fault words old new none s runs is = go s (kind_of s) runs is
 none_some : {w : Option Command} {c : Command} → w ≡ None → w ≡ Some c → ⊥
 none_some {w} {c} none some = let bad : None ≡ Some c = sym none ∙ some in cc
 
-pub usage_status : (words : List Text) (old new : World) (s : Status) → Runs words old new s → command_in words ≡ None → (s ≡ status.Usage) ⊎ (s ≡ status.Memory)
+pub usage_status : (words : List Text) (old new : World) (s : Status) → Runs words old new s
+    → command_in words ≡ None → (s ≡ status.Usage) ⊎ (s ≡ status.Memory)
 usage_status words old new s runs none = go s (kind_of s) runs
   where
     go : (t : Status) → Kind t → Runs words old new t → (t ≡ status.Usage) ⊎ (t ≡ status.Memory)
@@ -245,33 +278,41 @@ usage_status words old new s runs none = go s (kind_of s) runs
     go _ (long_read p) at = absurd (none_some none at.is)
     go _ (of_contents t of) at = absurd (none_some none (of.faulted words old new at).worked.is)
 
-pub usage_cause : (words : List Text) (old new : World) (s : Status) → Runs words old new s → s ≡ status.Usage → command_in words ≡ None
-usage_cause words old new s runs is = let at : Runs words old new status.Usage = subst (λ (t : Status). Runs words old new t) is runs in at.0
+pub usage_cause : (words : List Text) (old new : World) (s : Status) → Runs words old new s → s ≡ status.Usage
+    → command_in words ≡ None
+usage_cause words old new s runs is =
+    let at : Runs words old new status.Usage = subst (λ (t : Status). Runs words old new t) is runs in at.0
 
 -- ---- a file that is too long
 
 -- what was held of a file that is told as long is too long itself
-never_held : (files : Names) (words : List Text) (before after : List ℕ) (p : ℕ) (cs : List (List ℕ)) (bytes : List ℕ) (room : ℕ) → files (word_at words p) ≡ known_file bytes room → 1048576 < length bytes
+never_held : (files : Names) (words : List Text) (before after : List ℕ) (p : ℕ) (cs : List (List ℕ))
+    (bytes : List ℕ) (room : ℕ) → files (word_at words p) ≡ known_file bytes room → 1048576 < length bytes
     → AreHeld files (names_at words (before ++ p ∷ after)) cs → ⊥
 never_held files words [] after p [] bytes room told long held = absurd held
 never_held files words [] after p (c ∷ cs) bytes room told long held =
     let same : c ≡ bytes = subst (λ (f : File). Holds f c) told held.0 in
     omega (arith, held.1, long, ap length same)
 never_held files words (b ∷ before) after p [] bytes room told long held = absurd held
-never_held files words (b ∷ before) after p (c ∷ cs) bytes room told long held = never_held files words before after p cs bytes room told long held.2
+never_held files words (b ∷ before) after p (c ∷ cs) bytes room told long held =
+    never_held files words before after p cs bytes room told long held.2
 
 -- of two cuts of one list, where the files before the first cut are known and short, and those
 -- before the second were held, and both cut at a long file, the cuts are one
-same_cut : (files : Names) (words : List Text) (before after : List ℕ) (p : ℕ) (before' after' : List ℕ) (q : ℕ) (cs cs' : List (List ℕ)) (bytes : List ℕ) (room : ℕ)
-    → before ++ p ∷ after ≡ before' ++ q ∷ after' → AreKnown files (names_at words before) cs → files (word_at words p) ≡ known_file bytes room → 1048576 < length bytes
+same_cut : (files : Names) (words : List Text) (before after : List ℕ) (p : ℕ) (before' after' : List ℕ) (q : ℕ)
+    (cs cs' : List (List ℕ)) (bytes : List ℕ) (room : ℕ)
+    → before ++ p ∷ after ≡ before' ++ q ∷ after' → AreKnown files (names_at words before) cs
+    → files (word_at words p) ≡ known_file bytes room → 1048576 < length bytes
     → AreHeld files (names_at words before') cs' → IsLong (files (word_at words q)) → q ≡ p
 same_cut files words [] after p [] after' q cs cs' bytes room cut known_before told long held is_long = cc
-same_cut files words [] after p (b ∷ before') after' q cs [] bytes room cut known_before told long held is_long = absurd held
+same_cut files words [] after p (b ∷ before') after' q cs [] bytes room cut known_before told long held is_long =
+    absurd held
 same_cut files words [] after p (b ∷ before') after' q cs (c ∷ cs') bytes room cut known_before told long held is_long =
     let e : b ≡ p = cc in
     let at : files (word_at words b) ≡ known_file bytes room = ap (λ (n : ℕ). files (word_at words n)) e ∙ told in
     absurd (never_held files words [] [] b (c ∷ []) bytes room at long (held.0, held.1, tt))
-same_cut files words (a ∷ before) after p [] after' q [] cs' bytes room cut known_before told long held is_long = absurd known_before
+same_cut files words (a ∷ before) after p [] after' q [] cs' bytes room cut known_before told long held is_long =
+    absurd known_before
 same_cut files words (a ∷ before) after p [] after' q (c ∷ cs) cs' bytes room cut known_before told long held is_long =
     let e : q ≡ a = cc in
     let at : IsLong (files (word_at words a)) = subst (λ (n : ℕ). IsLong (files (word_at words n))) e is_long in
@@ -291,7 +332,8 @@ module _ (words : List Text) (old new : World) (place : ℕ) (long : IsTooLong w
       let at : AreHeld old.files (names_at words (long.before ++ place ∷ long.after)) w.contents = subst (λ (ps : List ℕ). AreHeld old.files (names_at words ps) w.contents) (sym long.split) held in
       never_held old.files words long.before long.after place w.contents long.bytes long.room long.told long.long at
 
-  long_status_as : (s : Status) → Kind s → Runs words old new s → (s ≡ status.TooLong place) ⊎ (IsReadFault s ⊎ (s ≡ status.Memory))
+  long_status_as : (s : Status) → Kind s → Runs words old new s → (s ≡ status.TooLong place) ⊎
+      (IsReadFault s ⊎ (s ≡ status.Memory))
   long_status_as _ done runs = absurd (no_work (Ok runs.0) runs.1)
   long_status_as _ no_command runs = absurd (none_some runs.0 long.is)
   long_status_as _ (failed_read p) runs = inr (inl tt)
@@ -306,5 +348,6 @@ module _ (words : List Text) (old new : World) (place : ℕ) (long : IsTooLong w
       inl (ap (λ (n : ℕ). status.TooLong n) e)
   long_status_as _ (of_contents s of) runs = absurd (no_work (Err s) (of.faulted words old new runs).worked)
 
-  pub long_status : (s : Status) → Runs words old new s → (s ≡ status.TooLong place) ⊎ (IsReadFault s ⊎ (s ≡ status.Memory))
+  pub long_status : (s : Status) → Runs words old new s → (s ≡ status.TooLong place) ⊎
+      (IsReadFault s ⊎ (s ≡ status.Memory))
   long_status s runs = long_status_as s (kind_of s) runs

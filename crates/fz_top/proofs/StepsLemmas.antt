@@ -11,7 +11,8 @@ own : IsNumeralModel (λ ds. list_all is_ascii_digit ds ≡ true) (digits_value 
 own = numerals_by_value _ (search rules)
 
 -- digits that are none, or of too large a number
-pub no_steps : {E : Type 0} (text : List ℕ) (e : E) → ParsesUnsigned {E = E} 32 10 text (Err e) → list_all is_ascii_digit text ≡ true → None ≡ steps_of text
+pub no_steps : {E : Type 0} (text : List ℕ) (e : E) → ParsesUnsigned {E = E} 32 10 text (Err e)
+    → list_all is_ascii_digit text ≡ true → None ≡ steps_of text
 no_steps text e parses digits =
     let never : (0 < length text) × (digits_value 10 text < 2 ^ 32) → ⊥ = parse_digits own 32 text (Err e) parses digits in
     let far : 0 < length text → digits_value 10 text ≤ 1000000 → ⊥ = λ some few. never (some, omega (arith, few)) in

@@ -4,11 +4,12 @@ use Rattle.std.specs.Prelude.{Option, Some, None, option_and_then}
 use Rattle.fz_words.specs.App.{IsRefused}
 use Rattle.fz_top.specs.Commands.{name_in, table}
 use Rattle.fz_top.specs.declared.command.Name.{Name}
-use Rattle.fz_top.specs.Texts.{Text}
+use Rattle.fz_status.specs.Words.{Text}
 use Rattle.fz_top.specs.Commands.{command_in, form_of, IsUsage}
 use Rattle.fz_top.specs.declared.command.Command.{Command}
 
-module _ (words : List Text) (law : (name_in words ≡ None → IsRefused table words) × (IsRefused table words → name_in words ≡ None)) where
+module _ (words : List Text)
+    (law : (name_in words ≡ None → IsRefused table words) × (IsRefused table words → name_in words ≡ None)) where
   named : (o : Option Name) → name_in words ≡ o → command_in words ≡ option_and_then (λ n. form_of n words) o
   named o is = ap (option_and_then (λ n. form_of n words)) is
 

@@ -11,7 +11,8 @@ use Rattle.trace_io.specs.declared.sample.Sample.{Sample}
 use Rattle.fz_top.specs.CertifiedRun.{Files}
 use Rattle.fz_top.specs.Certs.{AcceptsCert}
 use Rattle.fz_top.specs.Firmwares.{GivesFirmware}
-use Rattle.fz_top.specs.Refusals.{Refusals, never}
+use Rattle.fz_status.specs.Refusals.{Refusals}
+use Rattle.fz_status.specs.declared.status.Status.TheVariants as status
 
 -- all are accepted, and give this
 pub record Accepts (width : Width) (files : Files) (block : Block) (firmware : Firmware) (errors : List ℕ)
@@ -23,7 +24,9 @@ pub record Accepts (width : Width) (files : Files) (block : Block) (firmware : F
   pub good_plan : SpellsPlan files.plan plan
 
 abbrev pub trace_refusals : Block → List ℕ → Refusals
-trace_refusals block text = record never { trace = TraceHasFault block.inputs text }
+trace_refusals block text (status.Trace f) = TraceHasFault block.inputs text f
+trace_refusals block text s = ⊥
 
 abbrev pub plan_refusals : List ℕ → Refusals
-plan_refusals text = record never { plan = PlanHasFault text }
+plan_refusals text (status.Plan f) = PlanHasFault text f
+plan_refusals text s = ⊥

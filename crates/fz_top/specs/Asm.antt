@@ -6,8 +6,9 @@ use Rattle.cpu12_asm.specs.declared.image.Image.{Image}
 use Rattle.srecord.specs.Images.{ImageText}
 use Rattle.fz_top.specs.Deeds.{Deed}
 use Rattle.fz_top.specs.Lines.{line}
-use Rattle.fz_top.specs.Refusals.{Refusals, Refuses, never}
-use Rattle.fz_top.specs.declared.status.Status.{Status}
+use Rattle.fz_status.specs.Refusals.{Refusals, Refuses}
+use Rattle.fz_status.specs.declared.status.Status.{Status}
+use Rattle.fz_status.specs.declared.status.Status.TheVariants as status
 
 -- SRC
 abbrev pub asm_inputs : List ℕ
@@ -25,7 +26,8 @@ pub record AsmGives (source : List ℕ) (deed : Deed) : Type 0 where
 
 -- why a source gives none
 abbrev pub source_refusals : List ℕ → Refusals
-source_refusals source = record never { asm = λ f. assembled source ≡ Err f }
+source_refusals source (status.Asm f) = assembled source ≡ Err f
+source_refusals source s = ⊥
 
 abbrev pub AsmMakes : List ℕ → Result Deed Status → Type 0
 AsmMakes source (Ok deed) = AsmGives source deed

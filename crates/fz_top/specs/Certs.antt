@@ -9,10 +9,11 @@ use Rattle.cert_check.specs.TextFaults.{IsAcceptedText, HasTextFault}
 use Rattle.cert_check.specs.declared.text.TextFault.{TextFault as TheRefusal}
 use Rattle.cert_check.specs.declared.text.TextFault.TheVariants as refusal
 use Rattle.fz_top.specs.Firmwares.{GivesFirmware}
-use Rattle.fz_top.specs.declared.status.CertRefusal.{CertRefusal}
-use Rattle.fz_top.specs.declared.status.CertRefusal.TheVariants as told
-use Rattle.fz_top.specs.declared.status.Status.{Status}
-use Rattle.fz_top.specs.declared.status.Status.TheVariants as status
+use Rattle.fz_status.specs.Refusals.{Refusals}
+use Rattle.fz_status.specs.declared.status.CertRefusal.{CertRefusal}
+use Rattle.fz_status.specs.declared.status.CertRefusal.TheVariants as told
+use Rattle.fz_status.specs.declared.status.Status.{Status}
+use Rattle.fz_status.specs.declared.status.Status.TheVariants as status
 
 -- the version of the texts of certificates for answers of this width
 abbrev pub version : Width → ℕ
@@ -28,9 +29,14 @@ abbrev pub HasCertFault : Width → Block → List ℕ → CertRefusal → Type 
 HasCertFault width block cert (told.Text f) = HasTextFault block (parts width) (version width) cert (refusal.Text f)
 HasCertFault width block cert (told.Check f) = HasTextFault block (parts width) (version width) cert (refusal.Check f)
 
+abbrev pub cert_refusals : Width → Block → List ℕ → Refusals
+cert_refusals width block cert (status.Cert f) = HasCertFault width block cert f
+cert_refusals width block cert s = ⊥
+
 -- why CERT is refused, the text giving firmware
 abbrev pub RefusesCert : Width → List ℕ → List ℕ → CertRefusal → Type 0
-RefusesCert width text cert f = (block : Block) × (firmware : Firmware) × GivesFirmware width text block firmware × HasCertFault width block cert f
+RefusesCert width text cert f =
+    (block : Block) × (firmware : Firmware) × GivesFirmware width text block firmware × HasCertFault width block cert f
 
 -- the status that tells a refusal
 abbrev pub status_of : TheRefusal → Status

@@ -8,9 +8,10 @@ use Rattle.fz_top.specs.Certs.{AcceptsCert, RefusesCert}
 use Rattle.fz_top.specs.Deeds.{Deed}
 use Rattle.fz_top.specs.Firmwares.{GivesFirmware, RefusesText}
 use Rattle.fz_top.specs.Lines.{counted, error_line, line}
-use Rattle.fz_top.specs.Refusals.{Refusals, Refuses, never}
+use Rattle.fz_status.specs.Refusals.{Refusals, Refuses}
 use Rattle.fz_top.specs.declared.check.Check.{Check}
-use Rattle.fz_top.specs.declared.status.Status.{Status}
+use Rattle.fz_status.specs.declared.status.Status.{Status}
+use Rattle.fz_status.specs.declared.status.Status.TheVariants as status
 
 abbrev pub check_in : Width → Check
 check_in width = record { width = width }
@@ -37,7 +38,9 @@ pub record CheckGives (check : Check) (text cert : List ℕ) (deed : Deed) : Typ
 
 -- why its files are refused: the text first
 abbrev pub check_refusals : Check → List ℕ → List ℕ → Refusals
-check_refusals check text cert = record never { fcl = RefusesText text; cert = RefusesCert check.width text cert }
+check_refusals check text cert (status.Fcl f) = RefusesText text f
+check_refusals check text cert (status.Cert f) = RefusesCert check.width text cert f
+check_refusals check text cert s = ⊥
 
 abbrev pub CheckMakes : Check → List ℕ → List ℕ → Result Deed Status → Type 0
 CheckMakes check text cert (Ok deed) = CheckGives check text cert deed

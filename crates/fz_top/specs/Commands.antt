@@ -1,5 +1,6 @@
 -- The commands: the one table of them, and what each reads and makes.
-use Rattle.std.specs.Prelude.{◌≡◌, ◌⊎◌, ℕ, List, [], ◌∷◌, codes, Option, Some, None, Result, option_and_then, option_map}
+use Rattle.std.specs.Prelude.{◌≡◌, ◌⊎◌, ℕ, List, [], ◌∷◌, codes, Option, Some, None, Result, option_and_then}
+use Rattle.std.specs.Prelude.{option_map}
 use Rattle.fz_words.specs.App.{IsRefused}
 use Rattle.fz_words.specs.Table.{Row, row, command_in as command_by}
 use Rattle.codegen.specs.declared.width.Width.TheVariants.{Byte, Word}
@@ -9,12 +10,13 @@ use Rattle.fz_top.specs.Compile.{CompileMakes, compile_in, compile_inputs}
 use Rattle.fz_top.specs.Deeds.{Deed}
 use Rattle.fz_top.specs.Exec.{ExecMakes, exec_in, exec_inputs}
 use Rattle.fz_top.specs.Run.{RunMakes, files_in, run_in, run_inputs}
-use Rattle.fz_top.specs.Texts.{Text, content_at}
+use Rattle.fz_status.specs.Words.{Text}
+use Rattle.fz_top.specs.Contents.{content_at}
 use Rattle.fz_top.specs.declared.command.Command.{Command}
 use Rattle.fz_top.specs.declared.command.Command.TheVariants.{Asm, Check, Compile, Exec, Run}
 use Rattle.fz_top.specs.declared.command.Name.{Name}
 use Rattle.fz_top.specs.declared.command.Name.TheVariants as name
-use Rattle.fz_top.specs.declared.status.Status.{Status}
+use Rattle.fz_status.specs.declared.status.Status.{Status}
 
 -- the commands by name, each with the number of words that follow
 unfoldable pub table : List (Row Name)

@@ -8,9 +8,9 @@ use Rattle.srecord.specs.Images.{ImageText}
 use Rattle.fz_top.specs.Deeds.{Deed}
 use Rattle.fz_top.specs.Firmwares.{GivesFirmware, text_refusals}
 use Rattle.fz_top.specs.Lines.{line}
-use Rattle.fz_top.specs.Refusals.{Refuses}
+use Rattle.fz_status.specs.Refusals.{Refuses}
 use Rattle.fz_top.specs.declared.compile.Compile.{Compile}
-use Rattle.fz_top.specs.declared.status.Status.{Status}
+use Rattle.fz_status.specs.declared.status.Status.{Status}
 
 abbrev pub compile_in : Width → Compile
 compile_in width = record { width = width }
@@ -22,7 +22,8 @@ compile_inputs = 2 ∷ []
 -- ---- its lines: the bounds, and how many bytes the image has
 
 abbrev pub compile_lines : ℕ → ℕ → ℕ → List ℕ
-compile_lines instructions steps bytes = line (codes "instructions ") instructions ++ (line (codes "steps ") steps ++ line (codes "bytes ") bytes)
+compile_lines instructions steps bytes =
+    line (codes "instructions ") instructions ++ (line (codes "steps ") steps ++ line (codes "bytes ") bytes)
 
 -- ---- what it makes of its file
 
@@ -34,7 +35,8 @@ pub record CompileGives (compile : Compile) (text : List ℕ) (deed : Deed) : Ty
   pub records : List ℕ
   pub image : ImageText firmware.image.bytes firmware.image.start records
   pub deed_is : deed ≡ record {
-    text = compile_lines (instruction_bound compile.width block) (step_bound compile.width block) (length firmware.image.bytes);
+    text = compile_lines (instruction_bound compile.width block) (step_bound compile.width block)
+        (length firmware.image.bytes);
     file = Some (3, records);
   }
 

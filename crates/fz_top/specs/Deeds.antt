@@ -1,8 +1,8 @@
 -- What a command leaves to be written and put.
 use Rattle.std.specs.Prelude.{ℕ, List, Option, option_map, Result, Ok, Err}
 use Rattle.fz_shelf.specs.Lines.{text_of}
-use Rattle.fz_top.specs.declared.status.Status.{Status}
-use Rattle.fz_top.specs.declared.status.Status.TheVariants as status
+use Rattle.fz_status.specs.declared.status.Status.{Status}
+use Rattle.fz_status.specs.declared.status.Status.TheVariants as status
 use Rattle.fz_top.specs.declared.work.Work.{Work}
 
 -- the text for out, and the word of the file to write with its bytes

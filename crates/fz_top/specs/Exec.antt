@@ -1,5 +1,6 @@
 -- The command `exec IMAGE STEPS FLAGS`.
-use Rattle.std.specs.Prelude.{◌≡◌, ℕ, ◌&&◌, nat_le, nat_lt, if◌then◌else◌, List, [], ◌∷◌, ◌++◌, length, codes, Option, Some, None, option_and_then, option_map, Result, Ok, Err}
+use Rattle.std.specs.Prelude.{◌≡◌, ℕ, ◌&&◌, nat_le, nat_lt, if◌then◌else◌, List, [], ◌∷◌, ◌++◌, length, codes}
+use Rattle.std.specs.Prelude.{Option, Some, None, option_and_then, option_map, Result, Ok, Err}
 use Rattle.std.specs.Char.{is_ascii_digit}
 use Rattle.std.specs.List.{list_all}
 use Rattle.std.specs.Str.Parse.{digits_value}
@@ -16,11 +17,12 @@ use Rattle.fz_shelf.specs.Parts.{address_digits, byte_digits}
 use Rattle.fz_top.specs.Deeds.{Deed}
 use Rattle.fz_top.specs.Images.{records_refusals}
 use Rattle.fz_top.specs.Lines.{line}
-use Rattle.fz_top.specs.Refusals.{Refusals, Refuses}
-use Rattle.fz_top.specs.Texts.{Text, word_at}
+use Rattle.fz_status.specs.Refusals.{Refusals, Refuses}
+use Rattle.fz_status.specs.Words.{Text, word_at}
 use Rattle.fz_top.specs.Words.{flags_of}
 use Rattle.fz_top.specs.declared.exec.Exec.{Exec}
-use Rattle.fz_top.specs.declared.status.Status.{Status}
+use Rattle.fz_status.specs.declared.status.Status.{Status}
+use Rattle.fz_status.specs.declared.status.Status.TheVariants as status
 
 -- one or more decimal digits, of a number up to 1000000
 abbrev pub steps_of : Text → Option ℕ
@@ -67,10 +69,9 @@ pub record ExecGives (exec : Exec) (text : List ℕ) (deed : Deed) : Type 0 wher
 
 -- the text gives no image, or the run ends elsewhere
 abbrev pub exec_refusals : Exec → List ℕ → Refusals
-exec_refusals exec text = record (records_refusals text) {
-  trap = λ pc byte. (last : State) × Ends exec text (end.Trap pc byte) last;
-  budget = λ steps. (last : State) × Ends exec text (end.Budget steps) last;
-}
+exec_refusals exec text (status.Trap pc byte) = (last : State) × Ends exec text (end.Trap pc byte) last
+exec_refusals exec text (status.Budget steps) = (last : State) × Ends exec text (end.Budget steps) last
+exec_refusals exec text s = records_refusals text s
 
 abbrev pub ExecMakes : Exec → List ℕ → Result Deed Status → Type 0
 ExecMakes exec text (Ok deed) = ExecGives exec text deed

@@ -8,9 +8,10 @@ use Rattle.codegen.specs.declared.width.Width.{Width}
 use Rattle.codegen.specs.Widths.{is_wide}
 use Rattle.fcl_syntax.specs.Text.{IsFirstFault}
 use Rattle.fcl_check.specs.Texts.{SpellsBlock, HasLoadFault}
-use Rattle.fz_top.specs.Refusals.{Refusals, never}
-use Rattle.fz_top.specs.declared.status.FclFault.{FclFault}
-use Rattle.fz_top.specs.declared.status.FclFault.TheVariants as fcl
+use Rattle.fz_status.specs.Refusals.{Refusals}
+use Rattle.fz_status.specs.declared.status.FclFault.{FclFault}
+use Rattle.fz_status.specs.declared.status.FclFault.TheVariants as fcl
+use Rattle.fz_status.specs.declared.status.Status.TheVariants as status
 
 -- the block is the text's, it can be laid out, and the firmware is the block's, with answers of this width
 pub record GivesFirmware (width : Width) (text : List ℕ) (block : Block) (firmware : Firmware) : Type 0 where
@@ -26,4 +27,5 @@ RefusesText text (fcl.Load f) = HasLoadFault text f
 RefusesText text (fcl.Layout f) = (block : Block) × SpellsBlock text block × IsLayoutFault block f
 
 abbrev pub text_refusals : List ℕ → Refusals
-text_refusals text = record never { fcl = RefusesText text }
+text_refusals text (status.Fcl f) = RefusesText text f
+text_refusals text s = ⊥

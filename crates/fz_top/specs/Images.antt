@@ -3,9 +3,10 @@ use Rattle.std.specs.Prelude.{◌≡◌, ◌≢◌, ℕ, List}
 use Rattle.cpu12_asm.specs.Bytes.{IsFirstDifference, byte_at}
 use Rattle.cpu12_asm.specs.declared.image.Image.{Image}
 use Rattle.srecord.specs.Texts.{GivesImage, HasFault}
-use Rattle.fz_top.specs.Refusals.{Refusals, never}
-use Rattle.fz_top.specs.declared.status.ImageFault.{ImageFault}
-use Rattle.fz_top.specs.declared.status.ImageFault.TheVariants as image
+use Rattle.fz_status.specs.Refusals.{Refusals}
+use Rattle.fz_status.specs.declared.status.ImageFault.{ImageFault}
+use Rattle.fz_status.specs.declared.status.ImageFault.TheVariants as image
+use Rattle.fz_status.specs.declared.status.Status.TheVariants as status
 
 -- why a text gives no image
 abbrev pub RefusesRecords : List ℕ → ImageFault → Type 0
@@ -14,7 +15,8 @@ RefusesRecords text (image.Byte at got wanted) = ⊥
 RefusesRecords text (image.Start got wanted) = ⊥
 
 abbrev pub records_refusals : List ℕ → Refusals
-records_refusals text = record never { image = RefusesRecords text }
+records_refusals text (status.Image f) = RefusesRecords text f
+records_refusals text s = ⊥
 
 -- why a text does not give an image: it gives none, or another byte somewhere, the first of them being told, or another
 -- start alone
@@ -27,4 +29,5 @@ RefusesImage text wanted (image.Start got start) = (given : Image) × GivesImage
     × (got ≢ start) × (got ≡ given.start) × (start ≡ wanted.start)
 
 abbrev pub image_refusals : List ℕ → Image → Refusals
-image_refusals text wanted = record never { image = RefusesImage text wanted }
+image_refusals text wanted (status.Image f) = RefusesImage text wanted f
+image_refusals text wanted s = ⊥

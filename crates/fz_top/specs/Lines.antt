@@ -1,9 +1,7 @@
--- Lines on out and on err.
+-- Lines on out.
 use Rattle.std.specs.Prelude.{ℕ, ◌+◌, List, [], ◌∷◌, ◌++◌, codes, decimal}
-use Rattle.fz_top.specs.Texts.{Text}
-
-abbrev pub newline : List ℕ
-newline = codes "\n"
+use Rattle.fz_status.specs.FaultLines.{newline}
+use Rattle.fz_status.specs.Words.{Text}
 
 -- a label, a number and the end of the line
 abbrev pub line : Text → ℕ → List ℕ

@@ -6,7 +6,7 @@ use Rattle.fz_shelf.specs.Log.{Log}
 use Rattle.fz_shelf.specs.Reading.{Counts}
 use Rattle.fz_shelf.specs.declared.log.Answer.{Answer}
 use Rattle.fz_shelf.specs.declared.log.Answer.TheVariants.{Whole, Missed, Long}
-use Rattle.fz_top.specs.Texts.{Text, word_at}
+use Rattle.fz_status.specs.Words.{Text, word_at}
 use Rattle.fz_top.specs.declared.reading.Stop.{Stop}
 use Rattle.fz_top.specs.declared.reading.Stop.TheVariants as stop
 
@@ -29,7 +29,8 @@ whole_entries words places = map (λ p. (word_at words p, Whole)) places
 
 -- the words before this one were each read whole, and this one has its kind: the list of reads
 -- gained just these
-pub record Reads (words : List Text) (places : List ℕ) (place : ℕ) (kind : Answer) (files : Names) (old new : Log) : Type 0 where
+pub record Reads (words : List Text) (places : List ℕ) (place : ℕ) (kind : Answer) (files : Names)
+    (old new : Log) : Type 0 where
   pub before : List ℕ
   pub after : List ℕ
   pub split : before ++ place ∷ after ≡ places
@@ -40,13 +41,16 @@ pub record Reads (words : List Text) (places : List ℕ) (place : ℕ) (kind : A
 -- why one read stopped
 abbrev pub StopsAt : List Text → ℕ → Names → Counts → Counts → Log → Log → Stop → Type 0
 StopsAt words place files old new asked asked' (stop.Failed p) =
-    (p ≡ place) × (asked' ≡ asked ++ (word_at words place, Missed) ∷ []) × (new ≡ record old { reads = new.reads }) × Rose old.reads new.reads
+    (p ≡ place) × (asked' ≡ asked ++ (word_at words place, Missed) ∷ [])
+    × (new ≡ record old { reads = new.reads }) × Rose old.reads new.reads
 StopsAt words place files old new asked asked' (stop.TooLong p) =
-    (p ≡ place) × (asked' ≡ asked ++ (word_at words place, Long) ∷ []) × (new ≡ record old { longs = new.longs }) × Rose old.longs new.longs × IsLong (files (word_at words place))
+    (p ≡ place) × (asked' ≡ asked ++ (word_at words place, Long) ∷ [])
+    × (new ≡ record old { longs = new.longs }) × Rose old.longs new.longs × IsLong (files (word_at words place))
 StopsAt words place files old new asked asked' stop.Memory = new ≡ old
 
 -- one read was whole
-pub record ReadsOne (words : List Text) (place : ℕ) (files : Names) (old new : Counts) (asked asked' : Log) (bytes : List ℕ) : Type 0 where
+pub record ReadsOne (words : List Text) (place : ℕ) (files : Names) (old new : Counts) (asked asked' : Log)
+    (bytes : List ℕ) : Type 0 where
   pub held : Holds (files (word_at words place)) bytes
   pub small : length bytes ≤ 1048576
   pub counts : new ≡ old
@@ -57,11 +61,13 @@ abbrev pub StopsBy : List Text → List ℕ → Names → Counts → Counts → 
 StopsBy words places files old new asked asked' (stop.Failed p) =
     Reads words places p Missed files asked asked' × (new ≡ record old { reads = new.reads }) × Rose old.reads new.reads
 StopsBy words places files old new asked asked' (stop.TooLong p) =
-    Reads words places p Long files asked asked' × (new ≡ record old { longs = new.longs }) × Rose old.longs new.longs × IsLong (files (word_at words p))
+    Reads words places p Long files asked asked'
+    × (new ≡ record old { longs = new.longs }) × Rose old.longs new.longs × IsLong (files (word_at words p))
 StopsBy words places files old new asked asked' stop.Memory = new ≡ old
 
 -- the reads were all whole
-pub record ReadsWhole (words : List Text) (places : List ℕ) (files : Names) (old new : Counts) (asked asked' : Log) (contents : List (List ℕ)) : Type 0 where
+pub record ReadsWhole (words : List Text) (places : List ℕ) (files : Names) (old new : Counts) (asked asked' : Log)
+    (contents : List (List ℕ)) : Type 0 where
   pub held : AreHeld files (names_at words places) contents
   pub counts : new ≡ old
   pub entries : asked' ≡ asked ++ whole_entries words places

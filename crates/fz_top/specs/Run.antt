@@ -1,5 +1,6 @@
 -- The commands `run FCL IMAGE CERT TRACE PLAN FLAGS` and `run16`, with answers of 16 bits.
-use Rattle.std.specs.Prelude.{◌≡◌, ℕ, List, [], ◌∷◌, ◌++◌, codes, decimal, length, Option, None, option_map, Result, Ok, Err}
+use Rattle.std.specs.Prelude.{◌≡◌, ℕ, List, [], ◌∷◌, ◌++◌, codes, decimal, length, Option, None, option_map}
+use Rattle.std.specs.Prelude.{Result, Ok, Err}
 use Rattle.std.specs.List.{flat_map}
 use Rattle.fuzzy_meaning.specs.declared.block.Block.{Block}
 use Rattle.codegen.specs.declared.firmware.Firmware.{Firmware}
@@ -16,12 +17,15 @@ use Rattle.fz_top.specs.Certs.{AcceptsCert, HasCertFault}
 use Rattle.fz_top.specs.Deeds.{Deed}
 use Rattle.fz_top.specs.Firmwares.{GivesFirmware, RefusesText}
 use Rattle.fz_top.specs.Images.{RefusesImage}
-use Rattle.fz_top.specs.Lines.{counted, error_line, line, newline}
-use Rattle.fz_top.specs.Refusals.{Refusals, Refuses, never}
-use Rattle.fz_top.specs.Texts.{Text, content_at, word_at}
+use Rattle.fz_status.specs.FaultLines.{newline}
+use Rattle.fz_top.specs.Lines.{counted, error_line, line}
+use Rattle.fz_status.specs.Refusals.{Refusals, Refuses}
+use Rattle.fz_status.specs.Words.{Text, word_at}
+use Rattle.fz_top.specs.Contents.{content_at}
 use Rattle.fz_top.specs.Words.{flags_of}
 use Rattle.fz_top.specs.declared.run.Run.{Run}
-use Rattle.fz_top.specs.declared.status.Status.{Status}
+use Rattle.fz_status.specs.declared.status.Status.{Status}
+use Rattle.fz_status.specs.declared.status.Status.TheVariants as status
 
 abbrev pub run_with : Width → ℕ → Run
 run_with width flags = record { width = width; flags = flags }
@@ -86,25 +90,26 @@ pub record RunGives (run : Run) (files : Files) (deed : Deed) : Type 0 where
 
 -- FCL gives firmware of which this holds
 abbrev pub OfFirmware : Width → List ℕ → (Block → Firmware → Type 0) → Type 0
-OfFirmware width fcl holds = (block : Block) × (firmware : Firmware) × GivesFirmware width fcl block firmware × holds block firmware
+OfFirmware width fcl holds =
+    (block : Block) × (firmware : Firmware) × GivesFirmware width fcl block firmware × holds block firmware
 
 -- why a certificate is refused, FCL giving firmware whose image is IMAGE's; why a trace is, the certificate being
 -- accepted beside; and why a plan is, the trace spelling samples beside
 abbrev pub run_refusals : Run → Files → Refusals
-run_refusals run files = record never {
-  fcl = RefusesText files.fcl;
-  image = λ f. OfFirmware run.width files.fcl (λ block firmware. RefusesImage files.image firmware.image f);
-  cert = λ f. OfFirmware run.width files.fcl (λ block firmware.
-      GivesImage files.image firmware.image × HasCertFault run.width block files.cert f);
-  trace = λ f. OfFirmware run.width files.fcl (λ block firmware.
-      GivesImage files.image firmware.image
-      × (errors : List ℕ) × AcceptsCert run.width block files.cert errors
-      × TraceHasFault block.inputs files.trace f);
-  plan = λ f. OfFirmware run.width files.fcl (λ block firmware.
-      GivesImage files.image firmware.image
-      × (errors : List ℕ) × AcceptsCert run.width block files.cert errors
-      × (samples : List Sample) × SpellsTrace block.inputs files.trace samples × PlanHasFault files.plan f);
-}
+run_refusals run files (status.Fcl f) = RefusesText files.fcl f
+run_refusals run files (status.Image f) =
+    OfFirmware run.width files.fcl (λ block firmware. RefusesImage files.image firmware.image f)
+run_refusals run files (status.Cert f) = OfFirmware run.width files.fcl (λ block firmware.
+    GivesImage files.image firmware.image × HasCertFault run.width block files.cert f)
+run_refusals run files (status.Trace f) = OfFirmware run.width files.fcl (λ block firmware.
+    GivesImage files.image firmware.image
+    × (errors : List ℕ) × AcceptsCert run.width block files.cert errors
+    × TraceHasFault block.inputs files.trace f)
+run_refusals run files (status.Plan f) = OfFirmware run.width files.fcl (λ block firmware.
+    GivesImage files.image firmware.image
+    × (errors : List ℕ) × AcceptsCert run.width block files.cert errors
+    × (samples : List Sample) × SpellsTrace block.inputs files.trace samples × PlanHasFault files.plan f)
+run_refusals run files s = ⊥
 
 abbrev pub RunMakes : Run → Files → Result Deed Status → Type 0
 RunMakes run files (Ok deed) = RunGives run files deed

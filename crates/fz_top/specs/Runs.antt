@@ -1,19 +1,20 @@
 -- What a run leaves, status by status.
-use Rattle.std.specs.Prelude.{◌≡◌, ◌≢◌, ◌⊎◌, ◌<◌, ◌≤◌, ℕ, List, [], ◌∷◌, ◌++◌, length, Option, Some, None, is_some, true, Result, Ok, Err}
+use Rattle.std.specs.Prelude.{◌≡◌, ◌≢◌, ◌⊎◌, ◌<◌, ◌≤◌, ℕ, List, [], ◌∷◌, ◌++◌, length, Option, Some, None}
+use Rattle.std.specs.Prelude.{is_some, true, Result, Ok, Err}
 use Rattle.fz_shelf.specs.Faults.{Rose}
 use Rattle.fz_shelf.specs.Told.{Taken, gained, GainedPart, HasRoom}
 use Rattle.fz_shelf.specs.Files.{Names, Written, Fits, known}
 use Rattle.fz_shelf.specs.Log.{Log}
 use Rattle.fz_shelf.specs.Reading.{Counts}
-use Rattle.fz_top.specs.Texts.{Text, word_at}
+use Rattle.fz_status.specs.Words.{Text, word_at}
 use Rattle.fz_top.specs.Commands.{Makes, command_in, inputs_of}
 use Rattle.fz_top.specs.Reads.{AreHeld, names_at, whole_entries, StopsBy}
 use Rattle.fz_top.specs.Deeds.{Deed}
 use Rattle.fz_top.specs.declared.command.Command.{Command}
 use Rattle.fz_top.specs.declared.reading.Stop.{Stop}
 use Rattle.fz_top.specs.declared.reading.Stop.TheVariants as stop
-use Rattle.fz_top.specs.declared.status.Status.{Status}
-use Rattle.fz_top.specs.declared.status.Status.TheVariants as status
+use Rattle.fz_status.specs.declared.status.Status.{Status}
+use Rattle.fz_status.specs.declared.status.Status.TheVariants as status
 
 -- what the shelf and out tell
 pub record World : Type 0 where
@@ -24,7 +25,8 @@ pub record World : Type 0 where
   pub faults : ℕ
 
 abbrev pub world : Names → Counts → Log → Option Taken → ℕ → World
-world files counts asked told faults = record { files = files; counts = counts; asked = asked; told = told; faults = faults }
+world files counts asked told faults =
+    record { files = files; counts = counts; asked = asked; told = told; faults = faults }
 
 -- the file of OUT alone may have changed
 abbrev pub ChangesOnly : List Text → Option (ℕ × List ℕ) → Names → Names → Type 0
@@ -111,7 +113,8 @@ AreKnown files (n ∷ ns) (c ∷ cs) = ((room : ℕ) × (files n ≡ known c roo
 
 -- there is room for what the command writes and puts, whatever that is
 abbrev pub RoomFor : List Text → Names → Option Taken → (Result Deed Status → Type 0) → Type 0
-RoomFor words files told makes = (deed : Deed) → makes (Ok deed) → FileFits words deed.file files × HasRoom told (length deed.text)
+RoomFor words files told makes =
+    (deed : Deed) → makes (Ok deed) → FileFits words deed.file files × HasRoom told (length deed.text)
 
 -- the words are of a command whose files are told, and there is room
 pub record IsReady (words : List Text) (old : World) (command : Command) (contents : List (List ℕ)) : Type 0 where
@@ -120,7 +123,8 @@ pub record IsReady (words : List Text) (old : World) (command : Command) (conten
   pub room : RoomFor words old.files old.told (Makes command contents)
 
 -- the words are of a command whose files are told, and the contents make a deed
-pub record CanBeDone (words : List Text) (files : Names) (command : Command) (contents : List (List ℕ)) (deed : Deed) : Type 0 where
+pub record CanBeDone (words : List Text) (files : Names) (command : Command) (contents : List (List ℕ))
+    (deed : Deed) : Type 0 where
   pub is : command_in words ≡ Some command
   pub known : AreKnown files (names_at words (inputs_of command)) contents
   pub makes : Makes command contents (Ok deed)
@@ -168,4 +172,5 @@ Settles makes s = IsMade makes s ⊎ ((s ≡ status.Memory) ⊎ (IsReadFault s �
 
 -- Contents that make a deed make no fault.
 abbrev pub DeedsHaveNoFault : Type 0
-DeedsHaveNoFault = (command : Command) (contents : List (List ℕ)) (deed : Deed) (s : Status) → Makes command contents (Ok deed) → Makes command contents (Err s) → ⊥
+DeedsHaveNoFault = (command : Command) (contents : List (List ℕ)) (deed : Deed) (s : Status)
+    → Makes command contents (Ok deed) → Makes command contents (Err s) → ⊥

@@ -2,7 +2,7 @@
 use Rattle.std.specs.Prelude.{ℕ, List, Option, Some, None, Result, Ok, Err}
 use Rattle.std.specs.List.{slice_index_or}
 use Rattle.hex.specs.Hex.{decode_sized}
-use Rattle.fz_top.specs.Texts.{Text}
+use Rattle.fz_status.specs.Words.{Text}
 
 abbrev pub only_byte : {E : Type 0} → Result (List ℕ) E → Option ℕ
 only_byte (Ok bytes) = Some (slice_index_or bytes 0 0)

@@ -6,10 +6,10 @@ ghost use Rattle.fz_top.specs.Deeds.{IsResultOf};
 ghost use Rattle.fz_top.specs.Lines.{line};
 ghost use Rattle.fz_top.specs.Asm.{AsmMakes};
 
-use crate::Status;
 use crate::lines::labelled;
 use crate::work::Work;
 use cpu12_asm::{AsmFault, Image, assemble};
+use fz_status::Status;
 use std::alloc::{AllocError, Global};
 
 /// The word SRC.

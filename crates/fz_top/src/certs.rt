@@ -2,13 +2,13 @@
 ghost use Rattle.std.specs.Prelude.{◌≡◌, ◌≤◌, length, IfOk, IfErr, Ok, Err};
 ghost use Rattle.fuzzy_meaning.specs.Blocks.{IsValid};
 ghost use Rattle.cert_check.specs.declared.text.TextFault.{TextFault as TheRefusal};
-ghost use Rattle.fz_top.specs.Certs.{AcceptsCert, HasCertFault, status_of};
-ghost use Rattle.fz_top.specs.Refusals.{IsRefusal, never};
+ghost use Rattle.fz_top.specs.Certs.{AcceptsCert, cert_refusals, status_of};
+ghost use Rattle.fz_status.specs.Refusals.{IsRefusal};
 
-use crate::status::{CertRefusal, Status};
 use cert_check::{TextFault as Refusal, check_text, check_text16};
 use codegen::Width;
 use fuzzy_meaning::Block;
+use fz_status::{CertRefusal, Status};
 use std::alloc::Global;
 
 /// The error of each output under a certificate's text, for answers of this width, or the status of
@@ -22,7 +22,7 @@ pub(crate) fn errors_under(
     requires block { IsValid block.now }
     requires cert { length cert.now ≤ 1048576 }
     ensures accepts { IfOk result (λ errors. AcceptsCert width block.now cert.now errors.items) }
-    ensures refused { IfErr result (IsRefusal (record never { cert = HasCertFault width block.now cert.now })) }
+    ensures refused { IfErr result (IsRefusal (cert_refusals width block.now cert.now)) }
 {
     match width {
         Width::Byte => told(check_text(alloc, block, cert)),
@@ -33,7 +33,8 @@ pub(crate) fn errors_under(
 /// The checker's answer, with a refusal as a status.
 fn told(answer: Result<Vec<u32>, Refusal>) -> Result<Vec<u32>, Status>
     ensures errors { IfOk result (λ errors. answer ≡ Ok errors) }
-    ensures status { IfErr result (λ status. (refusal : TheRefusal) × (answer ≡ Err refusal) × (status ≡ status_of refusal)) }
+    ensures status { IfErr result (λ status.
+        (refusal : TheRefusal) × (answer ≡ Err refusal) × (status ≡ status_of refusal)) }
 {
     match answer {
         Ok(errors) => Ok(errors),

@@ -4,12 +4,12 @@ ghost use Rattle.fz_shelf.specs.Lines.{text_of};
 ghost use Rattle.fz_top.specs.Deeds.{IsResultOf};
 ghost use Rattle.fz_top.specs.Check.{CheckMakes, check_lines};
 
-use crate::Status;
 use crate::certs::errors_under;
 use crate::firmware::firmware_of;
 use crate::lines::{labelled, push_errors};
 use crate::work::Work;
 use codegen::Width;
+use fz_status::Status;
 use std::alloc::{AllocError, Global};
 
 /// `check FCL CERT`, and `check16 FCL CERT` for answers of 16 bits.

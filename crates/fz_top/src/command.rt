@@ -6,18 +6,20 @@
 ghost use Rattle.std.specs.Prelude.{◌≡◌, ◌↔◌, ◌≤◌, length, IfOk, IsErrOf, Some, None};
 ghost use Rattle.std.specs.List.{All};
 ghost use Rattle.fz_words.specs.App.{IsRefused};
-ghost use Rattle.fz_top.specs.Texts.{bytes_of, texts_of};
+ghost use Rattle.fz_status.specs.Words.{texts_of};
+ghost use Rattle.fz_top.specs.Contents.{bytes_of};
 ghost use Rattle.fz_top.specs.Commands.{IsUsage, Makes, command_in, form_of, inputs_of, name_in, table};
 ghost use Rattle.fz_top.specs.Deeds.{IsResultOf};
 
+use crate::asm;
 use crate::check::{self, Check};
 use crate::compile::{self, Compile};
 use crate::exec::{self, Exec};
 use crate::reading::content;
 use crate::run::{self, Run};
 use crate::work::Work;
-use crate::{Status, asm};
 use codegen::Width;
+use fz_status::Status;
 use fz_words::Refusal;
 use std::alloc::Global;
 

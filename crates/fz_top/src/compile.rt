@@ -4,11 +4,11 @@ ghost use Rattle.fz_shelf.specs.Lines.{text_of};
 ghost use Rattle.fz_top.specs.Deeds.{IsResultOf};
 ghost use Rattle.fz_top.specs.Compile.{CompileMakes, compile_lines};
 
-use crate::Status;
 use crate::firmware::firmware_of;
 use crate::lines::labelled;
 use crate::work::Work;
 use codegen::{Firmware, Width};
+use fz_status::Status;
 use std::alloc::{AllocError, Global};
 
 /// `compile FCL OUT`, and `compile16 FCL OUT` with answers of 16 bits.

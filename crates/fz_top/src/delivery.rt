@@ -1,13 +1,13 @@
 //! Writing the file and putting the lines: the one place where anything leaves the program.
 ghost use Rattle.std.specs.Prelude.{◌≡◌, ◌⊎◌, length, OnOk, OnErr, IsOk};
 ghost use Rattle.fz_shelf.specs.Told.{HasRoom};
-ghost use Rattle.fz_top.specs.Texts.{texts_of};
+ghost use Rattle.fz_status.specs.Words.{texts_of};
 ghost use Rattle.fz_top.specs.Deeds.{deed_of};
 ghost use Rattle.fz_top.specs.Runs.{world, ChangesOnly, FileFits, Delivered, WriteFailed, PutFailed};
 
-use crate::words::word;
 use crate::work::Work;
 use fz_shelf::{Failed, Shelf, Sink, put_lines};
+use fz_status::word;
 
 /// Writes the file, if there is one, and then puts the lines.
 pub(crate) fn deliver<S: Shelf, O: Sink>(
@@ -29,7 +29,8 @@ pub(crate) fn deliver<S: Shelf, O: Sink>(
         (world (S.files shelf.new) (S.counts shelf.new) (S.asked shelf.new) (O.told out.new) (O.faults out.new))) }
     ensures shelf_sound { S.sound shelf.old → S.sound shelf.new }
     ensures out_sound { O.sound out.old → O.sound out.new }
-    ensures steady { S.sound shelf.old → O.sound out.old → FileFits (texts_of words.now) (deed_of work.now).file (S.files shelf.old)
+    ensures steady { S.sound shelf.old → O.sound out.old
+        → FileFits (texts_of words.now) (deed_of work.now).file (S.files shelf.old)
         → HasRoom (O.told out.old) (length (deed_of work.now).text) → IsOk result }
 {
     match &work.file {

@@ -6,18 +6,18 @@ ghost use Rattle.fz_shelf.specs.Lines.{text_of};
 ghost use Rattle.fz_shelf.specs.Parts.{byte_digits};
 ghost use Rattle.fz_top.specs.Deeds.{IsResultOf};
 ghost use Rattle.fz_top.specs.Exec.{ExecMakes, exec_in, exec_line, steps_of};
-ghost use Rattle.fz_top.specs.Texts.{texts_of};
+ghost use Rattle.fz_status.specs.Words.{texts_of};
 
-use crate::Status;
 use crate::images::image_of;
 use crate::lines::push_address;
-use crate::words::{flags, word};
+use crate::words::flags;
 use crate::work::Work;
 use cpu12_asm::Image;
 use cpu12_emul::ends::RunEnd;
 use cpu12_emul::machine::Machine;
 use cpu12_isa::instr::Regs;
 use cpu12_isa::pages::PageMem;
+use fz_status::{Status, word};
 use std::alloc::{AllocError, Global};
 use std::fmt::Write;
 

@@ -2,13 +2,13 @@
 ghost use Rattle.std.specs.Prelude.{◌≡◌, ◌≤◌, length, IfOk, IfErr};
 ghost use Rattle.fcl_check.specs.Texts.{SpellsBlock};
 ghost use Rattle.fz_top.specs.Firmwares.{GivesFirmware, text_refusals};
-ghost use Rattle.fz_top.specs.Refusals.{IsRefusal};
+ghost use Rattle.fz_status.specs.Refusals.{IsRefusal};
 
-use crate::{FclFault, Status};
 use codegen::{Firmware, Width, compile, compile16};
 use fcl_check::{LoadFault, load};
 use fcl_syntax::{SyntaxFault, parse};
 use fuzzy_meaning::Block;
+use fz_status::{FclFault, Status};
 use rule_layout::LayoutFault;
 use std::alloc::Global;
 

@@ -2,10 +2,10 @@
 ghost use Rattle.std.specs.Prelude.{◌≤◌, length, IfOk, IfErr, OnOk};
 ghost use Rattle.srecord.specs.Texts.{GivesImage};
 ghost use Rattle.fz_top.specs.Images.{image_refusals, records_refusals};
-ghost use Rattle.fz_top.specs.Refusals.{IsRefusal};
+ghost use Rattle.fz_status.specs.Refusals.{IsRefusal};
 
-use crate::{ImageFault, Status};
 use cpu12_asm::Image;
+use fz_status::{ImageFault, Status};
 use srecord::SrecFault;
 use std::alloc::Global;
 

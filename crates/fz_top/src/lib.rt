@@ -15,9 +15,7 @@ mod check;
 mod command;
 mod compile;
 mod delivery;
-mod errors;
 mod exec;
-mod fault_lines;
 mod firmware;
 mod images;
 mod laws;
@@ -26,7 +24,6 @@ mod program;
 mod reading;
 mod run;
 mod run_lines;
-mod status;
 mod words;
 mod work;
 
@@ -34,9 +31,6 @@ pub use check::Check;
 pub use command::Command;
 pub use compile::Compile;
 pub use exec::Exec;
+pub use fz_status::{CertRefusal, FclFault, ImageFault, Status};
 pub use program::fuzz12;
 pub use run::Run;
-pub use status::{CertRefusal, FclFault, ImageFault, Status};
-
-#[cfg(test)]
-mod tests;

@@ -1,22 +1,22 @@
 //! The program's call.
 ghost use Rattle.std.specs.Prelude.{◌≡◌, ◌⊎◌, ◌↔◌, length, None, Some, List, ℕ};
 ghost use Rattle.fz_shelf.specs.Told.{gained, HasRoom};
-ghost use Rattle.fz_top.specs.Texts.{texts_of};
+ghost use Rattle.fz_status.specs.Words.{texts_of};
 ghost use Rattle.fz_top.specs.Commands.{command_in, inputs_of, IsUsage, Makes};
 ghost use Rattle.fz_top.specs.Deeds.{Deed};
 ghost use Rattle.fz_top.specs.Reads.{names_at, AreThere};
-ghost use Rattle.fz_top.specs.Runs.{world, Runs, IsReady, IsReadFault, IsWriteFault, IsTooLong, AreKnown, CanBeDone, HasNoFault, IsMade, RoomFor, Settles};
-ghost use Rattle.fz_top.specs.Errors.{error_line_of, Complains};
-ghost use Rattle.fz_top.specs.Refusals.{CarriesNoMemory};
+ghost use Rattle.fz_top.specs.Runs.{world, Runs, IsReady, IsReadFault, IsWriteFault, IsTooLong, AreKnown, CanBeDone};
+ghost use Rattle.fz_top.specs.Runs.{HasNoFault, IsMade, RoomFor, Settles};
+ghost use Rattle.fz_status.specs.Errors.{error_line_of, Complains};
+ghost use Rattle.fz_status.specs.Refusals.{CarriesNoMemory};
 ghost use Rattle.fz_top.specs.declared.command.Command.{Command};
 
 use crate::command::command_of;
 use crate::delivery::deliver;
-use crate::errors::report;
 use crate::laws::deeds_have_no_fault;
 use crate::reading::{Stop, read_all};
-use crate::status::Status;
 use fz_shelf::{Shelf, Sink};
+use fz_status::{Status, report};
 use fz_words::Refusal;
 use std::alloc::Global;
 
@@ -24,12 +24,15 @@ use std::alloc::Global;
 fn run<S: Shelf, O: Sink>(alloc: Global, words: &[String], shelf: &mut S, out: &mut O) -> Status
     ensures runs { Runs (texts_of words.now)
         (world (S.files shelf.old) (S.counts shelf.old) (S.asked shelf.old) (O.told out.old) (O.faults out.old))
-        (world (S.files shelf.new) (S.counts shelf.new) (S.asked shelf.new) (O.told out.new) (O.faults out.new)) result }
+        (world (S.files shelf.new) (S.counts shelf.new) (S.asked shelf.new) (O.told out.new) (O.faults out.new))
+        result }
     ensures law { (command_in (texts_of words.now) ≡ None) ↔ IsUsage (texts_of words.now) }
     ensures reads_steady { S.sound shelf.old → (command : Command) → command_in (texts_of words.now) ≡ Some command
         → AreThere (S.files shelf.old) (names_at (texts_of words.now) (inputs_of command)) → IsReadFault result → ⊥ }
     ensures writes_steady { S.sound shelf.old → O.sound out.old → (command : Command) (contents : List (List ℕ))
-        → IsReady (texts_of words.now) (world (S.files shelf.old) (S.counts shelf.old) (S.asked shelf.old) (O.told out.old) (O.faults out.old)) command contents
+        → IsReady (texts_of words.now)
+        (world (S.files shelf.old) (S.counts shelf.old) (S.asked shelf.old) (O.told out.old) (O.faults out.old))
+        command contents
         → IsWriteFault result → ⊥ }
     ensures shelf_sound { S.sound shelf.old → S.sound shelf.new }
     ensures out_sound { O.sound out.old → O.sound out.new }
@@ -68,7 +71,8 @@ pub fn fuzz12<S: Shelf, O: Sink, F: Sink>(
     // each status with its cause, and what was read, written and put
     ensures runs { Runs (texts_of words.now)
         (world (S.files shelf.old) (S.counts shelf.old) (S.asked shelf.old) (O.told out.old) (O.faults out.old))
-        (world (S.files shelf.new) (S.counts shelf.new) (S.asked shelf.new) (O.told out.new) (O.faults out.new)) result }
+        (world (S.files shelf.new) (S.counts shelf.new) (S.asked shelf.new) (O.told out.new) (O.faults out.new))
+        result }
 
     // want of memory has the status of its own alone
     ensures carried { CarriesNoMemory result }
@@ -86,21 +90,27 @@ pub fn fuzz12<S: Shelf, O: Sink, F: Sink>(
         → AreKnown (S.files shelf.old) (names_at (texts_of words.now) (inputs_of command)) contents
         → Settles (Makes command contents) result }
     ensures complete { S.sound shelf.old → O.sound out.old → (command : Command) (contents : List (List ℕ))
-        → IsReady (texts_of words.now) (world (S.files shelf.old) (S.counts shelf.old) (S.asked shelf.old) (O.told out.old) (O.faults out.old)) command contents
+        → IsReady (texts_of words.now)
+        (world (S.files shelf.old) (S.counts shelf.old) (S.asked shelf.old) (O.told out.old) (O.faults out.old))
+        command contents
         → IsMade (Makes command contents) result ⊎ (result ≡ Status.Memory) }
 
     // where the contents make a deed it is done, unless a count rose, and also where the shelf and
     // out are sound with room
-    ensures done { (command : Command) (contents : List (List ℕ)) (deed : Deed) → CanBeDone (texts_of words.now) (S.files shelf.old) command contents deed
+    ensures done { (command : Command) (contents : List (List ℕ)) (deed : Deed)
+        → CanBeDone (texts_of words.now) (S.files shelf.old) command contents deed
         → HasNoFault
         (world (S.files shelf.old) (S.counts shelf.old) (S.asked shelf.old) (O.told out.old) (O.faults out.old))
         (world (S.files shelf.new) (S.counts shelf.new) (S.asked shelf.new) (O.told out.new) (O.faults out.new))
-        ⊎ (S.sound shelf.old × O.sound out.old × RoomFor (texts_of words.now) (S.files shelf.old) (O.told out.old) (Makes command contents))
+        ⊎ (S.sound shelf.old × O.sound out.old
+        × RoomFor (texts_of words.now) (S.files shelf.old) (O.told out.old) (Makes command contents))
         → (result ≡ Status.Ok) ⊎ (result ≡ Status.Memory) }
 
     // err
     ensures quiet { result ≡ Status.Ok → (F.told err.new ≡ F.told err.old) × (F.faults err.new ≡ F.faults err.old) }
-    ensures line { (result ≡ Status.Ok → ⊥) → Complains (error_line_of (texts_of words.now) result) (F.told err.old) (F.told err.new) (F.faults err.old) (F.faults err.new) }
+    ensures line { (result ≡ Status.Ok → ⊥)
+        → Complains (error_line_of (texts_of words.now) result) (F.told err.old) (F.told err.new)
+        (F.faults err.old) (F.faults err.new) }
     ensures err_steady { F.sound err.old → HasRoom (F.told err.old) (length (error_line_of (texts_of words.now) result))
         → F.told err.new ≡ gained (F.told err.old) (error_line_of (texts_of words.now) result) }
 

@@ -2,11 +2,12 @@
 ghost use Rattle.std.specs.Prelude.{◌≡◌, ◌<◌, ◌≤◌, length, IfOk, IfErr};
 ghost use Rattle.std.specs.List.{All};
 ghost use Rattle.fz_shelf.specs.Files.{IsThere};
-ghost use Rattle.fz_top.specs.Texts.{texts_of, bytes_of, content_at, word_at};
+ghost use Rattle.fz_status.specs.Words.{texts_of, word_at};
+ghost use Rattle.fz_top.specs.Contents.{bytes_of, content_at};
 ghost use Rattle.fz_top.specs.Reads.{ReadsWhole, StopsBy, AreThere, IsFailedRead, names_at, ReadsOne, StopsAt};
 
-use crate::words::word;
 use fz_shelf::{ReadError, Shelf};
+use fz_status::word;
 use std::alloc::Global;
 
 /// Why reading stopped, with the word of the file.

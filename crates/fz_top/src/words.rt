@@ -1,17 +1,6 @@
-//! Words by their places, and the forms that they may have.
+//! The forms that words may have.
 ghost use Rattle.std.specs.Prelude.{◌≡◌};
-ghost use Rattle.fz_top.specs.Texts.{texts_of, word_at};
 ghost use Rattle.fz_top.specs.Words.{flags_of};
-
-/// The word at this place, or nothing.
-pub(crate) fn word(words: &[String], place: u32) -> &str
-    ensures { result.now ≡ word_at (texts_of words.now) place }
-{
-    match words.get(place as usize) {
-        Some(word) => word.as_str(),
-        None => "",
-    }
-}
 
 /// Two hexadecimal digits, in either case.
 pub(crate) fn flags(text: &str) -> Option<u8>

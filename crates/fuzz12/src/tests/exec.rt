@@ -1,9 +1,6 @@
 //! Runs of images.
-use super::{SOURCE_RECORDS, USAGE, call, file};
-use fz_list::List;
-use fz_shelf::MemShelf;
-use std::alloc::Global;
-use std::process::Abort;
+use super::texts::SOURCE_RECORDS;
+use super::{Left, USAGE, call_over};
 use std::test::Fail;
 
 // At $C000 a list without an end, a wavr without a frame, and an RTI, each with its reset vector.
@@ -13,63 +10,149 @@ const NO_FRAME: &str = "S106C0003C20FEDF\nS105FFFEC0003D\nS903C0003C\n";
 
 const RETURN: &str = "S104C0000B30\nS105FFFEC0003D\nS903C0003C\n";
 
-const ARRIVED: &str = "pc C003 a FA b 00 x 0000 y 0000 sp 0000 ccr D9 steps 2\n";
+const ARRIVED: Left<'static> = Left::Lines(
+    "pc C003 a FA b 00 x 0000 y 0000 sp 0000 ccr D9 steps 2\n",
+);
 
-// Records, STEPS, the status, and the lines on out and on err.
-const RUNS: [(&str, &str, u8, &str, &str); 15] = [
-    (SOURCE_RECORDS, "10", 0, ARRIVED, ""),
-    (SOURCE_RECORDS, "2", 0, ARRIVED, ""),
-    (SOURCE_RECORDS, "0000000000000002", 0, ARRIVED, ""),
-    (SOURCE_RECORDS, "1", 13, "", "budget: 1\n"),
-    (SOURCE_RECORDS, "0", 13, "", "budget: 0\n"),
-    (ENDLESS, "1000000", 13, "", "budget: 1000000\n"),
-    (
-        NO_FRAME,
-        "1000000",
-        0,
-        "pc C001 a 00 b 00 x 0000 y 0000 sp 0006 ccr D4 steps 1\n",
-        "",
-    ),
-    (RETURN, "1000000", 12, "", "trap: 0000 00\n"),
-    ("S903C0003C", "10", 12, "", "trap: 0000 00\n"),
-    ("S903C0003C", "0", 13, "", "budget: 0\n"),
-    ("S903C0003D", "10", 5, "", "image: line 1: bad sum 3D 3C\n"),
-    ("", "10", 5, "", "image: no end\n"),
-    ("S105FFFF0000FC", "10", 5, "", "image: line 1: bad line\n"),
-    ("S5030002FA\n", "0", 5, "", "image: count 2 0\n"),
-    ("S903C0003C\n\n", "0", 5, "", "image: line 2: after end\n"),
+/// Records, STEPS and FLAGS, and what comes of them.
+#[derive(Clone, Copy)]
+struct Execution {
+    records: &'static str,
+    steps: &'static str,
+    flags: &'static str,
+    left: Left<'static>,
+}
+
+const TEN_STEPS: Execution = Execution {
+    records: SOURCE_RECORDS,
+    steps: "10",
+    flags: "00",
+    left: ARRIVED,
+};
+
+static EXECUTIONS: [Execution; 23] = [
+    TEN_STEPS,
+    Execution {
+        steps: "2",
+        ..TEN_STEPS
+    },
+    Execution {
+        steps: "0000000000000002",
+        ..TEN_STEPS
+    },
+    Execution {
+        steps: "1",
+        left: Left::Refused(13, "budget: 1\n"),
+        ..TEN_STEPS
+    },
+    Execution {
+        steps: "0",
+        left: Left::Refused(13, "budget: 0\n"),
+        ..TEN_STEPS
+    },
+    Execution {
+        records: ENDLESS,
+        steps: "1000000",
+        left: Left::Refused(13, "budget: 1000000\n"),
+        ..TEN_STEPS
+    },
+    Execution {
+        records: NO_FRAME,
+        steps: "1000000",
+        left: Left::Lines("pc C001 a 00 b 00 x 0000 y 0000 sp 0006 ccr D4 steps 1\n"),
+        ..TEN_STEPS
+    },
+    Execution {
+        records: RETURN,
+        steps: "1000000",
+        left: Left::Refused(12, "trap: 0000 00\n"),
+        ..TEN_STEPS
+    },
+    Execution {
+        records: "S903C0003C",
+        left: Left::Refused(12, "trap: 0000 00\n"),
+        ..TEN_STEPS
+    },
+    Execution {
+        records: "S903C0003C",
+        steps: "0",
+        left: Left::Refused(13, "budget: 0\n"),
+        ..TEN_STEPS
+    },
+    Execution {
+        records: "S903C0003D",
+        left: Left::Refused(5, "image: line 1: bad sum 3D 3C\n"),
+        ..TEN_STEPS
+    },
+    Execution {
+        records: "",
+        left: Left::Refused(5, "image: no end\n"),
+        ..TEN_STEPS
+    },
+    Execution {
+        records: "S105FFFF0000FC",
+        left: Left::Refused(5, "image: line 1: bad line\n"),
+        ..TEN_STEPS
+    },
+    Execution {
+        records: "S5030002FA\n",
+        steps: "0",
+        left: Left::Refused(5, "image: count 2 0\n"),
+        ..TEN_STEPS
+    },
+    Execution {
+        records: "S903C0003C\n\n",
+        steps: "0",
+        left: Left::Refused(5, "image: line 2: after end\n"),
+        ..TEN_STEPS
+    },
+    Execution {
+        steps: "",
+        left: USAGE,
+        ..TEN_STEPS
+    },
+    Execution {
+        steps: "1000001",
+        left: USAGE,
+        ..TEN_STEPS
+    },
+    Execution {
+        steps: "4294967298",
+        left: USAGE,
+        ..TEN_STEPS
+    },
+    Execution {
+        steps: "+1",
+        left: USAGE,
+        ..TEN_STEPS
+    },
+    Execution {
+        steps: "1 ",
+        left: USAGE,
+        ..TEN_STEPS
+    },
+    Execution {
+        steps: "0x1",
+        left: USAGE,
+        ..TEN_STEPS
+    },
+    Execution {
+        steps: "A",
+        left: USAGE,
+        ..TEN_STEPS
+    },
+    Execution {
+        flags: "0",
+        left: USAGE,
+        ..TEN_STEPS
+    },
 ];
 
-fn run_of(
-    rt: &impl Abort,
-    alloc: Global,
-    records: &str,
-    steps: &str,
-    flags: &str,
-    code: u8,
-    out_text: &str,
-    err_text: &str,
-) -> Result<(), Fail> {
-    let files = vec![in alloc; file(alloc, "in", records.as_bytes().to_vec(alloc)?)?]?;
-    let never = List::new(Vec::new(alloc));
-    let mut shelf = MemShelf::new(alloc, List::new(files), never, List::new(Vec::new(alloc)))?;
-    let line = ["fuzz12", "exec", "in", steps, flags];
-    call(rt, alloc, &line, &mut shelf, code, out_text, err_text)
-}
-
 #[test]
-fn images_run(rt: HostRuntime) -> Result<(), Fail> {
-    for (records, steps, code, out, err) in RUNS {
-        run_of(&rt, rt.alloc(), records, steps, "00", code, out, err)?;
+fn executions(rt: HostRuntime) -> Result<(), Fail> {
+    for row in EXECUTIONS.iter() {
+        let line = ["fuzz12", "exec", "first", row.steps, row.flags];
+        call_over(&rt, rt.alloc(), &line, &[row.records], &[], &row.left)?;
     }
     Ok(())
-}
-
-#[test]
-fn words_of_exec(rt: HostRuntime) -> Result<(), Fail> {
-    let alloc = rt.alloc();
-    for steps in ["", "1000001", "4294967298", "+1", "1 ", "0x1", "A"] {
-        run_of(&rt, alloc, SOURCE_RECORDS, steps, "00", 1, "", USAGE)?;
-    }
-    run_of(&rt, alloc, SOURCE_RECORDS, "10", "0", 1, "", USAGE)
 }

@@ -1,4 +1,4 @@
-use Rattle.fz_top.specs.Texts.{texts_of}
+use Rattle.fz_status.specs.Words.{texts_of}
 use Rattle.fz_top.proofs.UsageLemmas.{usage_law}
 use Rattle.fz_top.proofs.command.command_of.Goals as goal
 

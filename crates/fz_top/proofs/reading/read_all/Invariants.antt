@@ -1,12 +1,14 @@
 use Rattle.std.proofs.Common.{◌≡◌, take}
-use Rattle.fz_top.specs.Texts.{texts_of, bytes_of}
+use Rattle.fz_status.specs.Words.{texts_of}
+use Rattle.fz_top.specs.Contents.{bytes_of}
 use Rattle.fz_top.specs.Reads.{ReadsWhole}
 use Rattle.fz_top.proofs.reading.read_all.Given as goal
 
 abbrev pub invariant-loop-place : goal.invariant-loop-place
 invariant-loop-place g l = record {
   files : g.S.Shelf.files l.shelf ≡ g.S.Shelf.files l.initial.shelf;
-  whole : ReadsWhole (texts_of l.words) (take l.place-index l.places) (g.S.Shelf.files l.initial.shelf) (g.S.Shelf.counts l.initial.shelf) (g.S.Shelf.counts l.shelf)
+  whole : ReadsWhole (texts_of l.words) (take l.place-index l.places) (g.S.Shelf.files l.initial.shelf)
+      (g.S.Shelf.counts l.initial.shelf) (g.S.Shelf.counts l.shelf)
       (g.S.Shelf.asked l.initial.shelf) (g.S.Shelf.asked l.shelf) (bytes_of l.contents.items);
   sound : g.S.Shelf.sound l.initial.shelf → g.S.Shelf.sound l.shelf;
 }

@@ -11,7 +11,8 @@ loop-at-preserved g c =
     record {
       low = omega (arith, so_far.low);
       high = omega (arith, c.loop-at-test.true);
-      sum_is = next_sum (g.M.Mem.bytes c.args.memory.now) free_start c.loop-at.at c.loop-at.sum c.from-sum.result so_far.low
+      sum_is =
+          next_sum (g.M.Mem.bytes c.args.memory.now) free_start c.loop-at.at c.loop-at.sum c.from-sum.result so_far.low
           (omega (arith, c.loop-at-test.true, size)) (c.from-sum.ensures ∙ c.read.ensures) so_far.sum_is;
       small = omega (arith, so_far.low, so_far.small, c.from-sum.ensures, c.read.type_inv);
     }

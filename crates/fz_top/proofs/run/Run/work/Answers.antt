@@ -5,7 +5,7 @@ use Rattle.fz_run.specs.declared.rows.Row.{Row}
 use Rattle.fz_top.specs.CertifiedRun.{left_of}
 use Rattle.fz_top.specs.Deeds.{Deed}
 use Rattle.fz_top.specs.Run.{files_in, report_of, run_lines}
-use Rattle.fz_top.specs.Texts.{bytes_of}
+use Rattle.fz_top.specs.Contents.{bytes_of}
 use Rattle.fz_top.proofs.AnswerLemmas.{certifies}
 use Rattle.fz_top.proofs.run.Run.work.Goals as goal
 

@@ -1,0 +1,5 @@
+use Rattle.cert_check.proofs.BoxLemmas.{leaf_around}
+use Rattle.cert_check.proofs.box_laws.leaves_are_around.Goals as goal
+
+pub returns : goal.returns
+returns c = leaf_around

@@ -1,0 +1,149 @@
+-- The certificate of a whole tree.
+use Rattle.std.proofs.Common.{◌≡◌, ⊎_elim, ℕ, zero, suc, ◌+◌, ◌-◌, ◌<◌, ◌≤◌, List, [], ◌∷◌, ◌++◌, length, get_or, replicate, Some, refl, sym, ap, ◌∙◌, subst, arith, length-append}
+use Rattle.std.specs.Prelude.{slice_get, slice_index, All}
+use Rattle.std.specs.List.{Any}
+use Rattle.std.proofs.lemmas.List.{append-nil, length-replicate}
+use Rattle.std.proofs.lemmas.Option.{slice_get-get_or, get_or_from_slice_get}
+use Rattle.fz_list.proofs.Algebra.{some_at}
+use Rattle.fuzzy_meaning.specs.declared.block.Block.{Block}
+use Rattle.fuzzy_meaning.specs.declared.block.Output.{Output}
+use Rattle.fuzzy_meaning.specs.Blocks.{IsValid, output_at}
+use Rattle.error_bound.specs.declared.boxes.Interval.{Interval}
+use Rattle.box_tree.specs.declared.cert.Node.{Node}
+use Rattle.box_tree.specs.declared.cert.Node.TheVariants.{Split, Leaf}
+use Rattle.box_tree.specs.declared.cert.Cert.{Cert}
+use Rattle.box_tree.specs.Certificates.{IsNode, IsCert}
+use Rattle.box_tree.specs.Trees.{open_from, leaf_count}
+use Rattle.box_tree.specs.Laws.{OpenBoxesGoOn}
+use Rattle.cert_check.specs.Trees.{Part, IsTree, leaf, split, whole}
+use Rattle.cert_check.specs.Acceptance.{HasBound, IsGreatestBound, IsAccepted}
+use Rattle.error_certifier.specs.declared.halving.Tree.{Tree}
+use Rattle.error_certifier.specs.Halving.{Halves, leaf as halved_leaf, split as halved_split, IsHalving}
+use Rattle.error_certifier.specs.Trees.{RisesTo, Grows}
+
+-- ---- nodes that are one tree
+
+leaf_count-append : (xs ys : List Node) → leaf_count (xs ++ ys) ≡ leaf_count xs + leaf_count ys
+leaf_count-append [] ys = omega arith
+leaf_count-append (Split i c ∷ xs) ys = leaf_count-append xs ys
+leaf_count-append (Leaf pairs ∷ xs) ys = let r = leaf_count-append xs ys in omega arith
+
+halved_open : OpenBoxesGoOn → (b : Block) (h target : ℕ) (box : List Interval) (n m : ℕ) (nodes : List Node) → Halves b h target box n nodes m → (i : ℕ) → open_from (suc i) nodes ≡ Some i
+halved_open on b h target _ _ _ _ (halved_leaf box n pairs w few) i = refl
+halved_open on b h target _ _ _ _ (halved_split box k c n m r out up left right a at l t) i =
+    on (suc (suc i)) (suc i) left right (halved_open on b h target _ n m left l (suc i)) ∙ halved_open on b h target _ m r right t i
+
+halved_leaves : (b : Block) (h target : ℕ) (box : List Interval) (n m : ℕ) (nodes : List Node) → Halves b h target box n nodes m → (leaf_count nodes + n ≡ m) × (m ≤ 4096)
+halved_leaves b h target _ _ _ _ (halved_leaf box n pairs w few) = (omega arith, omega arith)
+halved_leaves b h target _ _ _ _ (halved_split box k c n m r out up left right a at l t) =
+    let p = halved_leaves b h target _ n m left l in
+    let q = halved_leaves b h target _ m r right t in
+    let p0 = p.0 in
+    let q0 = q.0 in
+    let sum = leaf_count-append left right in
+    (omega arith, q.1)
+
+some_part : (box : List Interval) (nodes rest : List Node) (parts : List Part) → IsTree box nodes parts rest → 0 < length parts
+some_part _ _ _ _ (leaf box pairs rest) = omega arith
+some_part _ _ _ _ (split box i c nodes mid rest left right from cut l r) =
+    let some = some_part _ nodes mid left l in
+    omega (arith, length-append left right)
+
+-- ---- errors from 0 on
+
+no_error : (n k : ℕ) → slice_index (replicate n 0) k ≡ 0
+no_error zero k = refl
+no_error (suc n) zero = refl
+no_error (suc n) (suc k) = no_error n k
+
+one_value : (xs : List ℕ) (k e c : ℕ) → slice_get xs k ≡ Some e → slice_get xs k ≡ Some c → e ≤ c
+one_value xs k e c p q = let same : e ≡ c = cc in omega arith
+
+greatest_of : (b : Block) (h target o : ℕ) (x : Output) (parts : List Part) (old e : ℕ) → 0 < length parts → old ≡ 0 → RisesTo b h target o x parts old e → IsGreatestBound b o x h parts e
+greatest_of b h target o x parts old e some zero_before r = record {
+  each = r.each;
+  some = ⊎_elim
+      (λ (same : e ≡ old).
+      let p = some_at parts 0 some in
+      let at = get_or_from_slice_get parts 0 p.0 p.0 p.1 in
+      let first = r.each 0 p.0 some in
+      let small = first.2 in
+      let none : first.0 ≡ e = omega arith in
+      let has : HasBound b o x h p.0 e = subst (λ (q : Part). HasBound b o x h q e) at (subst (λ n. HasBound b o x h (get_or parts 0 p.0) n) none first.1) in
+      let z : Any (λ q. HasBound b o x h q e) parts = (0, p.0, some, at, has) in
+      z)
+      (λ (a : Any (λ q. HasBound b o x h q e) parts). a)
+      r.some;
+}
+
+module _ (b : Block) (h target : ℕ) (old new : Tree) (cert : Cert) (valid : IsValid b) (no_nodes : old.nodes.items ≡ []) (zeros : old.errors.items ≡ replicate (length b.outputs) 0)
+    (no_leaves : old.leaves ≡ 0) (g : Grows b h target (whole b) old new) (claims : cert.claims ≡ new.errors.items) (nodes : cert.nodes ≡ new.nodes.items) where
+  count : length cert.claims ≡ length b.outputs
+  count = ap length claims ∙ g.count ∙ ap length zeros ∙ length-replicate (length b.outputs) 0
+
+  all_added : g.added ≡ cert.nodes
+  all_added = sym (nodes ∙ g.nodes ∙ ap (λ (xs : List Node). xs ++ g.added) no_nodes)
+
+  zero_at : (k : ℕ) → slice_index old.errors.items k ≡ 0
+  zero_at k = ap (λ (xs : List ℕ). slice_index xs k) zeros ∙ no_error (length b.outputs) k
+
+  halved : Halves b h target (whole b) 0 cert.nodes new.leaves
+  halved = subst (λ (xs : List Node). Halves b h target (whole b) 0 xs new.leaves) all_added (subst (λ n. Halves b h target (whole b) n g.added new.leaves) no_leaves g.halves)
+
+  tree : IsTree (whole b) cert.nodes g.parts []
+  tree = subst (λ (xs : List Node). IsTree (whole b) xs g.parts []) (append-nil g.added ∙ all_added) (g.tree [])
+
+  error_at : (k e : ℕ) → slice_get cert.claims k ≡ Some e → slice_index new.errors.items k ≡ e
+  error_at k e p = ap (λ (xs : List ℕ). slice_index xs k) (sym claims) ∙ get_or_from_slice_get cert.claims k e 0 p
+
+  greatest : (o : ℕ) (x : Output) (e : ℕ) → 1 ≤ o → output_at b o ≡ Some x → slice_get cert.claims (o - 1) ≡ Some e → IsGreatestBound b o x h g.parts e
+  greatest o x e from ex ee =
+      let number : o - 1 + 1 ≡ o = omega arith in
+      let r = g.errors (o - 1) x ex in
+      let rises : RisesTo b h target o x g.parts (slice_index old.errors.items (o - 1)) e =
+      subst (λ j. RisesTo b h target j x g.parts (slice_index old.errors.items (o - 1)) e) number
+      (subst (λ n. RisesTo b h target (o - 1 + 1) x g.parts (slice_index old.errors.items (o - 1)) n) (error_at (o - 1) e ee) r) in
+      greatest_of b h target o x g.parts (slice_index old.errors.items (o - 1)) e (some_part (whole b) cert.nodes [] g.parts tree) (zero_at (o - 1)) rises
+
+  accepted : IsAccepted b h cert cert.claims
+  accepted = record {
+    claims_count = count;
+    errors_count = count;
+    parts = g.parts;
+    tree = tree;
+    greatest = greatest;
+    claimed = λ k e c p q. one_value cert.claims k e c p q;
+  }
+
+  pub is_halving : IsHalving b h target cert
+  is_halving = record { leaves = new.leaves; nodes = halved; claims = accepted }
+
+  pub claims_within : All (λ e. e ≤ target) cert.claims
+  claims_within k d l =
+      let c = count in
+      let inside : k < length b.outputs = omega arith in
+      let x = some_at b.outputs k inside in
+      let r = g.errors k x.0 x.1 in
+      let z = zero_at k in
+      let e = error_at k (get_or cert.claims k d) (slice_get-get_or cert.claims k d l) in
+      let most = r.within (omega arith) in
+      omega arith
+
+  pub is_cert : OpenBoxesGoOn → target ≤ 1000000 → IsCert cert
+  is_cert on small =
+      let leaves = halved_leaves b h target (whole b) 0 new.leaves cert.nodes halved in
+      let leaves0 = leaves.0 in
+      let leaves1 = leaves.1 in
+      let c = count in
+      let some = valid.some_output in
+      let few = valid.few_outputs in
+      record {
+        claims = record {
+          some = omega arith;
+          few = omega arith;
+          millionths = λ k d l. (let w = claims_within k d l in omega arith);
+        };
+        nodes = subst (λ n. All (IsNode n) cert.nodes) (sym count) (subst (λ (xs : List Node). All (IsNode (length b.outputs)) xs) all_added g.good);
+        tree = halved_open on b h target (whole b) 0 new.leaves cert.nodes halved 0;
+        few_leaves = omega arith;
+      }

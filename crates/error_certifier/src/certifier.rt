@@ -1,0 +1,83 @@
+//! Certificates for a target, or why it is not reached.
+ghost use Rattle.std.specs.Prelude.{◌≡◌, ◌≢◌, ◌≤◌, All, IfOk, IfErr};
+ghost use Rattle.fuzzy_meaning.specs.Blocks.{IsValid};
+ghost use Rattle.box_tree.specs.Certificates.{IsCert};
+ghost use Rattle.error_certifier.specs.Halving.{IsHalving, StopsAt};
+ghost use Rattle.error_certifier.specs.Laws.{SaysOutOfReach};
+
+use crate::halving::{Task, Tree};
+use crate::laws::cells_are_out_of_reach;
+use arrayvec::ArrayVec;
+use box_tree::{Cert, open_boxes_go_on};
+use cert_check::whole_box;
+use fuzzy_meaning::Block;
+use std::alloc::Global;
+use thiserror::Error;
+
+/// Why halving gives no certificate.
+#[derive(Clone, PartialEq, Eq, Debug, Drop, Error)]
+pub enum NotReached {
+    /// The bytes of a cell, one for each input, the first output, from 1, that is above the target
+    /// there, and the Bound of its best leaf in millionths of its range, or 1000001 where it has none.
+    #[error("on a cell output {1} has a Bound of {2}")]
+    Cell(ArrayVec<u8, 8>, u8, u32),
+    /// More than 4096 leaves would be needed. Another certificate may have fewer.
+    #[error("more than 4096 leaves")]
+    LeafLimit,
+    /// There was no memory for the certificate, or for the cells of the block's terms.
+    #[error("no memory")]
+    Memory,
+}
+
+/// The certificate that halving gives for a target, in millionths of each output's range, for answers
+/// that are bytes.
+pub fn certify(alloc: Global, block: &Block, target: u32) -> Result<Cert, NotReached>
+    requires block { IsValid block.now }
+    requires target { target ≤ 1000000 }
+    ensures halved { IfOk result (IsHalving block.now 1 target) }
+    ensures within { IfOk result (λ cert. All (λ error. error ≤ target) cert.claims) }
+    ensures cert { IfOk result IsCert }
+    ensures stops { IfErr result (λ stop. stop ≢ NotReached.Memory → StopsAt block.now 1 target stop) }
+    ensures out_of_reach { IfErr result (SaysOutOfReach block.now 1 target) }
+{
+    certified(alloc, block, target, 1)
+}
+
+/// The same for answers of 16 bits.
+pub fn certify16(alloc: Global, block: &Block, target: u32) -> Result<Cert, NotReached>
+    requires block { IsValid block.now }
+    requires target { target ≤ 1000000 }
+    ensures halved { IfOk result (IsHalving block.now 256 target) }
+    ensures within { IfOk result (λ cert. All (λ error. error ≤ target) cert.claims) }
+    ensures cert { IfOk result IsCert }
+    ensures stops { IfErr result (λ stop. stop ≢ NotReached.Memory → StopsAt block.now 256 target stop) }
+    ensures out_of_reach { IfErr result (SaysOutOfReach block.now 256 target) }
+{
+    certified(alloc, block, target, 256)
+}
+
+/// The same for answers in so many parts to a byte.
+fn certified(alloc: Global, block: &Block, target: u32, parts: u16) -> Result<Cert, NotReached>
+    requires block { IsValid block.now }
+    requires target { target ≤ 1000000 }
+    requires parts_from { 1 ≤ parts }
+    requires parts_to { parts ≤ 256 }
+    ensures halved { IfOk result (IsHalving block.now parts target) }
+    ensures within { IfOk result (λ cert. All (λ error. error ≤ target) cert.claims) }
+    ensures cert { IfOk result IsCert }
+    ensures stops { IfErr result (λ stop. stop ≢ NotReached.Memory → StopsAt block.now parts target stop) }
+    ensures out_of_reach { IfErr result (SaysOutOfReach block.now parts target) }
+{
+    cells_are_out_of_reach();
+    open_boxes_go_on();
+    let Ok(task) = Task::new(alloc, block, target, parts) else {
+        return Err(NotReached::Memory);
+    };
+    let Ok(mut tree) = Tree::new(alloc, block.outputs.len()) else {
+        return Err(NotReached::Memory);
+    };
+    match task.halve(whole_box(block), &mut tree) {
+        Ok(()) => Ok(tree.into_cert()),
+        Err(stop) => Err(stop),
+    }
+}

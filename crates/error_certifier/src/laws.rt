@@ -1,0 +1,36 @@
+//! Laws of the definitions.
+ghost use Rattle.error_certifier.specs.Laws.{AnswersAreOne, CellsAreOutOfReach, SameBlocksStopAlike};
+
+use cert_check::{
+    cuts_have_halves, errors_are_determined, leaves_are_around, same_blocks_have_best_leaves,
+    same_blocks_have_bounds,
+};
+use error_bound::{best_bounds_are_least, best_leaves_are_one, bounds_are_determined};
+
+/// A block has at most one answer for a target: a certificate, or why there is none.
+pub fn answers_are_one()
+    ensures { AnswersAreOne }
+{
+    cuts_have_halves();
+    errors_are_determined();
+    best_leaves_are_one();
+    bounds_are_determined();
+}
+
+/// Where halving stops at a cell, no accepted certificate of the block has a smaller error for that
+/// output than the Bound of the cell's best leaf. A limit says nothing of other certificates.
+pub fn cells_are_out_of_reach()
+    ensures { CellsAreOutOfReach }
+{
+    cuts_have_halves();
+    leaves_are_around();
+    best_bounds_are_least();
+}
+
+/// Halving stops alike for blocks that differ only in where their conditions lie in memory.
+pub fn same_blocks_stop_alike()
+    ensures { SameBlocksStopAlike }
+{
+    same_blocks_have_best_leaves();
+    same_blocks_have_bounds();
+}

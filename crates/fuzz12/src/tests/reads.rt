@@ -1,0 +1,246 @@
+//! The files of a run: which are read, and what comes of calls that fail.
+use super::texts::{BLOCK, HALVES, RECORDS, RECORDS_OF_ANOTHER};
+use super::{Faults, Left, NONE, call, push_file, shelf_of};
+use fz_list::{List, Text};
+use fz_shelf::{MemFile, MemShelf};
+use std::alloc::{AllocError, Global};
+use std::process::Abort;
+use std::test::Fail;
+
+// A heater's files, and some that are not.
+static HOUSE: [(&str, &[&str]); 7] = [
+    ("a.fcl", &[BLOCK]),
+    ("a.s19", &[RECORDS]),
+    ("a.cert", &["FZC 1\nclaim 19609\n", HALVES]),
+    ("a.csv", &["64\n"]),
+    ("other.s19", &[RECORDS_OF_ANOTHER]),
+    ("empty", &[]),
+    ("over.csv", &["256.0001"]),
+];
+
+/// A file that is a byte too long.
+fn long_file(alloc: Global) -> Result<MemFile, AllocError> {
+    let mut long = Vec::with_capacity(alloc, 1_048_577)?;
+    long.resize(1_048_577, b'0')?;
+    Ok(MemFile {
+        name: Text::new(String::from_str(alloc, "long")?),
+        bytes: List::new(long),
+        room: 0,
+    })
+}
+
+fn house(alloc: Global, faults: &Faults) -> Result<MemShelf, Fail> {
+    let mut files = Vec::new(alloc);
+    for (name, text) in HOUSE.iter() {
+        push_file(alloc, &mut files, name, text)?;
+    }
+    files.push(long_file(alloc)?)?;
+    shelf_of(alloc, files, faults)
+}
+
+/// A call over these files. Fails where it reads more or fewer of them, or leaves something else.
+pub(super) fn case(
+    rt: &impl Abort,
+    alloc: Global,
+    line: &[&str],
+    faults: &Faults,
+    reads: usize,
+    left: &Left,
+) -> Result<(), Fail> {
+    let mut shelf = house(alloc, faults)?;
+    call(rt, alloc, line, &mut shelf, faults, left)?;
+    assert_eq!(rt; shelf.asked().len(), reads);
+    Ok(())
+}
+
+/// The words of the heater's run with these flags.
+pub(super) fn run_words<'a>(flags: &'a str) -> [&'a str; 8] {
+    [
+        "fuzz12", "run", "a.fcl", "a.s19", "a.cert", "a.csv", "empty", flags,
+    ]
+}
+
+/// What the heater's run leaves.
+pub(super) const RUN: Left<'static> = Left::Lines(
+    "error 1 19609
+instructions 28
+sample 1 bytes 64 answers 64 instructions 28 steps 36 resumed 0 frames 0
+left 208
+",
+);
+
+/// The five files of a run, how many of them are read, and what it leaves.
+struct Read {
+    names: [&'static str; 5],
+    reads: usize,
+    left: Left<'static>,
+}
+
+static READS: [Read; 11] = [
+    Read {
+        names: ["b.fcl", "a.s19", "a.cert", "a.csv", "empty"],
+        reads: 1,
+        left: Left::Refused(2, "read fault: b.fcl\n"),
+    },
+    Read {
+        names: ["long", "a.s19", "a.cert", "a.csv", "empty"],
+        reads: 1,
+        left: Left::Refused(10, "too long: long\n"),
+    },
+    Read {
+        names: ["empty", "empty", "empty", "over.csv", "a.csv"],
+        reads: 5,
+        left: Left::Refused(4, "fcl: at 0: expected\n"),
+    },
+    Read {
+        names: ["a.fcl", "b.s19", "a.cert", "a.csv", "empty"],
+        reads: 2,
+        left: Left::Refused(2, "read fault: b.s19\n"),
+    },
+    Read {
+        names: ["a.fcl", "empty", "empty", "over.csv", "a.csv"],
+        reads: 5,
+        left: Left::Refused(5, "image: no end\n"),
+    },
+    Read {
+        names: ["a.fcl", "other.s19", "a.cert", "a.csv", "empty"],
+        reads: 5,
+        left: Left::Refused(5, "image: D201: FE, compile gives FF\n"),
+    },
+    Read {
+        names: ["a.fcl", "a.s19", "", "a.csv", "empty"],
+        reads: 3,
+        left: Left::Refused(2, "read fault: \n"),
+    },
+    Read {
+        names: ["a.fcl", "a.s19", "empty", "over.csv", "a.csv"],
+        reads: 5,
+        left: Left::Refused(6, "cert: early\n"),
+    },
+    Read {
+        names: ["a.fcl", "a.s19", "a.cert", "long", "empty"],
+        reads: 4,
+        left: Left::Refused(10, "too long: long\n"),
+    },
+    Read {
+        names: ["a.fcl", "a.s19", "a.cert", "over.csv", "a.csv"],
+        reads: 5,
+        left: Left::Refused(7, "trace: row 1: input 1 out of range\n"),
+    },
+    Read {
+        names: ["a.fcl", "a.s19", "a.cert", "a.csv", "a.csv"],
+        reads: 5,
+        left: Left::Refused(7, "plan: row 1: bad row\n"),
+    },
+];
+
+#[test]
+fn reads(rt: HostRuntime) -> Result<(), Fail> {
+    for row in READS.iter() {
+        let [fcl, image, cert, trace, plan] = row.names;
+        let line = ["fuzz12", "run", fcl, image, cert, trace, plan, "00"];
+        case(&rt, rt.alloc(), &line, &NONE, row.reads, &row.left)?;
+    }
+    Ok(())
+}
+
+/// The calls that fail in a run, how many files are read, and what it leaves.
+struct Failure {
+    faults: Faults<'static>,
+    reads: usize,
+    left: Left<'static>,
+}
+
+static FAILURES: [Failure; 11] = [
+    Failure {
+        faults: Faults {
+            reads: &[1],
+            ..NONE
+        },
+        reads: 1,
+        left: Left::Refused(2, "read fault: a.fcl\n"),
+    },
+    Failure {
+        faults: Faults {
+            reads: &[2],
+            ..NONE
+        },
+        reads: 2,
+        left: Left::Refused(2, "read fault: a.s19\n"),
+    },
+    Failure {
+        faults: Faults {
+            reads: &[3],
+            ..NONE
+        },
+        reads: 3,
+        left: Left::Refused(2, "read fault: a.cert\n"),
+    },
+    Failure {
+        faults: Faults {
+            reads: &[4],
+            ..NONE
+        },
+        reads: 4,
+        left: Left::Refused(2, "read fault: a.csv\n"),
+    },
+    Failure {
+        faults: Faults {
+            reads: &[5],
+            ..NONE
+        },
+        reads: 5,
+        left: Left::Refused(2, "read fault: empty\n"),
+    },
+    Failure {
+        faults: Faults { puts: &[1], ..NONE },
+        reads: 5,
+        left: Left::Broken(""),
+    },
+    Failure {
+        faults: Faults { puts: &[2], ..NONE },
+        reads: 5,
+        left: Left::Broken("error 1 19609\n"),
+    },
+    Failure {
+        faults: Faults { most: 1, ..NONE },
+        reads: 5,
+        left: RUN,
+    },
+    Failure {
+        faults: Faults {
+            most: 1,
+            puts: &[4],
+            ..NONE
+        },
+        reads: 5,
+        left: Left::Broken("err"),
+    },
+    Failure {
+        faults: Faults {
+            reads: &[1],
+            err_puts: &[1],
+            ..NONE
+        },
+        reads: 1,
+        left: Left::Refused(2, ""),
+    },
+    Failure {
+        faults: Faults {
+            reads: &[1],
+            err_puts: &[2],
+            ..NONE
+        },
+        reads: 1,
+        left: Left::Refused(2, "read fault: "),
+    },
+];
+
+#[test]
+fn failures(rt: HostRuntime) -> Result<(), Fail> {
+    for row in FAILURES.iter() {
+        let line = run_words("00");
+        case(&rt, rt.alloc(), &line, &row.faults, row.reads, &row.left)?;
+    }
+    Ok(())
+}

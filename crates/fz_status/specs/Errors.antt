@@ -1,0 +1,41 @@
+-- The one line on err.
+use Rattle.std.specs.Prelude.{◌≡◌, ◌≤◌, ◌++◌, ℕ, List, [], length, codes, Option, Result, IsOk, OnOk}
+use Rattle.fz_shelf.specs.Faults.{HasCause, Rose}
+use Rattle.fz_shelf.specs.Told.{Taken, gained, GainedPart, HasRoom}
+use Rattle.fz_status.specs.FaultLines.{asm_line, cert_line, fcl_line, image_line, newline, plan_line, trace_line}
+use Rattle.fz_status.specs.FaultLines.{trap_line, want_of_memory, with_name, with_number}
+use Rattle.fz_status.specs.Words.{Text, word_at}
+use Rattle.fz_status.specs.declared.status.Status.{Status}
+use Rattle.fz_status.specs.declared.status.Status.TheVariants as status
+
+-- the line of a status
+abbrev pub error_line_of : List Text → Status → List ℕ
+error_line_of words status.Ok = []
+error_line_of words status.Usage = codes "usage: fuzz12 compile, certify, check, run, asm, exec or gen" ++ newline
+error_line_of words (status.ReadFault p) = with_name (codes "read fault: ") (word_at words p)
+error_line_of words status.WriteFault = codes "write fault" ++ newline
+error_line_of words (status.Fcl f) = fcl_line f
+error_line_of words (status.Image f) = image_line f
+error_line_of words (status.Cert f) = cert_line f
+error_line_of words (status.Trace f) = trace_line f
+error_line_of words (status.Plan f) = plan_line f
+error_line_of words status.Memory = want_of_memory
+error_line_of words (status.TooLong p) = with_name (codes "too long: ") (word_at words p)
+error_line_of words (status.Asm f) = asm_line f
+error_line_of words (status.Trap pc byte) = trap_line pc byte
+error_line_of words (status.Budget steps) = with_number (codes "budget: ") steps []
+
+-- a text is put: from what the sink told, its faults and its soundness before to those after
+pub record Puts {E : Type 0} (text : List ℕ) (told told' : Option Taken) (faults faults' : ℕ) (sound sound' : Type 0)
+    (result : Result Unit E) : Type 0 where
+  pub whole : OnOk result (told' ≡ gained told text)
+  pub part : GainedPart told told' text
+  pub cause : HasCause faults faults' result
+  pub keeps : sound → sound'
+  pub steady : sound → HasRoom told (length text) → IsOk result
+
+-- the sink gained a prefix of the line, and all of it where its count did not rise
+pub record Complains (text : List ℕ) (told told' : Option Taken) (faults faults' : ℕ) : Type 0 where
+  pub part : GainedPart told told' text
+  pub later : faults ≤ faults'
+  pub whole : (Rose faults faults' → ⊥) → told' ≡ gained told text

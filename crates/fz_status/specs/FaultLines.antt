@@ -1,0 +1,176 @@
+-- The lines of faults of contents.
+use Rattle.std.specs.Prelude.{ℕ, List, [], ◌++◌, codes, decimal, Option, Some, None}
+use Rattle.box_tree.specs.declared.cert.CertFault.{CertFault}
+use Rattle.box_tree.specs.declared.cert.CertFault.TheVariants as cert
+use Rattle.cert_check.specs.declared.checker.CheckFault.{CheckFault}
+use Rattle.cert_check.specs.declared.checker.CheckFault.TheVariants as check
+use Rattle.cpu12_asm.specs.declared.items.AsmFault.{AsmFault}
+use Rattle.cpu12_asm.specs.declared.items.AsmFault.TheVariants as asm
+use Rattle.error_bound.specs.declared.boxes.LeafFault.{LeafFault}
+use Rattle.error_bound.specs.declared.boxes.LeafFault.TheVariants as leaf
+use Rattle.fcl_syntax.specs.declared.text.SyntaxFault.{SyntaxFault}
+use Rattle.fcl_syntax.specs.declared.text.SyntaxFault.TheVariants as syntax
+use Rattle.fcl_check.specs.declared.fault.LoadFault.{LoadFault}
+use Rattle.fcl_check.specs.declared.fault.LoadFault.TheVariants as load
+use Rattle.fz_shelf.specs.Parts.{address_digits, byte_digits}
+use Rattle.interrupt_plan.specs.declared.PlanFault.{PlanFault}
+use Rattle.interrupt_plan.specs.declared.PlanFault.TheVariants as plan
+use Rattle.rule_layout.specs.declared.flat.LayoutFault.{LayoutFault}
+use Rattle.rule_layout.specs.declared.flat.LayoutFault.TheVariants as layout
+use Rattle.srecord.specs.declared.fault.SrecFault.{SrecFault}
+use Rattle.srecord.specs.declared.fault.SrecFault.TheVariants as srec
+use Rattle.trace_io.specs.declared.sample.TraceFault.{TraceFault}
+use Rattle.trace_io.specs.declared.sample.TraceFault.TheVariants as trace
+use Rattle.fz_status.specs.Words.{Text}
+use Rattle.fz_status.specs.declared.status.CertRefusal.{CertRefusal}
+use Rattle.fz_status.specs.declared.status.CertRefusal.TheVariants as refusal
+use Rattle.fz_status.specs.declared.status.FclFault.{FclFault}
+use Rattle.fz_status.specs.declared.status.FclFault.TheVariants as fcl
+use Rattle.fz_status.specs.declared.status.ImageFault.{ImageFault}
+use Rattle.fz_status.specs.declared.status.ImageFault.TheVariants as image
+
+abbrev pub newline : List ℕ
+newline = codes "\n"
+
+-- a line with a name or with numbers in it
+abbrev pub with_name : Text → Text → List ℕ
+with_name label name = label ++ (name ++ newline)
+
+abbrev pub with_number : Text → ℕ → Text → List ℕ
+with_number label n rest = label ++ (decimal n ++ (rest ++ newline))
+
+abbrev pub with_two : Text → ℕ → Text → ℕ → Text → List ℕ
+with_two label n middle m rest = label ++ (decimal n ++ (middle ++ (decimal m ++ (rest ++ newline))))
+
+abbrev pub want_of_memory : List ℕ
+want_of_memory = codes "memory" ++ newline
+
+abbrev pub syntax_line : SyntaxFault → List ℕ
+syntax_line (syntax.BadByte at) = with_number (codes "fcl: at ") at (codes ": bad byte")
+syntax_line (syntax.OpenComment at) = with_number (codes "fcl: at ") at (codes ": open comment")
+syntax_line (syntax.Number at f) = with_number (codes "fcl: at ") at (codes ": number")
+syntax_line (syntax.Expected at) = with_number (codes "fcl: at ") at (codes ": expected")
+syntax_line (syntax.Unsupported at code) = with_two (codes "fcl: at ") at (codes ": unsupported ") code []
+syntax_line (syntax.Deep at) = with_number (codes "fcl: at ") at (codes ": too deep")
+syntax_line syntax.Memory = want_of_memory
+
+abbrev pub load_kind : ℕ → ℕ → List ℕ
+load_kind at kind = with_two (codes "fcl: at ") at (codes ": load ") kind []
+
+abbrev pub load_line : LoadFault → List ℕ
+load_line (load.Twice at) = load_kind at 1
+load_line (load.Unknown at) = load_kind at 2
+load_line (load.NoTerms at) = load_kind at 3
+load_line (load.TooMany at) = load_kind at 4
+load_line (load.PointsNotAscending at) = load_kind at 5
+load_line (load.TermShape at) = load_kind at 6
+load_line (load.TermOutside at) = load_kind at 7
+load_line (load.BadRange at) = load_kind at 8
+load_line (load.SingletonOutside at) = load_kind at 9
+load_line (load.WeightOutside at) = load_kind at 10
+load_line (load.WrongSide at) = load_kind at 11
+load_line (load.MissingPart at) = load_kind at 12
+load_line load.Memory = want_of_memory
+
+abbrev pub layout_line : LayoutFault → List ℕ
+layout_line (layout.TooManyRules rule) = with_number (codes "fcl: too many rules at rule ") rule []
+layout_line (layout.ListTooLong n) = with_number (codes "fcl: list too long ") n []
+layout_line layout.Memory = want_of_memory
+
+abbrev pub fcl_line : FclFault → List ℕ
+fcl_line (fcl.Syntax f) = syntax_line f
+fcl_line (fcl.Load f) = load_line f
+fcl_line (fcl.Layout f) = layout_line f
+
+abbrev pub trace_line : TraceFault → List ℕ
+trace_line trace.TooMany = codes "trace: too many rows" ++ newline
+trace_line (trace.BadRow row) = with_number (codes "trace: row ") row (codes ": bad row")
+trace_line (trace.OutOfRange row input) =
+    with_two (codes "trace: row ") row (codes ": input ") input (codes " out of range")
+trace_line trace.Memory = want_of_memory
+
+abbrev pub asm_line : AsmFault → List ℕ
+asm_line (asm.BadLine n) = with_number (codes "asm: line ") n (codes ": bad line")
+asm_line (asm.UnknownName n) = with_number (codes "asm: line ") n (codes ": unknown name")
+asm_line (asm.Twice n) = with_number (codes "asm: line ") n (codes ": twice")
+asm_line (asm.BranchFar n) = with_number (codes "asm: line ") n (codes ": branch far")
+asm_line (asm.Range n) = with_number (codes "asm: line ") n (codes ": range")
+asm_line (asm.Overlap n) = with_number (codes "asm: line ") n (codes ": overlap")
+asm_line asm.Memory = want_of_memory
+
+-- ---- images
+
+abbrev pub records_line : SrecFault → List ℕ
+records_line (srec.BadLine n) = with_number (codes "image: line ") n (codes ": bad line")
+records_line (srec.BadSum n got wanted) =
+    codes "image: line " ++ (decimal n ++ (codes ": bad sum "
+    ++ (byte_digits got ++ (codes " " ++ (byte_digits wanted ++ newline)))))
+records_line (srec.Wide n) = with_number (codes "image: line ") n (codes ": wide")
+records_line (srec.Overlap n) = with_number (codes "image: line ") n (codes ": overlap")
+records_line (srec.CountDiffers got wanted) = with_two (codes "image: count ") got (codes " ") wanted []
+records_line srec.NoEnd = codes "image: no end" ++ newline
+records_line (srec.AfterEnd n) = with_number (codes "image: line ") n (codes ": after end")
+records_line srec.Memory = want_of_memory
+
+-- a byte, or that there is none
+abbrev pub byte_or_none : Option ℕ → List ℕ
+byte_or_none (Some byte) = byte_digits byte
+byte_or_none None = codes "none"
+
+abbrev pub image_line : ImageFault → List ℕ
+image_line (image.Records f) = records_line f
+image_line (image.Byte at got wanted) =
+    codes "image: " ++ (address_digits at ++ (codes ": " ++ (byte_or_none got
+    ++ (codes ", compile gives " ++ (byte_or_none wanted ++ newline)))))
+image_line (image.Start got wanted) =
+    codes "image: start " ++ (address_digits got ++ (codes ", compile gives " ++ (address_digits wanted ++ newline)))
+
+-- ---- certificates
+
+abbrev pub text_line : CertFault → List ℕ
+text_line (cert.BadLine n) = with_number (codes "cert: line ") n (codes ": bad line")
+text_line cert.Early = codes "cert: early" ++ newline
+text_line (cert.Late n) = with_number (codes "cert: line ") n (codes ": late")
+text_line (cert.TooManyLeaves n) = with_number (codes "cert: line ") n (codes ": too many leaves")
+text_line cert.Memory = want_of_memory
+
+-- the line of a leaf that does not hold
+abbrev pub leaf_line : ℕ → LeafFault → List ℕ
+leaf_line n (leaf.Weak rule k low) =
+    codes "cert: line " ++ (decimal n ++ (codes ": weak rule " ++ (decimal rule
+    ++ (codes " k " ++ (decimal k ++ (codes " low " ++ (decimal low.0 ++ newline)))))))
+leaf_line n (leaf.Still rule) = with_two (codes "cert: line ") n (codes ": still rule ") rule []
+leaf_line n (leaf.Silent rule high) =
+    codes "cert: line " ++ (decimal n ++ (codes ": silent rule " ++ (decimal rule
+    ++ (codes " high " ++ (decimal high.0 ++ newline)))))
+leaf_line n (leaf.Loud rule byte) =
+    codes "cert: line " ++ (decimal n ++ (codes ": loud rule " ++ (decimal rule
+    ++ (codes " byte " ++ (decimal byte ++ newline)))))
+
+abbrev pub check_line : CheckFault → List ℕ
+check_line (check.Outputs got wanted) = with_two (codes "cert: outputs ") got (codes " ") wanted []
+check_line (check.BadCut n) = with_number (codes "cert: line ") n (codes ": bad cut")
+check_line (check.BadRule n) = with_number (codes "cert: line ") n (codes ": bad rule")
+check_line (check.Leaf n f) = leaf_line n f
+check_line (check.Claimed output claimed computed) =
+    codes "cert: output " ++ (decimal output ++ (codes " claims " ++ (decimal claimed
+    ++ (codes ", computed " ++ (decimal computed ++ newline)))))
+check_line check.Memory = want_of_memory
+
+abbrev pub cert_line : CertRefusal → List ℕ
+cert_line (refusal.Text f) = text_line f
+cert_line (refusal.Check f) = check_line f
+
+-- ---- plans and runs
+
+abbrev pub plan_line : PlanFault → List ℕ
+plan_line plan.TooMany = codes "plan: too many rows" ++ newline
+plan_line (plan.BadRow row) = with_number (codes "plan: row ") row (codes ": bad row")
+plan_line (plan.NotFree row address) =
+    codes "plan: row " ++ (decimal row ++ (codes ": not free " ++ (address_digits address ++ newline)))
+plan_line (plan.NotAscending row) = with_number (codes "plan: row ") row (codes ": not ascending")
+plan_line plan.Memory = want_of_memory
+
+-- the byte at an address is no instruction
+abbrev pub trap_line : ℕ → ℕ → List ℕ
+trap_line pc byte = codes "trap: " ++ (address_digits pc ++ (codes " " ++ (byte_digits byte ++ newline)))

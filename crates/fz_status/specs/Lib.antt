@@ -1,0 +1,5 @@
+pub mod Codes
+pub mod Errors
+pub mod FaultLines
+pub mod Refusals
+pub mod Words

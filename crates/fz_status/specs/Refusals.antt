@@ -1,0 +1,42 @@
+-- Why contents are refused.
+use Rattle.std.specs.Prelude.{◌≢◌}
+use Rattle.box_tree.specs.declared.cert.CertFault.TheVariants as cert
+use Rattle.cert_check.specs.declared.checker.CheckFault.TheVariants as check
+use Rattle.cpu12_asm.specs.declared.items.AsmFault.TheVariants as asm
+use Rattle.fcl_syntax.specs.declared.text.SyntaxFault.TheVariants as syntax
+use Rattle.fcl_check.specs.declared.fault.LoadFault.TheVariants as load
+use Rattle.interrupt_plan.specs.declared.PlanFault.TheVariants as plan
+use Rattle.rule_layout.specs.declared.flat.LayoutFault.TheVariants as layout
+use Rattle.srecord.specs.declared.fault.SrecFault.TheVariants as srec
+use Rattle.trace_io.specs.declared.sample.TraceFault.TheVariants as trace
+use Rattle.fz_status.specs.declared.status.CertRefusal.TheVariants as refusal
+use Rattle.fz_status.specs.declared.status.FclFault.TheVariants as fcl
+use Rattle.fz_status.specs.declared.status.ImageFault.TheVariants as image
+use Rattle.fz_status.specs.declared.status.Status.{Status}
+use Rattle.fz_status.specs.declared.status.Status.TheVariants as status
+
+-- the fault that the status carries, if there is one, is not the fault's own want of memory
+abbrev pub CarriesNoMemory : Status → Type 0
+CarriesNoMemory (status.Fcl (fcl.Syntax f)) = f ≢ syntax.Memory
+CarriesNoMemory (status.Fcl (fcl.Load f)) = f ≢ load.Memory
+CarriesNoMemory (status.Fcl (fcl.Layout f)) = f ≢ layout.Memory
+CarriesNoMemory (status.Image (image.Records f)) = f ≢ srec.Memory
+CarriesNoMemory (status.Cert (refusal.Text f)) = f ≢ cert.Memory
+CarriesNoMemory (status.Cert (refusal.Check f)) = f ≢ check.Memory
+CarriesNoMemory (status.Trace f) = f ≢ trace.Memory
+CarriesNoMemory (status.Plan f) = f ≢ plan.Memory
+CarriesNoMemory (status.Asm f) = f ≢ asm.Memory
+CarriesNoMemory _ = Unit {0}
+
+-- for each status, where it refuses contents
+abbrev pub Refusals : Type 1
+Refusals = Status → Type 0
+
+-- the status tells one of these refusals, and never for want of memory
+abbrev pub Refuses : Refusals → Status → Type 0
+Refuses why s = CarriesNoMemory s × why s
+
+-- the same, or want of memory
+abbrev pub IsRefusal : Refusals → Status → Type 0
+IsRefusal why status.Memory = Unit {0}
+IsRefusal why s = Refuses why s

@@ -1,0 +1,93 @@
+//! The one line on err, put in parts that take no memory.
+ghost use Rattle.std.specs.Prelude.{◌≡◌, ◌++◌, length};
+ghost use Rattle.fz_shelf.specs.Told.{gained, HasRoom};
+ghost use Rattle.fz_status.specs.Words.{texts_of};
+ghost use Rattle.fz_status.specs.Errors.{Puts, Complains, error_line_of};
+ghost use Rattle.fz_status.specs.FaultLines.{with_name};
+
+use crate::Status;
+use crate::fault_lines::{
+    put, put_asm, put_cert, put_fcl, put_image, put_number, put_plan, put_text, put_trace,
+};
+use crate::words::word;
+use fz_shelf::{Failed, Part, Sink};
+
+/// A name behind a text, and the end of the line.
+fn put_name<'a, F: Sink>(err: &mut F, label: &'a [u8], name: &'a str) -> Result<(), Failed>
+    ensures { Puts (with_name label.now name.now) (F.told err.old) (F.told err.new)
+        (F.faults err.old) (F.faults err.new) (F.sound err.old) (F.sound err.new) result }
+{
+    put(
+        err,
+        &[
+            Part::Text(label),
+            Part::Text(name.as_bytes()),
+            Part::Text(b"\n"),
+        ],
+    )
+}
+
+fn put_line<F: Sink>(err: &mut F, words: &[String], status: &Status) -> Result<(), Failed>
+    ensures { Puts (error_line_of (texts_of words.now) status.now) (F.told err.old) (F.told err.new)
+        (F.faults err.old) (F.faults err.new) (F.sound err.old) (F.sound err.new) result }
+{
+    match status {
+        Status::Ok => put(err, &[]),
+        Status::Usage => put_text(
+            err,
+            b"usage: fuzz12 compile, certify, check, run, asm, exec or gen",
+        ),
+        Status::ReadFault(place) => put_name(err, b"read fault: ", word(words, *place)),
+        Status::WriteFault => put_text(err, b"write fault"),
+        Status::Fcl(fault) => put_fcl(err, fault),
+        Status::Image(fault) => put_image(err, fault),
+        Status::Cert(fault) => put_cert(err, fault),
+        Status::Trace(fault) => put_trace(err, fault),
+        Status::Plan(fault) => put_plan(err, fault),
+        Status::Memory => put_text(err, b"memory"),
+        Status::TooLong(place) => put_name(err, b"too long: ", word(words, *place)),
+        Status::Asm(fault) => put_asm(err, fault),
+        Status::Trap(pc, byte) => put(
+            err,
+            &[
+                Part::Text(b"trap: "),
+                Part::Address(*pc),
+                Part::Text(b" "),
+                Part::Byte(*byte),
+                Part::Text(b"\n"),
+            ],
+        ),
+        Status::Budget(steps) => put_number(err, b"budget: ", *steps, b""),
+    }
+}
+
+/// Puts the line of a status, which is none for `Ok`. It takes no memory. Where a put fails a
+/// beginning of the line is there.
+pub fn report<F: Sink>(err: &mut F, words: &[String], status: &Status)
+    ensures quiet { status.now ≡ Status.Ok
+        → (F.told err.new ≡ F.told err.old) × (F.faults err.new ≡ F.faults err.old) }
+    ensures line { (status.now ≡ Status.Ok → ⊥)
+        → Complains (error_line_of (texts_of words.now) status.now) (F.told err.old) (F.told err.new)
+        (F.faults err.old) (F.faults err.new) }
+    ensures sound { F.sound err.old → F.sound err.new }
+    ensures steady { F.sound err.old
+        → HasRoom (F.told err.old) (length (error_line_of (texts_of words.now) status.now))
+        → F.told err.new ≡ gained (F.told err.old) (error_line_of (texts_of words.now) status.now) }
+{
+    if let Status::Ok = status {
+        return;
+    }
+    complain(err, words, status);
+}
+
+/// Puts the line of a status.
+fn complain<F: Sink>(err: &mut F, words: &[String], status: &Status)
+    ensures line { Complains (error_line_of (texts_of words.now) status.now) (F.told err.old) (F.told err.new)
+        (F.faults err.old) (F.faults err.new) }
+    ensures sound { F.sound err.old → F.sound err.new }
+    ensures steady { F.sound err.old
+        → HasRoom (F.told err.old) (length (error_line_of (texts_of words.now) status.now))
+        → F.told err.new ≡ gained (F.told err.old) (error_line_of (texts_of words.now) status.now) }
+{
+    let _ = put_line(err, words, status);
+}

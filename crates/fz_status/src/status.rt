@@ -1,0 +1,102 @@
+//! How a call of the program ends.
+ghost use Rattle.std.specs.Prelude.{◌≡◌};
+
+use box_tree::CertFault;
+use cert_check::CheckFault;
+use cpu12_asm::AsmFault;
+use fcl_check::LoadFault;
+use fcl_syntax::SyntaxFault;
+use interrupt_plan::PlanFault;
+use rule_layout::LayoutFault;
+use srecord::SrecFault;
+use trace_io::TraceFault;
+
+/// How a call of the program ends. A word is told by its index, the program's name being 0.
+#[derive(Debug, Drop)]
+pub enum Status {
+    /// All input was read and accepted, and all lines were put.
+    Ok,
+    /// The words are of no command.
+    Usage,
+    /// The file of that word could not be read.
+    ReadFault(u32),
+    /// A line could not be put, or a file not be written.
+    WriteFault,
+    /// The text spells no block that can be laid out.
+    Fcl(FclFault),
+    /// The text is no image, or not the image of the block's firmware.
+    Image(ImageFault),
+    /// The text is no certificate that the block accepts.
+    Cert(CertRefusal),
+    /// The text is no trace of the block.
+    Trace(TraceFault),
+    /// The text is no plan.
+    Plan(PlanFault),
+    /// Memory was wanted and not found.
+    Memory,
+    /// The file of that word has more than 1048576 bytes.
+    TooLong(u32),
+    /// The text is no source of an image.
+    Asm(AsmFault),
+    /// The byte at an address is no instruction.
+    Trap(u16, u8),
+    /// So many steps were taken without arriving.
+    Budget(u32),
+}
+
+/// Why a text gives no firmware. It never carries want of memory.
+#[derive(Debug, Drop)]
+pub enum FclFault {
+    /// The text is not of the grammar, or uses a part that is left out.
+    Syntax(SyntaxFault),
+    /// The text breaks a rule on its names, terms or ranges.
+    Load(LoadFault),
+    /// The rules do not fit the image.
+    Layout(LayoutFault),
+}
+
+/// Why an image is refused. It never carries want of memory.
+#[derive(Debug, Drop)]
+pub enum ImageFault {
+    /// The text has no image.
+    Records(SrecFault),
+    /// At an address the image has the first byte, or none, where the firmware has the second, or none.
+    Byte(u16, Option<u8>, Option<u8>),
+    /// The image has the first start where the firmware has the second.
+    Start(u16, u16),
+}
+
+/// Why a certificate is refused. It never carries want of memory.
+#[derive(Debug, Drop)]
+pub enum CertRefusal {
+    /// The text has no certificate.
+    Text(CertFault),
+    /// The certificate is not accepted.
+    Check(CheckFault),
+}
+
+impl Status {
+    ghost use Rattle.fz_status.specs.Codes.{code_of};
+
+    /// The number that the program ends with.
+    pub fn code(&self) -> u8
+        ensures { result ≡ code_of self.now }
+    {
+        match self {
+            Status::Ok => 0,
+            Status::Usage => 1,
+            Status::ReadFault(_) => 2,
+            Status::WriteFault => 3,
+            Status::Fcl(_) => 4,
+            Status::Image(_) => 5,
+            Status::Cert(_) => 6,
+            Status::Trace(_) => 7,
+            Status::Plan(_) => 7,
+            Status::Memory => 9,
+            Status::TooLong(_) => 10,
+            Status::Asm(_) => 11,
+            Status::Trap(_, _) => 12,
+            Status::Budget(_) => 13,
+        }
+    }
+}

@@ -1,4 +1,0 @@
-use Rattle.fz_top.proofs.errors.put_line.Goals as goal
-
-pub returns-in-ReadFault : goal.returns-in-ReadFault
-returns-in-ReadFault g c = rw (c.in-ReadFault.is, ← c.word.ensures) c.put_name.ensures

@@ -1,5 +1,0 @@
-use Rattle.fz_top.proofs.fault_lines.put_check.Goals as goal
-
-pub returns-in-Claimed : goal.returns-in-Claimed
-returns-in-Claimed g c =
-    rw (c.in-Claimed.is, ← c.from.ensures, ← c.from-in-Claimed.ensures, ← c.from-in-Claimed-2.ensures) c.put.ensures

@@ -1,4 +1,0 @@
-use Rattle.fz_top.proofs.fault_lines.put_image.Goals as goal
-
-pub returns-in-Start : goal.returns-in-Start
-returns-in-Start g c = rw c.in-Start.is c.put-in-Start.ensures
