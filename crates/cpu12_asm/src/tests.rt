@@ -17,13 +17,8 @@ static EACH_FORM_BYTES: [u8; 124] = [
     0x34, 0x56, 0x78, 0x9A, 0x01, 0x18, 0x3A, 0x18, 0x3B, 0x18, 0x3C, 0x3C,
 ];
 
-/// LDAA #$05, COMA, and a branch to itself, with the reset vector.
-static SMALL: &'static str =
-    " ORG $C000\n LDAA #$05\n COMA\nDONE BRA DONE\n ORG $FFFE\n FDB $C000\n";
-
-static FAULTS: [(&'static str, AsmFault); 9] = [
+static FAULTS: [(&'static str, AsmFault); 8] = [
     (" LDAA #1 ,2\n", AsmFault::BadLine(1)),
-    ("A NOP\na NOP\n", AsmFault::Twice(2)),
     (" ORG B\nB NOP\n", AsmFault::UnknownName(1)),
     (" LDAA C\nA NOP\nA NOP\n", AsmFault::Twice(3)),
     (" LDAA #256\n", AsmFault::Range(1)),
@@ -44,19 +39,6 @@ fn assembles_each_form(rt: HostRuntime) -> Result<(), Fail> {
         assert_eq!(rt; image.bytes.get(at), Some(*byte));
         at = at.wrapping_add(1);
     }
-    Ok(())
-}
-
-#[test]
-fn assembles_small_source(rt: HostRuntime) -> Result<(), Fail> {
-    let source = SMALL.as_bytes();
-    assert!(rt; source.len() < 2000);
-    let image = assemble(rt.alloc(), source)?;
-    assert_eq!(rt; (image.start, image.bytes.len()), (0xC000, 7));
-    assert_eq!(rt;
-        (image.bytes.get(0xC003), image.bytes.get(0xC004)),
-        (Some(0x20), Some(0xFE))
-    );
     Ok(())
 }
 

@@ -28,19 +28,19 @@ use Rattle.error_bound.proofs.Limits.{degree_proper, rise_all}
 use Rattle.error_bound.proofs.CellErrors.{low_proper, high_proper}
 use Rattle.error_bound.proofs.ConditionLemmas.{IsWithinSpans, within_none}
 
--- a cell of the interval's bytes lies over the interval
-in_place : (w p q v : ℕ) (x : Fraction) → 0 < w → IsProper x → p ≤ v → v ≤ q → IsFromTo (cell_start w v) (cell_end w v) (v == 255) x → IsFromTo (cell_start w p) (cell_end w q) (q == 255) x
-in_place w p q v x hw px h1 h2 (inside a b) =
-    let m1 : p * (w * x.den) ≤ v * (w * x.den) = mul-le-mul_right (w * x.den) h1 in
-    let m2 : v * (w * x.den) ≤ q * (w * x.den) = mul-le-mul_right (w * x.den) h2 in
+-- a place of an interval lies in each that has its bytes
+pub wider : (w p q p' q' : ℕ) (x : Fraction) → 0 < w → IsProper x → p ≤ p' → q' ≤ q → IsFromTo (cell_start w p') (cell_end w q') (q' == 255) x → IsFromTo (cell_start w p) (cell_end w q) (q == 255) x
+wider w p q p' q' x hw px h1 h2 (inside a b) =
+    let m1 : p * (w * x.den) ≤ p' * (w * x.den) = mul-le-mul_right (w * x.den) h1 in
+    let m2 : q' * (w * x.den) ≤ q * (w * x.den) = mul-le-mul_right (w * x.den) h2 in
     inside (record { cross = (let c = a.cross in omega arith) }) (record { cross = (let c = b.cross in omega arith) })
-in_place w p q v x hw px h1 h2 (at_end a b t) =
-    let e : v ≡ 255 = grind (arith, nat_tests) in
-    let m1 : p * (w * x.den) ≤ v * (w * x.den) = mul-le-mul_right (w * x.den) h1 in
-    let m2 : v * (w * x.den) ≤ q * (w * x.den) = mul-le-mul_right (w * x.den) h2 in
+wider w p q p' q' x hw px h1 h2 (at_end a b t) =
+    let e : q' ≡ 255 = grind (arith, nat_tests) in
+    let m1 : p * (w * x.den) ≤ p' * (w * x.den) = mul-le-mul_right (w * x.den) h1 in
+    let m2 : q' * (w * x.den) ≤ q * (w * x.den) = mul-le-mul_right (w * x.den) h2 in
     ⊎_elim
     (λ (l : 255 < q).
-    let m3 : suc v * (w * x.den) ≤ q * (w * x.den) = mul-le-mul_right (w * x.den) (omega arith) in
+    let m3 : suc q' * (w * x.den) ≤ q * (w * x.den) = mul-le-mul_right (w * x.den) (omega arith) in
     let some : 0 < w * x.den = mul-pos hw px.pos in
     inside (record { cross = (let c = a.cross in omega arith) }) (record { cross = (let c = b.cross in omega arith) }))
     (λ (l : q ≤ 255).
@@ -49,7 +49,7 @@ in_place w p q v x hw px h1 h2 (at_end a b t) =
     (cases_lt 255 q)
 
 pub in_interval : (w p q v : ℕ) (x : Fraction) → 0 < w → p ≤ v → v ≤ q → IsInCell w v x → IsFromTo (cell_start w p) (cell_end w q) (q == 255) x
-in_interval w p q v x hw h1 h2 c = in_place w p q v x hw c.proper h1 h2 c.place
+in_interval w p q v x hw h1 h2 c = wider w p q v v x hw c.proper h1 h2 c.place
 
 -- a number among n + 1
 pub least_le : (g : ℕ → ℕ) (p n v : ℕ) → p ≤ v → v ≤ p + n → least_from g p n ≤ g v

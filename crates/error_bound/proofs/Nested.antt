@@ -27,7 +27,7 @@ use Rattle.error_bound.specs.Leaves.{Holds, strong, silent}
 use Rattle.error_bound.specs.Laws.{IsInside, LeavesHoldInside}
 use Rattle.error_bound.proofs.LawLemmas.{cells_bounded}
 use Rattle.error_bound.proofs.CellErrors.{low_proper, high_proper}
-use Rattle.error_bound.proofs.Literals.{width_pos, least_le, le_greatest}
+use Rattle.error_bound.proofs.Literals.{wider, width_pos, least_le, le_greatest}
 use Rattle.error_bound.proofs.SilentLeaves.{none_below}
 
 -- the first span lies within the second
@@ -39,25 +39,6 @@ pub record IsNarrower (s r : Span) : Type 0 where
 pub record IsNarrowerByte (s r : ByteSpan) : Type 0 where
   pub low : r.low ≤ s.low
   pub high : s.high ≤ r.high
-
-wider : (w p q p' q' : ℕ) (x : Fraction) → 0 < w → IsProper x → p ≤ p' → q' ≤ q → IsFromTo (cell_start w p') (cell_end w q') (q' == 255) x → IsFromTo (cell_start w p) (cell_end w q) (q == 255) x
-wider w p q p' q' x hw px h1 h2 (inside a b) =
-    let m1 : p * (w * x.den) ≤ p' * (w * x.den) = mul-le-mul_right (w * x.den) h1 in
-    let m2 : q' * (w * x.den) ≤ q * (w * x.den) = mul-le-mul_right (w * x.den) h2 in
-    inside (record { cross = (let c = a.cross in omega arith) }) (record { cross = (let c = b.cross in omega arith) })
-wider w p q p' q' x hw px h1 h2 (at_end a b t) =
-    let e : q' ≡ 255 = grind (arith, nat_tests) in
-    let m1 : p * (w * x.den) ≤ p' * (w * x.den) = mul-le-mul_right (w * x.den) h1 in
-    let m2 : q' * (w * x.den) ≤ q * (w * x.den) = mul-le-mul_right (w * x.den) h2 in
-    ⊎_elim
-    (λ (l : 255 < q).
-    let m3 : suc q' * (w * x.den) ≤ q * (w * x.den) = mul-le-mul_right (w * x.den) (omega arith) in
-    let some : 0 < w * x.den = mul-pos hw px.pos in
-    inside (record { cross = (let c = a.cross in omega arith) }) (record { cross = (let c = b.cross in omega arith) }))
-    (λ (l : q ≤ 255).
-    let eq : q ≡ 255 = omega arith in
-    at_end (record { cross = (let c = a.cross in omega arith) }) (record { cross = (let c = b.cross in omega arith) }) (grind (arith, nat_tests)))
-    (cases_lt 255 q)
 
 -- the least of some is at least what is at most each
 le_least : (g : ℕ → ℕ) (p n m : ℕ) → ((v : ℕ) → p ≤ v → v ≤ p + n → m ≤ g v) → m ≤ least_from g p n

@@ -2,5 +2,6 @@ pub mod FoundItems
 pub mod FoundConditions
 pub mod FoundInputs
 pub mod FoundOutputs
+pub mod FoundVariables
 pub mod FoundBlocks
 pub mod JudgedTexts

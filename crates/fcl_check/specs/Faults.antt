@@ -116,7 +116,7 @@ is_over before d = nat_le (most_of d.0) (length (filter (λ (e : Declared). is_d
 
 abbrev pub weight_outside : Rule → List ℕ
 weight_outside r =
-    at_some (λ (w : Weight). at_if (int_lt (value w.num) (pos 0) || int_lt (pos 10000) (value w.num)) w.at) r.weight
+    at_some (λ (w : Weight). at_if (int_lt (value w.value) (pos 0) || int_lt (pos 10000) (value w.value)) w.at) r.weight
 
 module _ (text : List ℕ) (b : FunctionBlock) where
   abbrev pub same_name : Name → Name → Bool

@@ -1,5 +1,5 @@
 -- The block that a tree without faults spells.
-use Rattle.std.specs.Prelude.{◌≡◌, ℕ, cond, List, map, Option, Some, None, option_map, ℤ, pos, ◌+ℤ◌}
+use Rattle.std.specs.Prelude.{◌≡◌, ℕ, cond, List, map, Option, Some, None, option_and_then, option_map, ℤ, pos, ◌+ℤ◌}
 use Rattle.std.specs.Ordering.{int_eq}
 use Rattle.std.specs.List.{AllZip, filter, take_while}
 use Rattle.fz_num.specs.declared.dec.Dec.{Dec}
@@ -19,6 +19,7 @@ use Rattle.fcl_syntax.specs.declared.tree.Fallback.{Fallback}
 use Rattle.fcl_syntax.specs.declared.tree.FunctionBlock.{FunctionBlock}
 use Rattle.fcl_syntax.specs.declared.tree.Fuzzify.{Fuzzify}
 use Rattle.fcl_syntax.specs.declared.tree.Name.{Name}
+use Rattle.fcl_syntax.specs.declared.tree.Part.{Part}
 use Rattle.fcl_syntax.specs.declared.tree.Point.{Point}
 use Rattle.fcl_syntax.specs.declared.tree.Range.{Range}
 use Rattle.fcl_syntax.specs.declared.tree.Rule.{Rule as RuleNode}
@@ -26,7 +27,7 @@ use Rattle.fcl_syntax.specs.declared.tree.Singleton.{Singleton}
 use Rattle.fcl_syntax.specs.declared.tree.Term.{Term}
 use Rattle.fcl_syntax.specs.declared.tree.Weight.{Weight}
 use Rattle.fcl_check.specs.Faults.{conclusions_of}
-use Rattle.fcl_check.specs.Names.{terms_of, singletons_of, declared_as, fuzzify_of, defuzzify_of, variable_number, term_number, letters}
+use Rattle.fcl_check.specs.Names.{as_defuzzify, as_fuzzify, terms_of, singletons_of, declared_as, section_of, variable_number, term_number, letters}
 use Rattle.fcl_check.specs.Places.{first, last, drop_while}
 use Rattle.fcl_check.specs.Sections.{Ends, value, ends_of, hull_of, points_of, x_of, has_one, has_zero, fuzzy_range, defuzzy_range, abscissas, output_numbers, default_of, fallback_number}
 
@@ -78,6 +79,14 @@ pub record IsOutputOf (s : Defuzzify) (y : Output) : Type 0 where
   pub range : Some (y.lo.0, y.hi.0) ≡ output_range s
   pub singletons : map (λ (d : Dec). d.0) y.singletons ≡ map (λ (t : Singleton). value t.value) (singletons_of s)
   pub default : Some (number_of y.default) ≡ option_map default_number (default_of s)
+
+-- ---- both
+
+-- what the section of a name makes, which is of one sort
+abbrev pub IsVariableNamed : {S X : Type 0} → (Part → Option S) → (S → X → Type 0) → List ℕ → FunctionBlock → Name
+    → X → Type 0
+IsVariableNamed {S} as_section IsOf text b n x =
+    (s : S) × (option_and_then as_section (section_of text b (letters text n)) ≡ Some s) × IsOf s x
 
 -- ---- rules
 
@@ -136,16 +145,16 @@ module _ (text : List ℕ) (b : FunctionBlock) where
 
   pub record IsRuleOf (r : RuleNode) (q : Rule) : Type 0 where
     pub condition : condition_of q.cond ≡ or_condition literal_of (view_or r.condition)
-    pub weight : number_of q.weight ≡ option_map (λ (w : Weight). value w.num) r.weight
+    pub weight : number_of q.weight ≡ option_map (λ (w : Weight). value w.value) r.weight
     pub conclusions : q.concl ≡ map conclusion_of (conclusions_of r)
 
   -- ---- the block
 
   abbrev pub IsInputNamed : Name → Input → Type 0
-  IsInputNamed n x = (s : Fuzzify) × (fuzzify_of text b (letters text n) ≡ Some s) × IsInputOf s x
+  IsInputNamed = IsVariableNamed as_fuzzify IsInputOf text b
 
   abbrev pub IsOutputNamed : Name → Output → Type 0
-  IsOutputNamed n y = (s : Defuzzify) × (defuzzify_of text b (letters text n) ≡ Some s) × IsOutputOf s y
+  IsOutputNamed = IsVariableNamed as_defuzzify IsOutputOf text b
 
   -- inputs and outputs in the order of their declaration, each by its section, and the rules in their order
   pub record IsBlockOf (block : Block) : Type 0 where

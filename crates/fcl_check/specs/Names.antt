@@ -4,7 +4,7 @@ use Rattle.std.specs.Prelude.{if◌then◌else◌, ℕ, suc, Bool, true, false, 
 use Rattle.std.specs.List.{filter_map, find, flat_map, position, take_while}
 use Rattle.std.specs.Str.{bytes_eq}
 use Rattle.fcl_syntax.specs.Tokens.{is_name_byte}
-use Rattle.fcl_syntax.specs.declared.tree.Decl.{Decl}
+use Rattle.fcl_syntax.specs.declared.tree.Declaration.{Declaration}
 use Rattle.fcl_syntax.specs.declared.tree.Defuzzify.{Defuzzify}
 use Rattle.fcl_syntax.specs.declared.tree.DefuzzyLine.{DefuzzyLine}
 use Rattle.fcl_syntax.specs.declared.tree.DefuzzyLine.TheVariants as defuzzy
@@ -19,7 +19,7 @@ use Rattle.fcl_syntax.specs.declared.tree.Part.{Part}
 use Rattle.fcl_syntax.specs.declared.tree.Part.TheVariants as part
 use Rattle.fcl_syntax.specs.declared.tree.Singleton.{Singleton}
 use Rattle.fcl_syntax.specs.declared.tree.Term.{Term}
-use Rattle.fcl_syntax.specs.declared.tree.Vars.{Vars}
+use Rattle.fcl_syntax.specs.declared.tree.Variables.{Variables}
 
 -- a declared variable
 abbrev pub Declared : Type 0
@@ -64,11 +64,12 @@ abbrev pub singleton_names : Defuzzify → List Name
 singleton_names s = map (λ (t : Singleton). t.name) (singletons_of s)
 
 -- the declared variables in the text's order
-abbrev pub declared_by : Vars → List Declared
-declared_by v = flat_map (λ (d : Decl). map (λ (n : Name). (v.direction, n)) (d.first ∷ d.more.items)) v.decls.items
+abbrev pub declared_by : Variables → List Declared
+declared_by v = flat_map
+    (λ (d : Declaration). map (λ (n : Name). (v.direction, n)) (d.first ∷ d.more.items)) v.declarations.items
 
 abbrev pub declared_in : FunctionBlock → List Declared
-declared_in b = flat_map declared_by b.vars.items
+declared_in b = flat_map declared_by b.variables.items
 
 abbrev pub declared_as : Direction → FunctionBlock → List Name
 declared_as direction b =

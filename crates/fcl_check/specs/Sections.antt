@@ -17,8 +17,8 @@ use Rattle.fcl_syntax.specs.declared.tree.Fuzzify.{Fuzzify}
 use Rattle.fcl_syntax.specs.declared.tree.FuzzyLine.{FuzzyLine}
 use Rattle.fcl_syntax.specs.declared.tree.FuzzyLine.TheVariants as fuzzy
 use Rattle.fcl_syntax.specs.declared.tree.Name.{Name}
-use Rattle.fcl_syntax.specs.declared.tree.Num.{Num}
-use Rattle.fcl_syntax.specs.declared.tree.Num.TheVariants as num
+use Rattle.fcl_syntax.specs.declared.tree.SignedNumber.{SignedNumber}
+use Rattle.fcl_syntax.specs.declared.tree.SignedNumber.TheVariants as signed
 use Rattle.fcl_syntax.specs.declared.tree.Part.{Part}
 use Rattle.fcl_syntax.specs.declared.tree.Part.TheVariants as part
 use Rattle.fcl_syntax.specs.declared.tree.Point.{Point}
@@ -40,10 +40,10 @@ magnitude (amount.Other d) = d.0
 abbrev pub to_scale : ℤ → ℤ
 to_scale z = int_min (int_max z (neg_ℤ (pos 1000000000))) (pos 1000000000)
 
-abbrev pub value : Num → ℤ
-value (num.Plus n) = to_scale (magnitude n.amount)
-value (num.Minus n) = to_scale (neg_ℤ (magnitude n.amount))
-value (num.Bare n) = to_scale (magnitude n.amount)
+abbrev pub value : SignedNumber → ℤ
+value (signed.Plus n) = to_scale (magnitude n.amount)
+value (signed.Minus n) = to_scale (neg_ℤ (magnitude n.amount))
+value (signed.Bare n) = to_scale (magnitude n.amount)
 
 -- whether a degree is 1 rather than 0
 abbrev pub is_one : Degree → Bool
@@ -106,14 +106,14 @@ defuzzy_range s = first (filter_map output_range_line s.lines.items)
 abbrev pub abscissas : Fuzzify → List ℤ
 abscissas s = map x_of (flat_map points_of (terms_of s))
 
-abbrev pub fallback_number : FallbackValue → Option Num
+abbrev pub fallback_number : FallbackValue → Option SignedNumber
 fallback_number (fallback.Number n) = Some n
 fallback_number (fallback.Nc at) = None
 
 -- the number of a singleton or of DEFAULT, and its place
 abbrev pub number_line : DefuzzyLine → Option (ℤ × ℕ)
 number_line (defuzzy.Singleton t) = Some (value t.value, t.at)
-number_line (defuzzy.Default d) = option_map (λ (n : Num). (value n, d.at)) (fallback_number d.value)
+number_line (defuzzy.Default d) = option_map (λ (n : SignedNumber). (value n, d.at)) (fallback_number d.value)
 number_line _ = None
 
 abbrev pub output_numbers : Defuzzify → List (ℤ × ℕ)

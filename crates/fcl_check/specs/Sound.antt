@@ -1,14 +1,37 @@
--- What the rules of a tree without load faults name.
-use Rattle.std.specs.Prelude.{◌≡◌, ℕ, true, List, [], Some}
+-- What the sections of a tree without load faults have, and what its rules name.
+use Rattle.std.specs.Prelude.{◌≡◌, ℕ, true, List, [], Option, Some, option_and_then}
 use Rattle.std.specs.List.{AllByRecursion}
 use Rattle.fcl_syntax.specs.declared.tree.Conclusion.{Conclusion}
+use Rattle.fcl_syntax.specs.declared.tree.Defuzzify.{Defuzzify}
 use Rattle.fcl_syntax.specs.declared.tree.Direction.{Direction}
 use Rattle.fcl_syntax.specs.declared.tree.Direction.TheVariants.{Input, Output}
 use Rattle.fcl_syntax.specs.declared.tree.FunctionBlock.{FunctionBlock}
+use Rattle.fcl_syntax.specs.declared.tree.Fuzzify.{Fuzzify}
 use Rattle.fcl_syntax.specs.declared.tree.Name.{Name}
+use Rattle.fcl_syntax.specs.declared.tree.Part.{Part}
+use Rattle.fcl_syntax.specs.declared.tree.Part.TheVariants as part
 use Rattle.fcl_syntax.specs.declared.tree.Rule.{Rule}
 use Rattle.fcl_check.specs.Faults.{Pair, conclusions_of, condition_pairs, is_declared_as, weight_outside}
-use Rattle.fcl_check.specs.Names.{letters, term_number}
+use Rattle.fcl_check.specs.Names.{Declared, is_direction, letters, section_of, term_number}
+use Rattle.fcl_check.specs.Sections.{incomplete, shapeless_terms, without_terms}
+
+-- ---- sections
+
+pub record IsSoundFuzzify (s : Fuzzify) : Type 0 where
+  pub some : without_terms (part.Fuzzify s) ≡ []
+  pub shaped : shapeless_terms (part.Fuzzify s) ≡ []
+
+pub record IsSoundDefuzzify (s : Defuzzify) : Type 0 where
+  pub some : without_terms (part.Defuzzify s) ≡ []
+  pub complete : incomplete (part.Defuzzify s) ≡ []
+
+-- a variable that is declared on this side has a sound section of one sort
+abbrev pub HasSection : {S : Type 0} → Direction → (Part → Option S) → (S → Type 0) → List ℕ → FunctionBlock
+    → Declared → Type 0
+HasSection {S} side as_section IsSound text b d = is_direction side d.0 ≡ true
+    → (s : S) × (option_and_then as_section (section_of text b (letters text d.1)) ≡ Some s) × IsSound s
+
+-- ---- rules
 
 module _ (text : List ℕ) (b : FunctionBlock) where
   -- a variable that is declared on this side, and a term of it

@@ -14,21 +14,20 @@ ghost use Rattle.fcl_check.specs.Sound.{AreConcluded, IsKnown, IsSoundRule};
 ghost use Rattle.fcl_syntax.specs.declared.tree.Direction.TheVariants.{Output as OutputSide};
 
 use crate::conditions::or;
-use crate::inputs::inputs;
 use crate::names::Names;
 use crate::numbers::value;
-use crate::outputs::outputs;
 use crate::source::{Source, numbers};
+use crate::variables::variables;
 use fcl_syntax::{Conclusion, Direction, Tree};
-use fuzzy_meaning::Block;
+use fuzzy_meaning::{Block, Input, Output};
 use fz_list::List;
 use fz_num::Dec;
 use std::alloc::{AllocError, Global};
 
 fn weight(rule: &fcl_syntax::Rule) -> Option<Dec>
-    ensures same { number_of result ≡ option_map (λ (w : Weight). value w.num) rule.now.weight }
+    ensures same { number_of result ≡ option_map (λ (w : Weight). value w.value) rule.now.weight }
 {
-    rule.weight.map(|weight| value(weight.num))
+    rule.weight.map(|weight| value(weight.value))
 }
 
 fn conclusion(source: &Source<'_, '_>, conclusion: &Conclusion) -> (u8, u8)
@@ -91,8 +90,8 @@ pub fn block<'a>(alloc: Global, tree: &'a Tree, names: &Names<'a>) -> Result<Blo
     requires sound { first_fault tree.now.text.items tree.now.block ≡ None }
     ensures { IfOk result (IsBlockOf tree.now.text.items tree.now.block) }
 {
-    let inputs = inputs(alloc, tree, names)?;
-    let outputs = outputs(alloc, tree, names)?;
+    let inputs = variables::<Input>(alloc, tree, names)?;
+    let outputs = variables::<Output>(alloc, tree, names)?;
     let rules = rules(&Source { alloc, tree, names })?;
     Ok(Block {
         inputs: List::new(inputs),

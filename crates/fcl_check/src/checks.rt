@@ -1,10 +1,12 @@
 //! The kinds of faults over a whole tree, each at its first place.
 
-ghost use Rattle.std.specs.Prelude.{◌≡◌, List, [], map, option_map, slice_get};
+ghost use Rattle.std.specs.Prelude.{◌≡◌, ◌++◌, ℕ, List, [], Option, map, option_map, slice_get};
+ghost use Rattle.std.specs.Fn.{FnReturnsAt};
 ghost use Rattle.std.specs.List.{flat_map, list_any};
 ghost use Rattle.fcl_syntax.specs.declared.tree.Direction.TheVariants as side;
-ghost use Rattle.fcl_syntax.specs.declared.tree.Rule.{Rule};
-ghost use Rattle.fcl_check.specs.Faults.{is_declared_as, is_over, is_whole, mistaken_in, mistaken_section, missing_part, too_many, unknown, unknown_in, unknown_section, weight_outside, without_section, wrong_side};
+ghost use Rattle.fcl_syntax.specs.declared.tree.Part.{Part as PartNode};
+ghost use Rattle.fcl_syntax.specs.declared.tree.Rule.{Rule as RuleNode};
+ghost use Rattle.fcl_check.specs.Faults.{is_declared_as, is_over, is_whole, mistaken_section, missing_part, too_many, unknown, unknown_section, weight_outside, without_section, wrong_side};
 ghost use Rattle.fcl_check.specs.Known.{Knows};
 ghost use Rattle.fcl_check.specs.Names.{Declared, declared_in, is_direction};
 ghost use Rattle.fcl_check.specs.Places.{at_each, at_if, first};
@@ -32,27 +34,41 @@ const OUTPUTS: usize = 4;
 
 const RULES: usize = 256;
 
-fn unknown_names(names: &Names<'_>, tree: &Tree, rules: &[RuleNames<'_>]) -> Option<u32>
-    requires { Knows tree.now names.now }
-    ensures { result ≡ first (flat_map (unknown_in tree.now.text.items tree.now.block) (map
-        (λ (n : RuleNames). n.rule.now) rules.now)) }
+// The first place at a section, or else at a rule.
+#[tactic(auto, using(crate::proofs::places::Places::firsts))]
+fn first_in<S: Fn(&Part) -> Option<u32>, R: Fn(&RuleNames<'_>) -> Option<u32>>(
+    tree: &Tree,
+    rules: &[RuleNames<'_>],
+    section: S,
+    rule: R,
+) -> Option<u32>
+    requires section { S.IsAlwaysCallable section }
+    requires rule { R.IsAlwaysCallable rule }
+    requires rules { map (λ (n : RuleNames). n.rule.now) rules.now ≡ tree.now.block.rules.rules.items }
+    ensures { (in_section : PartNode → List ℕ) (in_rule : RuleNode → List ℕ)
+        → ((p : PartNode) (at : Option ℕ) → FnReturnsAt S.Fn section p at → at ≡ first (in_section p))
+        → ((n : RuleNames) (at : Option ℕ) → FnReturnsAt R.Fn rule n at → at ≡ first (in_rule n.rule.now))
+        → result ≡ first (flat_map in_section tree.now.block.parts.items ++ flat_map in_rule
+        tree.now.block.rules.rules.items) }
 {
-    first_at(rules, |rule| unknown_name(names, tree, rule))
+    match first_at(&tree.block.parts, section) {
+        Some(at) => Some(at),
+        None => first_at(rules, rule),
+    }
 }
 
 /// A name of a section or of a rule that is unknown.
-#[tactic(auto, using(crate::proofs::places::Places::firsts))]
 pub fn unknown(names: &Names<'_>, tree: &Tree, rules: &[RuleNames<'_>]) -> Option<u32>
     requires known { Knows tree.now names.now }
     requires rules { map (λ (n : RuleNames). n.rule.now) rules.now ≡ tree.now.block.rules.rules.items }
     ensures { result ≡ first (unknown tree.now.text.items tree.now.block) }
 {
-    match first_at(&tree.block.parts, |part| {
-        unknown_section(names, tree, part)
-    }) {
-        Some(at) => Some(at),
-        None => unknown_names(names, tree, rules),
-    }
+    first_in(
+        tree,
+        rules,
+        |part| unknown_section(names, tree, part),
+        |rule| unknown_name(names, tree, rule),
+    )
 }
 
 /// A section without TERM.
@@ -112,7 +128,7 @@ fn terms_over_limit(parts: &[Part]) -> Option<u32>
 }
 
 fn rule_over_limit(rules: &[Rule]) -> Option<u32>
-    ensures { result ≡ option_map (λ (r : Rule). r.at) (slice_get rules.now 256) }
+    ensures { result ≡ option_map (λ (r : RuleNode). r.at) (slice_get rules.now 256) }
 {
     rules.get(RULES).map(|rule| rule.at)
 }
@@ -171,27 +187,18 @@ pub fn weights_outside(rules: &[Rule]) -> Option<u32>
     first_at(rules, weight_outside)
 }
 
-fn mistaken_names(names: &Names<'_>, tree: &Tree, rules: &[RuleNames<'_>]) -> Option<u32>
-    requires { Knows tree.now names.now }
-    ensures { result ≡ first (flat_map (mistaken_in tree.now.text.items tree.now.block) (map
-        (λ (n : RuleNames). n.rule.now) rules.now)) }
-{
-    first_at(rules, |rule| mistaken_name(names, tree, rule))
-}
-
 /// An output where an input belongs, or the other way round.
-#[tactic(auto, using(crate::proofs::places::Places::firsts))]
 pub fn wrong_side(names: &Names<'_>, tree: &Tree, rules: &[RuleNames<'_>]) -> Option<u32>
     requires known { Knows tree.now names.now }
     requires rules { map (λ (n : RuleNames). n.rule.now) rules.now ≡ tree.now.block.rules.rules.items }
     ensures { result ≡ first (wrong_side tree.now.text.items tree.now.block) }
 {
-    match first_at(&tree.block.parts, |part| {
-        mistaken_section(names, tree, part)
-    }) {
-        Some(at) => Some(at),
-        None => mistaken_names(names, tree, rules),
-    }
+    first_in(
+        tree,
+        rules,
+        |part| mistaken_section(names, tree, part),
+        |rule| mistaken_name(names, tree, rule),
+    )
 }
 
 fn without_section(names: &Names<'_>, tree: &Tree) -> Option<u32>

@@ -1,4 +1,4 @@
-//! The inputs of a block, taken as a tree without load faults has them.
+//! The inputs of a block, each as its section in a tree without load faults has it.
 
 ghost use Rattle.std.specs.Prelude.{◌≡◌, true, List as Items, [], ◌∷◌, ◌++◌, None, option_map, IfOk};
 ghost use Rattle.std.specs.List.{AllZip};
@@ -7,16 +7,15 @@ ghost use Rattle.fcl_syntax.specs.declared.tree.Part.TheVariants as part;
 ghost use Rattle.fcl_syntax.specs.declared.tree.Point.{Point};
 ghost use Rattle.fcl_check.specs.Spans.{ends_in};
 ghost use Rattle.fcl_check.specs.Corners.{AreCornersOf};
-ghost use Rattle.fcl_check.specs.Faults.{first_fault};
-ghost use Rattle.fcl_check.specs.Known.{Knows};
-ghost use Rattle.fcl_check.specs.Loaded.{IsInputNamed, IsInputOf, IsTermOf, input_range};
-ghost use Rattle.fcl_check.specs.Names.{declared_as, fuzzify_of, letters, terms_of};
-ghost use Rattle.fcl_check.specs.Sections.{has_shape, points_of, shapeless_terms, without_terms};
+ghost use Rattle.fcl_check.specs.Loaded.{IsInputOf, IsTermOf, input_range};
+ghost use Rattle.fcl_check.specs.Names.{as_fuzzify, terms_of};
+ghost use Rattle.fcl_check.specs.Sections.{has_shape, points_of, shapeless_terms};
+ghost use Rattle.fcl_check.specs.Sound.{IsSoundFuzzify};
 
-use crate::names::Names;
 use crate::numbers::{Span, is_one, value};
 use crate::sections::{fuzzy_range, hull};
-use fcl_syntax::{Direction, Fuzzify, FuzzyLine, Name, Part, Point, Term, Tree};
+use crate::variables::FromSection;
+use fcl_syntax::{Direction, Fuzzify, FuzzyLine, Part, Point, Term};
 use fuzzy_meaning::{Input, Trapezoid};
 use fz_list::List;
 use fz_num::Dec;
@@ -98,49 +97,35 @@ fn range(section: &Fuzzify) -> Option<Span>
     }
 }
 
-fn input(alloc: Global, section: &Fuzzify) -> Result<Input, AllocError>
-    requires some { without_terms (part.Fuzzify section.now) ≡ [] }
-    requires shaped { shapeless_terms (part.Fuzzify section.now) ≡ [] }
-    ensures same { IfOk result (IsInputOf section.now) }
-{
-    let span = range(section).unwrap();
-    let terms = terms(alloc, section)?;
-    Ok(Input {
-        lo: span.lo,
-        hi: span.hi,
-        terms: List::new(terms),
-    })
-}
+impl FromSection for Input {
+    type Section = Fuzzify;
 
-// The section of a declared input.
-fn section_of<'a>(tree: &'a Tree, names: &Names<'a>, name: Name) -> Option<&'a Fuzzify>
-    requires { Knows tree.now names.now }
-    ensures { option_map (λ s. s.now) result ≡ fuzzify_of tree.now.text.items tree.now.block
-        (letters tree.now.text.items name) }
-{
-    match names.sections.get(tree.letters(name))?.part {
-        Part::Fuzzify(section) => Some(section),
-        Part::Defuzzify(_) => None,
+    ghost side = { side.Input };
+
+    ghost as_section = { as_fuzzify };
+
+    ghost IsSound = { IsSoundFuzzify };
+
+    ghost IsOf = { IsInputOf };
+
+    fn direction() -> Direction {
+        Direction::Input
     }
-}
 
-/// The inputs in the order of their declaration.
-pub fn inputs<'a>(
-    alloc: Global,
-    tree: &'a Tree,
-    names: &Names<'a>,
-) -> Result<Vec<Input>, AllocError>
-    requires known { Knows tree.now names.now }
-    requires sound { first_fault tree.now.text.items tree.now.block ≡ None }
-    ensures same { IfOk result (λ v. AllZip (IsInputNamed tree.now.text.items tree.now.block)
-        (declared_as side.Input tree.now.block) v.items) }
-{
-    let mut inputs = Vec::new(alloc);
-    'each: for (direction, name) in &names.declared {
-        if *direction == Direction::Input {
-            let section = section_of(tree, names, *name).unwrap();
-            inputs.push(input(alloc, section)?)?;
+    fn section(part: &Part) -> Option<&Fuzzify> {
+        match part {
+            Part::Fuzzify(section) => Some(section),
+            Part::Defuzzify(_) => None,
         }
     }
-    Ok(inputs)
+
+    fn from_section(alloc: Global, section: &Fuzzify) -> Result<Input, AllocError> {
+        let span = range(section).unwrap();
+        let terms = terms(alloc, section)?;
+        Ok(Input {
+            lo: span.lo,
+            hi: span.hi,
+            terms: List::new(terms),
+        })
+    }
 }

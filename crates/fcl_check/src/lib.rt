@@ -20,6 +20,7 @@ mod outputs;
 mod rules;
 mod sections;
 mod source;
+mod variables;
 mod walk;
 
 pub use fault::LoadFault;

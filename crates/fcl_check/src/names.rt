@@ -16,7 +16,8 @@ ghost use Rattle.fcl_check.specs.Places.{at_if, at_each, first};
 
 use crate::fault::LoadFault;
 use fcl_syntax::{
-    Decl, Defuzzify, DefuzzyLine, Direction, Fuzzify, FuzzyLine, Name, Part, RuleLine, Tree, Vars,
+    Declaration, Defuzzify, DefuzzyLine, Direction, Fuzzify, FuzzyLine, Name, Part, RuleLine, Tree,
+    Variables,
 };
 use std::alloc::{AllocError, Global};
 use std::collections::BTreeMap;
@@ -49,7 +50,7 @@ impl<'a> Names<'a> {
         ensures names { IfOk result (Knows tree.now) }
         ensures fault { Answers result (option_map load.Twice (first (twice tree.now.text.items tree.now.block))) }
     {
-        let declared = declared(alloc, &tree.block.vars)?;
+        let declared = declared(alloc, &tree.block.variables)?;
         let variables = variables(alloc, tree, &declared)?;
         let sections = sections(alloc, tree)?;
         rule_lines(&tree.block.rules.lines)?;
@@ -74,6 +75,14 @@ impl<'a> Names<'a> {
             is_some (section_of tree.text.items tree.block letters.now) }
     {
         self.sections.contains_key(letters)
+    }
+
+    /// The section of a variable, by its letters.
+    pub fn section(&self, letters: &[u8]) -> Option<&'a Part>
+        ensures { (tree : Tree) → Knows tree self.now → option_map (λ p. p.now) result ≡
+            section_of tree.text.items tree.block letters.now }
+    {
+        Some(self.sections.get(letters)?.part)
     }
 
     /// The number of a term, looked for in the section of its variable that a variable of this
@@ -102,37 +111,40 @@ pub fn section_name(part: &Part) -> Name
     }
 }
 
-fn push_decl(
+fn push_declaration(
     into: &mut Vec<(Direction, Name)>,
     direction: Direction,
-    decl: &Decl,
+    declaration: &Declaration,
 ) -> Result<(), AllocError>
     ensures { OnOk result (into.new.items ≡ into.old.items ++ map
-        (λ n. (direction, n)) (decl.now.first ∷ decl.now.more.items)) }
+        (λ n. (direction, n)) (declaration.now.first ∷ declaration.now.more.items)) }
 {
-    into.push((direction, decl.first))?;
-    'each: for name in &decl.more {
+    into.push((direction, declaration.first))?;
+    'each: for name in &declaration.more {
         into.push((direction, *name))?;
     }
     Ok(())
 }
 
-fn push_vars(into: &mut Vec<(Direction, Name)>, vars: &Vars) -> Result<(), AllocError>
-    ensures { OnOk result (into.new.items ≡ into.old.items ++ declared_by vars.now) }
+fn push_variables(
+    into: &mut Vec<(Direction, Name)>,
+    variables: &Variables,
+) -> Result<(), AllocError>
+    ensures { OnOk result (into.new.items ≡ into.old.items ++ declared_by variables.now) }
 {
-    'each: for decl in &vars.decls {
-        push_decl(into, vars.direction, decl)?;
+    'each: for declaration in &variables.declarations {
+        push_declaration(into, variables.direction, declaration)?;
     }
     Ok(())
 }
 
 // The declared names in the text's order.
-fn declared(alloc: Global, vars: &[Vars]) -> Result<Vec<(Direction, Name)>, AllocError>
-    ensures { IfOk result (λ v. v.items ≡ flat_map declared_by vars.now) }
+fn declared(alloc: Global, variables: &[Variables]) -> Result<Vec<(Direction, Name)>, AllocError>
+    ensures { IfOk result (λ v. v.items ≡ flat_map declared_by variables.now) }
 {
     let mut names = Vec::new(alloc);
-    'each: for section in vars {
-        push_vars(&mut names, section)?;
+    'each: for section in variables {
+        push_variables(&mut names, section)?;
     }
     Ok(names)
 }

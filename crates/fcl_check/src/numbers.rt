@@ -6,7 +6,7 @@ ghost use Rattle.fcl_check.specs.Spans.{ends_in};
 ghost use Rattle.fcl_check.specs.Loaded.{widened};
 ghost use Rattle.fcl_check.specs.Sections.{magnitude, value, is_one, ends_of, lies_in, is_empty_range};
 
-use fcl_syntax::{Amount, Degree, Num, Number, Range};
+use fcl_syntax::{Amount, Degree, Number, Range, SignedNumber};
 use fz_num::Dec;
 
 /// The greatest magnitude of a number, in 1/10000. A tree that was read has none above it.
@@ -25,12 +25,12 @@ fn magnitude(number: Number) -> i64
 }
 
 /// A number, in 1/10000.
-pub fn value(num: Num) -> Dec
-    ensures { result.0 ≡ value num }
+pub fn value(number: SignedNumber) -> Dec
+    ensures { result.0 ≡ value number }
 {
-    let value = match num {
-        Num::Plus(number) | Num::Bare(number) => magnitude(number),
-        Num::Minus(number) => 0_i64.saturating_sub(magnitude(number)),
+    let value = match number {
+        SignedNumber::Plus(number) | SignedNumber::Bare(number) => magnitude(number),
+        SignedNumber::Minus(number) => 0_i64.saturating_sub(magnitude(number)),
     };
     Dec(value.max(-GREATEST).min(GREATEST))
 }

@@ -1,21 +1,20 @@
-//! The outputs of a block, taken as a tree without load faults has them.
+//! The outputs of a block, each as its section in a tree without load faults has it.
 
 ghost use Rattle.std.specs.Prelude.{◌≡◌, ◌||◌, [], None, Some, filter_map, is_none, not, map, option_map, IfOk};
 ghost use Rattle.std.specs.List.{AllZip};
 ghost use Rattle.fcl_syntax.specs.declared.tree.Direction.TheVariants as side;
 ghost use Rattle.fcl_syntax.specs.declared.tree.Part.TheVariants as part;
 ghost use Rattle.fcl_check.specs.Spans.{ends_in};
-ghost use Rattle.fcl_check.specs.Faults.{first_fault};
-ghost use Rattle.fcl_check.specs.Known.{Knows};
-ghost use Rattle.fcl_check.specs.Loaded.{IsOutputNamed, IsOutputOf, default_number, number_of, output_hull, output_range, widened};
-ghost use Rattle.fcl_check.specs.Names.{declared_as, defuzzify_of, letters, singletons_of};
+ghost use Rattle.fcl_check.specs.Loaded.{IsOutputOf, default_number, number_of, output_hull, output_range, widened};
+ghost use Rattle.fcl_check.specs.Names.{as_defuzzify, singletons_of};
 ghost use Rattle.fcl_check.specs.Places.{first};
-ghost use Rattle.fcl_check.specs.Sections.{default_of, fallback_number, incomplete, method_line, number_line, value, without_terms};
+ghost use Rattle.fcl_check.specs.Sections.{default_of, fallback_number, incomplete, method_line, number_line, value};
+ghost use Rattle.fcl_check.specs.Sound.{IsSoundDefuzzify};
 
-use crate::names::Names;
 use crate::numbers::{Span, value};
 use crate::sections::defuzzy_range;
-use fcl_syntax::{Defuzzify, DefuzzyLine, Direction, Fallback, FallbackValue, Name, Part, Tree};
+use crate::variables::FromSection;
+use fcl_syntax::{Defuzzify, DefuzzyLine, Direction, Fallback, FallbackValue, Part};
 use fuzzy_meaning::Output;
 use fz_list::List;
 use fz_num::Dec;
@@ -57,7 +56,7 @@ fn fallback_number(value_or_nc: FallbackValue) -> Option<Dec>
     ensures { number_of result ≡ option_map value (fallback_number value_or_nc) }
 {
     match value_or_nc {
-        FallbackValue::Number(num) => Some(value(num)),
+        FallbackValue::Number(number) => Some(value(number)),
         FallbackValue::Nc(_) => None,
     }
 }
@@ -128,50 +127,36 @@ fn default(section: &Defuzzify) -> Option<Dec>
     fallback_number(fallback(section).unwrap().value)
 }
 
-fn output(alloc: Global, section: &Defuzzify) -> Result<Output, AllocError>
-    requires some { without_terms (part.Defuzzify section.now) ≡ [] }
-    requires complete { incomplete (part.Defuzzify section.now) ≡ [] }
-    ensures same { IfOk result (IsOutputOf section.now) }
-{
-    let span = range(section).unwrap();
-    let singletons = singletons(alloc, section)?;
-    Ok(Output {
-        lo: span.lo,
-        hi: span.hi,
-        singletons: List::new(singletons),
-        default: default(section),
-    })
-}
+impl FromSection for Output {
+    type Section = Defuzzify;
 
-// The section of a declared output.
-fn section_of<'a>(tree: &'a Tree, names: &Names<'a>, name: Name) -> Option<&'a Defuzzify>
-    requires { Knows tree.now names.now }
-    ensures { option_map (λ s. s.now) result ≡ defuzzify_of tree.now.text.items tree.now.block
-        (letters tree.now.text.items name) }
-{
-    match names.sections.get(tree.letters(name))?.part {
-        Part::Defuzzify(section) => Some(section),
-        Part::Fuzzify(_) => None,
+    ghost side = { side.Output };
+
+    ghost as_section = { as_defuzzify };
+
+    ghost IsSound = { IsSoundDefuzzify };
+
+    ghost IsOf = { IsOutputOf };
+
+    fn direction() -> Direction {
+        Direction::Output
     }
-}
 
-/// The outputs in the order of their declaration.
-pub fn outputs<'a>(
-    alloc: Global,
-    tree: &'a Tree,
-    names: &Names<'a>,
-) -> Result<Vec<Output>, AllocError>
-    requires known { Knows tree.now names.now }
-    requires sound { first_fault tree.now.text.items tree.now.block ≡ None }
-    ensures same { IfOk result (λ v. AllZip (IsOutputNamed tree.now.text.items tree.now.block)
-        (declared_as side.Output tree.now.block) v.items) }
-{
-    let mut outputs = Vec::new(alloc);
-    'each: for (direction, name) in &names.declared {
-        if *direction == Direction::Output {
-            let section = section_of(tree, names, *name).unwrap();
-            outputs.push(output(alloc, section)?)?;
+    fn section(part: &Part) -> Option<&Defuzzify> {
+        match part {
+            Part::Defuzzify(section) => Some(section),
+            Part::Fuzzify(_) => None,
         }
     }
-    Ok(outputs)
+
+    fn from_section(alloc: Global, section: &Defuzzify) -> Result<Output, AllocError> {
+        let span = range(section).unwrap();
+        let singletons = singletons(alloc, section)?;
+        Ok(Output {
+            lo: span.lo,
+            hi: span.hi,
+            singletons: List::new(singletons),
+            default: default(section),
+        })
+    }
 }

@@ -126,7 +126,7 @@ pub fn weight_outside(rule: &Rule) -> Option<u32>
     ensures { result ≡ first (weight_outside rule.now) }
 {
     let weight = rule.weight?;
-    let w = value(weight.num);
+    let w = value(weight.value);
     if w.0 < 0 || 10_000 < w.0 {
         Some(weight.at)
     } else {

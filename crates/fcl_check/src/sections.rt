@@ -288,7 +288,7 @@ fn number_line(line: &DefuzzyLine) -> Option<(Dec, u32)>
     match line {
         DefuzzyLine::Singleton(singleton) => Some((value(singleton.value), singleton.at)),
         DefuzzyLine::Default(fallback) => match fallback.value {
-            FallbackValue::Number(num) => Some((value(num), fallback.at)),
+            FallbackValue::Number(number) => Some((value(number), fallback.at)),
             FallbackValue::Nc(_) => None,
         },
         _ => None,

@@ -1,7 +1,6 @@
 use super::*;
 use fcl_syntax::parse;
 use fuzzy_meaning::Cond;
-use fz_num::Dec;
 use std::alloc::{AllocError, Global};
 use std::test::Fail;
 
@@ -194,48 +193,6 @@ fn faults(rt: HostRuntime) -> Result<(), Fail> {
     Ok(())
 }
 
-const BLOCK: &[u8] = b"FUNCTION_BLOCK a
-VAR_INPUT T : REAL; END_VAR
-VAR_OUTPUT power : REAL; END_VAR
-FUZZIFY t TERM cold := (0, 1) (256, 0); TERM hot := (0, 0) (256, 1); END_FUZZIFY
-DEFUZZIFY power TERM off := 0; TERM on := 100; METHOD : COGS; DEFAULT := NC; END_DEFUZZIFY
-RULEBLOCK r
-RULE 1 : IF NOT (t IS cold AND T IS NOT Cold) THEN power IS off, POWER IS on WITH 0.5;
-END_RULEBLOCK
-END_FUNCTION_BLOCK
-";
-
-#[test]
-fn block_is_loaded(rt: HostRuntime) -> Result<(), Fail> {
-    let tree = parse(rt.alloc(), BLOCK)?;
-    let block = load(rt.alloc(), &tree)?;
-    assert_eq!(rt; block.inputs.len(), 1);
-    let input = &block.inputs.as_slice()[0];
-    assert_eq!(rt; (input.lo, input.hi), (Dec(0), Dec(2_560_000)));
-    let terms = input.terms.as_slice();
-    assert_eq!(rt; terms.len(), 2);
-    let (cold, hot) = (terms[0], terms[1]);
-    assert_eq!(rt;
-        (cold.a, cold.b, cold.c, cold.d),
-        (None, Dec(0), Dec(0), Some(Dec(2_560_000)))
-    );
-    assert_eq!(rt;
-        (hot.a, hot.b, hot.c, hot.d),
-        (Some(Dec(0)), Dec(2_560_000), Dec(2_560_000), None)
-    );
-    assert_eq!(rt; block.outputs.len(), 1);
-    let output = &block.outputs.as_slice()[0];
-    assert_eq!(rt;
-        (output.lo, output.hi, output.default),
-        (Dec(0), Dec(1_000_000), None)
-    );
-    assert_eq!(rt; block.rules.len(), 1);
-    let rule = &block.rules.as_slice()[0];
-    assert_eq!(rt; rule.weight, Some(Dec(5_000)));
-    assert_eq!(rt; rule.concl.as_slice(), [(1, 1), (1, 2)].as_slice());
-    Ok(())
-}
-
 const RULE_HEAD: &[u8] = b"FUNCTION_BLOCK a
 VAR_INPUT t : REAL; END_VAR
 VAR_OUTPUT power : REAL; END_VAR
@@ -259,11 +216,7 @@ fn push_times(into: &mut Vec<u8>, word: &[u8], times: u32) -> Result<(), AllocEr
 }
 
 // What opens and what closes, how often, and the NOT that the block has then: 64 are open at once.
-const DEEPEST: [(&[u8], &[u8], u32, u32); 3] = [
-    (b"NOT ", b"", 64, 64),
-    (b"(", b")", 64, 0),
-    (b"NOT (", b")", 32, 32),
-];
+const DEEPEST: [(&[u8], &[u8], u32, u32); 2] = [(b"(", b")", 64, 0), (b"NOT (", b")", 32, 32)];
 
 fn nots_loaded(
     alloc: Global,

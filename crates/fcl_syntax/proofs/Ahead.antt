@@ -9,10 +9,10 @@ use Rattle.fcl_syntax.specs.TokenClasses.{class_of, mem}
 use Rattle.fcl_syntax.specs.Annotations.{Sym, tokens_of, plain, annotated}
 use Rattle.fcl_syntax.specs.First.{SameHead}
 use Rattle.fcl_syntax.specs.Readers.{◌>>=◌, fault_at, starts, one_at}
-use Rattle.fcl_syntax.proofs.Form.{disjoint, Stops, Starts, first_annotation, answer, Sound, Fails, Form}
+use Rattle.fcl_syntax.proofs.Form.{disjoint, Stops, Starts, first_annotation, answer, Stands, Fails, Form}
 use Rattle.fcl_syntax.proofs.AnnotatedTexts.{bind_ok, bind_err, ok_is}
 use Rattle.fcl_syntax.proofs.Seq.{Shows-in, Viable-in}
-use Rattle.fcl_syntax.proofs.Small.{Single, one_text, one_sound, one_fails, starts-not, starts-same}
+use Rattle.fcl_syntax.proofs.Small.{Single, one_text, one_stands, one_fails, starts-not, starts-same}
 use Rattle.fcl_syntax.proofs.Dead.{unless}
 
 pub record Ahead (Y : Type 0) : Type 0 where
@@ -47,21 +47,21 @@ module _ {A B Y : Type 0} (c : Single A) (d : Ahead Y) (q : Form B) (apart : dis
   unless_ok true e r y h = absurd cc
   unless_ok false e r y h = (refl, h)
 
-  pub ahead_sound : (ts : List Token) (t : (A × B) ⊎ (A × Y)) (rest : List Token) → ahead_read c d q ts ≡ Ok (t, rest)
-      → Sound (ahead_text c d q) q.goes ts t rest
-  ahead_sound ts t rest e =
+  pub ahead_stands : (ts : List Token) (t : (A × B) ⊎ (A × Y)) (rest : List Token) → ahead_read c d q ts ≡ Ok (t, rest)
+      → Stands (ahead_text c d q) q.goes ts t rest
+  ahead_stands ts t rest e =
       let x = bind_ok (one_at c.want ts) (ahead_rest c d q) (t, rest) e in
       let u = unless_ok (starts d.among x.0.1) (fault_at refused (suc (length x.0.1))) (to_inl x.0.0 (q.read x.0.1)) (t, rest) x.2 in
       let y = bind_ok (q.read x.0.1) (λ b. Ok (inl (x.0.0, b.0), b.1)) (t, rest) u.1 in
-      let s = one_sound c ts x.0.0 x.0.1 x.1 in
-      let r = q.sound x.0.1 y.0.0 y.0.1 y.1 in
+      let s = one_stands c ts x.0.0 x.0.1 x.1 in
+      let r = q.stands x.0.1 y.0.0 y.0.1 y.1 in
       let made : ((A × B) ⊎ (A × Y)) × List Token = (inl (x.0.0, y.0.0), y.0.1) in
-      let whole : Sound (ahead_text c d q) q.goes ts made.0 made.1 = record {
+      let whole : Stands (ahead_text c d q) q.goes ts made.0 made.1 = record {
         parts = s.parts ∙ ap (λ (l : List Token). c.make x.0.0 ∷ l) r.parts;
         clean = (refl, r.clean);
         stops = r.stops;
       } in
-      subst (λ (z : ((A × B) ⊎ (A × Y)) × List Token). Sound (ahead_text c d q) q.goes ts z.0 z.1) (ok_is made (t, rest) y.2) whole
+      subst (λ (z : ((A × B) ⊎ (A × Y)) × List Token). Stands (ahead_text c d q) q.goes ts z.0 z.1) (ok_is made (t, rest) y.2) whole
 
   step : (m : Option Fault) (a : A) (b : B) (rest : List Token) → to_inl {Y = Y} a (answer m b rest) ≡ answer {T = (A × B) ⊎ (A × Y)} m (inl (a, b)) rest
   step None a b rest = refl
@@ -129,7 +129,7 @@ module _ {A B Y : Type 0} (c : Single A) (d : Ahead Y) (q : Form B) (apart : dis
           ∙ ap (λ (t : Bool). unless t (fault_at refused (suc (length (w ∷ b)))) (to_inl {Y = Y} a (q.read (w ∷ b))))
           (subst (λ (v : Token). mem (class_of v) d.among ≡ true) s.1 h)
 
-  ahead_second : (ts : List Token) (e : Fault) (a : A) (rest : List Token) → Sound (one_text c) [] ts a rest → starts d.among rest ≡ false
+  ahead_second : (ts : List Token) (e : Fault) (a : A) (rest : List Token) → Stands (one_text c) [] ts a rest → starts d.among rest ≡ false
       → Fails q.text q.read rest e → Fails (ahead_text c d q) (ahead_read c d q) ts e
   ahead_second ts e a rest s not_so f = record {
     front = c.make a ∷ f.front;
@@ -156,10 +156,10 @@ module _ {A B Y : Type 0} (c : Single A) (d : Ahead Y) (q : Form B) (apart : dis
   ahead_fails ts e h =
       elim (bind_err (one_at c.want ts) (ahead_rest c d q) e h) [
         | inl first ↦ ahead_first ts e (one_fails c ts e first)
-        | inr x ↦ second x.0.0 x.0.1 (one_sound c ts x.0.0 x.0.1 x.1) (starts d.among x.0.1) refl x.2
+        | inr x ↦ second x.0.0 x.0.1 (one_stands c ts x.0.0 x.0.1 x.1) (starts d.among x.0.1) refl x.2
       ]
     where
-      second : (a : A) (rest : List Token) → Sound (one_text c) [] ts a rest → (b : Bool) → starts d.among rest ≡ b
+      second : (a : A) (rest : List Token) → Stands (one_text c) [] ts a rest → (b : Bool) → starts d.among rest ≡ b
           → unless b (fault_at refused (suc (length rest))) (to_inl {Y = Y} a (q.read rest)) ≡ Err e → Fails (ahead_text c d q) (ahead_read c d q) ts e
       second a rest s true w h =
           let is : fault_at refused (suc (length rest)) ≡ e = cc in
@@ -176,7 +176,7 @@ module _ {A B Y : Type 0} (c : Single A) (d : Ahead Y) (q : Form B) (apart : dis
     some = inl (c.example, q.some);
     some_clean = (refl, q.some_clean);
     begins = ahead_begins;
-    sound = ahead_sound;
+    stands = ahead_stands;
     again = ahead_again;
     fails = ahead_fails;
   }

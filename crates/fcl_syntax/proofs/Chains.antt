@@ -3,7 +3,7 @@ use Rattle.std.proofs.Common.{◌≡◌, Bool, true, false, List, Result, Ok, Er
 use Rattle.fcl_syntax.specs.declared.fault.Fault.{Fault}
 use Rattle.fcl_syntax.specs.declared.token.Token.{Token}
 use Rattle.fcl_syntax.specs.Readers.{◌>>=◌, Read, cond_read}
-use Rattle.fcl_syntax.proofs.Dead.{seen_as}
+use Rattle.fcl_syntax.proofs.Small.{seen_as}
 
 pub bind_assoc : {A B C : Type 0} (r : Result A Fault) (f : A → Result B Fault) (g : B → Result C Fault) → ((r >>= f) >>= g) ≡ (r >>= λ x. f x >>= g)
 bind_assoc (Ok x) f g = refl

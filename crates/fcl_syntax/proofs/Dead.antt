@@ -9,15 +9,12 @@ use Rattle.fcl_syntax.specs.TokenClasses.{class_of, mem}
 use Rattle.fcl_syntax.specs.Annotations.{either_text, Sym, tokens_of, IsClean, annotated}
 use Rattle.fcl_syntax.specs.First.{looks_on, SameNext, SameHead, Shown}
 use Rattle.fcl_syntax.specs.Readers.{cond_read, ◌>>=◌, fault_at, starts}
-use Rattle.fcl_syntax.proofs.Form.{disjoint, Stops, Starts, first_annotation, answer, Sound, Shows, Fails, Form}
+use Rattle.fcl_syntax.proofs.Form.{disjoint, Stops, Starts, first_annotation, answer, Stands, Shows, Fails, Form}
 use Rattle.fcl_syntax.proofs.AnnotatedTexts.{bind_ok, bind_err, ok_is, length-tokens}
 use Rattle.fcl_syntax.proofs.Seq.{Shows-in, Viable-in}
-use Rattle.fcl_syntax.proofs.Small.{to_right, starts-not, starts-same, bool_cases}
+use Rattle.fcl_syntax.proofs.Small.{seen_as, widen, answer-seen, seen_err, seen_stands, seen_fails, to_right, starts-not, starts-same, bool_cases}
 
 -- ---- a form seen as another type
-
-abbrev pub seen_as : {A B : Type 0} → (A → B) → Result (A × List Token) Fault → Result (B × List Token) Fault
-seen_as to r = r >>= λ a. Ok (to a.0, a.1)
 
 module _ {A B : Type 0} (p : Form A) (to : A → B) (from : B → A) (text : B → List Sym) (round : (b : B) → to (from b) ≡ b)
     (same_text : (a : A) → text (to a) ≡ p.text a) where
@@ -30,45 +27,15 @@ module _ {A B : Type 0} (p : Form A) (to : A → B) (from : B → A) (text : B �
   pub via_begins : (b : B) (rest : List Token) → Starts p.first (tokens_of (text b) ++ rest)
   via_begins b rest = subst (λ (l : List Sym). Starts p.first (tokens_of l ++ rest)) (from_text b) (p.begins (from b) rest)
 
-  pub via_sound : (ts : List Token) (t : B) (rest : List Token) → via_read ts ≡ Ok (t, rest) → Sound text p.goes ts t rest
-  via_sound ts t rest e =
-      let x = bind_ok (p.read ts) (λ a. Ok (to a.0, a.1)) (t, rest) e in
-      let s = p.sound ts x.0.0 x.0.1 x.1 in
-      let made : B × List Token = (to x.0.0, x.0.1) in
-      let whole : Sound text p.goes ts made.0 made.1 = record {
-        parts = s.parts ∙ ap (λ (l : List Sym). tokens_of l ++ x.0.1) (sym (same_text x.0.0));
-        clean = subst IsClean (sym (same_text x.0.0)) s.clean;
-        stops = s.stops;
-      } in
-      subst (λ (z : B × List Token). Sound text p.goes ts z.0 z.1) (ok_is made (t, rest) x.2) whole
-
-  answer-seen : (m : Option Fault) (a : A) (rest : List Token) → seen_as to (answer m a rest) ≡ answer m (to a) rest
-  answer-seen None a rest = refl
-  answer-seen (Some e) a rest = refl
-
   pub via_again : (b : B) (rest : List Token) → Stops p.goes rest → via_read (tokens_of (text b) ++ rest) ≡ answer
       (first_annotation (text b) (length rest)) b rest
   via_again b rest stops =
       subst (λ (l : List Sym). via_read (tokens_of l ++ rest) ≡ answer (first_annotation l (length rest)) b rest) (from_text b)
-      (ap (seen_as to) (p.again (from b) rest stops) ∙ answer-seen (first_annotation (p.text (from b)) (length rest)) (from b) rest
+      (ap (seen_as to) (p.again (from b) rest stops) ∙ answer-seen to (first_annotation (p.text (from b)) (length rest)) (from b) rest
       ∙ ap (λ (y : B). answer (first_annotation (p.text (from b)) (length rest)) y rest) (round b))
 
-  seen_err : (r : Result (A × List Token) Fault) (e : Fault) → seen_as to r ≡ Err e → r ≡ Err e
-  seen_err (Ok x) e h = absurd cc
-  seen_err (Err d) e h = cc
-
   pub via_fails : (ts : List Token) (e : Fault) → via_read ts ≡ Err e → Fails text via_read ts e
-  via_fails ts e h =
-      let f = p.fails ts e (seen_err (p.read ts) e h) in
-      record {
-        front = f.front;
-        bad = f.bad;
-        parts = f.parts;
-        left = f.left;
-        viable = Viable-in p.text text f.front [] to (λ a. []) (λ a. same_text a ∙ sym (append-nil (p.text a))) tt (λ a. tt) f.viable;
-        shows = Shows-in p.text text e.kind f.front f.bad [] to (λ a. []) (λ a. same_text a ∙ sym (append-nil (p.text a))) f.shows;
-        local = λ b same. ap (seen_as to) (f.local b same);
-      }
+  via_fails ts e h = seen_fails p to text same_text via_read ts e (p.fails ts e (seen_err to (p.read ts) e h)) (λ b same. refl)
 
   abbrev pub via : Form B
   via = record {
@@ -79,7 +46,7 @@ module _ {A B : Type 0} (p : Form A) (to : A → B) (from : B → A) (text : B �
     some = to p.some;
     some_clean = subst IsClean (sym (same_text p.some)) p.some_clean;
     begins = via_begins;
-    sound = via_sound;
+    stands = seen_stands p to text same_text;
     again = via_again;
     fails = via_fails;
   }
@@ -119,32 +86,18 @@ module _ {X A : Type 0} (d : Dead X) (p : Form A) where
 module _ {X A : Type 0} (d : Dead X) (p : Form A) (apart : disjoint d.among p.first ≡ true) (first : List ℕ)
     (first_dead : (x : Token) → mem (class_of x) d.among ≡ true → mem (class_of x) first ≡ true)
     (first_right : (x : Token) → mem (class_of x) p.first ≡ true → mem (class_of x) first ≡ true) where
-  widen : (f : List ℕ) (ts : List Token) → ((x : Token) → mem (class_of x) f ≡ true → mem (class_of x) first ≡ true) → Starts f ts → Starts first ts
-  widen f [] w h = absurd h
-  widen f (x ∷ xs) w h = w x h
-
   pub dead_begins : (t : X ⊎ A) (rest : List Token) → Starts first (tokens_of (dead_text d p t) ++ rest)
   dead_begins (inl x) rest = subst (λ (l : List Sym). Starts first (tokens_of l ++ rest)) (sym (d.is x)) (first_dead (d.head x) (d.classes x))
-  dead_begins (inr a) rest = widen p.first (tokens_of (p.text a) ++ rest) first_right (p.begins a rest)
-
-  right_sound : (ts : List Token) (t : X ⊎ A) (rest : List Token) → to_right {A = X} (p.read ts) ≡ Ok (t, rest) → Sound (dead_text d p) p.goes ts t rest
-  right_sound ts t rest e =
-      let x = bind_ok (p.read ts) (λ b. Ok (inr b.0, b.1)) (t, rest) e in
-      let s = p.sound ts x.0.0 x.0.1 x.1 in
-      let made : (X ⊎ A) × List Token = (inr x.0.0, x.0.1) in
-      let whole : Sound (dead_text d p) p.goes ts made.0 made.1 = record { parts = s.parts; clean = s.clean; stops = s.stops } in
-      subst (λ (z : (X ⊎ A) × List Token). Sound (dead_text d p) p.goes ts z.0 z.1) (ok_is made (t, rest) x.2) whole
+  dead_begins (inr a) rest = widen first p.first (tokens_of (p.text a) ++ rest) first_right (p.begins a rest)
 
   unless_ok : (b : Bool) (e : Fault) (r : Result ((X ⊎ A) × List Token) Fault) (y : (X ⊎ A) × List Token) → unless b e r ≡ Ok y → r ≡ Ok y
   unless_ok true e r y h = absurd cc
   unless_ok false e r y h = h
 
-  pub dead_sound : (ts : List Token) (t : X ⊎ A) (rest : List Token) → dead_read d p ts ≡ Ok (t, rest) → Sound (dead_text d p) p.goes ts t rest
-  dead_sound ts t rest e = right_sound ts t rest (unless_ok (starts d.among ts) (fault_at d.kind (length ts)) (to_right (p.read ts)) (t, rest) e)
-
-  answer-right : (m : Option Fault) (b : A) (rest : List Token) → to_right {A = X} (answer m b rest) ≡ answer {T = X ⊎ A} m (inr b) rest
-  answer-right None b rest = refl
-  answer-right (Some e) b rest = refl
+  pub dead_stands : (ts : List Token) (t : X ⊎ A) (rest : List Token) → dead_read d p ts ≡ Ok (t, rest) → Stands (dead_text d p) p.goes ts t rest
+  dead_stands ts t rest e =
+      seen_stands p (λ a. inr a) (dead_text d p) (λ a. refl) ts t rest
+      (unless_ok (starts d.among ts) (fault_at d.kind (length ts)) (to_right (p.read ts)) (t, rest) e)
 
   pub dead_again : (t : X ⊎ A) (rest : List Token) → Stops p.goes rest → dead_read d p (tokens_of (dead_text d p t) ++ rest) ≡ answer
       (first_annotation (dead_text d p t) (length rest)) t rest
@@ -157,7 +110,7 @@ module _ {X A : Type 0} (d : Dead X) (p : Form A) (apart : disjoint d.among p.fi
       let ts : List Token = tokens_of (p.text a) ++ rest in
       ap (λ (b : Bool). unless b (fault_at d.kind (length ts)) (to_right {A = X} (p.read ts))) (starts-not d.among p.first ts apart (p.begins a rest))
       ∙ ap (λ (r : Result (A × List Token) Fault). to_right {A = X} r) (p.again a rest stops)
-      ∙ answer-right (first_annotation (p.text a) (length rest)) a rest
+      ∙ answer-seen {B = X ⊎ A} (λ (x : A). inr x) (first_annotation (p.text a) (length rest)) a rest
 
   dead_here : (ts : List Token) → starts d.among ts ≡ true → Fails (dead_text d p) (dead_read d p) ts (fault_at d.kind (length ts))
   dead_here [] h = absurd cc
@@ -186,21 +139,9 @@ module _ {X A : Type 0} (d : Dead X) (p : Form A) (apart : disjoint d.among p.fi
       at (z ∷ b) s = rw (subst (λ (w : Token). mem (class_of w) d.among ≡ true) s.0 h) refl
 
   right_fails : (ts : List Token) (e : Fault) → starts d.among ts ≡ false → Fails p.text p.read ts e → Fails (dead_text d p) (dead_read d p) ts e
-  right_fails ts e not_so f = record {
-    front = f.front;
-    bad = f.bad;
-    parts = f.parts;
-    left = f.left;
-    viable = Viable-in p.text (dead_text d p) f.front [] (λ b. inr b) (λ b. []) (λ b. sym (append-nil (p.text b))) tt (λ b. tt) f.viable;
-    shows = Shows-in p.text (dead_text d p) e.kind f.front f.bad [] (λ b. inr b) (λ b. []) (λ b. sym (append-nil (p.text b))) f.shows;
-    local = λ b same.
-        ap (λ (c : Bool). unless c (fault_at d.kind (length (f.front ++ b))) (to_right {A = X} (p.read (f.front ++ b))))
-        (starts-same d.among e.kind f.front f.bad b same ∙ ap (starts d.among) (sym f.parts) ∙ not_so)
-        ∙ ap (λ (r : Result (A × List Token) Fault). to_right {A = X} r) (f.local b same);
-  }
-
-  right_err : (ts : List Token) (e : Fault) → to_right {A = X} (p.read ts) ≡ Err e → p.read ts ≡ Err e
-  right_err ts e h = elim (bind_err (p.read ts) (λ a. Ok (inr a.0, a.1)) e h) [ inl x ↦ x | inr y ↦ absurd (let never = y.2 in cc) ]
+  right_fails ts e not_so f = seen_fails p (λ a. inr a) (dead_text d p) (λ a. refl) (dead_read d p) ts e f (λ b same.
+      ap (λ (c : Bool). unless c (fault_at d.kind (length (f.front ++ b))) (to_right {A = X} (p.read (f.front ++ b))))
+      (starts-same d.among e.kind f.front f.bad b same ∙ ap (starts d.among) (sym f.parts) ∙ not_so))
 
   same_err : (c e : Fault) → unless true c (to_right {A = X} (p.read [])) ≡ Err e → c ≡ e
   same_err c e h = cc
@@ -210,7 +151,7 @@ module _ {X A : Type 0} (d : Dead X) (p : Form A) (apart : disjoint d.among p.fi
       elim (bool_cases (starts d.among ts)) [
         | inl is_so ↦ subst (Fails (dead_text d p) (dead_read d p) ts) (same_err (fault_at d.kind (length ts)) e
             (subst (λ (b : Bool). unless b (fault_at d.kind (length ts)) (to_right {A = X} (p.read ts)) ≡ Err e) is_so h)) (dead_here ts is_so)
-        | inr not_so ↦ right_fails ts e not_so (p.fails ts e (right_err ts e (subst
+        | inr not_so ↦ right_fails ts e not_so (p.fails ts e (seen_err {B = X ⊎ A} (λ (x : A). inr x) (p.read ts) e (subst
             (λ (b : Bool). unless b (fault_at d.kind (length ts)) (to_right {A = X} (p.read ts)) ≡ Err e) not_so h)))
       ]
 
@@ -223,7 +164,7 @@ module _ {X A : Type 0} (d : Dead X) (p : Form A) (apart : disjoint d.among p.fi
     some = inr p.some;
     some_clean = p.some_clean;
     begins = dead_begins;
-    sound = dead_sound;
+    stands = dead_stands;
     again = dead_again;
     fails = dead_fails;
   }

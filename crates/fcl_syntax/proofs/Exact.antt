@@ -9,7 +9,7 @@ use Rattle.fcl_syntax.specs.declared.token.Token.{Token}
 use Rattle.fcl_syntax.specs.Annotations.{Sym, tokens_of, IsClean, plain, annotated}
 use Rattle.fcl_syntax.specs.First.{looks_on, SameNext, SameHead, Shown, IsAnnotation, Spells, IsPlain, IsPlainAnnotation, Begins, NoTextHas, NoAnnotation, Here, FirstFault}
 use Rattle.fcl_syntax.specs.Readers.{ended, ◌>>=◌, fault_at}
-use Rattle.fcl_syntax.proofs.Form.{Stops, annotation_at, first_annotation, answer, Sound, Viable, Fails, Form}
+use Rattle.fcl_syntax.proofs.Form.{Stops, annotation_at, first_annotation, answer, Stands, Viable, Fails, Form}
 use Rattle.fcl_syntax.proofs.AnnotatedTexts.{bind_ok, bind_err, ok_is, tokens_of-append, length-tokens, first_annotation-clean}
 
 abbrev pub whole : {T : Type 0} → Form T → List Token → Result T Fault
@@ -143,9 +143,9 @@ module _ {T : Type 0} (p : Form T) where
   pub whole_spells : (ts : List Token) (t : T) → whole p ts ≡ Ok t → Spells p.text ts t
   whole_spells ts t h =
       let x = bind_ok (p.read ts) ended t h in
-      go x.0 (p.sound ts x.0.0 x.0.1 x.1) x.2
+      go x.0 (p.stands ts x.0.0 x.0.1 x.1) x.2
     where
-      go : (x : T × List Token) → Sound p.text p.goes ts x.0 x.1 → ended x ≡ Ok t → Spells p.text ts t
+      go : (x : T × List Token) → Stands p.text p.goes ts x.0 x.1 → ended x ≡ Ok t → Spells p.text ts t
       go (u, []) s e = let is : u ≡ t = cc in subst (Spells p.text ts) is (record { parts = s.parts ∙ append-nil (tokens_of (p.text u)); clean = s.clean })
       go (u, y ∷ rest) s e = absurd cc
 
@@ -208,7 +208,7 @@ module _ {T : Type 0} (p : Form T) where
           not_expected v.tree (length (x ∷ v.more)) v.plain (ap p.read parts ∙ f.local (x ∷ v.more) same
           ∙ ap (λ (k : Kind). Err (fault_at k (length (x ∷ v.more)))) is)
 
-  no_text_after : (ts : List Token) (t : T) (x : Token) (rest : List Token) → Sound p.text p.goes ts t (x ∷ rest)
+  no_text_after : (ts : List Token) (t : T) (x : Token) (rest : List Token) → Stands p.text p.goes ts t (x ∷ rest)
       → NoTextHas p.text (tokens_of (p.text t)) (x ∷ rest)
   no_text_after ts t x rest s v =
       let parts : tokens_of (p.text v.tree) ≡ tokens_of (p.text t) ++ (x ∷ v.more) = v.parts ∙ append_assoc (tokens_of (p.text t)) (x ∷ []) v.more in
@@ -239,7 +239,7 @@ module _ {T : Type 0} (p : Form T) where
   whole_faults ts e h =
       elim (bind_err (p.read ts) ended e h) [
         | inl a ↦ inner a
-        | inr x ↦ trailing x.0 x.1 (p.sound ts x.0.0 x.0.1 x.1) x.2
+        | inr x ↦ trailing x.0 x.1 (p.stands ts x.0.0 x.0.1 x.1) x.2
       ]
     where
       inner : p.read ts ≡ Err e → FirstFault p.text ts e
@@ -255,7 +255,7 @@ module _ {T : Type 0} (p : Form T) where
             before = before_of ts f.front f.bad f.parts (λ g b parts lt. no_annotation_before ts e a g b parts (omega (arith, f.left, lt)));
           }
 
-      trailing : (x : T × List Token) → p.read ts ≡ Ok x → Sound p.text p.goes ts x.0 x.1 → ended x ≡ Err e → FirstFault p.text ts e
+      trailing : (x : T × List Token) → p.read ts ≡ Ok x → Stands p.text p.goes ts x.0 x.1 → ended x ≡ Err e → FirstFault p.text ts e
       trailing (t, []) a s k = absurd cc
       trailing (t, y ∷ rest) a s k =
           let is : fault_at Expected (suc (length rest)) ≡ e = cc in

@@ -41,7 +41,8 @@ abbrev pub answer : {T : Type 0} → Option Fault → T → List Token → Resul
 answer None t rest = Ok (t, rest)
 answer (Some e) t rest = Err e
 
-pub record Sound {T : Type 0} (text : T → List Sym) (goes : List ℕ) (ts : List Token) (t : T) (rest : List Token) : Type 0 where
+-- the text of a tree stands in front of the rest, has no annotation, and the rest does not go on
+pub record Stands {T : Type 0} (text : T → List Sym) (goes : List ℕ) (ts : List Token) (t : T) (rest : List Token) : Type 0 where
   pub parts : ts ≡ tokens_of (text t) ++ rest
   pub clean : IsClean (text t)
   pub stops : Stops goes rest
@@ -75,6 +76,6 @@ pub record Form (T : Type 0) : Type 0 where
   pub some : T
   pub some_clean : IsClean (text some)
   pub begins : (t : T) (rest : List Token) → Starts first (tokens_of (text t) ++ rest)
-  pub sound : (ts : List Token) (t : T) (rest : List Token) → read ts ≡ Ok (t, rest) → Sound text goes ts t rest
+  pub stands : (ts : List Token) (t : T) (rest : List Token) → read ts ≡ Ok (t, rest) → Stands text goes ts t rest
   pub again : (t : T) (rest : List Token) → Stops goes rest → read (tokens_of (text t) ++ rest) ≡ answer (first_annotation (text t) (length rest)) t rest
   pub fails : (ts : List Token) (e : Fault) → read ts ≡ Err e → Fails text read ts e

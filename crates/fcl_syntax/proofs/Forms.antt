@@ -16,8 +16,8 @@ use Rattle.fcl_syntax.specs.TokenClasses.{name_classes, other_type_classes, beyo
 use Rattle.fcl_syntax.specs.Annotations.{Sym, plain}
 use Rattle.fcl_syntax.specs.Readers.{loop}
 use Rattle.fcl_syntax.proofs.Form.{disjoint, Form}
-use Rattle.fcl_syntax.specs.Grammar.{behind, each, key_text, name_text, names_text, TSigned, plus, minus, bare, signed_text, TNum, TType, TDecl, decl_text, direction_key, TVars, vars_text, var_classes, TSection, TCoordinate, TUnit, TZero}
-use Rattle.fcl_syntax.specs.Reading.{IsBare, expect_at, key_at, word_at, open_at, name_at, number_at, unit_number_at, zero_number_at, direction_at, signed_at, coordinate_number_at, unit_at, zero_at, comma_name_at, names_at, type_at, decl_at, decls_at, vars_at, section_at}
+use Rattle.fcl_syntax.specs.Grammar.{behind, each, key_text, name_text, names_text, TSigned, plus, minus, bare, signed_text, TSignedNumber, TType, TDeclaration, declaration_text, direction_key, TVariables, variables_text, var_classes, TSection, TCoordinate, TUnit, TZero}
+use Rattle.fcl_syntax.specs.Reading.{IsBare, expect_at, key_at, word_at, open_at, name_at, number_at, unit_number_at, zero_number_at, direction_at, signed_at, coordinate_number_at, unit_at, zero_at, comma_name_at, names_at, type_at, declaration_at, declarations_at, variables_at, section_at}
 use Rattle.fcl_syntax.proofs.Chains.{bind_assoc, bind_cond, second, chain2, chain3, chain4}
 use Rattle.fcl_syntax.proofs.SingleTokens as single
 use Rattle.fcl_syntax.proofs.Dead.{via}
@@ -130,8 +130,8 @@ module _ {A B : Type 0} (p : Form A) (q : Form B) (apart_plus : disjoint (class_
   abbrev pub signed_form : Form (TSigned A B)
   signed_form = named (via signed_raw to_signed from_signed (signed_text p.text q.text) signed_round signed_same) (signed_at p.read q.read) signed_is
 
-abbrev pub num_form : Form TNum
-num_form = signed_form number_form number_form refl refl refl
+abbrev pub signed_number_form : Form TSignedNumber
+signed_number_form = signed_form number_form number_form refl refl refl
 
 pub coordinate_number_is : (ts : List Token) → coordinate_number_at ts ≡ (refuse (Unsupported 10) name_classes number_form refl refl).read ts
 unfolding coordinate_number_at
@@ -208,38 +208,38 @@ type_is ts = refl
 abbrev pub type_form : Form TType
 type_form = named (refuse (Unsupported 5) other_type_classes (word_form word.Real) refl refl) type_at type_is
 
-abbrev pub decl_raw : Form TDecl
-decl_raw = via (seq names_form (seq (bare_form tok.Colon refl) (seq type_form (bare_form tok.Semicolon refl) refl) refl) refl)
-    (λ t. record { names = t.0; type = t.1.1.0 }) (λ d. (d.names, (tt, (d.type, tt)))) decl_text (λ d. refl) (λ t. refl)
+abbrev pub declaration_raw : Form TDeclaration
+declaration_raw = via (seq names_form (seq (bare_form tok.Colon refl) (seq type_form (bare_form tok.Semicolon refl) refl) refl) refl)
+    (λ t. record { names = t.0; type = t.1.1.0 }) (λ d. (d.names, (tt, (d.type, tt)))) declaration_text (λ d. refl) (λ t. refl)
 
-pub decl_is : (ts : List Token) → decl_at ts ≡ decl_raw.read ts
-unfolding decl_at
-decl_is ts = chain4 names_at (expect_at tok.Colon) type_at (expect_at tok.Semicolon) (λ t. record { names = t.0; type = t.1.1.0 }) ts
+pub declaration_is : (ts : List Token) → declaration_at ts ≡ declaration_raw.read ts
+unfolding declaration_at
+declaration_is ts = chain4 names_at (expect_at tok.Colon) type_at (expect_at tok.Semicolon) (λ t. record { names = t.0; type = t.1.1.0 }) ts
 
-abbrev pub decl_form : Form TDecl
-decl_form = named decl_raw decl_at decl_is
+abbrev pub declaration_form : Form TDeclaration
+declaration_form = named declaration_raw declaration_at declaration_is
 
-abbrev pub to_vars : (ℕ × Direction) × (List TDecl × ℕ) → TVars
-to_vars t = record { at = t.0.0; direction = t.0.1; decls = t.1.0; end = t.1.1 }
+abbrev pub to_variables : (ℕ × Direction) × (List TDeclaration × ℕ) → TVariables
+to_variables t = record { at = t.0.0; direction = t.0.1; declarations = t.1.0; end = t.1.1 }
 
-pub vars_same : (t : (ℕ × Direction) × (List TDecl × ℕ)) → vars_text (to_vars t) ≡ plain (tok.Word t.0.0 (direction_key t.0.1)) ∷
-    (texts decl_form t.1.0 ++ key_text key.EndVar t.1.1)
-vars_same t = ap (λ (l : List Sym). plain (tok.Word t.0.0 (direction_key t.0.1)) ∷ (l ++ key_text key.EndVar t.1.1)) (each_texts decl_form t.1.0)
+pub variables_same : (t : (ℕ × Direction) × (List TDeclaration × ℕ)) → variables_text (to_variables t) ≡ plain (tok.Word t.0.0 (direction_key t.0.1)) ∷
+    (texts declaration_form t.1.0 ++ key_text key.EndVar t.1.1)
+variables_same t = ap (λ (l : List Sym). plain (tok.Word t.0.0 (direction_key t.0.1)) ∷ (l ++ key_text key.EndVar t.1.1)) (each_texts declaration_form t.1.0)
 
-abbrev pub vars_raw : Form TVars
-vars_raw = via (seq direction_form (many_then decl_form (key_form key.EndVar) refl refl refl) refl) to_vars
-    (λ v. ((v.at, v.direction), (v.decls, v.end))) vars_text (λ v. refl) vars_same
+abbrev pub variables_raw : Form TVariables
+variables_raw = via (seq direction_form (many_then declaration_form (key_form key.EndVar) refl refl refl) refl) to_variables
+    (λ v. ((v.at, v.direction), (v.declarations, v.end))) variables_text (λ v. refl) variables_same
 
-pub vars_is : (ts : List Token) → vars_at ts ≡ vars_raw.read ts
-unfolding vars_at
-vars_is ts = chain3 direction_at decls_at (key_at key.EndVar) to_vars ts
+pub variables_is : (ts : List Token) → variables_at ts ≡ variables_raw.read ts
+unfolding variables_at
+variables_is ts = chain3 direction_at declarations_at (key_at key.EndVar) to_variables ts
 
-abbrev pub vars_form : Form TVars
-vars_form = named vars_raw vars_at vars_is
+abbrev pub variables_form : Form TVariables
+variables_form = named variables_raw variables_at variables_is
 
-pub section_is : (ts : List Token) → section_at ts ≡ (refuse (Unsupported 6) var_classes vars_form refl refl).read ts
+pub section_is : (ts : List Token) → section_at ts ≡ (refuse (Unsupported 6) var_classes variables_form refl refl).read ts
 unfolding section_at
 section_is ts = refl
 
 abbrev pub section_form : Form TSection
-section_form = named (refuse (Unsupported 6) var_classes vars_form refl refl) section_at section_is
+section_form = named (refuse (Unsupported 6) var_classes variables_form refl refl) section_at section_is

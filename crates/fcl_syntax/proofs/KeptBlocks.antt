@@ -10,17 +10,17 @@ use Rattle.fcl_syntax.specs.declared.tree.Conclusion.{Conclusion}
 use Rattle.fcl_syntax.specs.declared.tree.FunctionBlock.{FunctionBlock}
 use Rattle.fcl_syntax.specs.declared.tree.Name.{Name}
 use Rattle.fcl_syntax.specs.declared.tree.RuleLine.TheVariants as line
-use Rattle.fcl_syntax.specs.Grammar.{TDecl, names_text, name_text, behind, each, type_text, word_text, decl_text, TVars, vars_text, key_text, TSection, section_text, or_text, TRule, rule_text, conclusion_text, conclusions_text, TWeight, weight_text, semicolon_text, num_text, TRuleItem, rule_item_text, TAct, TRuleLine, rule_line_text, and_classes, or_classes, accu_classes, TRulebase, rulebase_text, TEnd, end_text, part_text, TBlock, block_text}
+use Rattle.fcl_syntax.specs.Grammar.{TDeclaration, names_text, name_text, behind, each, type_text, word_text, declaration_text, TVariables, variables_text, key_text, TSection, section_text, or_text, TRule, rule_text, conclusion_text, conclusions_text, TWeight, weight_text, semicolon_text, signed_number_text, TRuleItem, rule_item_text, TAct, TRuleLine, rule_line_text, and_classes, or_classes, accu_classes, TRulebase, rulebase_text, TEnd, end_text, part_text, TBlock, block_text}
 use Rattle.fcl_syntax.specs.TokenClasses.{name_classes, other_type_classes}
 use Rattle.fcl_syntax.specs.Annotations.{plain, either_text, or_refused}
 use Rattle.fcl_syntax.specs.Text.{SpellsTree, IsFirstFault}
 use Rattle.fcl_syntax.specs.TextReading.{read_text}
 use Rattle.fcl_syntax.specs.Offsets.{offsets}
 use Rattle.fcl_syntax.specs.Readings.{EachTextIsRead}
-use Rattle.fcl_syntax.specs.View.{view_num, view_decl, view_vars, view_section, view_part, view_weight, view_rule, view_rule_item, view_act_word, view_act, view_rule_line, view_rulebase, view}
+use Rattle.fcl_syntax.specs.View.{view_signed_number, view_declaration, view_variables, view_section, view_part, view_weight, view_rule, view_rule_item, view_act_word, view_act, view_rule_line, view_rulebase, view}
 use Rattle.fcl_syntax.proofs.KeptConditions.{or_tree}
 use Rattle.fcl_syntax.proofs.KeptLists.{HasTree, IsShort, accepted, behind_tree, count, each_tree, few_within, no_annotation, short_back, short_front, short_rest}
-use Rattle.fcl_syntax.proofs.KeptTerms.{num_tree, part_tree, setting_tree, some_part}
+use Rattle.fcl_syntax.proofs.KeptTerms.{signed_number_tree, part_tree, setting_tree, some_part}
 use Rattle.fcl_syntax.proofs.Offsets.{offsets_ascend_lem}
 use Rattle.fcl_syntax.proofs.Theorem.{read_faults, read_spells}
 
@@ -42,28 +42,29 @@ act_tree a =
 module _ {n : ℕ} (room : n < 2 ^ 63) where
   -- ---- variables
 
-  decl_tree : (d : TDecl) → IsShort n (decl_text d) → HasTree view_decl d
-  decl_tree d h =
+  declaration_tree : (d : TDeclaration) → IsShort n (declaration_text d) → HasTree view_declaration d
+  declaration_tree d h =
       let rest = plain tok.Colon ∷ (type_text d.type ++ plain tok.Semicolon ∷ []) in
       let more = behind_tree room tok.Comma name_text some_name d.names.1 (short_rest (short_front (names_text d.names) rest h)) in
       let real = accepted (Unsupported 5) other_type_classes (word_text word.Real) d.type
       (short_front (type_text d.type) (plain tok.Semicolon ∷ []) (short_rest (short_back (names_text d.names) rest h))) in
       (record { first = d.names.0; more = more.0; real = real.0 }, λ i. record { names = (d.names.0, more.1 i); type = real.1 i })
 
-  some_decl : (d : TDecl) → IsShort n (decl_text d) → 0 < count (decl_text d)
-  some_decl d h = omega arith
+  some_declaration : (d : TDeclaration) → IsShort n (declaration_text d) → 0 < count (declaration_text d)
+  some_declaration d h = omega arith
 
-  vars_tree : (v : TVars) → IsShort n (vars_text v) → HasTree view_vars v
-  vars_tree v h =
-      let decls = each_tree room view_decl decl_text some_decl decl_tree v.decls (short_front (each decl_text v.decls) (key_text key.EndVar v.end)
+  variables_tree : (v : TVariables) → IsShort n (variables_text v) → HasTree view_variables v
+  variables_tree v h =
+      let declarations = each_tree room view_declaration declaration_text some_declaration declaration_tree v.declarations
+      (short_front (each declaration_text v.declarations) (key_text key.EndVar v.end)
       (short_rest h)) in (
-        record { at = v.at; direction = v.direction; decls = decls.0; end = v.end },
-        λ i. record { at = v.at; direction = v.direction; decls = decls.1 i; end = v.end },
+        record { at = v.at; direction = v.direction; declarations = declarations.0; end = v.end },
+        λ i. record { at = v.at; direction = v.direction; declarations = declarations.1 i; end = v.end },
       )
 
   section_tree : (s : TSection) → IsShort n (section_text s) → HasTree view_section s
   section_tree (inl x) h = absurd (no_annotation (Unsupported 6) h.clean.0)
-  section_tree (inr v) h = let found = vars_tree v h in (found.0, ap inr found.1)
+  section_tree (inr v) h = let found = variables_tree v h in (found.0, ap inr found.1)
 
   some_section : (s : TSection) → IsShort n (section_text s) → 0 < count (section_text s)
   some_section (inl x) h = absurd (no_annotation (Unsupported 6) h.clean.0)
@@ -73,11 +74,12 @@ module _ {n : ℕ} (room : n < 2 ^ 63) where
 
   weight_tree : (w : TWeight ⊎ Unit {0}) → IsShort n (either_text weight_text semicolon_text w) → HasTree view_weight w
   weight_tree (inl w) h =
-      let found = accepted (Unsupported 15) name_classes num_text w.value (short_front (or_refused (Unsupported 15) name_classes num_text w.value)
+      let found = accepted (Unsupported 15) name_classes signed_number_text w.value
+      (short_front (or_refused (Unsupported 15) name_classes signed_number_text w.value)
       (plain tok.Semicolon ∷ []) (short_rest h)) in
-      let num = num_tree found.0 in
-      let is : inr (view_num num.0) ≡ w.value = ap inr num.1 ∙ found.1 in
-      (Some (record { at = w.at; num = num.0 }), λ i. inl (record { at = w.at; value = is i }))
+      let number = signed_number_tree found.0 in
+      let is : inr (view_signed_number number.0) ≡ w.value = ap inr number.1 ∙ found.1 in
+      (Some (record { at = w.at; value = number.0 }), λ i. inl (record { at = w.at; value = is i }))
   weight_tree (inr u) h = (None, refl)
 
   rule_tree : (r : TRule) → IsShort n (rule_text r) → HasTree view_rule r
@@ -156,14 +158,15 @@ module _ {n : ℕ} (room : n < 2 ^ 63) where
       let last = rulebase_text b.rules ++ end_text b.end in
       let rest = each part_text b.parts ++ last in
       let content = short_rest (short_rest h) in
-      let vars = each_tree room view_section section_text some_section section_tree b.vars (short_front (each section_text b.vars) rest content) in
-      let behind_vars = short_back (each section_text b.vars) rest content in
-      let parts = each_tree room view_part part_text (some_part room) (part_tree room) b.parts (short_front (each part_text b.parts) last behind_vars) in
-      let behind_parts = short_back (each part_text b.parts) last behind_vars in
+      let variables = each_tree room view_section section_text some_section section_tree b.variables
+      (short_front (each section_text b.variables) rest content) in
+      let behind_variables = short_back (each section_text b.variables) rest content in
+      let parts = each_tree room view_part part_text (some_part room) (part_tree room) b.parts (short_front (each part_text b.parts) last behind_variables) in
+      let behind_parts = short_back (each part_text b.parts) last behind_variables in
       let rules = rulebase_tree b.rules (short_front (rulebase_text b.rules) (end_text b.end) behind_parts) in
       let end = end_tree b.end (short_back (rulebase_text b.rules) (end_text b.end) behind_parts) in (
-        record { at = b.at; name = b.name; vars = vars.0; parts = parts.0; rules = rules.0; end = end.0 },
-        λ i. record { at = b.at; name = b.name; vars = vars.1 i; parts = parts.1 i; rules = rules.1 i; end = end.1 i },
+        record { at = b.at; name = b.name; variables = variables.0; parts = parts.0; rules = rules.0; end = end.0 },
+        λ i. record { at = b.at; name = b.name; variables = variables.1 i; parts = parts.1 i; rules = rules.1 i; end = end.1 i },
       )
 
 -- ---- texts

@@ -11,26 +11,26 @@ use Rattle.fcl_syntax.specs.declared.tree.DefuzzyLine.TheVariants as defuzzy
 use Rattle.fcl_syntax.specs.declared.tree.Degree.TheVariants as degree
 use Rattle.fcl_syntax.specs.declared.tree.FallbackValue.TheVariants as fallback
 use Rattle.fcl_syntax.specs.declared.tree.FuzzyLine.TheVariants as fuzzy
-use Rattle.fcl_syntax.specs.declared.tree.Num.TheVariants as num
+use Rattle.fcl_syntax.specs.declared.tree.SignedNumber.TheVariants as signed
 use Rattle.fcl_syntax.specs.declared.tree.Part.TheVariants as part
 use Rattle.fcl_syntax.specs.declared.tree.Point.{Point}
 use Rattle.fcl_syntax.specs.declared.tree.UnitNumber.{UnitNumber}
 use Rattle.fcl_syntax.specs.declared.tree.ZeroNumber.{ZeroNumber}
-use Rattle.fcl_syntax.specs.Grammar.{TSigned, plus, minus, bare, TNum, num_text, number_text, each, TCoordinate, coordinate_text, signed_text, unit_text, zero_text, TUnit, TZero, degree_text, TPoint, point_text, TPoints, points_text, TTerm, term_text, TRange, range_text, TFuzzify, fuzzify_text, TSetting, setting_text, accu_classes, method_classes, TSingleton, singleton_text, TFallback, word_text, TDefuzzyLine, defuzzy_line_text, TDefuzzify, defuzzify_text, key_text, TPart, part_text}
+use Rattle.fcl_syntax.specs.Grammar.{TSigned, plus, minus, bare, TSignedNumber, signed_number_text, number_text, each, TCoordinate, coordinate_text, signed_text, unit_text, zero_text, TUnit, TZero, degree_text, TPoint, point_text, TPoints, points_text, TTerm, term_text, TRange, range_text, TFuzzify, fuzzify_text, TSetting, setting_text, accu_classes, method_classes, TSingleton, singleton_text, TFallback, word_text, TDefuzzyLine, defuzzy_line_text, TDefuzzify, defuzzify_text, key_text, TPart, part_text}
 use Rattle.fcl_syntax.specs.TokenClasses.{name_classes, beyond_unit_classes, beyond_zero_classes, open_classes}
 use Rattle.fcl_syntax.specs.Annotations.{plain, either_text, or_refused}
-use Rattle.fcl_syntax.specs.View.{view_num, view_coordinate, view_degree, view_point, view_term, view_range, view_fuzzy_line, view_fuzzify, view_setting, view_singleton, view_value, view_fallback, view_defuzzy_line, view_defuzzify, view_part}
+use Rattle.fcl_syntax.specs.View.{view_signed_number, view_coordinate, view_degree, view_point, view_term, view_range, view_fuzzy_line, view_fuzzify, view_setting, view_singleton, view_value, view_fallback, view_defuzzy_line, view_defuzzify, view_part}
 use Rattle.fcl_syntax.proofs.KeptLists.{HasTree, IsShort, accepted, count, each_tree, no_annotation, short_back, short_front, short_rest}
 
 -- ---- numbers
 
-pub num_tree : (x : TNum) → HasTree view_num x
-num_tree (plus n) = (num.Plus n, refl)
-num_tree (minus n) = (num.Minus n, refl)
-num_tree (bare n) = (num.Bare n, refl)
+pub signed_number_tree : (x : TSignedNumber) → HasTree view_signed_number x
+signed_number_tree (plus n) = (signed.Plus n, refl)
+signed_number_tree (minus n) = (signed.Minus n, refl)
+signed_number_tree (bare n) = (signed.Bare n, refl)
 
-value_tree : (x : TNum ⊎ ℕ) → HasTree view_value x
-value_tree (inl x) = let one = num_tree x in (fallback.Number one.0, ap inl one.1)
+value_tree : (x : TSignedNumber ⊎ ℕ) → HasTree view_value x
+value_tree (inl x) = let one = signed_number_tree x in (fallback.Number one.0, ap inl one.1)
 value_tree (inr at) = (fallback.Nc at, refl)
 
 pub setting_tree : {n : ℕ} (k : Keyword) (w : Word) (classes : List ℕ) (code : ℕ) (s : TSetting classes) → IsShort n (setting_text k w classes code s)
@@ -42,8 +42,8 @@ setting_tree k w classes code s h =
 
 range_tree : (r : TRange) → HasTree view_range r
 range_tree r =
-    let low = num_tree r.low in
-    let high = num_tree r.high in (
+    let low = signed_number_tree r.low in
+    let high = signed_number_tree r.high in (
       record { at = r.at; assigned = r.assigned; open_at = r.open_at; low = low.0; high = high.0 },
       λ i. record { at = r.at; assigned = r.assigned; open_at = r.open_at; low = low.1 i; high = high.1 i },
     )
@@ -67,9 +67,9 @@ module _ {n : ℕ} (room : n < 2 ^ 63) where
   -- ---- points
 
   coordinate_tree : (x : TSigned TCoordinate TCoordinate) → IsShort n (signed_text coordinate_text coordinate_text x) → HasTree view_coordinate x
-  coordinate_tree (plus c) h = let found = accepted (Unsupported 10) name_classes number_text c (short_rest h) in (num.Plus found.0, ap plus found.1)
-  coordinate_tree (minus c) h = let found = accepted (Unsupported 10) name_classes number_text c (short_rest h) in (num.Minus found.0, ap minus found.1)
-  coordinate_tree (bare c) h = let found = accepted (Unsupported 10) name_classes number_text c h in (num.Bare found.0, ap bare found.1)
+  coordinate_tree (plus c) h = let found = accepted (Unsupported 10) name_classes number_text c (short_rest h) in (signed.Plus found.0, ap plus found.1)
+  coordinate_tree (minus c) h = let found = accepted (Unsupported 10) name_classes number_text c (short_rest h) in (signed.Minus found.0, ap minus found.1)
+  coordinate_tree (bare c) h = let found = accepted (Unsupported 10) name_classes number_text c h in (signed.Bare found.0, ap bare found.1)
 
   unit_tree : (u : TUnit) → IsShort n (or_refused (Unsupported 10) name_classes (or_refused (Unsupported 11) beyond_unit_classes unit_text) u)
       → HasTree view_unit u
@@ -133,10 +133,11 @@ module _ {n : ℕ} (room : n < 2 ^ 63) where
 
   singleton_tree : (s : TSingleton) → IsShort n (singleton_text s) → HasTree view_singleton s
   singleton_tree s h =
-      let found = accepted (Unsupported 13) open_classes num_text s.value (short_front (or_refused (Unsupported 13) open_classes num_text s.value)
+      let found = accepted (Unsupported 13) open_classes signed_number_text s.value
+      (short_front (or_refused (Unsupported 13) open_classes signed_number_text s.value)
       (plain tok.Semicolon ∷ []) (short_rest (short_rest (short_rest h)))) in
-      let value = num_tree found.0 in
-      let is : inr (view_num value.0) ≡ s.value = ap inr value.1 ∙ found.1 in
+      let value = signed_number_tree found.0 in
+      let is : inr (view_signed_number value.0) ≡ s.value = ap inr value.1 ∙ found.1 in
       (record { at = s.at; name = s.name; value = value.0 }, λ i. record { at = s.at; name = s.name; value = is i })
 
   defuzzy_line_tree : (l : TDefuzzyLine) → IsShort n (defuzzy_line_text l) → HasTree view_defuzzy_line l

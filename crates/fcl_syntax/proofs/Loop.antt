@@ -88,7 +88,7 @@ module _ {A : Type 0} (p : Form A) (apart : disjoint p.goes p.first ≡ true) wh
           subst (λ (z : List A × List Token). Ran p ts z.0 z.1) e (record { parts = refl; clean = tt; ends = w; stops = tt })
       go again true w h =
           let x = bind_ok (p.read ts) (λ a. with_front a.0 (rep p n a.1)) (items, rest) h in
-          let s = p.sound ts x.0.0 x.0.1 x.1 in
+          let s = p.stands ts x.0.0 x.0.1 x.1 in
           let y = with_front_ok x.0.0 (rep p n x.0.1) items rest x.2 in
           let len' : length x.0.1 ≤ n = shorter x.0.0 x.0.1 n (subst (λ (l : List Token). length l ≤ suc n) s.parts len) in
           let r = again x.0.1 y.0 rest len' y.1 in
@@ -201,7 +201,7 @@ module _ {A : Type 0} (p : Form A) (apart : disjoint p.goes p.first ≡ true) wh
 
       more_of : (a : A) (rest : List Token) → p.read ts ≡ Ok (a, rest) → FailsIn p rest e → FailsIn p ts e
       more_of a rest h f =
-          let s = p.sound ts a rest h in
+          let s = p.stands ts a rest h in
           record {
             before = a ∷ f.before;
             clean = IsClean-append (p.text a) (texts p f.before) s.clean f.clean;

@@ -8,10 +8,10 @@ use Rattle.fcl_syntax.specs.TokenClasses.{class_of, mem}
 use Rattle.fcl_syntax.specs.Annotations.{Sym, tokens_of, IsClean}
 use Rattle.fcl_syntax.specs.First.{SameHead}
 use Rattle.fcl_syntax.specs.Readers.{◌>>=◌, fault_at, starts}
-use Rattle.fcl_syntax.proofs.Form.{disjoint, Stops, Starts, first_annotation, or_else, answer, Sound, Fails, Form}
+use Rattle.fcl_syntax.proofs.Form.{disjoint, Stops, Starts, first_annotation, or_else, answer, Stands, Fails, Form}
 use Rattle.fcl_syntax.proofs.AnnotatedTexts.{bind_ok, bind_err, ok_is, tokens_of-append, length-tokens, IsClean-append, first_annotation-append, first_annotation-clean, starts-stops, Stops-same}
 use Rattle.fcl_syntax.proofs.Seq.{Shows-in, Viable-in}
-use Rattle.fcl_syntax.proofs.Small.{starts-not, starts-same}
+use Rattle.fcl_syntax.proofs.Small.{starts-not, starts-same, widen}
 use Rattle.fcl_syntax.proofs.Loop.{texts, rep, Settled, all_settled, Ran, FailsIn, rep_runs, rep_again, rep_local, rep_fails, stops_before, starts-Starts}
 
 pub mem-append : (xs ys : List ℕ) (n : ℕ) → mem n (xs ++ ys) ≡ cond (mem n xs) true (mem n ys)
@@ -60,22 +60,22 @@ module _ {A B : Type 0} (p : Form A) (q : Form B) (apart : disjoint q.goes q.fir
   settled_stops [] ts rest e s h = subst (λ (g : List ℕ). Stops g rest) same_goes (subst (Stops p.goes) e s)
   settled_stops (b ∷ items) ts rest e s h = h
 
-  pub then_sound : (ts : List Token) (t : A × List B) (rest : List Token) → then_read p q ts ≡ Ok (t, rest)
-      → Sound (then_text p q) (q.first ++ q.goes) ts t rest
-  then_sound ts t rest e =
+  pub then_stands : (ts : List Token) (t : A × List B) (rest : List Token) → then_read p q ts ≡ Ok (t, rest)
+      → Stands (then_text p q) (q.first ++ q.goes) ts t rest
+  then_stands ts t rest e =
       let x = bind_ok (p.read ts) (λ a. rep q (length a.1) a.1 >>= λ r. Ok ((a.0, r.0), r.1)) (t, rest) e in
       let y = bind_ok (rep q (length x.0.1) x.0.1) (λ r. Ok ((x.0.0, r.0), r.1)) (t, rest) x.2 in
-      let s = p.sound ts x.0.0 x.0.1 x.1 in
+      let s = p.stands ts x.0.0 x.0.1 x.1 in
       let r = rep_runs q apart (length x.0.1) x.0.1 y.0.0 y.0.1 (omega arith) y.1 in
       let made : (A × List B) × List Token = ((x.0.0, y.0.0), y.0.1) in
-      let whole : Sound (then_text p q) (q.first ++ q.goes) ts made.0 made.1 = record {
+      let whole : Stands (then_text p q) (q.first ++ q.goes) ts made.0 made.1 = record {
         parts = s.parts ∙ ap (λ (l : List Token). tokens_of (p.text x.0.0) ++ l) r.parts
             ∙ sym (append_assoc (tokens_of (p.text x.0.0)) (tokens_of (texts q y.0.0)) y.0.1)
             ∙ ap (λ (l : List Token). l ++ y.0.1) (sym (tokens_of-append (p.text x.0.0) (texts q y.0.0)));
         clean = IsClean-append (p.text x.0.0) (texts q y.0.0) s.clean r.clean;
         stops = Stops-both q.first q.goes y.0.1 r.ends (settled_stops y.0.0 x.0.1 y.0.1 r.parts s.stops r.stops);
       } in
-      subst (λ (z : (A × List B) × List Token). Sound (then_text p q) (q.first ++ q.goes) ts z.0 z.1) (ok_is made (t, rest) y.2) whole
+      subst (λ (z : (A × List B) × List Token). Stands (then_text p q) (q.first ++ q.goes) ts z.0 z.1) (ok_is made (t, rest) y.2) whole
 
   then_step : (m n : Option Fault) (a : A) (bs : List B) (r rest : List Token) → rep q (length r) r ≡ answer n bs rest
       → (answer m a r >>= λ a. rep q (length a.1) a.1 >>= λ r. Ok ((a.0, r.0), r.1)) ≡ answer {T = A × List B} (or_else m n) (a, bs) rest
@@ -116,7 +116,7 @@ module _ {A B : Type 0} (p : Form A) (q : Form B) (apart : disjoint q.goes q.fir
   one_more : (a : A) (before : List B) (b : B) → then_text p q (a, before ++ b ∷ []) ≡ (p.text a ++ texts q before) ++ (q.text b ++ [])
   one_more a before b = ap (λ (l : List Sym). p.text a ++ l) (texts-append q before (b ∷ [])) ∙ sym (append_assoc (p.text a) (texts q before) (q.text b ++ []))
 
-  then_more : (ts : List Token) (e : Fault) (a : A) (rest : List Token) → Sound p.text p.goes ts a rest → FailsIn q rest e
+  then_more : (ts : List Token) (e : Fault) (a : A) (rest : List Token) → Stands p.text p.goes ts a rest → FailsIn q rest e
       → Fails (then_text p q) (then_read p q) ts e
   then_more ts e a rest s g =
       let f = g.inner in
@@ -154,7 +154,7 @@ module _ {A B : Type 0} (p : Form A) (q : Form B) (apart : disjoint q.goes q.fir
       elim (bind_err (p.read ts) (λ a. rep q (length a.1) a.1 >>= λ r. Ok ((a.0, r.0), r.1)) e h) [
         | inl first ↦ then_first ts e (p.fails ts e first)
         | inr x ↦ elim (bind_err (rep q (length x.0.1) x.0.1) (λ r. Ok ((x.0.0, r.0), r.1)) e x.2) [
-          | inl second ↦ then_more ts e x.0.0 x.0.1 (p.sound ts x.0.0 x.0.1 x.1) (rep_fails q apart (length x.0.1) x.0.1 e second)
+          | inl second ↦ then_more ts e x.0.0 x.0.1 (p.stands ts x.0.0 x.0.1 x.1) (rep_fails q apart (length x.0.1) x.0.1 e second)
           | inr y ↦ absurd (let never = y.2 in cc)
         ]
       ]
@@ -168,7 +168,7 @@ module _ {A B : Type 0} (p : Form A) (q : Form B) (apart : disjoint q.goes q.fir
     some = (p.some, []);
     some_clean = IsClean-append (p.text p.some) [] p.some_clean tt;
     begins = then_begins;
-    sound = then_sound;
+    stands = then_stands;
     again = then_again;
     fails = then_fails;
   }
@@ -186,38 +186,34 @@ module _ {A B : Type 0} (p : Form A) (q : Form B) (apart : disjoint p.goes p.fir
     (apart_first : disjoint p.first q.first ≡ true) (first : List ℕ)
     (first_item : (x : Token) → mem (class_of x) p.first ≡ true → mem (class_of x) first ≡ true)
     (first_end : (x : Token) → mem (class_of x) q.first ≡ true → mem (class_of x) first ≡ true) where
-  widen : (f : List ℕ) (ts : List Token) → ((x : Token) → mem (class_of x) f ≡ true → mem (class_of x) first ≡ true) → Starts f ts → Starts first ts
-  widen f [] w h = absurd h
-  widen f (x ∷ xs) w h = w x h
-
   pub many_begins : (t : List A × B) (rest : List Token) → Starts first (tokens_of (many_text p q t) ++ rest)
   many_begins t rest = go t.0
     where
       go : (items : List A) → Starts first (tokens_of (many_text p q (items, t.1)) ++ rest)
-      go [] = widen q.first (tokens_of (q.text t.1) ++ rest) first_end (q.begins t.1 rest)
+      go [] = widen first q.first (tokens_of (q.text t.1) ++ rest) first_end (q.begins t.1 rest)
       go (a ∷ items) =
           let e : tokens_of (many_text p q (a ∷ items, t.1)) ++ rest ≡ tokens_of (p.text a) ++ (tokens_of (texts p items ++ q.text t.1) ++ rest) =
           ap (λ (l : List Sym). tokens_of l ++ rest) (append_assoc (p.text a) (texts p items) (q.text t.1))
           ∙ ap (λ (l : List Token). l ++ rest) (tokens_of-append (p.text a) (texts p items ++ q.text t.1))
           ∙ append_assoc (tokens_of (p.text a)) (tokens_of (texts p items ++ q.text t.1)) rest in
-          subst (Starts first) (sym e) (widen p.first (tokens_of (p.text a) ++ (tokens_of (texts p items ++ q.text t.1) ++ rest)) first_item
+          subst (Starts first) (sym e) (widen first p.first (tokens_of (p.text a) ++ (tokens_of (texts p items ++ q.text t.1) ++ rest)) first_item
           (p.begins a (tokens_of (texts p items ++ q.text t.1) ++ rest)))
 
-  pub many_sound : (ts : List Token) (t : List A × B) (rest : List Token) → many_read p q ts ≡ Ok (t, rest) → Sound (many_text p q) q.goes ts t rest
-  many_sound ts t rest e =
+  pub many_stands : (ts : List Token) (t : List A × B) (rest : List Token) → many_read p q ts ≡ Ok (t, rest) → Stands (many_text p q) q.goes ts t rest
+  many_stands ts t rest e =
       let x = bind_ok (rep p (length ts) ts) (λ r. q.read r.1 >>= λ b. Ok ((r.0, b.0), b.1)) (t, rest) e in
       let y = bind_ok (q.read x.0.1) (λ b. Ok ((x.0.0, b.0), b.1)) (t, rest) x.2 in
       let r = rep_runs p apart (length ts) ts x.0.0 x.0.1 (omega arith) x.1 in
-      let s = q.sound x.0.1 y.0.0 y.0.1 y.1 in
+      let s = q.stands x.0.1 y.0.0 y.0.1 y.1 in
       let made : (List A × B) × List Token = ((x.0.0, y.0.0), y.0.1) in
-      let whole : Sound (many_text p q) q.goes ts made.0 made.1 = record {
+      let whole : Stands (many_text p q) q.goes ts made.0 made.1 = record {
         parts = r.parts ∙ ap (λ (l : List Token). tokens_of (texts p x.0.0) ++ l) s.parts
             ∙ sym (append_assoc (tokens_of (texts p x.0.0)) (tokens_of (q.text y.0.0)) y.0.1)
             ∙ ap (λ (l : List Token). l ++ y.0.1) (sym (tokens_of-append (texts p x.0.0) (q.text y.0.0)));
         clean = IsClean-append (texts p x.0.0) (q.text y.0.0) r.clean s.clean;
         stops = s.stops;
       } in
-      subst (λ (z : (List A × B) × List Token). Sound (many_text p q) q.goes ts z.0 z.1) (ok_is made (t, rest) y.2) whole
+      subst (λ (z : (List A × B) × List Token). Stands (many_text p q) q.goes ts z.0 z.1) (ok_is made (t, rest) y.2) whole
 
   many_step : (m n : Option Fault) (items : List A) (b : B) (r rest : List Token) → q.read r ≡ answer n b rest
       → (answer m items r >>= λ r. q.read r.1 >>= λ b. Ok ((r.0, b.0), b.1)) ≡ answer {T = List A × B} (or_else m n) (items, b) rest
@@ -317,7 +313,7 @@ module _ {A B : Type 0} (p : Form A) (q : Form B) (apart : disjoint p.goes p.fir
     some = ([], q.some);
     some_clean = q.some_clean;
     begins = many_begins;
-    sound = many_sound;
+    stands = many_stands;
     again = many_again;
     fails = many_fails;
   }

@@ -12,13 +12,13 @@ use Rattle.fcl_syntax.specs.TokenClasses.{Among, name_classes, comma_classes, ke
 use Rattle.fcl_syntax.specs.Annotations.{Sym, plain}
 use Rattle.fcl_syntax.specs.Readers.{loop}
 use Rattle.fcl_syntax.proofs.Form.{disjoint, Form}
-use Rattle.fcl_syntax.specs.Grammar.{each, key_text, name_text, conclusion_text, conclusions_text, TNum, TWeight, weight_text, TOr, TRule, rule_text, option_classes, TRuleItem, rule_item_text, and_classes, or_classes, TAct, act_text, TRuleLine, TRulebase, rulebase_text, ruleblock_classes, TEnd, end_text, TSection, TPart, part_text, TBlock, block_text}
+use Rattle.fcl_syntax.specs.Grammar.{each, key_text, name_text, conclusion_text, conclusions_text, TSignedNumber, TWeight, weight_text, TOr, TRule, rule_text, option_classes, TRuleItem, rule_item_text, and_classes, or_classes, TAct, act_text, TRuleLine, TRulebase, rulebase_text, ruleblock_classes, TEnd, end_text, TSection, TPart, part_text, TBlock, block_text}
 use Rattle.fcl_syntax.specs.Reading.{expect_at, key_at, name_at, label_at, conclusion_at, comma_conclusion_at, conclusions_at, weight_value_at, with_at, weight_at, or_in, not_at, rule_at, rule_item_at, rules_at, act_word_at, act_at, rule_line_at, rule_lines_at, rulebase_at, end_at, sections_at, parts_at, block_at}
 use Rattle.fcl_syntax.proofs.Chains.{bind_assoc, bind_cond, second, chain2, chain3, chain4, chain5, chain6, chain8}
 use Rattle.fcl_syntax.proofs.SingleTokens as single
 use Rattle.fcl_syntax.proofs.ConditionForms.{part, or_form}
 use Rattle.fcl_syntax.proofs.Dead.{via}
-use Rattle.fcl_syntax.proofs.Forms.{bare_form, key_form, word_form, name_form, num_form, section_form, behind_texts, each_texts}
+use Rattle.fcl_syntax.proofs.Forms.{bare_form, key_form, word_form, name_form, signed_number_form, section_form, behind_texts, each_texts}
 use Rattle.fcl_syntax.proofs.Loop.{texts}
 use Rattle.fcl_syntax.proofs.Named.{named, either, refuse, many_then}
 use Rattle.fcl_syntax.proofs.Repeat.{then_rep}
@@ -73,17 +73,17 @@ conclusions_is ts = chain2 conclusion_at (λ l. loop comma_classes comma_conclus
 abbrev pub conclusions_form : Form (Conclusion × List Conclusion)
 conclusions_form = named conclusions_raw conclusions_at conclusions_is
 
-abbrev pub weight_value_raw : Form (Among name_classes ⊎ TNum)
-weight_value_raw = refuse (Unsupported 15) name_classes num_form refl refl
+abbrev pub weight_value_raw : Form (Among name_classes ⊎ TSignedNumber)
+weight_value_raw = refuse (Unsupported 15) name_classes signed_number_form refl refl
 
 pub weight_value_is : (ts : List Token) → weight_value_at ts ≡ weight_value_raw.read ts
 unfolding weight_value_at
 weight_value_is ts = refl
 
-abbrev pub weight_value_form : Form (Among name_classes ⊎ TNum)
+abbrev pub weight_value_form : Form (Among name_classes ⊎ TSignedNumber)
 weight_value_form = named weight_value_raw weight_value_at weight_value_is
 
-abbrev pub to_with : ℕ × ((Among name_classes ⊎ TNum) × Unit {0}) → TWeight
+abbrev pub to_with : ℕ × ((Among name_classes ⊎ TSignedNumber) × Unit {0}) → TWeight
 to_with t = record { at = t.0; value = t.1.0 }
 
 abbrev pub with_raw : Form TWeight
@@ -238,7 +238,7 @@ abbrev pub BlockRaw : Type 0
 BlockRaw = ℕ × (Name × (List TSection × (List TPart × (TRulebase × TEnd))))
 
 abbrev pub to_block : BlockRaw → TBlock
-to_block t = record { at = t.0; name = t.1.0; vars = t.1.1.0; parts = t.1.1.1.0; rules = t.1.1.1.1.0; end = t.1.1.1.1.1 }
+to_block t = record { at = t.0; name = t.1.0; variables = t.1.1.0; parts = t.1.1.1.0; rules = t.1.1.1.1.0; end = t.1.1.1.1.1 }
 
 abbrev pub block_seq : Form BlockRaw
 block_seq = seq (key_form key.FunctionBlock) (seq name_form (many_then section_form
@@ -252,7 +252,7 @@ block_same t =
     (texts section_form t.1.1.0 ++ (l ++ (rulebase_text t.1.1.1.1.0 ++ end_text t.1.1.1.1.1))))) (each_texts part_form t.1.1.1.0)
 
 abbrev pub block_raw : Form TBlock
-block_raw = via block_seq to_block (λ b. (b.at, (b.name, (b.vars, (b.parts, (b.rules, b.end)))))) block_text (λ b. refl) block_same
+block_raw = via block_seq to_block (λ b. (b.at, (b.name, (b.variables, (b.parts, (b.rules, b.end)))))) block_text (λ b. refl) block_same
 
 pub block_is : (ts : List Token) → block_at ts ≡ block_raw.read ts
 unfolding block_at

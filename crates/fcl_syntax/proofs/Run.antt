@@ -21,7 +21,7 @@ pub record Going {A : Type 0} (first : List ℕ) (read : List Token → Result (
 
 pub shrinks : {A : Type 0} (p : Form A) (ts : List Token) (a : A) (rest : List Token) → p.read ts ≡ Ok (a, rest) → length rest < length ts
 shrinks p ts a rest h =
-    let s = p.sound ts a rest h in
+    let s = p.stands ts a rest h in
     let b = p.begins a [] in
     go (tokens_of (p.text a)) s.parts (subst (Starts p.first) (append-nil (tokens_of (p.text a))) b)
   where

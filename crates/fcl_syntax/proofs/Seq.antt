@@ -8,7 +8,7 @@ use Rattle.fcl_syntax.specs.declared.token.Token.{Token}
 use Rattle.fcl_syntax.specs.Annotations.{Sym, tokens_of, IsClean, annotated}
 use Rattle.fcl_syntax.specs.First.{SameHead, Shown}
 use Rattle.fcl_syntax.specs.Readers.{◌>>=◌}
-use Rattle.fcl_syntax.proofs.Form.{disjoint, Stops, Starts, first_annotation, or_else, answer, Sound, Viable, Shows, Fails, Form}
+use Rattle.fcl_syntax.proofs.Form.{disjoint, Stops, Starts, first_annotation, or_else, answer, Stands, Viable, Shows, Fails, Form}
 use Rattle.fcl_syntax.proofs.AnnotatedTexts.{bind_ok, bind_err, ok_is, tokens_of-append, length-tokens, IsClean-append, first_annotation-append, first_annotation-clean, starts-stops, Stops-same, SameHead-append}
 
 -- what is shown of a part is shown of a whole whose text begins and goes on with others
@@ -55,21 +55,21 @@ module _ {A B : Type 0} (p : Form A) (q : Form B) (apart : disjoint p.goes q.fir
   seq_begins t rest = subst (Starts p.first) (sym (append_assoc (tokens_of (p.text t.0)) (tokens_of (q.text t.1)) rest)
       ∙ sym (ap (λ (l : List Token). l ++ rest) (tokens_of-append (p.text t.0) (q.text t.1)))) (p.begins t.0 (tokens_of (q.text t.1) ++ rest))
 
-  pub seq_sound : (ts : List Token) (t : A × B) (rest : List Token) → seq_read p q ts ≡ Ok (t, rest) → Sound (seq_text p q) q.goes ts t rest
-  seq_sound ts t rest e =
+  pub seq_stands : (ts : List Token) (t : A × B) (rest : List Token) → seq_read p q ts ≡ Ok (t, rest) → Stands (seq_text p q) q.goes ts t rest
+  seq_stands ts t rest e =
       let x = bind_ok (p.read ts) (λ a. q.read a.1 >>= λ b. Ok ((a.0, b.0), b.1)) (t, rest) e in
       let y = bind_ok (q.read x.0.1) (λ b. Ok ((x.0.0, b.0), b.1)) (t, rest) x.2 in
-      let sp = p.sound ts x.0.0 x.0.1 x.1 in
-      let sq = q.sound x.0.1 y.0.0 y.0.1 y.1 in
+      let sp = p.stands ts x.0.0 x.0.1 x.1 in
+      let sq = q.stands x.0.1 y.0.0 y.0.1 y.1 in
       let made : (A × B) × List Token = ((x.0.0, y.0.0), y.0.1) in
-      let whole : Sound (seq_text p q) q.goes ts made.0 made.1 = record {
+      let whole : Stands (seq_text p q) q.goes ts made.0 made.1 = record {
         parts = sp.parts ∙ ap (λ (l : List Token). tokens_of (p.text x.0.0) ++ l) sq.parts
             ∙ sym (append_assoc (tokens_of (p.text x.0.0)) (tokens_of (q.text y.0.0)) y.0.1)
             ∙ ap (λ (l : List Token). l ++ y.0.1) (sym (tokens_of-append (p.text x.0.0) (q.text y.0.0)));
         clean = IsClean-append (p.text x.0.0) (q.text y.0.0) sp.clean sq.clean;
         stops = sq.stops;
       } in
-      subst (λ (z : (A × B) × List Token). Sound (seq_text p q) q.goes ts z.0 z.1) (ok_is made (t, rest) y.2) whole
+      subst (λ (z : (A × B) × List Token). Stands (seq_text p q) q.goes ts z.0 z.1) (ok_is made (t, rest) y.2) whole
 
   step : (m n : Option Fault) (a : A) (b : B) (r rest : List Token) → q.read r ≡ answer n b rest
       → (answer m a r >>= λ a. q.read a.1 >>= λ b. Ok ((a.0, b.0), b.1)) ≡ answer {T = A × B} (or_else m n) (a, b) rest
@@ -106,7 +106,7 @@ module _ {A B : Type 0} (p : Form A) (q : Form B) (apart : disjoint p.goes q.fir
     local = λ b same. ap (λ (r : Result (A × List Token) Fault). r >>= λ a. q.read a.1 >>= λ b. Ok ((a.0, b.0), b.1)) (f.local b same);
   }
 
-  pub fails_second : (ts : List Token) (e : Fault) (a : A) (rest : List Token) → Sound p.text p.goes ts a rest → Fails q.text q.read rest e
+  pub fails_second : (ts : List Token) (e : Fault) (a : A) (rest : List Token) → Stands p.text p.goes ts a rest → Fails q.text q.read rest e
       → Fails (seq_text p q) (seq_read p q) ts e
   fails_second ts e a rest s f = record {
     front = tokens_of (p.text a) ++ f.front;
@@ -131,7 +131,7 @@ module _ {A B : Type 0} (p : Form A) (q : Form B) (apart : disjoint p.goes q.fir
       elim (bind_err (p.read ts) (λ a. q.read a.1 >>= λ b. Ok ((a.0, b.0), b.1)) e h) [
         | inl first ↦ fails_first ts e (p.fails ts e first)
         | inr x ↦ elim (bind_err (q.read x.0.1) (λ b. Ok ((x.0.0, b.0), b.1)) e x.2) [
-          | inl second ↦ fails_second ts e x.0.0 x.0.1 (p.sound ts x.0.0 x.0.1 x.1) (q.fails x.0.1 e second)
+          | inl second ↦ fails_second ts e x.0.0 x.0.1 (p.stands ts x.0.0 x.0.1 x.1) (q.fails x.0.1 e second)
           | inr y ↦ absurd (let no = y.2 in cc)
         ]
       ]
@@ -145,7 +145,7 @@ module _ {A B : Type 0} (p : Form A) (q : Form B) (apart : disjoint p.goes q.fir
     some = (p.some, q.some);
     some_clean = IsClean-append (p.text p.some) (q.text q.some) p.some_clean q.some_clean;
     begins = seq_begins;
-    sound = seq_sound;
+    stands = seq_stands;
     again = seq_again;
     fails = seq_fails;
   }

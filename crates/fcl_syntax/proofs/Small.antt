@@ -6,10 +6,10 @@ use Rattle.fcl_syntax.specs.declared.fault.Kind.{Kind}
 use Rattle.fcl_syntax.specs.declared.fault.Kind.TheVariants.{Expected}
 use Rattle.fcl_syntax.specs.declared.token.Token.{Token}
 use Rattle.fcl_syntax.specs.TokenClasses.{class_of, mem}
-use Rattle.fcl_syntax.specs.Annotations.{either_text, Sym, tokens_of, plain}
+use Rattle.fcl_syntax.specs.Annotations.{either_text, IsClean, Sym, tokens_of, plain}
 use Rattle.fcl_syntax.specs.First.{SameHead}
 use Rattle.fcl_syntax.specs.Readers.{cond_read, ◌>>=◌, fault_at, starts, found, one_at}
-use Rattle.fcl_syntax.proofs.Form.{disjoint, Stops, Starts, first_annotation, answer, Sound, Shows, Fails, Form}
+use Rattle.fcl_syntax.proofs.Form.{disjoint, Stops, Starts, first_annotation, answer, Stands, Shows, Fails, Form}
 use Rattle.fcl_syntax.proofs.AnnotatedTexts.{bind_ok, bind_err, ok_is, disjoint-mem}
 use Rattle.fcl_syntax.proofs.Seq.{Shows-in, Viable-in}
 
@@ -28,15 +28,15 @@ module _ {A : Type 0} (c : Single A) where
   abbrev pub one_text : A → List Sym
   one_text a = plain (c.make a) ∷ []
 
-  pub one_sound : (ts : List Token) (a : A) (rest : List Token) → one_at c.want ts ≡ Ok (a, rest) → Sound (one_text) [] ts a rest
-  one_sound [] a rest e = absurd cc
-  one_sound (x ∷ xs) a rest e = from_found (c.want x) refl e
+  pub one_stands : (ts : List Token) (a : A) (rest : List Token) → one_at c.want ts ≡ Ok (a, rest) → Stands (one_text) [] ts a rest
+  one_stands [] a rest e = absurd cc
+  one_stands (x ∷ xs) a rest e = from_found (c.want x) refl e
     where
       stopped : (l : List Token) → Stops [] l
       stopped [] = tt
       stopped (y ∷ l) = refl
 
-      from_found : (o : Option A) → c.want x ≡ o → found o (x ∷ xs) xs ≡ Ok (a, rest) → Sound one_text [] (x ∷ xs) a rest
+      from_found : (o : Option A) → c.want x ≡ o → found o (x ∷ xs) xs ≡ Ok (a, rest) → Stands one_text [] (x ∷ xs) a rest
       from_found None w e = absurd cc
       from_found (Some b) w e =
           let same : b ≡ a = ap (λ (p : A × List Token). p.0) (ok_is (b, xs) (a, rest) e) in
@@ -90,18 +90,57 @@ module _ {A : Type 0} (c : Single A) where
     some = c.example;
     some_clean = (refl, tt);
     begins = λ a rest. c.classes a;
-    sound = one_sound;
+    stands = one_stands;
     again = λ a rest stops. rw (c.forth a) refl;
     fails = one_fails;
+  }
+
+-- ---- a form seen as another type, or as one side of a choice
+
+abbrev pub seen_as : {A B : Type 0} → (A → B) → Result (A × List Token) Fault → Result (B × List Token) Fault
+seen_as to r = r >>= λ a. Ok (to a.0, a.1)
+
+pub answer-seen : {A B : Type 0} (to : A → B) (m : Option Fault) (a : A) (rest : List Token) → seen_as to (answer m a rest) ≡ answer m (to a) rest
+answer-seen to None a rest = refl
+answer-seen to (Some e) a rest = refl
+
+pub seen_err : {A B : Type 0} (to : A → B) (r : Result (A × List Token) Fault) (e : Fault) → seen_as to r ≡ Err e → r ≡ Err e
+seen_err to (Ok x) e h = absurd cc
+seen_err to (Err d) e h = cc
+
+module _ {A B : Type 0} (p : Form A) (to : A → B) (text : B → List Sym) (same_text : (a : A) → text (to a) ≡ p.text a) where
+  pub seen_stands : (ts : List Token) (t : B) (rest : List Token) → seen_as to (p.read ts) ≡ Ok (t, rest) → Stands text p.goes ts t rest
+  seen_stands ts t rest e =
+      let x = bind_ok (p.read ts) (λ a. Ok (to a.0, a.1)) (t, rest) e in
+      let s = p.stands ts x.0.0 x.0.1 x.1 in
+      let made : B × List Token = (to x.0.0, x.0.1) in
+      let whole : Stands text p.goes ts made.0 made.1 = record {
+        parts = s.parts ∙ ap (λ (l : List Sym). tokens_of l ++ x.0.1) (sym (same_text x.0.0));
+        clean = subst IsClean (sym (same_text x.0.0)) s.clean;
+        stops = s.stops;
+      } in
+      subst (λ (z : B × List Token). Stands text p.goes ts z.0 z.1) (ok_is made (t, rest) x.2) whole
+
+  -- by a reader that reads it where the fault may be
+  pub seen_fails : (read : List Token → Result (B × List Token) Fault) (ts : List Token) (e : Fault) (f : Fails p.text p.read ts e)
+      → ((b : List Token) → SameHead e.kind f.bad b → read (f.front ++ b) ≡ seen_as to (p.read (f.front ++ b))) → Fails text read ts e
+  seen_fails read ts e f reads = record {
+    front = f.front;
+    bad = f.bad;
+    parts = f.parts;
+    left = f.left;
+    viable = Viable-in p.text text f.front [] to (λ a. []) (λ a. same_text a ∙ sym (append-nil (p.text a))) tt (λ a. tt) f.viable;
+    shows = Shows-in p.text text e.kind f.front f.bad [] to (λ a. []) (λ a. same_text a ∙ sym (append-nil (p.text a))) f.shows;
+    local = λ b same. reads b same ∙ ap (seen_as to) (f.local b same);
   }
 
 -- ---- a choice by the first token
 
 abbrev pub to_left : {A B : Type 0} → Result (A × List Token) Fault → Result ((A ⊎ B) × List Token) Fault
-to_left r = r >>= λ a. Ok (inl a.0, a.1)
+to_left r = seen_as (λ a. inl a) r
 
 abbrev pub to_right : {A B : Type 0} → Result (B × List Token) Fault → Result ((A ⊎ B) × List Token) Fault
-to_right r = r >>= λ b. Ok (inr b.0, b.1)
+to_right r = seen_as (λ b. inr b) r
 
 abbrev pub choose : {A B : Type 0} → Bool → Result (A × List Token) Fault → Result (B × List Token) Fault → Result ((A ⊎ B) × List Token) Fault
 choose b p q = cond_read b (to_left p) (to_right q)
@@ -121,6 +160,10 @@ starts-same first k [] (x ∷ a) [] s = absurd s
 starts-same first k [] (x ∷ a) (y ∷ b) s = ap (λ (z : Token). mem (class_of z) first) (sym s.0)
 starts-same first k (f ∷ front) bad b s = refl
 
+pub widen : (first f : List ℕ) (ts : List Token) → ((x : Token) → mem (class_of x) f ≡ true → mem (class_of x) first ≡ true) → Starts f ts → Starts first ts
+widen first f [] w h = absurd h
+widen first f (x ∷ xs) w h = w x h
+
 pub bool_cases : (b : Bool) → (b ≡ true) ⊎ (b ≡ false)
 bool_cases true = inl refl
 bool_cases false = inr refl
@@ -135,45 +178,22 @@ module _ {A B : Type 0} (p : Form A) (q : Form B) where
 module _ {A B : Type 0} (p : Form A) (q : Form B) (apart : disjoint p.first q.first ≡ true) (same_goes : p.goes ≡ q.goes) (first : List ℕ)
     (first_left : (x : Token) → mem (class_of x) p.first ≡ true → mem (class_of x) first ≡ true)
     (first_right : (x : Token) → mem (class_of x) q.first ≡ true → mem (class_of x) first ≡ true) where
-  widen : (f : List ℕ) (ts : List Token) → ((x : Token) → mem (class_of x) f ≡ true → mem (class_of x) first ≡ true) → Starts f ts → Starts first ts
-  widen f [] w h = absurd h
-  widen f (x ∷ xs) w h = w x h
-
   pub alt_begins : (t : A ⊎ B) (rest : List Token) → Starts first (tokens_of (alt_text p q t) ++ rest)
-  alt_begins (inl a) rest = widen p.first (tokens_of (p.text a) ++ rest) first_left (p.begins a rest)
-  alt_begins (inr b) rest = widen q.first (tokens_of (q.text b) ++ rest) first_right (q.begins b rest)
+  alt_begins (inl a) rest = widen first p.first (tokens_of (p.text a) ++ rest) first_left (p.begins a rest)
+  alt_begins (inr b) rest = widen first q.first (tokens_of (q.text b) ++ rest) first_right (q.begins b rest)
 
-  left_sound : (ts : List Token) (t : A ⊎ B) (rest : List Token) → to_left {B = B} (p.read ts) ≡ Ok (t, rest) → Sound (alt_text p q) q.goes ts t rest
-  left_sound ts t rest e =
-      let x = bind_ok (p.read ts) (λ a. Ok (inl a.0, a.1)) (t, rest) e in
-      let s = p.sound ts x.0.0 x.0.1 x.1 in
-      let made : (A ⊎ B) × List Token = (inl x.0.0, x.0.1) in
-      let whole : Sound (alt_text p q) q.goes ts made.0 made.1 =
-      record { parts = s.parts; clean = s.clean; stops = subst (λ (g : List ℕ). Stops g x.0.1) same_goes s.stops } in
-      subst (λ (z : (A ⊎ B) × List Token). Sound (alt_text p q) q.goes ts z.0 z.1) (ok_is made (t, rest) x.2) whole
+  left_stands : (ts : List Token) (t : A ⊎ B) (rest : List Token) → to_left {B = B} (p.read ts) ≡ Ok (t, rest) → Stands (alt_text p q) q.goes ts t rest
+  left_stands ts t rest e =
+      let s = seen_stands p (λ a. inl a) (alt_text p q) (λ a. refl) ts t rest e in
+      record { parts = s.parts; clean = s.clean; stops = subst (λ (g : List ℕ). Stops g rest) same_goes s.stops }
 
-  right_sound : (ts : List Token) (t : A ⊎ B) (rest : List Token) → to_right {A = A} (q.read ts) ≡ Ok (t, rest) → Sound (alt_text p q) q.goes ts t rest
-  right_sound ts t rest e =
-      let x = bind_ok (q.read ts) (λ b. Ok (inr b.0, b.1)) (t, rest) e in
-      let s = q.sound ts x.0.0 x.0.1 x.1 in
-      let made : (A ⊎ B) × List Token = (inr x.0.0, x.0.1) in
-      let whole : Sound (alt_text p q) q.goes ts made.0 made.1 = record { parts = s.parts; clean = s.clean; stops = s.stops } in
-      subst (λ (z : (A ⊎ B) × List Token). Sound (alt_text p q) q.goes ts z.0 z.1) (ok_is made (t, rest) x.2) whole
-
-  pub alt_sound : (ts : List Token) (t : A ⊎ B) (rest : List Token) → alt_read p q ts ≡ Ok (t, rest) → Sound (alt_text p q) q.goes ts t rest
-  alt_sound ts t rest e =
+  pub alt_stands : (ts : List Token) (t : A ⊎ B) (rest : List Token) → alt_read p q ts ≡ Ok (t, rest) → Stands (alt_text p q) q.goes ts t rest
+  alt_stands ts t rest e =
       elim (bool_cases (starts p.first ts)) [
-        | inl is_so ↦ left_sound ts t rest (subst (λ (b : Bool). choose b (p.read ts) (q.read ts) ≡ Ok (t, rest)) is_so e)
-        | inr not_so ↦ right_sound ts t rest (subst (λ (b : Bool). choose b (p.read ts) (q.read ts) ≡ Ok (t, rest)) not_so e)
+        | inl is_so ↦ left_stands ts t rest (subst (λ (b : Bool). choose b (p.read ts) (q.read ts) ≡ Ok (t, rest)) is_so e)
+        | inr not_so ↦ seen_stands q (λ b. inr b) (alt_text p q) (λ b. refl) ts t rest
+            (subst (λ (b : Bool). choose b (p.read ts) (q.read ts) ≡ Ok (t, rest)) not_so e)
       ]
-
-  answer-left : (m : Option Fault) (a : A) (rest : List Token) → to_left {B = B} (answer m a rest) ≡ answer {T = A ⊎ B} m (inl a) rest
-  answer-left None a rest = refl
-  answer-left (Some e) a rest = refl
-
-  answer-right : (m : Option Fault) (b : B) (rest : List Token) → to_right {A = A} (answer m b rest) ≡ answer {T = A ⊎ B} m (inr b) rest
-  answer-right None b rest = refl
-  answer-right (Some e) b rest = refl
 
   pub alt_again : (t : A ⊎ B) (rest : List Token) → Stops q.goes rest → alt_read p q (tokens_of (alt_text p q t) ++ rest) ≡ answer
       (first_annotation (alt_text p q t) (length rest)) t rest
@@ -181,52 +201,30 @@ module _ {A B : Type 0} (p : Form A) (q : Form B) (apart : disjoint p.first q.fi
       let ts : List Token = tokens_of (p.text a) ++ rest in
       ap (λ (b : Bool). choose b (p.read ts) (q.read ts)) (starts-is p.first ts (p.begins a rest))
       ∙ ap (λ (r : Result (A × List Token) Fault). to_left {B = B} r) (p.again a rest (subst (λ (g : List ℕ). Stops g rest) (sym same_goes) stops))
-      ∙ answer-left (first_annotation (p.text a) (length rest)) a rest
+      ∙ answer-seen {B = A ⊎ B} (λ (x : A). inl x) (first_annotation (p.text a) (length rest)) a rest
   alt_again (inr b) rest stops =
       let ts : List Token = tokens_of (q.text b) ++ rest in
       ap (λ (b : Bool). choose b (p.read ts) (q.read ts)) (starts-not p.first q.first ts apart (q.begins b rest))
       ∙ ap (λ (r : Result (B × List Token) Fault). to_right {A = A} r) (q.again b rest stops)
-      ∙ answer-right (first_annotation (q.text b) (length rest)) b rest
+      ∙ answer-seen {B = A ⊎ B} (λ (x : B). inr x) (first_annotation (q.text b) (length rest)) b rest
 
   left_fails : (ts : List Token) (e : Fault) → starts p.first ts ≡ true → Fails p.text p.read ts e → Fails (alt_text p q) (alt_read p q) ts e
-  left_fails ts e is_so f = record {
-    front = f.front;
-    bad = f.bad;
-    parts = f.parts;
-    left = f.left;
-    viable = Viable-in p.text (alt_text p q) f.front [] (λ a. inl a) (λ a. []) (λ a. sym (append-nil (p.text a))) tt (λ a. tt) f.viable;
-    shows = Shows-in p.text (alt_text p q) e.kind f.front f.bad [] (λ a. inl a) (λ a. []) (λ a. sym (append-nil (p.text a))) f.shows;
-    local = λ b same.
-        ap (λ (c : Bool). choose c (p.read (f.front ++ b)) (q.read (f.front ++ b)))
-        (starts-same p.first e.kind f.front f.bad b same ∙ ap (starts p.first) (sym f.parts) ∙ is_so)
-        ∙ ap (λ (r : Result (A × List Token) Fault). to_left {B = B} r) (f.local b same);
-  }
+  left_fails ts e is_so f = seen_fails p (λ a. inl a) (alt_text p q) (λ a. refl) (alt_read p q) ts e f (λ b same.
+      ap (λ (c : Bool). choose c (p.read (f.front ++ b)) (q.read (f.front ++ b)))
+      (starts-same p.first e.kind f.front f.bad b same ∙ ap (starts p.first) (sym f.parts) ∙ is_so))
 
   right_fails : (ts : List Token) (e : Fault) → starts p.first ts ≡ false → Fails q.text q.read ts e → Fails (alt_text p q) (alt_read p q) ts e
-  right_fails ts e not_so f = record {
-    front = f.front;
-    bad = f.bad;
-    parts = f.parts;
-    left = f.left;
-    viable = Viable-in q.text (alt_text p q) f.front [] (λ b. inr b) (λ b. []) (λ b. sym (append-nil (q.text b))) tt (λ b. tt) f.viable;
-    shows = Shows-in q.text (alt_text p q) e.kind f.front f.bad [] (λ b. inr b) (λ b. []) (λ b. sym (append-nil (q.text b))) f.shows;
-    local = λ b same.
-        ap (λ (c : Bool). choose c (p.read (f.front ++ b)) (q.read (f.front ++ b)))
-        (starts-same p.first e.kind f.front f.bad b same ∙ ap (starts p.first) (sym f.parts) ∙ not_so)
-        ∙ ap (λ (r : Result (B × List Token) Fault). to_right {A = A} r) (f.local b same);
-  }
-
-  left_err : (ts : List Token) (e : Fault) → to_left {B = B} (p.read ts) ≡ Err e → p.read ts ≡ Err e
-  left_err ts e h = elim (bind_err (p.read ts) (λ a. Ok (inl a.0, a.1)) e h) [ inl x ↦ x | inr y ↦ absurd (let never = y.2 in cc) ]
-
-  right_err : (ts : List Token) (e : Fault) → to_right {A = A} (q.read ts) ≡ Err e → q.read ts ≡ Err e
-  right_err ts e h = elim (bind_err (q.read ts) (λ b. Ok (inr b.0, b.1)) e h) [ inl x ↦ x | inr y ↦ absurd (let never = y.2 in cc) ]
+  right_fails ts e not_so f = seen_fails q (λ b. inr b) (alt_text p q) (λ b. refl) (alt_read p q) ts e f (λ b same.
+      ap (λ (c : Bool). choose c (p.read (f.front ++ b)) (q.read (f.front ++ b)))
+      (starts-same p.first e.kind f.front f.bad b same ∙ ap (starts p.first) (sym f.parts) ∙ not_so))
 
   pub alt_fails : (ts : List Token) (e : Fault) → alt_read p q ts ≡ Err e → Fails (alt_text p q) (alt_read p q) ts e
   alt_fails ts e h =
       elim (bool_cases (starts p.first ts)) [
-        | inl is_so ↦ left_fails ts e is_so (p.fails ts e (left_err ts e (subst (λ (b : Bool). choose b (p.read ts) (q.read ts) ≡ Err e) is_so h)))
-        | inr not_so ↦ right_fails ts e not_so (q.fails ts e (right_err ts e (subst (λ (b : Bool). choose b (p.read ts) (q.read ts) ≡ Err e) not_so h)))
+        | inl is_so ↦ left_fails ts e is_so (p.fails ts e (seen_err {B = A ⊎ B} (λ (x : A). inl x) (p.read ts) e
+            (subst (λ (b : Bool). choose b (p.read ts) (q.read ts) ≡ Err e) is_so h)))
+        | inr not_so ↦ right_fails ts e not_so (q.fails ts e (seen_err {B = A ⊎ B} (λ (x : B). inr x) (q.read ts) e
+            (subst (λ (b : Bool). choose b (p.read ts) (q.read ts) ≡ Err e) not_so h)))
       ]
 
   abbrev pub alt : Form (A ⊎ B)
@@ -238,7 +236,7 @@ module _ {A B : Type 0} (p : Form A) (q : Form B) (apart : disjoint p.first q.fi
     some = inr q.some;
     some_clean = q.some_clean;
     begins = alt_begins;
-    sound = alt_sound;
+    stands = alt_stands;
     again = alt_again;
     fails = alt_fails;
   }

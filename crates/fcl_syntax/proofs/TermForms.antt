@@ -13,15 +13,15 @@ use Rattle.fcl_syntax.specs.Annotations.{Sym}
 use Rattle.fcl_syntax.specs.First.{looks_on}
 use Rattle.fcl_syntax.specs.Readers.{loop}
 use Rattle.fcl_syntax.proofs.Form.{disjoint, Form}
-use Rattle.fcl_syntax.specs.Grammar.{each, key_text, name_text, TSigned, TNum, TCoordinate, TUnit, TZero, TPoint, point_text, TPoints, TTerm, term_text, TRange, range_text, opening_text, TFuzzify, fuzzify_text, TSetting, setting_text, accu_classes, TAccu, method_classes, TMethod, TSingleton, singleton_text, TFallback, fallback_text, TDefuzzyLine, TDefuzzify, defuzzify_text, option_classes, TPart}
-use Rattle.fcl_syntax.specs.Reading.{expect_at, key_at, open_at, name_at, num_at, coordinate_at, degree_at, point_at, some_points_at, points_at, term_at, opening_at, range_at, fuzzy_line_at, fuzzy_lines_at, fuzzify_at, choice_at, setting_at, singleton_value_at, singleton_at, fallback_value_at, fallback_at, defuzzy_line_at, defuzzy_lines_at, defuzzify_at, part_at}
+use Rattle.fcl_syntax.specs.Grammar.{each, key_text, name_text, TSigned, TSignedNumber, TCoordinate, TUnit, TZero, TPoint, point_text, TPoints, TTerm, term_text, TRange, range_text, opening_text, TFuzzify, fuzzify_text, TSetting, setting_text, accu_classes, TAccu, method_classes, TMethod, TSingleton, singleton_text, TFallback, fallback_text, TDefuzzyLine, TDefuzzify, defuzzify_text, option_classes, TPart}
+use Rattle.fcl_syntax.specs.Reading.{expect_at, key_at, open_at, name_at, signed_number_at, coordinate_at, degree_at, point_at, some_points_at, points_at, term_at, opening_at, range_at, fuzzy_line_at, fuzzy_lines_at, fuzzify_at, choice_at, setting_at, singleton_value_at, singleton_at, fallback_value_at, fallback_at, defuzzy_line_at, defuzzy_lines_at, defuzzify_at, part_at}
 use Rattle.fcl_syntax.proofs.Chains.{bind_assoc, bind_cond, chain2, chain4, chain5, chain7}
 use Rattle.fcl_syntax.proofs.Dead.{via}
 use Rattle.fcl_syntax.proofs.Loop.{texts}
 use Rattle.fcl_syntax.proofs.Named.{named, either, refuse, many_then}
 use Rattle.fcl_syntax.proofs.Repeat.{then_rep}
 use Rattle.fcl_syntax.proofs.Seq.{seq}
-use Rattle.fcl_syntax.proofs.Forms.{bare_form, key_form, word_form, open_form, name_form, num_form, coordinate_form, degree_form, each_texts}
+use Rattle.fcl_syntax.proofs.Forms.{bare_form, key_form, word_form, open_form, name_form, signed_number_form, coordinate_form, degree_form, each_texts}
 
 -- ---- terms of an input
 
@@ -108,17 +108,18 @@ opening_is ts = simp (bind_cond, bind_assoc)
 abbrev pub opening_form : Form (Bool × ℕ)
 opening_form = named opening_via opening_at opening_is
 
-abbrev pub to_range : ℕ × ((Bool × ℕ) × (TNum × (Unit {0} × (TNum × (Unit {0} × Unit {0}))))) → TRange
+abbrev pub to_range : ℕ × ((Bool × ℕ) × (TSignedNumber × (Unit {0} × (TSignedNumber × (Unit {0} × Unit {0}))))) → TRange
 to_range t = record { at = t.0; assigned = t.1.0.0; open_at = t.1.0.1; low = t.1.1.0; high = t.1.1.1.1.0 }
 
 abbrev pub range_raw : Form TRange
-range_raw = via (seq (key_form key.Range) (seq opening_form (seq num_form (seq (bare_form tok.To refl)
-    (seq num_form (seq (bare_form tok.Close refl) (bare_form tok.Semicolon refl) refl) refl) refl) refl) refl) refl) to_range
+range_raw = via (seq (key_form key.Range) (seq opening_form (seq signed_number_form (seq (bare_form tok.To refl)
+    (seq signed_number_form (seq (bare_form tok.Close refl) (bare_form tok.Semicolon refl) refl) refl) refl) refl) refl) refl) to_range
     (λ r. (r.at, ((r.assigned, r.open_at), (r.low, (tt, (r.high, (tt, tt))))))) range_text (λ r. refl) (λ t. refl)
 
 pub range_is : (ts : List Token) → range_at ts ≡ range_raw.read ts
 unfolding range_at
-range_is ts = chain7 (key_at key.Range) opening_at num_at (expect_at tok.To) num_at (expect_at tok.Close) (expect_at tok.Semicolon) to_range ts
+range_is ts = chain7 (key_at key.Range) opening_at signed_number_at (expect_at tok.To) signed_number_at (expect_at tok.Close)
+    (expect_at tok.Semicolon) to_range ts
 
 abbrev pub range_form : Form TRange
 range_form = named range_raw range_at range_is
@@ -191,17 +192,17 @@ method_form = setting_form key.Method word.Cogs method_classes 1 refl refl
 
 -- ---- DEFUZZIFY
 
-abbrev pub singleton_value_raw : Form (Among open_classes ⊎ TNum)
-singleton_value_raw = refuse (Unsupported 13) open_classes num_form refl refl
+abbrev pub singleton_value_raw : Form (Among open_classes ⊎ TSignedNumber)
+singleton_value_raw = refuse (Unsupported 13) open_classes signed_number_form refl refl
 
 pub singleton_value_is : (ts : List Token) → singleton_value_at ts ≡ singleton_value_raw.read ts
 unfolding singleton_value_at
 singleton_value_is ts = refl
 
-abbrev pub singleton_value_form : Form (Among open_classes ⊎ TNum)
+abbrev pub singleton_value_form : Form (Among open_classes ⊎ TSignedNumber)
 singleton_value_form = named singleton_value_raw singleton_value_at singleton_value_is
 
-abbrev pub to_singleton : ℕ × (Name × (Unit {0} × ((Among open_classes ⊎ TNum) × Unit {0}))) → TSingleton
+abbrev pub to_singleton : ℕ × (Name × (Unit {0} × ((Among open_classes ⊎ TSignedNumber) × Unit {0}))) → TSingleton
 to_singleton t = record { at = t.0; name = t.1.0; value = t.1.1.1.0 }
 
 abbrev pub singleton_raw : Form TSingleton
@@ -216,17 +217,17 @@ singleton_is ts = chain5 (key_at key.Term) name_at (expect_at tok.Assign) single
 abbrev pub singleton_form : Form TSingleton
 singleton_form = named singleton_raw singleton_at singleton_is
 
-abbrev pub fallback_value_raw : Form (TNum ⊎ ℕ)
-fallback_value_raw = either num_form (word_form word.Nc) refl refl
+abbrev pub fallback_value_raw : Form (TSignedNumber ⊎ ℕ)
+fallback_value_raw = either signed_number_form (word_form word.Nc) refl refl
 
 pub fallback_value_is : (ts : List Token) → fallback_value_at ts ≡ fallback_value_raw.read ts
 unfolding fallback_value_at
 fallback_value_is ts = refl
 
-abbrev pub fallback_value_form : Form (TNum ⊎ ℕ)
+abbrev pub fallback_value_form : Form (TSignedNumber ⊎ ℕ)
 fallback_value_form = named fallback_value_raw fallback_value_at fallback_value_is
 
-abbrev pub to_fallback : ℕ × (Unit {0} × ((TNum ⊎ ℕ) × Unit {0})) → TFallback
+abbrev pub to_fallback : ℕ × (Unit {0} × ((TSignedNumber ⊎ ℕ) × Unit {0})) → TFallback
 to_fallback t = record { at = t.0; value = t.1.1.0 }
 
 abbrev pub fallback_raw : Form TFallback

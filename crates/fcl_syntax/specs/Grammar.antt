@@ -61,12 +61,12 @@ signed_text f g (plus a) = plain tok.Plus ∷ f a
 signed_text f g (minus b) = plain tok.Minus ∷ g b
 signed_text f g (bare a) = f a
 
--- num = ["+" | "-"] number
-abbrev pub TNum : Type 0
-TNum = TSigned Number Number
+-- signed_number = ["+" | "-"] number
+abbrev pub TSignedNumber : Type 0
+TSignedNumber = TSigned Number Number
 
-abbrev pub num_text : TNum → List Sym
-num_text = signed_text number_text number_text
+abbrev pub signed_number_text : TSignedNumber → List Sym
+signed_number_text = signed_text number_text number_text
 
 -- ---- variables
 
@@ -81,38 +81,39 @@ TType = Among other_type_classes ⊎ ℕ
 abbrev pub type_text : TType → List Sym
 type_text = or_refused (Unsupported 5) other_type_classes (word_text word.Real)
 
--- decl = names ":" type ";"
-pub record TDecl : Type 0 where
+-- declaration = names ":" type ";"
+pub record TDeclaration : Type 0 where
   pub names : Name × List Name
   pub type : TType
 
-abbrev pub decl_text : TDecl → List Sym
-decl_text d = names_text d.names ++ (plain tok.Colon ∷ (type_text d.type ++ plain tok.Semicolon ∷ []))
+abbrev pub declaration_text : TDeclaration → List Sym
+declaration_text d = names_text d.names ++ (plain tok.Colon ∷ (type_text d.type ++ plain tok.Semicolon ∷ []))
 
 -- (VAR_INPUT | VAR_OUTPUT)
 abbrev pub direction_key : Direction → Keyword
 direction_key Input = key.VarInput
 direction_key Output = key.VarOutput
 
--- vars = (VAR_INPUT | VAR_OUTPUT) {decl} END_VAR
-pub record TVars : Type 0 where
+-- variables = (VAR_INPUT | VAR_OUTPUT) {declaration} END_VAR
+pub record TVariables : Type 0 where
   pub at : ℕ
   pub direction : Direction
-  pub decls : List TDecl
+  pub declarations : List TDeclaration
   pub end : ℕ
 
-abbrev pub vars_text : TVars → List Sym
-vars_text v = plain (tok.Word v.at (direction_key v.direction)) ∷ (each decl_text v.decls ++ key_text key.EndVar v.end)
+abbrev pub variables_text : TVariables → List Sym
+variables_text v = plain
+    (tok.Word v.at (direction_key v.direction)) ∷ (each declaration_text v.declarations ++ key_text key.EndVar v.end)
 
 -- VAR in its place is refused, code 6
 abbrev pub var_classes : List ℕ
 var_classes = keyword_class key.Var ∷ []
 
 abbrev pub TSection : Type 0
-TSection = Among var_classes ⊎ TVars
+TSection = Among var_classes ⊎ TVariables
 
 abbrev pub section_text : TSection → List Sym
-section_text = or_refused (Unsupported 6) var_classes vars_text
+section_text = or_refused (Unsupported 6) var_classes variables_text
 
 -- ---- terms and ranges
 
@@ -151,7 +152,7 @@ degree_text = signed_text
     (or_refused (Unsupported 10) name_classes (or_refused (Unsupported 11) beyond_unit_classes unit_text))
     (or_refused (Unsupported 10) name_classes (or_refused (Unsupported 11) beyond_zero_classes zero_text))
 
--- point = "(" num "," num ")"
+-- point = "(" signed_number "," signed_number ")"
 pub record TPoint : Type 0 where
   pub open_at : ℕ
   pub x : TSigned TCoordinate TCoordinate
@@ -178,13 +179,13 @@ abbrev pub term_text : TTerm → List Sym
 term_text t = plain (tok.Word t.at key.Term) ∷ plain (name_token t.name) ∷ plain tok.Assign ∷
     (points_text t.points ++ plain tok.Semicolon ∷ [])
 
--- range = RANGE [":="] "(" num ".." num ")" ";"
+-- range = RANGE [":="] "(" signed_number ".." signed_number ")" ";"
 pub record TRange : Type 0 where
   pub at : ℕ
   pub assigned : Bool
   pub open_at : ℕ
-  pub low : TNum
-  pub high : TNum
+  pub low : TSignedNumber
+  pub high : TSignedNumber
 
 abbrev pub opening_text : Bool → ℕ → List Sym
 opening_text true at = plain tok.Assign ∷ plain (tok.Open at) ∷ []
@@ -192,7 +193,8 @@ opening_text false at = plain (tok.Open at) ∷ []
 
 abbrev pub range_text : TRange → List Sym
 range_text r = plain (tok.Word r.at key.Range) ∷ (opening_text r.assigned r.open_at ++
-    (num_text r.low ++ (plain tok.To ∷ (num_text r.high ++ plain tok.Close ∷ plain tok.Semicolon ∷ []))))
+    (signed_number_text r.low ++
+    (plain tok.To ∷ (signed_number_text r.high ++ plain tok.Close ∷ plain tok.Semicolon ∷ []))))
 
 -- FUZZIFY name {term | range} END_FUZZIFY
 pub record TFuzzify : Type 0 where
@@ -234,24 +236,24 @@ TMethod = TSetting method_classes
 abbrev pub method_text : TMethod → List Sym
 method_text = setting_text key.Method word.Cogs method_classes 1
 
--- TERM name ":=" num ";"; "(" in the place of the number is refused, code 13
+-- TERM name ":=" signed_number ";"; "(" in the place of the number is refused, code 13
 pub record TSingleton : Type 0 where
   pub at : ℕ
   pub name : Name
-  pub value : Among open_classes ⊎ TNum
+  pub value : Among open_classes ⊎ TSignedNumber
 
 abbrev pub singleton_text : TSingleton → List Sym
 singleton_text t = plain (tok.Word t.at key.Term) ∷ plain (name_token t.name) ∷ plain tok.Assign ∷
-    (or_refused (Unsupported 13) open_classes num_text t.value ++ plain tok.Semicolon ∷ [])
+    (or_refused (Unsupported 13) open_classes signed_number_text t.value ++ plain tok.Semicolon ∷ [])
 
--- DEFAULT ":=" (num | NC) ";"
+-- DEFAULT ":=" (signed_number | NC) ";"
 pub record TFallback : Type 0 where
   pub at : ℕ
-  pub value : TNum ⊎ ℕ
+  pub value : TSignedNumber ⊎ ℕ
 
 abbrev pub fallback_text : TFallback → List Sym
 fallback_text d = plain (tok.Word d.at key.Default) ∷ plain tok.Assign ∷
-    (either_text num_text (word_text word.Nc) d.value ++ plain tok.Semicolon ∷ [])
+    (either_text signed_number_text (word_text word.Nc) d.value ++ plain tok.Semicolon ∷ [])
 
 -- DEFUZZIFY name {singleton | accu | method | default | range} END_DEFUZZIFY
 abbrev pub TDefuzzyLine : Type 0
@@ -343,30 +345,30 @@ abbrev mutual
 
 -- ---- rules
 
--- concl = name IS name
+-- conclusion = name IS name
 abbrev pub conclusion_text : Conclusion → List Sym
 conclusion_text c = plain (name_token c.variable) ∷ plain (tok.Word c.is_at key.Is) ∷ plain (name_token c.term) ∷ []
 
 abbrev pub conclusions_text : Conclusion × List Conclusion → List Sym
 conclusions_text t = conclusion_text t.0 ++ behind tok.Comma conclusion_text t.1
 
--- WITH num ";"; a name in the place of the number is refused, code 15
+-- WITH signed_number ";"; a name in the place of the number is refused, code 15
 pub record TWeight : Type 0 where
   pub at : ℕ
-  pub value : Among name_classes ⊎ TNum
+  pub value : Among name_classes ⊎ TSignedNumber
 
 abbrev pub weight_text : TWeight → List Sym
 weight_text w = plain (tok.Word w.at key.With) ∷
-    (or_refused (Unsupported 15) name_classes num_text w.value ++ plain tok.Semicolon ∷ [])
+    (or_refused (Unsupported 15) name_classes signed_number_text w.value ++ plain tok.Semicolon ∷ [])
 
--- [WITH num] ";"
+-- [WITH signed_number] ";"
 abbrev pub semicolon_text : Unit {0} → List Sym
 semicolon_text _ = plain tok.Semicolon ∷ []
 
 abbrev pub label_token : Label → Token
 label_token l = tok.Number l.at l.amount true
 
--- rule = RULE whole ":" IF or THEN concl {"," concl} [WITH num] ";"
+-- rule = RULE whole ":" IF or THEN conclusion {"," conclusion} [WITH signed_number] ";"
 pub record TRule : Type 0 where
   pub at : ℕ
   pub label : Label
@@ -441,15 +443,15 @@ abbrev pub end_text : TEnd → List Sym
 end_text = or_refused (Unsupported 7) option_classes
     (or_refused (Unsupported 8) ruleblock_classes (key_text key.EndFunctionBlock))
 
--- block = FUNCTION_BLOCK name {vars} {part} rules END_FUNCTION_BLOCK
+-- block = FUNCTION_BLOCK name {variables} {part} rules END_FUNCTION_BLOCK
 pub record TBlock : Type 0 where
   pub at : ℕ
   pub name : Name
-  pub vars : List TSection
+  pub variables : List TSection
   pub parts : List TPart
   pub rules : TRulebase
   pub end : TEnd
 
 abbrev pub block_text : TBlock → List Sym
 block_text b = plain (tok.Word b.at key.FunctionBlock) ∷ plain (name_token b.name) ∷
-    (each section_text b.vars ++ (each part_text b.parts ++ (rulebase_text b.rules ++ end_text b.end)))
+    (each section_text b.variables ++ (each part_text b.parts ++ (rulebase_text b.rules ++ end_text b.end)))

@@ -20,7 +20,7 @@ use Rattle.fcl_syntax.specs.declared.tree.UnitNumber.{UnitNumber}
 use Rattle.fcl_syntax.specs.declared.tree.ZeroNumber.{ZeroNumber}
 use Rattle.fcl_syntax.specs.TokenClasses.{class_of, keyword_class, word_class, name_classes, other_type_classes, signed_classes, beyond_unit_classes, beyond_zero_classes, follow_classes, Among, comma_classes, defuzzy_line_classes, fuzzy_line_classes, open_classes, opener_classes, part_classes, rule_item_classes, rule_line_classes, section_classes}
 use Rattle.fcl_syntax.specs.Readers.{◌>>=◌, Read, cond_read, fault_at, starts, one_at, loop, ended}
-use Rattle.fcl_syntax.specs.Grammar.{TSigned, plus, minus, bare, TNum, TType, TDecl, TVars, var_classes, TSection, TCoordinate, TUnit, TZero, TPoint, TPoints, TTerm, TRange, TFuzzify, TSetting, accu_classes, TAccu, method_classes, TMethod, TSingleton, TFallback, TDefuzzyLine, TDefuzzify, option_classes, TPart, TNot, neg, group, is, TAnd, and_of, TOr, or_of, TWeight, TRule, TRuleItem, and_classes, or_classes, TAct, TRuleLine, TRulebase, ruleblock_classes, TEnd, TBlock}
+use Rattle.fcl_syntax.specs.Grammar.{TSigned, plus, minus, bare, TSignedNumber, TType, TDeclaration, TVariables, var_classes, TSection, TCoordinate, TUnit, TZero, TPoint, TPoints, TTerm, TRange, TFuzzify, TSetting, accu_classes, TAccu, method_classes, TMethod, TSingleton, TFallback, TDefuzzyLine, TDefuzzify, option_classes, TPart, TNot, neg, group, is, TAnd, and_of, TOr, or_of, TWeight, TRule, TRuleItem, and_classes, or_classes, TAct, TRuleLine, TRulebase, ruleblock_classes, TEnd, TBlock}
 use Rattle.fcl_syntax.specs.View.{nots_of, ands_of}
 
 abbrev pub unit : Unit {0}
@@ -140,8 +140,8 @@ signed_at f g ts = cond_read (starts (class_of tok.Plus ∷ []) ts) (do
       n ← f ts
       Ok (bare n.0, n.1)))
 
-abbrev pub num_at : List Token → Read TNum
-num_at = signed_at number_at number_at
+abbrev pub signed_number_at : List Token → Read TSignedNumber
+signed_number_at = signed_at number_at number_at
 
 unfoldable pub coordinate_number_at : List Token → Read TCoordinate
 coordinate_number_at ts = cond_read (starts name_classes ts) (refuse_at 10 ts) (do
@@ -185,27 +185,27 @@ type_at ts = cond_read (starts other_type_classes ts) (refuse_at 5 ts) (do
   r ← word_at word.Real ts
   Ok (inr r.0, r.1))
 
-unfoldable pub decl_at : List Token → Read TDecl
-decl_at ts = do
+unfoldable pub declaration_at : List Token → Read TDeclaration
+declaration_at ts = do
   n ← names_at ts
   c ← expect_at tok.Colon n.1
   t ← type_at c.1
   s ← expect_at tok.Semicolon t.1
   Ok (record { names = n.0; type = t.0 }, s.1)
 
-abbrev pub decls_at : List Token → Read (List TDecl)
-decls_at ts = loop name_classes decl_at (length ts) ts
+abbrev pub declarations_at : List Token → Read (List TDeclaration)
+declarations_at ts = loop name_classes declaration_at (length ts) ts
 
-unfoldable pub vars_at : List Token → Read TVars
-vars_at ts = do
+unfoldable pub variables_at : List Token → Read TVariables
+variables_at ts = do
   v ← direction_at ts
-  ds ← decls_at v.1
+  ds ← declarations_at v.1
   e ← key_at key.EndVar ds.1
-  Ok (record { at = v.0.0; direction = v.0.1; decls = ds.0; end = e.0 }, e.1)
+  Ok (record { at = v.0.0; direction = v.0.1; declarations = ds.0; end = e.0 }, e.1)
 
 unfoldable pub section_at : List Token → Read TSection
 section_at ts = cond_read (starts var_classes ts) (refuse_at 6 ts) (do
-  v ← vars_at ts
+  v ← variables_at ts
   Ok (inr v.0, v.1))
 
 abbrev pub sections_at : List Token → Read (List TSection)
@@ -254,9 +254,9 @@ unfoldable pub range_at : List Token → Read TRange
 range_at ts = do
   r ← key_at key.Range ts
   o ← opening_at r.1
-  l ← num_at o.1
+  l ← signed_number_at o.1
   t ← expect_at tok.To l.1
-  h ← num_at t.1
+  h ← signed_number_at t.1
   c ← expect_at tok.Close h.1
   s ← expect_at tok.Semicolon c.1
   Ok (record { at = r.0; assigned = o.0.0; open_at = o.0.1; low = l.0; high = h.0 }, s.1)
@@ -300,9 +300,9 @@ accu_at = setting_at key.Accu word.Max accu_classes 4
 abbrev pub method_at : List Token → Read TMethod
 method_at = setting_at key.Method word.Cogs method_classes 1
 
-unfoldable pub singleton_value_at : List Token → Read (Among open_classes ⊎ TNum)
+unfoldable pub singleton_value_at : List Token → Read (Among open_classes ⊎ TSignedNumber)
 singleton_value_at ts = cond_read (starts open_classes ts) (refuse_at 13 ts) (do
-  n ← num_at ts
+  n ← signed_number_at ts
   Ok (inr n.0, n.1))
 
 unfoldable pub singleton_at : List Token → Read TSingleton
@@ -314,9 +314,9 @@ singleton_at ts = do
   s ← expect_at tok.Semicolon v.1
   Ok (record { at = t.0; name = n.0; value = v.0 }, s.1)
 
-unfoldable pub fallback_value_at : List Token → Read (TNum ⊎ ℕ)
+unfoldable pub fallback_value_at : List Token → Read (TSignedNumber ⊎ ℕ)
 fallback_value_at ts = cond_read (starts signed_classes ts) (do
-  n ← num_at ts
+  n ← signed_number_at ts
   Ok (inl n.0, n.1)) (do
     x ← word_at word.Nc ts
     Ok (inr x.0, x.1))
@@ -446,9 +446,9 @@ conclusions_at ts = do
   more ← loop comma_classes comma_conclusion_at (length c.1) c.1
   Ok ((c.0, more.0), more.1)
 
-unfoldable pub weight_value_at : List Token → Read (Among name_classes ⊎ TNum)
+unfoldable pub weight_value_at : List Token → Read (Among name_classes ⊎ TSignedNumber)
 weight_value_at ts = cond_read (starts name_classes ts) (refuse_at 15 ts) (do
-  n ← num_at ts
+  n ← signed_number_at ts
   Ok (inr n.0, n.1))
 
 unfoldable pub with_at : List Token → Read TWeight
@@ -540,7 +540,7 @@ block_at ts = do
   ps ← parts_at vs.1
   rs ← rulebase_at ps.1
   e ← end_at rs.1
-  Ok (record { at = b.0; name = n.0; vars = vs.0; parts = ps.0; rules = rs.0; end = e.0 }, e.1)
+  Ok (record { at = b.0; name = n.0; variables = vs.0; parts = ps.0; rules = rs.0; end = e.0 }, e.1)
 
 -- all of the tokens
 unfoldable pub all_of : List Token → Result TBlock Fault

@@ -7,7 +7,7 @@ use Rattle.fcl_syntax.specs.declared.tree.Activation.{Activation}
 use Rattle.fcl_syntax.specs.declared.tree.Alternative.{Alternative, Alternative-F, fold-Alternative}
 use Rattle.fcl_syntax.specs.declared.tree.And.{And, And-F, fold-And}
 use Rattle.fcl_syntax.specs.declared.tree.Conjunct.{Conjunct, Conjunct-F, fold-Conjunct}
-use Rattle.fcl_syntax.specs.declared.tree.Decl.{Decl}
+use Rattle.fcl_syntax.specs.declared.tree.Declaration.{Declaration}
 use Rattle.fcl_syntax.specs.declared.tree.Defuzzify.{Defuzzify}
 use Rattle.fcl_syntax.specs.declared.tree.DefuzzyLine.{DefuzzyLine}
 use Rattle.fcl_syntax.specs.declared.tree.DefuzzyLine.TheVariants as defuzzy
@@ -22,8 +22,8 @@ use Rattle.fcl_syntax.specs.declared.tree.FuzzyLine.{FuzzyLine}
 use Rattle.fcl_syntax.specs.declared.tree.FuzzyLine.TheVariants as fuzzy
 use Rattle.fcl_syntax.specs.declared.tree.Not.{Not, Not-F, fold-Not}
 use Rattle.fcl_syntax.specs.declared.tree.Not.TheOpen as open_not
-use Rattle.fcl_syntax.specs.declared.tree.Num.{Num}
-use Rattle.fcl_syntax.specs.declared.tree.Num.TheVariants as num
+use Rattle.fcl_syntax.specs.declared.tree.SignedNumber.{SignedNumber}
+use Rattle.fcl_syntax.specs.declared.tree.SignedNumber.TheVariants as signed
 use Rattle.fcl_syntax.specs.declared.tree.Or.{Or, Or-F, fold-Or}
 use Rattle.fcl_syntax.specs.declared.tree.Part.{Part}
 use Rattle.fcl_syntax.specs.declared.tree.Part.TheVariants as part
@@ -36,30 +36,36 @@ use Rattle.fcl_syntax.specs.declared.tree.Rulebase.{Rulebase}
 use Rattle.fcl_syntax.specs.declared.tree.Setting.{Setting}
 use Rattle.fcl_syntax.specs.declared.tree.Singleton.{Singleton}
 use Rattle.fcl_syntax.specs.declared.tree.Term.{Term}
-use Rattle.fcl_syntax.specs.declared.tree.Vars.{Vars}
+use Rattle.fcl_syntax.specs.declared.tree.Variables.{Variables}
 use Rattle.fcl_syntax.specs.declared.tree.Weight.{Weight}
-use Rattle.fcl_syntax.specs.Grammar.{TSigned, plus, minus, bare, TNum, TDecl, TVars, TSection, TCoordinate, TUnit, TZero, TPoint, TTerm, TRange, TFuzzify, TSetting, TSingleton, TFallback, TDefuzzyLine, TDefuzzify, TPart, TNot, neg, group, is, TNots, no_nots, more_nots, TAnd, and_of, TAnds, no_ands, more_ands, TOr, or_of, TWeight, TRule, TRuleItem, TAct, TRuleLine, TRulebase, TBlock}
+use Rattle.fcl_syntax.specs.Grammar.{TSigned, plus, minus, bare, TSignedNumber, TDeclaration, TVariables, TSection, TCoordinate, TUnit, TZero, TPoint, TTerm, TRange, TFuzzify, TSetting, TSingleton, TFallback, TDefuzzyLine, TDefuzzify, TPart, TNot, neg, group, is, TNots, no_nots, more_nots, TAnd, and_of, TAnds, no_ands, more_ands, TOr, or_of, TWeight, TRule, TRuleItem, TAct, TRuleLine, TRulebase, TBlock}
 
 -- ---- variables, terms and ranges
 
-abbrev pub view_decl : Decl → TDecl
-view_decl d = record { names = (d.first, d.more.items); type = inr d.real }
+abbrev pub view_declaration : Declaration → TDeclaration
+view_declaration d = record { names = (d.first, d.more.items); type = inr d.real }
 
-abbrev pub view_vars : Vars → TVars
-view_vars v = record { at = v.at; direction = v.direction; decls = map view_decl v.decls.items; end = v.end }
+abbrev pub view_variables : Variables → TVariables
+view_variables v = record {
+  at = v.at;
+  direction = v.direction;
+  declarations =
+      map view_declaration v.declarations.items;
+  end = v.end;
+}
 
-abbrev pub view_section : Vars → TSection
-view_section v = inr (view_vars v)
+abbrev pub view_section : Variables → TSection
+view_section v = inr (view_variables v)
 
-abbrev pub view_num : Num → TNum
-view_num (num.Plus n) = plus n
-view_num (num.Minus n) = minus n
-view_num (num.Bare n) = bare n
+abbrev pub view_signed_number : SignedNumber → TSignedNumber
+view_signed_number (signed.Plus n) = plus n
+view_signed_number (signed.Minus n) = minus n
+view_signed_number (signed.Bare n) = bare n
 
-abbrev pub view_coordinate : Num → TSigned TCoordinate TCoordinate
-view_coordinate (num.Plus n) = plus (inr n)
-view_coordinate (num.Minus n) = minus (inr n)
-view_coordinate (num.Bare n) = bare (inr n)
+abbrev pub view_coordinate : SignedNumber → TSigned TCoordinate TCoordinate
+view_coordinate (signed.Plus n) = plus (inr n)
+view_coordinate (signed.Minus n) = minus (inr n)
+view_coordinate (signed.Bare n) = bare (inr n)
 
 abbrev pub view_degree : Degree → TSigned TUnit TZero
 view_degree (degree.Plus n) = plus (inr (inr n))
@@ -77,8 +83,8 @@ view_range r = record {
   at = r.at;
   assigned = r.assigned;
   open_at = r.open_at;
-  low = view_num r.low;
-  high = view_num r.high;
+  low = view_signed_number r.low;
+  high = view_signed_number r.high;
 }
 
 abbrev pub view_fuzzy_line : FuzzyLine → TTerm ⊎ TRange
@@ -92,10 +98,10 @@ abbrev pub view_setting : {classes : List ℕ} → Setting → TSetting classes
 view_setting s = record { at = s.at; word = inr s.word }
 
 abbrev pub view_singleton : Singleton → TSingleton
-view_singleton s = record { at = s.at; name = s.name; value = inr (view_num s.value) }
+view_singleton s = record { at = s.at; name = s.name; value = inr (view_signed_number s.value) }
 
-abbrev pub view_value : FallbackValue → TNum ⊎ ℕ
-view_value (fallback.Number n) = inl (view_num n)
+abbrev pub view_value : FallbackValue → TSignedNumber ⊎ ℕ
+view_value (fallback.Number n) = inl (view_signed_number n)
 view_value (fallback.Nc at) = inr at
 
 abbrev pub view_fallback : Fallback → TFallback
@@ -162,7 +168,7 @@ view_or = fold-Or TNot (ℕ × TAnd) TAnd (ℕ × TNot) TOr not_step alternative
 -- ---- rules
 
 abbrev pub view_with : Weight → TWeight
-view_with w = record { at = w.at; value = inr (view_num w.num) }
+view_with w = record { at = w.at; value = inr (view_signed_number w.value) }
 
 abbrev pub view_weight : Option Weight → TWeight ⊎ Unit {0}
 view_weight None = inr tt
@@ -208,7 +214,7 @@ abbrev pub view : FunctionBlock → TBlock
 view b = record {
   at = b.at;
   name = b.name;
-  vars = map view_section b.vars.items;
+  variables = map view_section b.variables.items;
   parts = map view_part b.parts.items;
   rules = view_rulebase b.rules;
   end = inr (inr b.end);

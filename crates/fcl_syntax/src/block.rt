@@ -10,7 +10,7 @@ use crate::repeated::many;
 use crate::rules::rulebase;
 use crate::single::{fault, is_keyword, keyword, name};
 use crate::token::{Keyword, Token};
-use crate::tree::{FunctionBlock, Part, Vars};
+use crate::tree::{FunctionBlock, Part, Variables};
 use std::alloc::Global;
 
 // END_FUNCTION_BLOCK, where OPTION and RULEBLOCK are refused.
@@ -33,7 +33,7 @@ fn block(alloc: Global, tokens: &[Token]) -> Result<(FunctionBlock, &[Token]), P
 {
     let (at, rest) = keyword(tokens, Keyword::FunctionBlock)?;
     let (name, rest) = name(rest)?;
-    let (vars, rest) = many::<Vars>(alloc, rest)?;
+    let (variables, rest) = many::<Variables>(alloc, rest)?;
     let (parts, rest) = many::<Part>(alloc, rest)?;
     let (rules, rest) = rulebase(alloc, rest)?;
     let (end, rest) = end(rest)?;
@@ -41,7 +41,7 @@ fn block(alloc: Global, tokens: &[Token]) -> Result<(FunctionBlock, &[Token]), P
         FunctionBlock {
             at,
             name,
-            vars,
+            variables,
             parts,
             rules,
             end,

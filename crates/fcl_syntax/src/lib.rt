@@ -26,10 +26,10 @@ pub use laws::{
 pub use text::{SyntaxFault, parse};
 pub use token::{Amount, Word};
 pub use tree::{
-    ActWord, Activation, Alternative, And, Conclusion, Conjunct, Decl, Defuzzify, DefuzzyLine,
-    Degree, Direction, Fallback, FallbackValue, FunctionBlock, Fuzzify, FuzzyLine, Label, Name,
-    Not, Num, Number, Operand, Or, Part, Point, Range, Rule, RuleLine, Rulebase, Setting,
-    Singleton, Term, Tree, UnitNumber, Vars, Weight, ZeroNumber,
+    ActWord, Activation, Alternative, And, Conclusion, Conjunct, Declaration, Defuzzify,
+    DefuzzyLine, Degree, Direction, Fallback, FallbackValue, FunctionBlock, Fuzzify, FuzzyLine,
+    Label, Name, Not, Number, Operand, Or, Part, Point, Range, Rule, RuleLine, Rulebase, Setting,
+    SignedNumber, Singleton, Term, Tree, UnitNumber, Variables, Weight, ZeroNumber,
 };
 
 #[cfg(test)]

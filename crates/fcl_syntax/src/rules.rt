@@ -7,7 +7,7 @@ ghost use Rattle.fcl_syntax.specs.TokenClasses.{comma_classes, rule_item_classes
 ghost use Rattle.fcl_syntax.specs.Readers.{Gives};
 ghost use Rattle.fcl_syntax.specs.Grammar.{TRuleItem, TRuleLine, and_classes, or_classes};
 ghost use Rattle.fcl_syntax.specs.Reading.{conclusion_at, comma_conclusion_at, conclusions_at, weight_value_at, setting_at, with_at, weight_at, rule_at, rule_item_at, act_word_at, act_at, rule_line_at, rulebase_at};
-ghost use Rattle.fcl_syntax.specs.View.{view_num, view_setting, view_with, view_weight, view_rule, view_rule_item, view_act_word, view_act, view_rule_line, view_rulebase};
+ghost use Rattle.fcl_syntax.specs.View.{view_signed_number, view_setting, view_with, view_weight, view_rule, view_rule_item, view_act_word, view_act, view_rule_line, view_rulebase};
 
 use crate::conditions::or;
 use crate::fault::{Kind, ParseError};
@@ -15,10 +15,10 @@ use crate::repeated::{Repeated, many};
 use crate::single::{
     expect, fault, is_keyword, is_name, is_next, is_word, keyword, label, name, word,
 };
-use crate::terms::{Refused, accu, num, setting};
+use crate::terms::{Refused, accu, setting, signed_number};
 use crate::token::{Keyword, Token, Word};
 use crate::tree::{
-    ActWord, Activation, Conclusion, Num, Rule, RuleLine, Rulebase, Setting, Weight,
+    ActWord, Activation, Conclusion, Rule, RuleLine, Rulebase, Setting, SignedNumber, Weight,
 };
 use std::alloc::Global;
 
@@ -84,27 +84,27 @@ fn conclusions(
 
 // The number behind WITH, where a name is refused.
 #[tactic(auto, unfolding(crate::specs::Reading::weight_value_at))]
-fn weight_value(tokens: &[Token]) -> Result<(Num, &[Token]), ParseError>
-    ensures { Gives (λ x. (inr (view_num x.0), x.1.now)) result (weight_value_at tokens.now) }
+fn weight_value(tokens: &[Token]) -> Result<(SignedNumber, &[Token]), ParseError>
+    ensures { Gives (λ x. (inr (view_signed_number x.0), x.1.now)) result (weight_value_at tokens.now) }
 {
     if is_name(tokens) {
         return Err(fault(Kind::Unsupported(15), tokens));
     }
-    num(tokens)
+    signed_number(tokens)
 }
 
-// WITH num ";"
+// WITH signed_number ";"
 #[tactic(auto, unfolding(crate::specs::Reading::with_at))]
 fn with(tokens: &[Token]) -> Result<(Weight, &[Token]), ParseError>
     ensures { Gives (λ x. (view_with x.0, x.1.now)) result (with_at tokens.now) }
 {
     let (at, rest) = keyword(tokens, Keyword::With)?;
-    let (num, rest) = weight_value(rest)?;
+    let (value, rest) = weight_value(rest)?;
     let rest = expect(rest, Token::Semicolon)?;
-    Ok((Weight { at, num }, rest))
+    Ok((Weight { at, value }, rest))
 }
 
-// [WITH num] ";"
+// [WITH signed_number] ";"
 #[tactic(auto, unfolding(crate::specs::Reading::weight_at))]
 fn weight(tokens: &[Token]) -> Result<(Option<Weight>, &[Token]), ParseError>
     ensures { Gives (λ x. (view_weight x.0, x.1.now)) result (weight_at tokens.now) }

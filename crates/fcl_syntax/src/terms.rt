@@ -5,8 +5,8 @@ ghost use Rattle.std.proofs.Common.{inl, inr};
 ghost use Rattle.fcl_syntax.specs.TokenClasses.{open_classes, fuzzy_line_classes, defuzzy_line_classes, part_classes, word_class};
 ghost use Rattle.fcl_syntax.specs.Grammar.{TPoint, TTerm, TRange, TDefuzzyLine, TPart};
 ghost use Rattle.fcl_syntax.specs.Readers.{Gives};
-ghost use Rattle.fcl_syntax.specs.Reading.{num_at, coordinate_number_at, coordinate_at, unit_at, zero_at, degree_at, point_at, some_points_at, points_at, term_at, opening_at, range_at, fuzzy_line_at, fuzzify_at, choice_at, setting_at, accu_at, method_at, singleton_value_at, singleton_at, fallback_value_at, fallback_at, defuzzy_line_at, defuzzify_at, part_at};
-ghost use Rattle.fcl_syntax.specs.View.{view_num, view_coordinate, view_degree, view_point, view_term, view_range, view_fuzzy_line, view_fuzzify, view_setting, view_singleton, view_value, view_fallback, view_defuzzy_line, view_defuzzify, view_part};
+ghost use Rattle.fcl_syntax.specs.Reading.{signed_number_at, coordinate_number_at, coordinate_at, unit_at, zero_at, degree_at, point_at, some_points_at, points_at, term_at, opening_at, range_at, fuzzy_line_at, fuzzify_at, choice_at, setting_at, accu_at, method_at, singleton_value_at, singleton_at, fallback_value_at, fallback_at, defuzzy_line_at, defuzzify_at, part_at};
+ghost use Rattle.fcl_syntax.specs.View.{view_signed_number, view_coordinate, view_degree, view_point, view_term, view_range, view_fuzzy_line, view_fuzzify, view_setting, view_singleton, view_value, view_fallback, view_defuzzy_line, view_defuzzify, view_part};
 
 use crate::fault::{Kind, ParseError};
 use crate::repeated::{Repeated, many};
@@ -16,29 +16,29 @@ use crate::single::{
 };
 use crate::token::{Keyword, Token, Word};
 use crate::tree::{
-    Defuzzify, DefuzzyLine, Degree, Fallback, FallbackValue, Fuzzify, FuzzyLine, Num, Number, Part,
-    Point, Range, Setting, Singleton, Term, UnitNumber, ZeroNumber,
+    Defuzzify, DefuzzyLine, Degree, Fallback, FallbackValue, Fuzzify, FuzzyLine, Number, Part,
+    Point, Range, Setting, SignedNumber, Singleton, Term, UnitNumber, ZeroNumber,
 };
 use std::alloc::Global;
 
 // ---- numbers
 
 #[tactic(auto, unfolding(crate::specs::Reading::signed_at))]
-pub fn num(tokens: &[Token]) -> Result<(Num, &[Token]), ParseError>
-    ensures { Gives (λ x. (view_num x.0, x.1.now)) result (num_at tokens.now) }
+pub fn signed_number(tokens: &[Token]) -> Result<(SignedNumber, &[Token]), ParseError>
+    ensures { Gives (λ x. (view_signed_number x.0, x.1.now)) result (signed_number_at tokens.now) }
 {
     if is_next(tokens, Token::Plus) {
         let rest = expect(tokens, Token::Plus)?;
         let (number, rest) = number(rest)?;
-        return Ok((Num::Plus(number), rest));
+        return Ok((SignedNumber::Plus(number), rest));
     }
     if is_next(tokens, Token::Minus) {
         let rest = expect(tokens, Token::Minus)?;
         let (number, rest) = number(rest)?;
-        return Ok((Num::Minus(number), rest));
+        return Ok((SignedNumber::Minus(number), rest));
     }
     let (number, rest) = number(tokens)?;
-    Ok((Num::Bare(number), rest))
+    Ok((SignedNumber::Bare(number), rest))
 }
 
 // A number of a point, where a name is refused.
@@ -53,21 +53,21 @@ fn coordinate_number(tokens: &[Token]) -> Result<(Number, &[Token]), ParseError>
 }
 
 #[tactic(auto, unfolding(crate::specs::Reading::signed_at))]
-fn coordinate(tokens: &[Token]) -> Result<(Num, &[Token]), ParseError>
+fn coordinate(tokens: &[Token]) -> Result<(SignedNumber, &[Token]), ParseError>
     ensures { Gives (λ x. (view_coordinate x.0, x.1.now)) result (coordinate_at tokens.now) }
 {
     if is_next(tokens, Token::Plus) {
         let rest = expect(tokens, Token::Plus)?;
         let (number, rest) = coordinate_number(rest)?;
-        return Ok((Num::Plus(number), rest));
+        return Ok((SignedNumber::Plus(number), rest));
     }
     if is_next(tokens, Token::Minus) {
         let rest = expect(tokens, Token::Minus)?;
         let (number, rest) = coordinate_number(rest)?;
-        return Ok((Num::Minus(number), rest));
+        return Ok((SignedNumber::Minus(number), rest));
     }
     let (number, rest) = coordinate_number(tokens)?;
-    Ok((Num::Bare(number), rest))
+    Ok((SignedNumber::Bare(number), rest))
 }
 
 // 0 or 1, where a name and another number are refused.
@@ -214,9 +214,9 @@ fn range(tokens: &[Token]) -> Result<(Range, &[Token]), ParseError>
 {
     let (at, rest) = keyword(tokens, Keyword::Range)?;
     let ((assigned, open_at), rest) = opening(rest)?;
-    let (low, rest) = num(rest)?;
+    let (low, rest) = signed_number(rest)?;
     let rest = expect(rest, Token::To)?;
-    let (high, rest) = num(rest)?;
+    let (high, rest) = signed_number(rest)?;
     let rest = expect(rest, Token::Close)?;
     let rest = expect(rest, Token::Semicolon)?;
     Ok((
@@ -347,13 +347,13 @@ fn method(tokens: &[Token]) -> Result<(Setting, &[Token]), ParseError>
 
 // The number of a singleton, where "(" is refused.
 #[tactic(auto, unfolding(crate::specs::Reading::singleton_value_at))]
-fn singleton_value(tokens: &[Token]) -> Result<(Num, &[Token]), ParseError>
-    ensures { Gives (λ x. (inr (view_num x.0), x.1.now)) result (singleton_value_at tokens.now) }
+fn singleton_value(tokens: &[Token]) -> Result<(SignedNumber, &[Token]), ParseError>
+    ensures { Gives (λ x. (inr (view_signed_number x.0), x.1.now)) result (singleton_value_at tokens.now) }
 {
     if is_open(tokens) {
         return Err(fault(Kind::Unsupported(13), tokens));
     }
-    num(tokens)
+    signed_number(tokens)
 }
 
 #[tactic(auto, unfolding(crate::specs::Reading::singleton_at))]
@@ -368,13 +368,13 @@ fn singleton(tokens: &[Token]) -> Result<(Singleton, &[Token]), ParseError>
     Ok((Singleton { at, name, value }, rest))
 }
 
-// num | NC
+// signed_number | NC
 #[tactic(auto, unfolding(crate::specs::Reading::fallback_value_at))]
 fn fallback_value(tokens: &[Token]) -> Result<(FallbackValue, &[Token]), ParseError>
     ensures { Gives (λ x. (view_value x.0, x.1.now)) result (fallback_value_at tokens.now) }
 {
     if is_signed(tokens) {
-        let (value, rest) = num(tokens)?;
+        let (value, rest) = signed_number(tokens)?;
         return Ok((FallbackValue::Number(value), rest));
     }
     let (at, rest) = word(tokens, Word::Nc)?;

@@ -3,18 +3,6 @@ use fz_num::DecFault;
 use std::alloc::{AllocError, Global};
 use std::test::Fail;
 
-const BLOCK: &[u8] = b"FUNCTION_BLOCK a
-VAR_INPUT t : REAL; END_VAR
-VAR_OUTPUT power : REAL; END_VAR
-FUZZIFY t TERM cold := (0, 1) (256, 0); TERM hot := (0, 0) (256, 1); END_FUZZIFY
-DEFUZZIFY power TERM off := 0; TERM on := 100; METHOD : COGS; DEFAULT := 0; END_DEFUZZIFY
-RULEBLOCK r
-RULE 1 : IF t IS cold THEN power IS off;
-RULE 2 : IF t IS hot THEN power IS on;
-END_RULEBLOCK
-END_FUNCTION_BLOCK
-";
-
 /// What stands at the end of a front.
 #[derive(Clone, Copy, PartialEq)]
 enum Want {
@@ -52,16 +40,10 @@ fn told(alloc: Global, front: &[u8], back: &[u8]) -> Result<Option<(u32, Want)>,
 }
 
 // Each front ends where the fault is.
-const ROWS: [(&[u8], &[u8], Want); 48] = [
-    (b"", b"", Want::Expected),
+const ROWS: [(&[u8], &[u8], Want); 44] = [
     (b"", b"x", Want::Expected),
     (b"FUNCTION_BLOCK", b"", Want::Expected),
     (b"FUNCTION_BLOCK ", b"term", Want::Expected),
-    (
-        b"FUNCTION_BLOCK a VAR_INPUT x : ",
-        b"INT;",
-        Want::Unsupported(5),
-    ),
     (b"FUNCTION_BLOCK a VAR_INPUT x : ", b"5;", Want::Expected),
     (b"FUNCTION_BLOCK a ", b"VAR END_VAR", Want::Unsupported(6)),
     (
@@ -119,11 +101,6 @@ const ROWS: [(&[u8], &[u8], Want); 48] = [
         b"FUNCTION_BLOCK a DEFUZZIFY y METHOD : ",
         b"COGZ;",
         Want::Expected,
-    ),
-    (
-        b"FUNCTION_BLOCK a RULEBLOCK r AND : ",
-        b"PROD;",
-        Want::Unsupported(2),
     ),
     (
         b"FUNCTION_BLOCK a RULEBLOCK r AND : ",
@@ -231,7 +208,6 @@ const ROWS: [(&[u8], &[u8], Want); 48] = [
         Want::Expected,
     ),
     (b"(* (* *) ", b"*)", Want::BadByte),
-    (b"", b"(* x", Want::OpenComment),
     (b"", b"(*)", Want::OpenComment),
     (b"FUNCTION_BLOCK ", b"1e5", Want::Number(DecFault::Shape)),
     (b"x ", b"0.00001 $", Want::Number(DecFault::Places)),
@@ -269,14 +245,6 @@ fn depth(rt: HostRuntime) -> Result<(), Fail> {
     assert!(rt; told(rt.alloc(), &text, b"")?.is_none());
     let text = nested(rt.alloc(), 65)?;
     assert!(rt; told(rt.alloc(), &text, b"")? == Some((41 + 64, Want::Deep)));
-    Ok(())
-}
-
-#[test]
-fn block_is_read(rt: HostRuntime) -> Result<(), Fail> {
-    let tree = parse(rt.alloc(), BLOCK)?;
-    assert_eq!(rt; tree.block.rules.rules.len(), 2);
-    assert_eq!(rt; tree.letters(tree.block.name), b"a".as_slice());
     Ok(())
 }
 

@@ -46,7 +46,7 @@ pub struct Name {
 pub struct FunctionBlock {
     pub at: u32,
     pub name: Name,
-    pub vars: Vec<Vars>,
+    pub variables: Vec<Variables>,
     pub parts: Vec<Part>,
     pub rules: Rulebase,
     pub end: u32,
@@ -60,16 +60,16 @@ pub enum Direction {
 
 /// VAR_INPUT or VAR_OUTPUT up to END_VAR.
 #[derive(Drop)]
-pub struct Vars {
+pub struct Variables {
     pub at: u32,
     pub direction: Direction,
-    pub decls: Vec<Decl>,
+    pub declarations: Vec<Declaration>,
     pub end: u32,
 }
 
 /// Names of one type. `real` is the offset of REAL.
 #[derive(Drop)]
-pub struct Decl {
+pub struct Declaration {
     pub first: Name,
     pub more: Vec<Name>,
     pub real: u32,
@@ -109,7 +109,7 @@ pub struct Term {
 #[derive(Clone, Copy)]
 pub struct Point {
     pub open_at: u32,
-    pub x: Num,
+    pub x: SignedNumber,
     pub degree: Degree,
 }
 
@@ -123,7 +123,7 @@ pub struct Number {
 
 /// A number with or without a sign.
 #[derive(Clone, Copy)]
-pub enum Num {
+pub enum SignedNumber {
     Plus(Number),
     Minus(Number),
     Bare(Number),
@@ -158,8 +158,8 @@ pub struct Range {
     pub at: u32,
     pub assigned: bool,
     pub open_at: u32,
-    pub low: Num,
-    pub high: Num,
+    pub low: SignedNumber,
+    pub high: SignedNumber,
 }
 
 /// DEFUZZIFY up to END_DEFUZZIFY.
@@ -185,7 +185,7 @@ pub enum DefuzzyLine {
 pub struct Singleton {
     pub at: u32,
     pub name: Name,
-    pub value: Num,
+    pub value: SignedNumber,
 }
 
 /// A line `KEYWORD : word ;` whose word can only be one. `word` is the offset of that word.
@@ -205,7 +205,7 @@ pub struct Fallback {
 /// What stands behind `DEFAULT :=`: a number, or NC at its offset.
 #[derive(Clone, Copy)]
 pub enum FallbackValue {
-    Number(Num),
+    Number(SignedNumber),
     Nc(u32),
 }
 
@@ -322,5 +322,5 @@ pub struct Conclusion {
 #[derive(Clone, Copy)]
 pub struct Weight {
     pub at: u32,
-    pub num: Num,
+    pub value: SignedNumber,
 }

@@ -4,10 +4,10 @@ ghost use Rattle.std.specs.Prelude.{◌≡◌};
 ghost use Rattle.std.proofs.Common.{inr};
 ghost use Rattle.fcl_syntax.specs.declared.tree.Name.{Name};
 ghost use Rattle.fcl_syntax.specs.TokenClasses.{comma_classes, name_classes, section_classes};
-ghost use Rattle.fcl_syntax.specs.Grammar.{TDecl, TSection};
+ghost use Rattle.fcl_syntax.specs.Grammar.{TDeclaration, TSection};
 ghost use Rattle.fcl_syntax.specs.Readers.{Gives};
-ghost use Rattle.fcl_syntax.specs.Reading.{comma_name_at, names_at, type_at, decl_at, vars_at, section_at};
-ghost use Rattle.fcl_syntax.specs.View.{view_decl, view_vars, view_section};
+ghost use Rattle.fcl_syntax.specs.Reading.{comma_name_at, names_at, type_at, declaration_at, variables_at, section_at};
+ghost use Rattle.fcl_syntax.specs.View.{view_declaration, view_variables, view_section};
 
 use crate::fault::{Kind, ParseError};
 use crate::repeated::{Repeated, many};
@@ -15,7 +15,7 @@ use crate::single::{
     direction, expect, fault, is_keyword, is_name, is_next, is_other_type, keyword, name, word,
 };
 use crate::token::{Keyword, Token, Word};
-use crate::tree::{Decl, Name, Vars};
+use crate::tree::{Declaration, Name, Variables};
 use std::alloc::Global;
 
 #[tactic(auto, unfolding(crate::specs::Reading::comma_name_at))]
@@ -63,47 +63,47 @@ fn real(tokens: &[Token]) -> Result<(u32, &[Token]), ParseError>
     word(tokens, Word::Real)
 }
 
-#[tactic(auto, unfolding(crate::specs::Reading::decl_at))]
-fn decl(alloc: Global, tokens: &[Token]) -> Result<(Decl, &[Token]), ParseError>
-    ensures { Gives (λ x. (view_decl x.0, x.1.now)) result (decl_at tokens.now) }
+#[tactic(auto, unfolding(crate::specs::Reading::declaration_at))]
+fn declaration(alloc: Global, tokens: &[Token]) -> Result<(Declaration, &[Token]), ParseError>
+    ensures { Gives (λ x. (view_declaration x.0, x.1.now)) result (declaration_at tokens.now) }
 {
     let ((first, more), rest) = names(alloc, tokens)?;
     let rest = expect(rest, Token::Colon)?;
     let (real, rest) = real(rest)?;
     let rest = expect(rest, Token::Semicolon)?;
-    Ok((Decl { first, more, real }, rest))
+    Ok((Declaration { first, more, real }, rest))
 }
 
-impl Repeated for Decl {
-    ghost Tree = { TDecl };
+impl Repeated for Declaration {
+    ghost Tree = { TDeclaration };
 
     ghost first = { name_classes };
 
-    ghost read_at = { decl_at };
+    ghost read_at = { declaration_at };
 
-    ghost view = { view_decl };
+    ghost view = { view_declaration };
 
     fn is_next(tokens: &[Token]) -> bool {
         is_name(tokens)
     }
 
-    fn next(alloc: Global, tokens: &[Token]) -> Result<(Decl, &[Token]), ParseError> {
-        decl(alloc, tokens)
+    fn next(alloc: Global, tokens: &[Token]) -> Result<(Declaration, &[Token]), ParseError> {
+        declaration(alloc, tokens)
     }
 }
 
-#[tactic(auto, unfolding(crate::specs::Reading::vars_at))]
-fn vars(alloc: Global, tokens: &[Token]) -> Result<(Vars, &[Token]), ParseError>
-    ensures { Gives (λ x. (view_vars x.0, x.1.now)) result (vars_at tokens.now) }
+#[tactic(auto, unfolding(crate::specs::Reading::variables_at))]
+fn variables(alloc: Global, tokens: &[Token]) -> Result<(Variables, &[Token]), ParseError>
+    ensures { Gives (λ x. (view_variables x.0, x.1.now)) result (variables_at tokens.now) }
 {
     let ((at, direction), rest) = direction(tokens)?;
-    let (decls, rest) = many::<Decl>(alloc, rest)?;
+    let (declarations, rest) = many::<Declaration>(alloc, rest)?;
     let (end, rest) = keyword(rest, Keyword::EndVar)?;
     Ok((
-        Vars {
+        Variables {
             at,
             direction,
-            decls,
+            declarations,
             end,
         },
         rest,
@@ -111,17 +111,17 @@ fn vars(alloc: Global, tokens: &[Token]) -> Result<(Vars, &[Token]), ParseError>
 }
 
 #[tactic(auto, unfolding(crate::specs::Reading::section_at))]
-fn section(alloc: Global, tokens: &[Token]) -> Result<(Vars, &[Token]), ParseError>
+fn section(alloc: Global, tokens: &[Token]) -> Result<(Variables, &[Token]), ParseError>
     ensures { Gives (λ x. (view_section x.0, x.1.now)) result (section_at tokens.now) }
 {
     if is_keyword(tokens, Keyword::Var) {
         return Err(fault(Kind::Unsupported(6), tokens));
     }
-    vars(alloc, tokens)
+    variables(alloc, tokens)
 }
 
 // One is next where variables are, or VAR in their place.
-impl Repeated for Vars {
+impl Repeated for Variables {
     ghost Tree = { TSection };
 
     ghost first = { section_classes };
@@ -136,7 +136,7 @@ impl Repeated for Vars {
             || is_keyword(tokens, Keyword::VarOutput)
     }
 
-    fn next(alloc: Global, tokens: &[Token]) -> Result<(Vars, &[Token]), ParseError> {
+    fn next(alloc: Global, tokens: &[Token]) -> Result<(Variables, &[Token]), ParseError> {
         section(alloc, tokens)
     }
 }

@@ -11,7 +11,8 @@ some_none : {X : Type 0} {o : Option X} {x : X} → o ≡ Some x → o ≡ None 
 some_none {X} {o} {x} some none = let bad : Some x ≡ None = sym some ∙ none in cc
 
 -- where all rows are fewer than k, first rows that are all of them or k of them are all of them
-all_rows : (k : ℕ) (s s2 s3 : State) (xs ys zs : List ℕ) (rows rows' : List Fields) → Reached default_config s xs rows s2 ys → next_record default_config s2 [] [] ys ≡ None → length rows < k
+all_rows : (k : ℕ) (s s2 s3 : State) (xs ys zs : List ℕ) (rows rows' : List Fields) → Reached default_config s xs rows s2 ys
+    → next_record default_config s2 [] [] ys ≡ None → length rows < k
     → Reached default_config s xs rows' s3 zs → (next_record default_config s3 [] [] zs ≡ None) ⊎ (length rows' ≡ k) → rows' ≡ rows
 unfolding Reached
 all_rows k s s2 s3 xs ys zs [] [] cut end few cut' enough = refl
@@ -29,7 +30,8 @@ all_rows k s s2 s3 xs ys zs (r ∷ rows) (r' ∷ rows') cut end few cut' enough 
     let rest = all_rows (k - 1) cut.0.1 s2 s3 cut.0.2 ys zs rows rows' cut.3 end (omega (arith, few)) after (less enough) in
     (λ i. first i ∷ rest i)
   where
-    less : (next_record default_config s3 [] [] zs ≡ None) ⊎ (length (r' ∷ rows') ≡ k) → (next_record default_config s3 [] [] zs ≡ None) ⊎ (length rows' ≡ k - 1)
+    less : (next_record default_config s3 [] [] zs ≡ None) ⊎ (length (r' ∷ rows') ≡ k)
+        → (next_record default_config s3 [] [] zs ≡ None) ⊎ (length rows' ≡ k - 1)
     less (inl none) = inl none
     less (inr full) = inr (omega (arith, full))
 

@@ -51,7 +51,8 @@ own = numerals_by_fold AreDigits tests_digits number_after folds
 small_number : (field : List ℕ) → length field ≤ 9 → AreDigits field → number field < 1000000000
 small_number field few digits = digits_value_short own field 9 digits few
 
-pub count_is : (field : List ℕ) (value : ℕ) → value ≡ min (number field) 1000000000 → length field ≤ 9 → false ≡ (length field == 0) → AreDigits field → Some value ≡ count_of field
+pub count_is : (field : List ℕ) (value : ℕ) → value ≡ min (number field) 1000000000 → length field ≤ 9 → false ≡ (length field == 0) → AreDigits field
+    → Some value ≡ count_of field
 count_is field value is few some digits =
     let least : nat_lt 0 (length field) ≡ true = grind (arith, nat_tests) in
     let most : nat_le (length field) 9 ≡ true = grind (arith, nat_tests) in
@@ -61,7 +62,8 @@ count_is field value is few some digits =
 pub count_small : (field : List ℕ) (n : ℕ) → count_of field ≡ Some n → n ≤ 999999999
 count_small field n is = small_at (nat_le (length field) 9) (nat_lt 0 (length field)) (list_all is_digit field) refl refl is
   where
-    small_at : (a b c : Bool) → nat_le (length field) 9 ≡ a → list_all is_digit field ≡ c → (if a && (b && c) then Some (number field) else None) ≡ Some n → n ≤ 999999999
+    small_at : (a b c : Bool) → nat_le (length field) 9 ≡ a → list_all is_digit field ≡ c
+        → (if a && (b && c) then Some (number field) else None) ≡ Some n → n ≤ 999999999
     small_at true true true short digits same =
         let exact : number field ≡ n = cc in
         let few : length field ≤ 9 = grind (arith, nat_tests) in
@@ -98,7 +100,8 @@ few_writes fields ws is some few = omega (arith, length-behind_two fields some, 
 abbrev pub blank : Write
 blank = record { at = 0; value = 0 }
 
-pub taken_at : (writes : List Write) (i : ℕ) (d : Write) → i < length writes → AreFree (take i writes) → is_free (get_or writes i d).at ≡ false → IsFirstTaken writes (get_or writes i d).at
+pub taken_at : (writes : List Write) (i : ℕ) (d : Write) → i < length writes → AreFree (take i writes) → is_free (get_or writes i d).at ≡ false
+    → IsFirstTaken writes (get_or writes i d).at
 taken_at writes i d lt free taken = record {
   before = take i writes;
   write = get_or writes i d;
@@ -112,9 +115,11 @@ taken_at writes i d lt free taken = record {
 abbrev IsFreeWrite : Write → Type 0
 IsFreeWrite w = is_free w.at ≡ true
 
-pub free_more : (writes : List Write) (i : ℕ) (d : Write) → i < length writes → AreFree (take i writes) → is_free (get_or writes i d).at ≡ true → AreFree (take (i + 1) writes)
+pub free_more : (writes : List Write) (i : ℕ) (d : Write) → i < length writes → AreFree (take i writes) → is_free (get_or writes i d).at ≡ true
+    → AreFree (take (i + 1) writes)
 free_more writes i d lt free here =
-    subst AreFree (sym (take_more writes i d lt)) (All-append IsFreeWrite (take i writes) (get_or writes i d ∷ []) free (All-cons IsFreeWrite (get_or writes i d) [] here (All-nil IsFreeWrite)))
+    subst AreFree (sym (take_more writes i d lt))
+    (All-append IsFreeWrite (take i writes) (get_or writes i d ∷ []) free (All-cons IsFreeWrite (get_or writes i d) [] here (All-nil IsFreeWrite)))
 
 pub free_all : (writes : List Write) (i : ℕ) → length writes ≤ i → AreFree (take i writes) → AreFree writes
 free_all writes i le free = subst AreFree (take_all i writes le) free
@@ -140,10 +145,12 @@ pub last_is : (rs : List Request) (r : Request) → Some r ≡ slice_get rs (len
 last_is [] r is = cc
 last_is (x ∷ rs) r is = last_at (x ∷ rs) (length (x ∷ rs) - 1) r (omega arith) is
 
-ascends-snoc : (rs : List Request) (r : Request) → Ascends rs → ((front : List Request) (last : Request) → rs ≡ front ++ last ∷ [] → NotAfter last r) → Ascends (rs ++ r ∷ [])
+ascends-snoc : (rs : List Request) (r : Request) → Ascends rs → ((front : List Request) (last : Request) → rs ≡ front ++ last ∷ [] → NotAfter last r)
+    → Ascends (rs ++ r ∷ [])
 ascends-snoc [] r ascends follows = tt
 ascends-snoc (a ∷ []) r ascends follows = (follows [] a refl, tt)
-ascends-snoc (a ∷ b ∷ rest) r ascends follows = (ascends.0, ascends-snoc (b ∷ rest) r ascends.1 (λ front last is. follows (a ∷ front) last (ap (λ (l : List Request). a ∷ l) is)))
+ascends-snoc (a ∷ b ∷ rest) r ascends follows =
+    (ascends.0, ascends-snoc (b ∷ rest) r ascends.1 (λ front last is. follows (a ∷ front) last (ap (λ (l : List Request). a ∷ l) is)))
 
 spelled-length : (rows : List Fields) (rs : List Request) → SpellRequests rows rs → length rs ≡ length rows
 spelled-length [] [] spelled = refl
@@ -151,26 +158,31 @@ spelled-length [] (r ∷ rs) spelled = absurd spelled
 spelled-length (row ∷ rows) [] spelled = absurd spelled
 spelled-length (row ∷ rows) (r ∷ rs) spelled = omega (arith, spelled-length rows rs spelled.1)
 
-spell-snoc : (rows : List Fields) (rs : List Request) (row : Fields) (r : Request) → SpellRequests rows rs → SpellsRequest row r → SpellRequests (rows ++ row ∷ []) (rs ++ r ∷ [])
+spell-snoc : (rows : List Fields) (rs : List Request) (row : Fields) (r : Request) → SpellRequests rows rs → SpellsRequest row r
+    → SpellRequests (rows ++ row ∷ []) (rs ++ r ∷ [])
 spell-snoc [] [] row r so_far here = (here, tt)
 spell-snoc [] (x ∷ rs) row r so_far here = absurd so_far
 spell-snoc (x ∷ rows) [] row r so_far here = absurd so_far
 spell-snoc (x ∷ rows) (y ∷ rs) row r so_far here = (so_far.0, spell-snoc rows rs row r so_far.1 here)
 
-module _ (rows : List Row) (i : ℕ) (row : Row) (lt : i < length rows) (is : row ≡ get_or rows i row) (rs : List Request) (so_far : SpellRequests (map fields_of (take i rows)) rs) (good : IsGood rs) where
+module _ (rows : List Row) (i : ℕ) (row : Row) (lt : i < length rows) (is : row ≡ get_or rows i row) (rs : List Request)
+    (so_far : SpellRequests (map fields_of (take i rows)) rs) (good : IsGood rs) where
   fields_more : map fields_of (take (i + 1) rows) ≡ map fields_of (take i rows) ++ fields_of row ∷ []
   fields_more = ap (map fields_of) (take_more rows i row lt ∙ ap (λ (r : Row). take i rows ++ r ∷ []) (sym is)) ∙ map-append fields_of (take i rows) (row ∷ [])
 
   fields_split : map fields_of rows ≡ map fields_of (take i rows) ++ fields_of row ∷ map fields_of (drop (suc i) rows)
-  fields_split = ap (map fields_of) (split_at rows i row lt ∙ ap (λ (r : Row). take i rows ++ r ∷ drop (suc i) rows) (sym is)) ∙ map-append fields_of (take i rows) (row ∷ drop (suc i) rows)
+  fields_split = ap (map fields_of) (split_at rows i row lt ∙ ap (λ (r : Row). take i rows ++ r ∷ drop (suc i) rows) (sym is))
+      ∙ map-append fields_of (take i rows) (row ∷ drop (suc i) rows)
 
   size : length (map fields_of (take i rows)) ≡ i
   size = rw length-map (length-take-le i rows (omega arith))
 
-  pub requests_more : (r : Request) (rs' : List Request) → SpellsRequest (fields_of row) r → rs' ≡ rs ++ r ∷ [] → SpellRequests (map fields_of (take (i + 1) rows)) rs'
+  pub requests_more : (r : Request) (rs' : List Request) → SpellsRequest (fields_of row) r → rs' ≡ rs ++ r ∷ []
+      → SpellRequests (map fields_of (take (i + 1) rows)) rs'
   requests_more r rs' here added = rw (fields_more, added) (spell-snoc (map fields_of (take i rows)) rs (fields_of row) r so_far here)
 
-  pub good_more : (r : Request) (rs' : List Request) → IsGoodRequest r → ((front : List Request) (last : Request) → rs ≡ front ++ last ∷ [] → NotAfter last r) → i < 10000 → rs' ≡ rs ++ r ∷ [] → IsGood rs'
+  pub good_more : (r : Request) (rs' : List Request) → IsGoodRequest r
+      → ((front : List Request) (last : Request) → rs ≡ front ++ last ∷ [] → NotAfter last r) → i < 10000 → rs' ≡ rs ++ r ∷ [] → IsGood rs'
   good_more r rs' here follows few added =
       let count : length rs ≡ i = spelled-length (map fields_of (take i rows)) rs so_far ∙ size in
       subst IsGood (sym added) (record {

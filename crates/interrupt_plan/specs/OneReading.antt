@@ -6,4 +6,5 @@ use Rattle.interrupt_plan.specs.declared.Request.{Request}
 
 -- A text that spells a plan has no fault.
 abbrev pub SpelledPlansHaveNoFault : Type 0
-SpelledPlansHaveNoFault = (text : List ℕ) (plan : List Request) (fault : PlanFault) → Spells text plan → HasFault text fault → ⊥
+SpelledPlansHaveNoFault = (text : List ℕ) (plan : List Request) (fault : PlanFault) → Spells text plan
+    → HasFault text fault → ⊥

@@ -84,8 +84,10 @@ pub record FallsBehind (before : List Request) (r : Request) : Type 0 where
 -- row number n fails, behind rows that spell these requests
 pub data RowFails (before : List Request) (n : ℕ) (fields : Fields) : PlanFault → Type 0 where
   unread : ((r : Request) → SpellsRequest fields r → ⊥) → RowFails before n fields (BadRow n)
-  not_free : (r : Request) (at : ℕ) → SpellsRequest fields r → IsFirstTaken r.writes at → RowFails before n fields (NotFree n at)
-  not_ascending : (r : Request) → SpellsRequest fields r → AreFree r.writes → FallsBehind before r → RowFails before n fields (NotAscending n)
+  not_free : (r : Request) (at : ℕ) → SpellsRequest fields r → IsFirstTaken r.writes at
+      → RowFails before n fields (NotFree n at)
+  not_ascending : (r : Request) → SpellsRequest fields r → AreFree r.writes → FallsBehind before r
+      → RowFails before n fields (NotAscending n)
 
 -- the rows spell these requests
 abbrev pub SpellRequests : List Fields → List Request → Type 0
@@ -97,9 +99,12 @@ SpellRequests (row ∷ rows) (r ∷ rs) = SpellsRequest row r × SpellRequests r
 -- the first fault of rows: that of the first row that fails, where it is among the first 10000,
 -- and else that there are more
 pub data FirstFault (rows : List Fields) : PlanFault → Type 0 where
-  at_row : (before : List Fields) (row : Fields) (after : List Fields) (requests : List Request) (fault : PlanFault) → rows ≡ before ++ row ∷ after → length before < 10000
-      → SpellRequests before requests → IsGood requests → RowFails requests (length before + 1) row fault → FirstFault rows fault
-  more : (before : List Fields) (row : Fields) (after : List Fields) (requests : List Request) → rows ≡ before ++ row ∷ after → length before ≡ 10000
+  at_row : (before : List Fields) (row : Fields) (after : List Fields) (requests : List Request)
+      (fault : PlanFault) → rows ≡ before ++ row ∷ after → length before < 10000
+      → SpellRequests before requests → IsGood requests → RowFails requests (length before + 1) row fault
+      → FirstFault rows fault
+  more : (before : List Fields) (row : Fields) (after : List Fields) (requests : List Request)
+      → rows ≡ before ++ row ∷ after → length before ≡ 10000
       → SpellRequests before requests → IsGood requests → FirstFault rows TooMany
 
 -- the text spells this plan, which is good

@@ -30,7 +30,8 @@ fn next_request(
 ) -> Result<Request, PlanFault>
     ensures request { IfOk result (SpellsRequest (fields_of row.now)) }
     ensures good { IfOk result IsGoodRequest }
-    ensures ascends { IfOk result (λ r. (front : Items TheRequest) (last : TheRequest) → before.now ≡ front ++ last ∷ [] → NotAfter last r) }
+    ensures ascends { IfOk result (λ r. (front : Items TheRequest) (last : TheRequest)
+        → before.now ≡ front ++ last ∷ [] → NotAfter last r) }
     ensures fault { IfErr result (λ f. f ≢ PlanFault.Memory → RowFails before.now number (fields_of row.now) f) }
 {
     let request = match request_in(alloc, row) {

@@ -102,7 +102,8 @@ fn field_at(row: &ByteRecord, at: usize) -> &[u8]
 fn writes_in(alloc: Global, row: &ByteRecord) -> Result<Option<Vec<Write>>, AllocError>
     requires some { 2 ≤ length (fields_of row.now) }
     requires pairs { length (fields_of row.now) % 2 ≡ 0 }
-    ensures { IfOk result (λ writes. MatchOption writes (writes_of (drop 2 (fields_of row.now)) ≡ None) (λ v. writes_of (drop 2 (fields_of row.now)) ≡ Some v.items)) }
+    ensures { IfOk result (λ writes. MatchOption writes (writes_of (drop 2 (fields_of row.now)) ≡ None)
+        (λ v. writes_of (drop 2 (fields_of row.now)) ≡ Some v.items)) }
 {
     let mut writes = Vec::new(alloc);
     for i in 0..row.len() / 2 - 1 {
@@ -116,7 +117,8 @@ fn writes_in(alloc: Global, row: &ByteRecord) -> Result<Option<Vec<Write>>, Allo
 
 /// The request that a row spells.
 pub(crate) fn request_in(alloc: Global, row: &ByteRecord) -> Result<Option<Request>, AllocError>
-    ensures { IfOk result (λ request. MatchOption request ((r : TheRequest) → SpellsRequest (fields_of row.now) r → ⊥) (SpellsRequest (fields_of row.now))) }
+    ensures { IfOk result (λ request. MatchOption request ((r : TheRequest) → SpellsRequest (fields_of row.now) r → ⊥)
+        (SpellsRequest (fields_of row.now))) }
 {
     if row.len() < 2 || row.len() > MOST_FIELDS || row.len() % 2 == 1 {
         return Ok(None);
@@ -139,7 +141,8 @@ pub(crate) fn request_in(alloc: Global, row: &ByteRecord) -> Result<Option<Reque
 /// The sample and the moment of a row.
 fn times_in(row: &ByteRecord) -> Option<(u32, u32)>
     requires { 2 ≤ length (fields_of row.now) }
-    ensures { MatchOption result ((r : TheRequest) → SpellsRequest (fields_of row.now) r → ⊥) (λ t. HasTimes (fields_of row.now) t.0 t.1) }
+    ensures { MatchOption result ((r : TheRequest) → SpellsRequest (fields_of row.now) r → ⊥)
+        (λ t. HasTimes (fields_of row.now) t.0 t.1) }
 {
     let sample = count_in(field_at(row, 0))?;
     let moment = count_in(field_at(row, 1))?;

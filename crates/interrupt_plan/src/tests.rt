@@ -33,25 +33,21 @@ fn a_plan_is_read(rt: HostRuntime) -> Result<(), Fail> {
         }
         _ => assert!(rt; false),
     }
-    assert!(rt; read_plan(rt.alloc(), b"")?.is_empty());
     Ok(())
 }
 
 const NINE_PAIRS: &[u8] =
     b"1,0,1800,00,1800,00,1800,00,1800,00,1800,00,1800,00,1800,00,1800,00,1800,00";
 
-const ROWS: [(&[u8], PlanFault); 12] = [
-    (b"1,0,17FF,00", PlanFault::NotFree(1, 0x17FF)),
+const ROWS: [(&[u8], PlanFault); 9] = [
     (
         b"1,0,1800,00,1FE0,00,0000,00",
         PlanFault::NotFree(1, 0x1FE0),
     ),
-    (b"2,5\n2,4", PlanFault::NotAscending(2)),
     (b"2,5\n1,9", PlanFault::NotAscending(2)),
     (b"2,5\n1,9,17FF,00", PlanFault::NotFree(2, 0x17FF)),
     (NINE_PAIRS, PlanFault::BadRow(1)),
     (b"0,1", PlanFault::BadRow(1)),
-    (b"1", PlanFault::BadRow(1)),
     (b"1,0,1800", PlanFault::BadRow(1)),
     (b"1,0,180,00", PlanFault::BadRow(1)),
     (b"1,1000000000", PlanFault::BadRow(1)),

@@ -13,7 +13,8 @@ use Rattle.trace_io.specs.declared.sample.TraceFault.{TraceFault}
 
 -- ---- a row that is spelled does not fail
 
-within_at : (before : List Input) (i : Input) (after : List Input) (vs : List Dec) (v : Dec) (ws : List Dec) → AreWithin before vs → AreWithin (before ++ i ∷ after) (vs ++ v ∷ ws) → IsWithin i.lo i.hi v
+within_at : (before : List Input) (i : Input) (after : List Input) (vs : List Dec) (v : Dec) (ws : List Dec) → AreWithin before vs
+    → AreWithin (before ++ i ∷ after) (vs ++ v ∷ ws) → IsWithin i.lo i.hi v
 within_at [] i after [] v ws front all = all.0
 within_at [] i after (x ∷ vs) v ws front all = absurd front
 within_at (b ∷ before) i after [] v ws front all = absurd front
@@ -29,13 +30,15 @@ row_apart inputs n row fault s (outside values i count are first) spelled =
     (subst (λ (ds : List Dec). AreWithin inputs ds) (same ∙ first.values_are) spelled.within) in
     first.outside (within_at first.inputs_before first.input first.inputs_after first.values_before first.value first.values_after first.within all)
 
-row_at : (inputs : List Input) (before : List Fields) (row : Fields) (after : List Fields) (samples : List Sample) → SpellSamples inputs (before ++ row ∷ after) samples → (s : Sample) × SpellsSample inputs row s
+row_at : (inputs : List Input) (before : List Fields) (row : Fields) (after : List Fields) (samples : List Sample)
+    → SpellSamples inputs (before ++ row ∷ after) samples → (s : Sample) × SpellsSample inputs row s
 row_at inputs [] row after [] spelled = absurd spelled
 row_at inputs [] row after (s ∷ ss) spelled = (s, spelled.0)
 row_at inputs (b ∷ before) row after [] spelled = absurd spelled
 row_at inputs (b ∷ before) row after (s ∷ ss) spelled = row_at inputs before row after ss spelled.1
 
-rows_apart : (inputs : List Input) (rows : List Fields) (samples : List Sample) (fault : TraceFault) → length rows < 10001 → SpellSamples inputs rows samples → FirstFault inputs rows fault → ⊥
+rows_apart : (inputs : List Input) (rows : List Fields) (samples : List Sample) (fault : TraceFault) → length rows < 10001
+    → SpellSamples inputs rows samples → FirstFault inputs rows fault → ⊥
 rows_apart inputs rows samples fault few spelled (at_row before row after ss f split lt front fails) =
     let at = row_at inputs before row after samples (subst (λ (rs : List Fields). SpellSamples inputs rs samples) split spelled) in
     row_apart inputs (length before + 1) row f at.0 fails at.1

@@ -7,4 +7,5 @@ use Rattle.trace_io.specs.declared.sample.TraceFault.{TraceFault}
 
 -- A text that spells samples has no fault.
 abbrev pub SpelledTracesHaveNoFault : Type 0
-SpelledTracesHaveNoFault = (inputs : List Input) (text : List ℕ) (samples : List Sample) (fault : TraceFault) → Spells inputs text samples → HasFault inputs text fault → ⊥
+SpelledTracesHaveNoFault = (inputs : List Input) (text : List ℕ) (samples : List Sample) (fault : TraceFault)
+    → Spells inputs text samples → HasFault inputs text fault → ⊥

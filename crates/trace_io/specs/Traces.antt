@@ -51,7 +51,8 @@ pub record IsFirstOutside (inputs : List Input) (values : List Dec) (n : ℕ) : 
 pub data RowFails (inputs : List Input) (n : ℕ) (fields : Fields) : TraceFault → Type 0 where
   miscounted : length fields ≢ length inputs → RowFails inputs n fields (BadRow n)
   unread : length fields ≡ length inputs → decimals fields ≡ None → RowFails inputs n fields (BadRow n)
-  outside : (values : List Dec) (i : ℕ) → length fields ≡ length inputs → decimals fields ≡ Some values → IsFirstOutside inputs values i → RowFails inputs n fields (OutOfRange n i)
+  outside : (values : List Dec) (i : ℕ) → length fields ≡ length inputs → decimals fields ≡ Some values
+      → IsFirstOutside inputs values i → RowFails inputs n fields (OutOfRange n i)
 
 -- the rows spell these samples
 abbrev pub SpellSamples : List Input → List Fields → List Sample → Type 0
@@ -63,9 +64,12 @@ SpellSamples inputs (r ∷ rs) (s ∷ ss) = SpellsSample inputs r s × SpellSamp
 -- the first fault of rows: that of the first row that fails, where it is among the first 10000,
 -- and else that there are more
 pub data FirstFault (inputs : List Input) (rows : List Fields) : TraceFault → Type 0 where
-  at_row : (before : List Fields) (row : Fields) (after : List Fields) (samples : List Sample) (fault : TraceFault) → rows ≡ before ++ row ∷ after → length before < 10000
-      → SpellSamples inputs before samples → RowFails inputs (length before + 1) row fault → FirstFault inputs rows fault
-  more : (before : List Fields) (row : Fields) (after : List Fields) (samples : List Sample) → rows ≡ before ++ row ∷ after → length before ≡ 10000
+  at_row : (before : List Fields) (row : Fields) (after : List Fields) (samples : List Sample)
+      (fault : TraceFault) → rows ≡ before ++ row ∷ after → length before < 10000
+      → SpellSamples inputs before samples → RowFails inputs (length before + 1) row fault
+      → FirstFault inputs rows fault
+  more : (before : List Fields) (row : Fields) (after : List Fields) (samples : List Sample)
+      → rows ≡ before ++ row ∷ after → length before ≡ 10000
       → SpellSamples inputs before samples → FirstFault inputs rows TooMany
 
 -- the text spells these samples

@@ -21,7 +21,8 @@ const MOST_SAMPLES: usize = 10000;
 
 /// The decimals of a row's fields, or `None` where a field is no decimal.
 fn decimals_of(alloc: Global, row: &ByteRecord) -> Result<Option<Vec<Dec>>, AllocError>
-    ensures { IfOk result (λ values. MatchOption values (decimals (fields_of row.now) ≡ None) (λ v. decimals (fields_of row.now) ≡ Some v.items)) }
+    ensures { IfOk result (λ values. MatchOption values (decimals (fields_of row.now) ≡ None)
+        (λ v. decimals (fields_of row.now) ≡ Some v.items)) }
 {
     let mut values = Vec::new(alloc);
     for i in 0..row.len() {

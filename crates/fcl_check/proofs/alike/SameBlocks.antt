@@ -107,7 +107,7 @@ module _ (text : List ℕ) (b c : FunctionBlock) (same : view b ≡ view c) wher
       let conclusions = ap (λ (t : TRule). t.conclusions) inner in
       record {
         condition = p.condition ∙ ap₂ (λ (f : Name → Name → Condition) (o : TOr). or_condition f o) (same_literals text b c same) condition ∙ sym q.condition;
-        weight = same_number x.weight y.weight (p.weight ∙ ap (option_map (λ (w : Weight). value w.num)) weight ∙ sym q.weight);
+        weight = same_number x.weight y.weight (p.weight ∙ ap (option_map (λ (w : Weight). value w.value)) weight ∙ sym q.weight);
         conclusions = p.conclusions ∙ ap₂ (λ (f : Conclusion → ℕ × ℕ) (cs : Conclusion × List Conclusion). map f (cs.0 ∷ cs.1))
             (same_conclusions text b c same) conclusions ∙ sym q.conclusions;
       }

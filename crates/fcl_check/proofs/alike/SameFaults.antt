@@ -39,7 +39,7 @@ module _ (r s : Rule) (same : view_rule_item r ≡ view_rule_item s) where
   same_conclusions_of = ap (λ (t : TRule). t.conclusions.0 ∷ t.conclusions.1) same_rule
 
   same_weight_outside : weight_outside r ≡ weight_outside s
-  same_weight_outside = ap (at_some (λ (w : Weight). at_if (int_lt (value w.num) (pos 0) || int_lt (pos 10000) (value w.num)) w.at))
+  same_weight_outside = ap (at_some (λ (w : Weight). at_if (int_lt (value w.value) (pos 0) || int_lt (pos 10000) (value w.value)) w.at))
       (same_weight r.weight s.weight (ap (λ (t : TRule). t.weight) same_rule))
 
   same_rule_at : r.at ≡ s.at

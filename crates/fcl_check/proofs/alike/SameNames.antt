@@ -1,10 +1,10 @@
 -- Names stand for the same in trees with the same view.
 use Rattle.std.proofs.Common.{if◌then◌else◌, ◌≡◌, ℕ, List, ◌∷◌, map, Option, Some, None, option_map, option_and_then, refl, ap, ◌∙◌}
 use Rattle.std.specs.List.{filter_map, flat_map}
-use Rattle.fcl_syntax.specs.Grammar.{TBlock, TDecl, TDefuzzify, TFuzzify, TVars}
-use Rattle.fcl_syntax.specs.View.{view, view_decl, view_defuzzify, view_fuzzify, view_part, view_section, view_vars}
+use Rattle.fcl_syntax.specs.Grammar.{TBlock, TDeclaration, TDefuzzify, TFuzzify, TVariables}
+use Rattle.fcl_syntax.specs.View.{view, view_declaration, view_defuzzify, view_fuzzify, view_part, view_section, view_variables}
 use Rattle.fcl_syntax.specs.declared.tree.Conclusion.{Conclusion}
-use Rattle.fcl_syntax.specs.declared.tree.Decl.{Decl}
+use Rattle.fcl_syntax.specs.declared.tree.Declaration.{Declaration}
 use Rattle.fcl_syntax.specs.declared.tree.Defuzzify.{Defuzzify}
 use Rattle.fcl_syntax.specs.declared.tree.Direction.{Direction}
 use Rattle.fcl_syntax.specs.declared.tree.Direction.TheVariants as side
@@ -13,7 +13,7 @@ use Rattle.fcl_syntax.specs.declared.tree.Fuzzify.{Fuzzify}
 use Rattle.fcl_syntax.specs.declared.tree.Name.{Name}
 use Rattle.fcl_syntax.specs.declared.tree.Part.{Part}
 use Rattle.fcl_syntax.specs.declared.tree.Part.TheVariants as part
-use Rattle.fcl_syntax.specs.declared.tree.Vars.{Vars}
+use Rattle.fcl_syntax.specs.declared.tree.Variables.{Variables}
 use Rattle.fcl_check.specs.Loaded.{conclusion_of, literal_of}
 use Rattle.fcl_check.specs.Names.{Declared, as_defuzzify, as_fuzzify, declared_as, declared_by, declared_in, defuzzify_of, fuzzify_of, is_direction, is_named, letters, number_in, section_name, section_of, singleton_names, singleton_of, term_names, term_number, variable_number}
 use Rattle.fcl_check.proofs.alike.SameImages.{same_find, same_flat_map}
@@ -22,20 +22,21 @@ use Rattle.fcl_check.proofs.alike.SameSections.{same_lines, same_term_names}
 -- ---- declared variables
 
 -- the variables of one declaration
-abbrev declared_with : Direction → Decl → List Declared
+abbrev declared_with : Direction → Declaration → List Declared
 declared_with direction d = map (λ (n : Name). (direction, n)) (d.first ∷ d.more.items)
 
-same_decl : (direction : Direction) (d e : Decl) → view_decl d ≡ view_decl e → declared_with direction d ≡ declared_with direction e
-same_decl direction d e h =
-    let names = ap (λ (x : TDecl). x.names) h in
+same_declaration : (direction : Direction) (d e : Declaration) → view_declaration d ≡ view_declaration e → declared_with direction d ≡ declared_with direction e
+same_declaration direction d e h =
+    let names = ap (λ (x : TDeclaration). x.names) h in
     ap (λ (ns : Name × List Name). map (λ (n : Name). (direction, n)) (ns.0 ∷ ns.1)) names
 
-same_vars : (v w : Vars) → view_section v ≡ view_section w → declared_by v ≡ declared_by w
-same_vars v w h =
-    let inner : view_vars v ≡ view_vars w = cc in
-    let direction : v.direction ≡ w.direction = ap (λ (x : TVars). x.direction) inner in
-    same_flat_map view_decl (declared_with v.direction) (same_decl v.direction) v.decls.items w.decls.items (ap (λ (x : TVars). x.decls) inner)
-    ∙ ap (λ (d : Direction). flat_map (declared_with d) w.decls.items) direction
+same_variables : (v w : Variables) → view_section v ≡ view_section w → declared_by v ≡ declared_by w
+same_variables v w h =
+    let inner : view_variables v ≡ view_variables w = cc in
+    let direction : v.direction ≡ w.direction = ap (λ (x : TVariables). x.direction) inner in
+    same_flat_map view_declaration (declared_with v.direction) (same_declaration v.direction) v.declarations.items w.declarations.items
+    (ap (λ (x : TVariables). x.declarations) inner)
+    ∙ ap (λ (d : Direction). flat_map (declared_with d) w.declarations.items) direction
 
 -- ---- sections
 
@@ -80,7 +81,7 @@ module _ (text : List ℕ) where
 
   module _ (b c : FunctionBlock) (same : view b ≡ view c) where
     pub same_declarations : declared_in b ≡ declared_in c
-    same_declarations = same_flat_map view_section declared_by same_vars b.vars.items c.vars.items (ap (λ (t : TBlock). t.vars) same)
+    same_declarations = same_flat_map view_section declared_by same_variables b.variables.items c.variables.items (ap (λ (t : TBlock). t.variables) same)
 
     pub same_declared : (direction : Direction) → declared_as direction b ≡ declared_as direction c
     same_declared direction = ap (filter_map (λ (d : Declared). if is_direction direction d.0 then Some d.1 else None)) same_declarations

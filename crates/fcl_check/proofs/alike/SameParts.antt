@@ -3,7 +3,7 @@ use Rattle.std.proofs.Common.{◌≡◌, ℕ, List, Option, Some, None, inr, ref
 use Rattle.std.specs.Prelude.{◌⊎◌}
 use Rattle.fcl_syntax.specs.Grammar.{TAct, TFallback, TPoint, TRange, TSetting, TSingleton, TWeight, accu_classes, and_classes, method_classes, or_classes}
 use Rattle.fcl_syntax.specs.TokenClasses.{Among}
-use Rattle.fcl_syntax.specs.View.{view_act, view_act_word, view_coordinate, view_defuzzy_line, view_degree, view_fallback, view_num, view_point, view_range, view_rule_line, view_setting, view_singleton, view_value, view_weight, view_with}
+use Rattle.fcl_syntax.specs.View.{view_act, view_act_word, view_coordinate, view_defuzzy_line, view_degree, view_fallback, view_signed_number, view_point, view_range, view_rule_line, view_setting, view_singleton, view_value, view_weight, view_with}
 use Rattle.fcl_syntax.specs.declared.tree.ActWord.{ActWord}
 use Rattle.fcl_syntax.specs.declared.tree.ActWord.TheVariants as act
 use Rattle.fcl_syntax.specs.declared.tree.Activation.{Activation}
@@ -14,8 +14,8 @@ use Rattle.fcl_syntax.specs.declared.tree.Degree.TheVariants as degree
 use Rattle.fcl_syntax.specs.declared.tree.Fallback.{Fallback}
 use Rattle.fcl_syntax.specs.declared.tree.FallbackValue.{FallbackValue}
 use Rattle.fcl_syntax.specs.declared.tree.FallbackValue.TheVariants as fallback
-use Rattle.fcl_syntax.specs.declared.tree.Num.{Num}
-use Rattle.fcl_syntax.specs.declared.tree.Num.TheVariants as num
+use Rattle.fcl_syntax.specs.declared.tree.SignedNumber.{SignedNumber}
+use Rattle.fcl_syntax.specs.declared.tree.SignedNumber.TheVariants as signed
 use Rattle.fcl_syntax.specs.declared.tree.Point.{Point}
 use Rattle.fcl_syntax.specs.declared.tree.Range.{Range}
 use Rattle.fcl_syntax.specs.declared.tree.RuleLine.{RuleLine}
@@ -26,16 +26,16 @@ use Rattle.fcl_syntax.specs.declared.tree.Weight.{Weight}
 
 -- ---- numbers and points
 
-same_num : (m n : Num) → view_num m ≡ view_num n → m ≡ n
-same_num (num.Plus a) (num.Plus b) h = cc
-same_num (num.Minus a) (num.Minus b) h = cc
-same_num (num.Bare a) (num.Bare b) h = cc
-same_num m n h = absurd cc
+same_signed_number : (m n : SignedNumber) → view_signed_number m ≡ view_signed_number n → m ≡ n
+same_signed_number (signed.Plus a) (signed.Plus b) h = cc
+same_signed_number (signed.Minus a) (signed.Minus b) h = cc
+same_signed_number (signed.Bare a) (signed.Bare b) h = cc
+same_signed_number m n h = absurd cc
 
-same_coordinate : (m n : Num) → view_coordinate m ≡ view_coordinate n → m ≡ n
-same_coordinate (num.Plus a) (num.Plus b) h = cc
-same_coordinate (num.Minus a) (num.Minus b) h = cc
-same_coordinate (num.Bare a) (num.Bare b) h = cc
+same_coordinate : (m n : SignedNumber) → view_coordinate m ≡ view_coordinate n → m ≡ n
+same_coordinate (signed.Plus a) (signed.Plus b) h = cc
+same_coordinate (signed.Minus a) (signed.Minus b) h = cc
+same_coordinate (signed.Bare a) (signed.Bare b) h = cc
 same_coordinate m n h = absurd cc
 
 same_degree : (m n : Degree) → view_degree m ≡ view_degree n → m ≡ n
@@ -56,8 +56,8 @@ same_range q r h =
     let at : q.at ≡ r.at = ap (λ (t : TRange). t.at) h in
     let assigned : q.assigned ≡ r.assigned = ap (λ (t : TRange). t.assigned) h in
     let open_at : q.open_at ≡ r.open_at = ap (λ (t : TRange). t.open_at) h in
-    let low = same_num q.low r.low (ap (λ (t : TRange). t.low) h) in
-    let high = same_num q.high r.high (ap (λ (t : TRange). t.high) h) in
+    let low = same_signed_number q.low r.low (ap (λ (t : TRange). t.low) h) in
+    let high = same_signed_number q.high r.high (ap (λ (t : TRange). t.high) h) in
     λ i. record { at = at i; assigned = assigned i; open_at = open_at i; low = low i; high = high i }
 
 -- ---- lines of outputs
@@ -74,11 +74,11 @@ same_singleton s t h =
     let at : s.at ≡ t.at = ap (λ (x : TSingleton). x.at) h in
     let name : s.name ≡ t.name = ap (λ (x : TSingleton). x.name) h in
     let inner = ap (λ (x : TSingleton). x.value) h in
-    let value = same_num s.value t.value (cc) in
+    let value = same_signed_number s.value t.value (cc) in
     λ i. record { at = at i; name = name i; value = value i }
 
 same_fallback_value : (v w : FallbackValue) → view_value v ≡ view_value w → v ≡ w
-same_fallback_value (fallback.Number m) (fallback.Number n) h = let inner = same_num m n (cc) in cc
+same_fallback_value (fallback.Number m) (fallback.Number n) h = let inner = same_signed_number m n (cc) in cc
 same_fallback_value (fallback.Nc m) (fallback.Nc n) h = cc
 same_fallback_value v w h = absurd cc
 
@@ -124,6 +124,6 @@ same_weight (Some v) (Some w) h =
     let inner : view_with v ≡ view_with w = cc in
     let at : v.at ≡ w.at = ap (λ (x : TWeight). x.at) inner in
     let number = ap (λ (x : TWeight). x.value) inner in
-    let num = same_num v.num w.num (cc) in
-    λ i. Some (record { at = at i; num = num i })
+    let value = same_signed_number v.value w.value (cc) in
+    λ i. Some (record { at = at i; value = value i })
 same_weight v w h = absurd cc

@@ -16,22 +16,22 @@ use Rattle.fcl_check.specs.Sections.{value}
 use Rattle.fcl_check.specs.Texts.{SpelledTreesHaveBlocks}
 use Rattle.fcl_check.proofs.trees.ConditionSizes.{count, count-append, few_within}
 use Rattle.fcl_check.proofs.existing.FoundConditions.{found_condition}
-use Rattle.fcl_check.proofs.existing.FoundInputs.{found_inputs}
 use Rattle.fcl_check.proofs.existing.FoundItems.{found_items}
-use Rattle.fcl_check.proofs.existing.FoundOutputs.{decimal_of, found_outputs}
+use Rattle.fcl_check.proofs.existing.FoundOutputs.{decimal_of}
+use Rattle.fcl_check.proofs.existing.FoundVariables.{found_inputs, found_outputs}
 use Rattle.fcl_check.proofs.trees.RuleSizes.{condition_size, count-rules}
 
 -- ---- rules
 
-number_of-weight : (o : Option Weight) → number_of (option_map (λ (w : Weight). decimal_of w.num) o) ≡ option_map (λ (w : Weight). value w.num) o
+number_of-weight : (o : Option Weight) → number_of (option_map (λ (w : Weight). decimal_of w.value) o) ≡ option_map (λ (w : Weight). value w.value) o
 number_of-weight None = refl
 number_of-weight (Some w) = refl
 
 module _ (text : List ℕ) (b : FunctionBlock) where
   found_rule : (r : RuleNode) → nodes (or_condition (literal_of text b) (view_or r.condition)) < 2 ^ 63 → (q : Rule) × IsRuleOf text b r q
   found_rule r small =
-      let condition = found_condition b.vars.alloc (or_condition (literal_of text b) (view_or r.condition)) small in (
-        record { cond = condition.0; weight = option_map (λ (w : Weight). decimal_of w.num) r.weight; concl = map (conclusion_of text b) (conclusions_of r) },
+      let condition = found_condition b.variables.alloc (or_condition (literal_of text b) (view_or r.condition)) small in (
+        record { cond = condition.0; weight = option_map (λ (w : Weight). decimal_of w.value) r.weight; concl = map (conclusion_of text b) (conclusions_of r) },
         record { condition = condition.1; weight = number_of-weight r.weight; conclusions = refl },
       )
 

@@ -9,10 +9,6 @@ use Rattle.fcl_check.specs.Names.{Declared, is_direction}
 use Rattle.fcl_check.specs.Places.{first, last}
 use Rattle.fcl_check.proofs.naming.Naming.{named_as}
 
-pub found_value : {X : Type 0} (o : Option X) → IsSome o → (x : X) × (o ≡ Some x)
-found_value None there = absurd cc
-found_value (Some x) there = (x, refl)
-
 -- a list that has a first item has a last one
 pub last_there : {X : Type 0} (xs : List X) → IsSome (first xs) → IsSome (last xs)
 last_there [] there = absurd cc

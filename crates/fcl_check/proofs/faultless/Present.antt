@@ -1,6 +1,6 @@
 -- What a tree without load faults has where the builder looks for it.
-use Rattle.std.proofs.Common.{◌≡◌, ℕ, zero, suc, ◌<◌, Bool, true, false, cond, ◌||◌, List, [], ◌∷◌, get_or, length, map, Option, Some, None, option_and_then, option_map, refl, subst, ap, arith}
-use Rattle.std.specs.Prelude.{IsSome, is_none, ℤ}
+use Rattle.std.proofs.Common.{◌≡◌, ℕ, zero, suc, ◌<◌, Bool, true, false, cond, ◌||◌, List, [], ◌∷◌, get_or, length, map, Option, Some, None, option_and_then, option_map, refl, subst, sym, ap, ◌∙◌, arith}
+use Rattle.std.specs.Prelude.{All, IsSome, is_none, ℤ}
 use Rattle.std.specs.List.{cons_option, filter, filter_map, find, flat_map, list_any}
 use Rattle.std.proofs.lemmas.List.Elements.{All-from_recursion}
 use Rattle.std.proofs.lemmas.Slice.Eq.{bytes_eq-Decides}
@@ -12,7 +12,7 @@ use Rattle.fcl_syntax.specs.declared.tree.Direction.{Direction}
 use Rattle.fcl_syntax.specs.declared.tree.Direction.TheVariants.{Input, Output}
 use Rattle.fcl_syntax.specs.declared.tree.FunctionBlock.{FunctionBlock}
 use Rattle.fcl_syntax.specs.declared.tree.Fuzzify.{Fuzzify}
-use Rattle.fcl_syntax.specs.declared.tree.Num.{Num}
+use Rattle.fcl_syntax.specs.declared.tree.SignedNumber.{SignedNumber}
 use Rattle.fcl_syntax.specs.declared.tree.Part.{Part}
 use Rattle.fcl_syntax.specs.declared.tree.Part.TheVariants as part
 use Rattle.fcl_syntax.specs.declared.tree.Point.{Point}
@@ -20,18 +20,23 @@ use Rattle.fcl_syntax.specs.declared.tree.Range.{Range}
 use Rattle.fcl_syntax.specs.declared.tree.Term.{Term}
 use Rattle.fcl_check.specs.declared.inputs.Corners.{Corners}
 use Rattle.fcl_check.specs.Corners.{AreCornersOf}
-use Rattle.fcl_check.specs.Faults.{direction, first_fault, repeated, same_declared, without_section}
+use Rattle.fcl_check.specs.Faults.{direction, first_fault, mistaken, mistaken_section, repeated, same_declared, without_section}
 use Rattle.fcl_check.specs.Loaded.{abscissa_of, given_or, input_range, output_hull, output_range, widened}
-use Rattle.fcl_check.specs.Names.{Declared, as_defuzzify, as_fuzzify, declared_in, direction_of, fuzzify_of, defuzzify_of, is_direction, is_named, letters, section_name, section_of, singleton_of, terms_of}
+use Rattle.fcl_check.specs.Names.{Declared, as_defuzzify, as_fuzzify, declared_in, direction_of, is_direction, is_named, letters, section_name, section_of, singleton_of, terms_of}
 use Rattle.fcl_check.specs.Places.{at_each, at_if, drop_while, first}
 use Rattle.fcl_check.specs.Sections.{Ends, default_of, defuzzy_range, fallback_number, fuzzy_range, has_one, has_shape, has_zero, hull_of, incomplete, method_line, number_line, points_of, value, without_terms, x_of}
-use Rattle.fcl_check.proofs.faultless.Faultless.{faultless, no_items, no_place, nowhere, sound_part}
+use Rattle.fcl_check.specs.Sound.{HasSection, IsSoundDefuzzify, IsSoundFuzzify}
+use Rattle.fcl_check.proofs.faultless.Faultless.{IsSoundPart, faultless, no_items, no_place, nowhere, shaped, sound_part}
 use Rattle.fcl_check.proofs.lists.Pushes.{drop_while-all, none-passes}
 
 pub mapped_there : {X Y : Type 0} (f : X → Y) (o : Option X) (p : Option Y) → option_map f o ≡ p → IsSome p → IsSome o
 mapped_there f None None e h = h
 mapped_there f None (Some y) e h = absurd cc
 mapped_there f (Some x) p e h = refl
+
+pub found_value : {X : Type 0} (o : Option X) → IsSome o → (x : X) × (o ≡ Some x)
+found_value None there = absurd cc
+found_value (Some x) there = (x, refl)
 
 -- ---- lines
 
@@ -88,7 +93,7 @@ numbers_there (defuzzy.Accu x ∷ lines) at h = numbers_there lines at h
 numbers_there (defuzzy.Method x ∷ lines) at h = numbers_there lines at h
 numbers_there (defuzzy.Default d ∷ lines) at h =
     elim (fallback_number d.value) as (λ o. IsSome (hull_of (map (λ (n : ℤ × ℕ). n.0)
-    (cons_option (option_map (λ (n : Num). (value n, d.at)) o) (filter_map number_line lines))))) [
+    (cons_option (option_map (λ (n : SignedNumber). (value n, d.at)) o) (filter_map number_line lines))))) [
       | None ↦ numbers_there lines at h
       | Some n ↦ refl
     ]
@@ -113,15 +118,14 @@ default_there s h = neither (is_none (first (filter_map method_line s.lines.item
 
 -- ---- the sections of declared names
 
-fuzzified : (o : Option Part) → IsSome o → ((s : Defuzzify) → o ≡ Some (part.Defuzzify s) → ⊥) → IsSome (option_and_then as_fuzzify o)
-fuzzified None there other = absurd cc
-fuzzified (Some (part.Fuzzify s)) there other = refl
-fuzzified (Some (part.Defuzzify s)) there other = absurd (other s refl)
+-- the side that a section is for
+abbrev section_side : Part → Direction
+section_side (part.Fuzzify s) = Input
+section_side (part.Defuzzify s) = Output
 
-defuzzified : (o : Option Part) → IsSome o → ((s : Fuzzify) → o ≡ Some (part.Fuzzify s) → ⊥) → IsSome (option_and_then as_defuzzify o)
-defuzzified None there other = absurd cc
-defuzzified (Some (part.Fuzzify s)) there other = absurd (other s refl)
-defuzzified (Some (part.Defuzzify s)) there other = refl
+sided_section : (text : List ℕ) (b : FunctionBlock) (p : Part) → mistaken_section text b p ≡ mistaken text b (section_side p) (section_name p)
+sided_section text b (part.Fuzzify s) = refl
+sided_section text b (part.Defuzzify s) = refl
 
 pub as_side : (side x : Direction) → is_direction side x ≡ true → x ≡ side
 as_side Input Input h = refl
@@ -160,40 +164,73 @@ module _ {X : Type 0} (same : X → X → Bool) (at : X → ℕ) (itself : (x : 
       let other = (neither_test (same (get_or xs i d) x) _ (not-before (x ∷ before) xs i d rest (omega arith))).0 in
       rw other (first-same (x ∷ before) xs i d rest (omega arith))
 
-module _ (text : List ℕ) (b : FunctionBlock) (sound : first_fault text b ≡ None) (read : List Declared) (i : ℕ) (d : Declared) (same : read ≡ declared_in b)
-    (within : i < length read) where
-  abbrev here : Declared
-  here = get_or read i d
+module _ (text : List ℕ) (b : FunctionBlock) (sound : first_fault text b ≡ None) where
+  module _ (i : ℕ) (d : Declared) (within : i < length (declared_in b)) where
+    abbrev here : Declared
+    here = get_or (declared_in b) i d
 
-  direction_there : direction text b here.1 ≡ Some here.0
-  direction_there =
-      let once = (no_items (repeated (same_declared text b) (λ (e : Declared). e.1.at) (declared_in b)) _ (faultless text b sound).once).0 in
-      let found = first-same (same_declared text b) (λ (e : Declared). e.1.at) (λ e.
-      (bytes_eq-Decides (letters text e.1) (letters text e.1)).1 refl) [] read i d (rw same once) within in
-      ap (option_map (λ (e : Declared). e.0)) (subst (λ ds. find (same_declared text b here) ds ≡ Some here) same found)
+    direction_there : direction text b here.1 ≡ Some here.0
+    direction_there =
+        let once = (no_items (repeated (same_declared text b) (λ (e : Declared). e.1.at) (declared_in b)) _ (faultless text b sound).once).0 in
+        let found = first-same (same_declared text b) (λ (e : Declared). e.1.at) (λ e.
+        (bytes_eq-Decides (letters text e.1) (letters text e.1)).1 refl) [] (declared_in b) i d once within in
+        ap (option_map (λ (e : Declared). e.0)) found
 
-  section_there : IsSome (section_of text b (letters text here.1))
-  section_there =
-      let none = All-from_recursion (λ (e : Declared). without_section text b e ≡ []) read
-      (rw same (nowhere (without_section text b) (declared_in b) (no_items _ _ (faultless text b sound).missing).0)) i d within in
-      elim (section_of text b (letters text here.1)) as (λ o. at_if (is_none o) here.1.at ≡ [] → IsSome o) [ None ↦ λ h. absurd cc | Some p ↦ λ h. refl ] none
+    section_there : IsSome (section_of text b (letters text here.1))
+    section_there =
+        let none = All-from_recursion (λ (e : Declared). without_section text b e ≡ []) (declared_in b)
+        (nowhere (without_section text b) (declared_in b) (no_items _ _ (faultless text b sound).missing).0) i d within in
+        elim (section_of text b (letters text here.1)) as (λ o. at_if (is_none o) here.1.at ≡ [] → IsSome o) [ None ↦ λ h. absurd cc | Some p ↦ λ h. refl ] none
 
-  -- the section of a name is one of its own variable
-  same_direction : (p : Part) → section_of text b (letters text here.1) ≡ Some p → direction text b (section_name p) ≡ Some here.0
-  same_direction p found =
-      let ls = letters text here.1 in
-      let equal : ls ≡ letters text (section_name p) =
-      (bytes_eq-Decides ls (letters text (section_name p))).0 (found-passes (λ (q : Part). is_named text ls (section_name q)) b.parts.items p found) in
-      subst (λ (ms : List ℕ). direction_of text b ms ≡ Some here.0) equal direction_there
+    -- the section of a name is one of its own variable, and so of its side
+    same_direction : (p : Part) → section_of text b (letters text here.1) ≡ Some p → direction text b (section_name p) ≡ Some here.0
+    same_direction p found =
+        let ls = letters text here.1 in
+        let equal : ls ≡ letters text (section_name p) =
+        (bytes_eq-Decides ls (letters text (section_name p))).0 (found-passes (λ (q : Part). is_named text ls (section_name q)) b.parts.items p found) in
+        subst (λ (ms : List ℕ). direction_of text b ms ≡ Some here.0) equal direction_there
 
-  pub input_section_there : is_direction Input here.0 ≡ true → IsSome (fuzzify_of text b (letters text here.1))
-  input_section_there is = fuzzified (section_of text b (letters text here.1)) section_there (λ s found.
-      let sided = (sound_part text b (faultless text b sound) (letters text here.1) (part.Defuzzify s) found).sided in
-      let no = rw (same_direction (part.Defuzzify s) found, as_side Input here.0 is) at sided in
-      absurd cc)
+    same_side : (p : Part) → section_of text b (letters text here.1) ≡ Some p → is_direction (section_side p) here.0 ≡ true
+    same_side p found =
+        let sided = (sound_part text b (faultless text b sound) (letters text here.1) p found).sided in
+        shaped (is_direction (section_side p) here.0) (section_name p).at
+        (rw (same_direction p found) at (rw (sided_section text b p) at sided))
 
-  pub output_section_there : is_direction Output here.0 ≡ true → IsSome (defuzzify_of text b (letters text here.1))
-  output_section_there is = defuzzified (section_of text b (letters text here.1)) section_there (λ s found.
-      let sided = (sound_part text b (faultless text b sound) (letters text here.1) (part.Fuzzify s) found).sided in
-      let no = rw (same_direction (part.Fuzzify s) found, as_side Output here.0 is) at sided in
-      absurd cc)
+  -- the sound section of each declared variable of a side
+  module _ {S : Type 0} (side : Direction) (as_section : Part → Option S) (IsSound : S → Type 0)
+      (of_side : (p : Part) → section_side p ≡ side → IsSoundPart text b p → (s : S) × (as_section p ≡ Some s) × IsSound s) where
+    side_sections : All (HasSection side as_section IsSound text b) (declared_in b)
+    side_sections i d within is =
+        let ls = letters text (here i d within).1 in
+        let p = found_value (section_of text b ls) (section_there i d within) in
+        let same : section_side p.0 ≡ side = sym (as_side (section_side p.0) (here i d within).0 (same_side i d within p.0 p.1))
+        ∙ as_side side (here i d within).0 is in
+        let s = of_side p.0 same (sound_part text b (faultless text b sound) ls p.0 p.1) in
+        (s.0, ap (option_and_then as_section) p.1 ∙ s.1, s.2)
+
+  pub input_sections : All (HasSection Input as_fuzzify IsSoundFuzzify text b) (declared_in b)
+  input_sections = side_sections Input as_fuzzify IsSoundFuzzify of_input
+    where
+      of_input : (p : Part) → section_side p ≡ Input → IsSoundPart text b p → (s : Fuzzify) × (as_fuzzify p ≡ Some s) × IsSoundFuzzify s
+      of_input (part.Fuzzify s) is part_sound = (s, refl, record { some = part_sound.some; shaped = part_sound.shaped })
+      of_input (part.Defuzzify s) is part_sound = absurd cc
+
+  pub output_sections : All (HasSection Output as_defuzzify IsSoundDefuzzify text b) (declared_in b)
+  output_sections = side_sections Output as_defuzzify IsSoundDefuzzify of_output
+    where
+      of_output : (p : Part) → section_side p ≡ Output → IsSoundPart text b p → (s : Defuzzify) × (as_defuzzify p ≡ Some s) × IsSoundDefuzzify s
+      of_output (part.Fuzzify s) is part_sound = absurd cc
+      of_output (part.Defuzzify s) is part_sound = (s, refl, record { some = part_sound.some; complete = part_sound.complete })
+
+-- ---- the section of a declared variable that is read
+
+pub part_there : {S : Type 0} (f : Part → Option S) (o : Option Part) (s : S) → option_and_then f o ≡ Some s → (p : Part) × (o ≡ Some p) × (f p ≡ Some s)
+part_there f None s h = absurd cc
+part_there f (Some p) s h = (p, refl, h)
+
+pub section_read : {S : Type 0} (side : Direction) (as_section : Part → Option S) (IsSound : S → Type 0) (text : List ℕ) (b : FunctionBlock)
+    → All (HasSection side as_section IsSound text b) (declared_in b) → (read : List Declared) (i : ℕ) (d : Declared) → read ≡ declared_in b
+    → i < length read → is_direction side (get_or read i d).0 ≡ true
+    → (s : S) × (option_and_then as_section (section_of text b (letters text (get_or read i d).1)) ≡ Some s) × IsSound s
+section_read side as_section IsSound text b have read i d same within is =
+    subst (All (HasSection side as_section IsSound text b)) (sym same) have i d within is

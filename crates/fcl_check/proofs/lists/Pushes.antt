@@ -85,16 +85,3 @@ filter_map-next h xs read i d same within = rw (take_more xs i d within, filter_
 pub filter_map-more : {X Y : Type 0} (h : X → Option Y) (xs read : List X) (i : ℕ) (x : X) (o : Option Y) → read ≡ xs → i < length xs → x ≡ get_or read i x
     → h x ≡ o → filter_map h (take (i + 1) xs) ≡ filter_map h (take i xs) ++ cons_option o []
 filter_map-more h xs read i x o same within is found = rw (filter_map-next h xs read i x same within, ← is, found) refl
-
-module _ {X Y : Type 0} (h : X → Option Y) (xs read : List X) (i : ℕ) (same : read ≡ xs) (before : filter_map h (take i xs) ≡ []) where
-  pub first-found : (d : X) (x : X) (y : Y) → i < length xs → get_or read i d ≡ x → h x ≡ Some y → first (filter_map h xs) ≡ Some y
-  first-found d x y within is found =
-      let split : xs ≡ take i xs ++ (x ∷ drop (i + 1) xs) = sym (take-append-drop i xs) ∙ ap (λ s. take i xs ++ s) (drop_more xs i d within)
-      ∙ ap (λ z. take i xs ++ (z ∷ drop (i + 1) xs)) (ap (λ s. get_or s i d) (sym same) ∙ is) in
-      ap (λ s. first (filter_map h s)) split ∙ ap first (filter_map-append h (take i xs) (x ∷ drop (i + 1) xs)) ∙ rw (before, found) refl
-
-  pub none-found : length xs ≤ i → first (filter_map h xs) ≡ None
-  none-found done = ap first (rw (take_all i xs done) at before)
-
-  pub none-more : (d : X) (x : X) → i < length xs → get_or read i d ≡ x → h x ≡ None → filter_map h (take (i + 1) xs) ≡ []
-  none-more d x within is none = rw (take_more xs i d within, filter_map-append h (take i xs) (get_or xs i d ∷ []), before, ← same, is, none) refl

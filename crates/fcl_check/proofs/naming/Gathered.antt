@@ -1,7 +1,7 @@
 -- The names that are gathered from declarations and lines.
 use Rattle.std.specs.Prelude.{Bool, true, false, List, ◌∷◌, map}
 use Rattle.std.specs.List.{filter_map, flat_map}
-use Rattle.fcl_syntax.specs.declared.tree.Decl.{Decl}
+use Rattle.fcl_syntax.specs.declared.tree.Declaration.{Declaration}
 use Rattle.fcl_syntax.specs.declared.tree.DefuzzyLine.{DefuzzyLine}
 use Rattle.fcl_syntax.specs.declared.tree.DefuzzyLine.TheVariants as defuzzy
 use Rattle.fcl_syntax.specs.declared.tree.Direction.{Direction}
@@ -13,8 +13,8 @@ use Rattle.fcl_syntax.specs.declared.tree.Term.{Term}
 use Rattle.fcl_check.specs.Names.{Declared, singleton_of, term_of}
 
 -- the names that some declarations declare
-abbrev pub names_declared : Direction → List Decl → List Declared
-names_declared side decls = flat_map (λ (d : Decl). map (λ (n : Name). (side, n)) (d.first ∷ d.more.items)) decls
+abbrev pub names_declared : Direction → List Declaration → List Declared
+names_declared side declarations = flat_map (λ (d : Declaration). map (λ (n : Name). (side, n)) (d.first ∷ d.more.items)) declarations
 
 -- the names of the terms among some lines
 abbrev pub names_of_terms : List FuzzyLine → List Name

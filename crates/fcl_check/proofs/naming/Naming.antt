@@ -1,28 +1,23 @@
 -- Sections by their names.
 use denote.Enum.Bare.{sameb}
-use Rattle.std.proofs.Common.{◌≡◌, ℕ, ◌+◌, ◌<◌, true, false, List, [], ◌∷◌, ◌++◌, Option, Some, None, get_or, if◌then◌else◌, length, option_and_then, option_map, take, ap, refl, ◌∙◌}
+use Rattle.std.proofs.Common.{◌≡◌, ℕ, ◌+◌, ◌<◌, true, false, List, [], ◌∷◌, ◌++◌, Option, Some, None, get_or, if◌then◌else◌, length, option_and_then, option_map, take, refl}
 use Rattle.std.proofs.lemmas.List.{append-nil}
 use Rattle.std.proofs.lemmas.Slice.Zip.{all_zipped_more}
+use Rattle.std.specs.Borrow.{Bor}
 use Rattle.std.specs.List.{AllZip, filter_map}
 use Rattle.fcl_syntax.specs.contracts.tree.Direction.{the_type}
 use Rattle.fcl_syntax.specs.declared.tree.Direction.{Direction}
 use Rattle.fcl_syntax.specs.declared.tree.Direction.TheVariants.{Input, Output}
+use Rattle.fcl_syntax.specs.declared.tree.FunctionBlock.{FunctionBlock}
 use Rattle.fcl_syntax.specs.declared.tree.Name.{Name}
 use Rattle.fcl_syntax.specs.declared.tree.Part.{Part}
-use Rattle.fcl_syntax.specs.declared.tree.Tree.{Tree}
-use Rattle.fcl_check.specs.declared.names.Names.{Names}
-use Rattle.fcl_check.specs.declared.names.Section.{Section}
-use Rattle.fcl_check.specs.ByLetters.{at_letters}
-use Rattle.fcl_check.specs.Known.{Knows}
 use Rattle.fcl_check.specs.Names.{Declared, is_direction, section_of}
 use Rattle.fcl_check.proofs.lists.Pushes.{filter_map-next}
 
--- what a map of sections gives is the section of that name
-pub section-found : {A : Type 0} (f : Part → Option A) (tree : Tree) (names : Names) (ls ms : List ℕ) (s : Section) (o : Option A) → Knows tree names → ls ≡ ms
-    → Some s ≡ at_letters names.sections ls → f s.part.now ≡ o → o ≡ option_and_then f (section_of tree.text.items tree.block ms)
-section-found f tree names ls ms s o known same found is =
-    let part : Some s.part.now ≡ section_of tree.text.items tree.block ls = ap (option_map (λ (s : Section). s.part.now)) found ∙ known.sections.parts ls in
-    rw (← same, ← part, is) refl
+-- what the section of a name is, of one sort
+pub section-at : {A : Type 0} (f : Part → Option A) (text : List ℕ) (b : FunctionBlock) (ls ms : List ℕ) (o : Option (Bor Part)) (p : Bor Part) → ls ≡ ms
+    → option_map (λ (q : Bor Part). q.now) o ≡ section_of text b ls → o ≡ Some p → option_and_then f (section_of text b ms) ≡ f p.now
+section-at f text b ls ms o p same found is = rw (← same, ← found, is) refl
 
 -- the name of a variable, where it is declared so
 abbrev pub named_as : Direction → Declared → Option Name

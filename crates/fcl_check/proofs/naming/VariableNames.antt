@@ -8,7 +8,7 @@ use Rattle.std.specs.Borrow.{Bor}
 use Rattle.std.specs.List.{find, list_any}
 use Rattle.std.specs.Option.{option_or}
 use Rattle.std.specs.Prelude.{if◌then◌else◌}
-use Rattle.fcl_syntax.specs.declared.tree.Decl.{Decl}
+use Rattle.fcl_syntax.specs.declared.tree.Declaration.{Declaration}
 use Rattle.fcl_syntax.specs.declared.tree.Direction.{Direction}
 use Rattle.fcl_syntax.specs.declared.tree.Direction.TheVariants.{Input, Output}
 use Rattle.fcl_syntax.specs.declared.tree.FunctionBlock.{FunctionBlock}
@@ -160,15 +160,16 @@ module _ (text ls : List ℕ) where
   variable_any ds = some_variable (first_named ds) ds ∙ found_any (λ (d : Declared). is_named text ls d.1) ds
 
 -- the step of the loop over the declarations of a section
-pub names_declared_more : (side : Direction) (decls : List Decl) (i : ℕ) (decl : Decl) (before old new : List Declared) → i < length decls
-    → decl ≡ get_or decls i decl
-    → old ≡ before ++ names_declared side (take i decls)
-    → new ≡ old ++ map (λ (n : Name). (side, n)) (decl.first ∷ decl.more.items)
-    → new ≡ before ++ names_declared side (take (i + 1) decls)
-names_declared_more side decls i decl before old new h is so_far pushed =
-    let names = λ (d : Decl). map (λ (n : Name). (side, n)) (d.first ∷ d.more.items) in
-    let more = flat_map_more names before (take i decls) decl in
-    rw (take_more decls i decl h, ← is) (pushed ∙ ap (λ ds. ds ++ names decl) so_far ∙ more)
+pub names_declared_more : (side : Direction) (declarations : List Declaration) (i : ℕ) (declaration : Declaration) (before old new : List Declared)
+    → i < length declarations
+    → declaration ≡ get_or declarations i declaration
+    → old ≡ before ++ names_declared side (take i declarations)
+    → new ≡ old ++ map (λ (n : Name). (side, n)) (declaration.first ∷ declaration.more.items)
+    → new ≡ before ++ names_declared side (take (i + 1) declarations)
+names_declared_more side declarations i declaration before old new h is so_far pushed =
+    let names = λ (d : Declaration). map (λ (n : Name). (side, n)) (d.first ∷ d.more.items) in
+    let more = flat_map_more names before (take i declarations) declaration in
+    rw (take_more declarations i declaration h, ← is) (pushed ∙ ap (λ ds. ds ++ names declaration) so_far ∙ more)
 
 module _ (text : List ℕ) (b : FunctionBlock) (ds : List Declared) (i : ℕ) (d : Declared) where
   taken : (m : BTreeMap (Bor (List ℕ)) Variable) → ((ls : List ℕ) → at_letters m ls ≡ variable_in text (take i ds) ls)

@@ -80,7 +80,7 @@ in_weight f (Some w) d = d w
 
 pub weight_outside_in_rule : (r : Rule) → StandIn (weight_outside r) (rule_item_text (view_rule_item r))
 weight_outside_in_rule r = passed (passed (passed (passed (in_back _ (passed (in_back (conclusions_text (r.first, r.more.items))
-    (in_weight _ r.weight (λ w. at_head (int_lt (value w.num) (pos 0) || int_lt (pos 10000) (value w.num)) w.at refl))))))))
+    (in_weight _ r.weight (λ w. at_head (int_lt (value w.value) (pos 0) || int_lt (pos 10000) (value w.value)) w.at refl))))))))
 
 module _ (text : List ℕ) (b : FunctionBlock) where
   at_unknown : (side : Direction) → AtPair (unknown_pair text b side)

@@ -15,7 +15,7 @@ use Rattle.fcl_syntax.specs.declared.tree.Fuzzify.{Fuzzify}
 use Rattle.fcl_syntax.specs.declared.tree.FuzzyLine.{FuzzyLine}
 use Rattle.fcl_syntax.specs.declared.tree.FuzzyLine.TheVariants as fuzzy
 use Rattle.fcl_syntax.specs.declared.tree.Name.{Name}
-use Rattle.fcl_syntax.specs.declared.tree.Num.{Num}
+use Rattle.fcl_syntax.specs.declared.tree.SignedNumber.{SignedNumber}
 use Rattle.fcl_syntax.specs.declared.tree.Part.{Part}
 use Rattle.fcl_syntax.specs.declared.tree.Part.TheVariants as part
 use Rattle.fcl_syntax.specs.declared.tree.Point.{Point}
@@ -124,7 +124,7 @@ in_output_range s = in_first_kept defuzzy_line_text view_defuzzy_line output_ran
 in_numbers : (e : Ends) (s : Defuzzify) → StandIn (flat_map (outside_number e) (output_numbers s)) (part_text (view_part (part.Defuzzify s)))
 in_numbers e s = in_lines (part.Defuzzify s) (in_each_kept defuzzy_line_text view_defuzzy_line number_line _ s.lines.items at_number)
   where
-    at_default : (at : ℕ) (v : FallbackValue) → StandIn (at_some (outside_number e) (option_map (λ (n : Num). (value n, at)) (fallback_number v)))
+    at_default : (at : ℕ) (v : FallbackValue) → StandIn (at_some (outside_number e) (option_map (λ (n : SignedNumber). (value n, at)) (fallback_number v)))
         (fallback_text (view_fallback (record { at = at; value = v })))
     at_default at (fallback.Number n) = search at_head
     at_default at (fallback.Nc nc) = no_places _

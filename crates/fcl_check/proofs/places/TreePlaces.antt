@@ -4,19 +4,19 @@ use Rattle.std.specs.Prelude.{is_none}
 use Rattle.std.specs.Str.{str_to_ascii_lowercase}
 use Rattle.std.specs.List.{flat_map, list_any}
 use Rattle.std.proofs.lemmas.List.Elements.{All-nil, All-cons}
-use Rattle.fcl_syntax.specs.Grammar.{behind, each, name_text, decl_text, section_text, part_text, rule_item_text, rule_line_text, rulebase_text, end_text, block_text}
+use Rattle.fcl_syntax.specs.Grammar.{behind, each, name_text, declaration_text, section_text, part_text, rule_item_text, rule_line_text, rulebase_text, end_text, block_text}
 use Rattle.fcl_syntax.specs.Annotations.{Sym}
 use Rattle.fcl_syntax.specs.Offsets.{AscendWithin, OffsetsAscend, offsets}
-use Rattle.fcl_syntax.specs.View.{view_decl, view_section, view_part, view_rule_item, view_rule_line, view_rulebase, view}
+use Rattle.fcl_syntax.specs.View.{view_declaration, view_section, view_part, view_rule_item, view_rule_line, view_rulebase, view}
 use Rattle.fcl_syntax.specs.declared.token.Token.TheVariants as tok
-use Rattle.fcl_syntax.specs.declared.tree.Decl.{Decl}
+use Rattle.fcl_syntax.specs.declared.tree.Declaration.{Declaration}
 use Rattle.fcl_syntax.specs.declared.tree.Direction.{Direction}
 use Rattle.fcl_syntax.specs.declared.tree.Direction.TheVariants.{Input}
 use Rattle.fcl_syntax.specs.declared.tree.FunctionBlock.{FunctionBlock}
 use Rattle.fcl_syntax.specs.declared.tree.Name.{Name}
 use Rattle.fcl_syntax.specs.declared.tree.Part.{Part}
 use Rattle.fcl_syntax.specs.declared.tree.Rule.{Rule}
-use Rattle.fcl_syntax.specs.declared.tree.Vars.{Vars}
+use Rattle.fcl_syntax.specs.declared.tree.Variables.{Variables}
 use Rattle.fcl_check.specs.declared.fault.LoadFault.{LoadFault}
 use Rattle.fcl_check.specs.Faults.{same_rule_line, rule_line_at, is_over, weight_outside, same_declared, same_section, repeated_section, twice, direction, is_declared_as, unknown_in, unknown_section, unknown, too_many, mistaken_section, mistaken_in, wrong_side, without_section, is_whole, missing_part, kinds}
 use Rattle.fcl_check.specs.Names.{Declared, declared_by, declared_in, section_name, section_of, letters}
@@ -29,7 +29,7 @@ use Rattle.fcl_check.proofs.places.TextPlaces.{StandIn, none, passed, no_places,
 
 -- ---- declared names
 
-abbrev names_of : Direction → Decl → List Declared
+abbrev names_of : Direction → Declaration → List Declared
 names_of side d = map (λ (n : Name). (side, n)) (d.first ∷ d.more.items)
 
 -- places at declared names, which look at those before them, the nearest first
@@ -39,14 +39,17 @@ module _ (f : List Declared → Declared → List ℕ) (d : (before : List Decla
   in_names side before [] = none
   in_names side before (n ∷ names) = passed (join (d before (side, n)) (in_names side ((side, n) ∷ before) names))
 
-  in_decl : (side : Direction) (before : List Declared) (decl : Decl) → StandIn (at_each f before (names_of side decl)) (decl_text (view_decl decl))
-  in_decl side before decl = in_front _ (join (d before (side, decl.first)) (in_names side ((side, decl.first) ∷ before) decl.more.items))
+  in_declaration : (side : Direction) (before : List Declared) (declaration : Declaration)
+      → StandIn (at_each f before (names_of side declaration)) (declaration_text (view_declaration declaration))
+  in_declaration side before declaration =
+      in_front _ (join (d before (side, declaration.first)) (in_names side ((side, declaration.first) ∷ before) declaration.more.items))
 
-  in_vars : (before : List Declared) (v : Vars) → StandIn (at_each f before (declared_by v)) (section_text (view_section v))
-  in_vars before v = passed (in_front _ (in_each_of_each decl_text view_decl f (names_of v.direction) before v.decls.items (in_decl v.direction)))
+  in_variables : (before : List Declared) (v : Variables) → StandIn (at_each f before (declared_by v)) (section_text (view_section v))
+  in_variables before v =
+      passed (in_front _ (in_each_of_each declaration_text view_declaration f (names_of v.direction) before v.declarations.items (in_declaration v.direction)))
 
-  in_declared : (b : FunctionBlock) → StandIn (at_each f [] (declared_in b)) (each section_text (map view_section b.vars.items))
-  in_declared b = in_each_of_each section_text view_section f declared_by [] b.vars.items in_vars
+  in_declared : (b : FunctionBlock) → StandIn (at_each f [] (declared_in b)) (each section_text (map view_section b.variables.items))
+  in_declared b = in_each_of_each section_text view_section f declared_by [] b.variables.items in_variables
 
 -- places that do not look at the items before theirs
 at_each-constant : {X : Type 0} (f : X → List ℕ) (before xs : List X) → at_each (λ (before : List X) (x : X). f x) before xs ≡ flat_map f xs
@@ -55,14 +58,14 @@ at_each-constant f before (x ∷ xs) = ap (λ (ns : List ℕ). f x ++ ns) (at_ea
 
 -- ---- a block
 
-in_block : {ls ms ns : List ℕ} (b : FunctionBlock) → StandIn ls (each section_text (map view_section b.vars.items))
+in_block : {ls ms ns : List ℕ} (b : FunctionBlock) → StandIn ls (each section_text (map view_section b.variables.items))
     → StandIn ms (each part_text (map view_part b.parts.items)) → StandIn ns (rulebase_text (view_rulebase b.rules) ++ end_text (view b).end)
     → StandIn (ls ++ (ms ++ ns)) (block_text (view b))
 in_block b d e g = passed (passed (join d (join e g)))
 
 in_parts : (f : Part → List ℕ) (b : FunctionBlock) → ((p : Part) → StandIn (f p) (part_text (view_part p)))
     → StandIn (flat_map f b.parts.items) (block_text (view b))
-in_parts f b d = passed (passed (in_back (each section_text (map view_section b.vars.items)) (in_front _ (in_each part_text view_part f b.parts.items d))))
+in_parts f b d = passed (passed (in_back (each section_text (map view_section b.variables.items)) (in_front _ (in_each part_text view_part f b.parts.items d))))
 
 in_lines : {ns : List ℕ} (b : FunctionBlock) → StandIn ns (each rule_line_text (map view_rule_line b.rules.lines.items))
     → StandIn ns (rulebase_text (view_rulebase b.rules) ++ end_text (view b).end)

@@ -12,8 +12,8 @@ use Rattle.fcl_syntax.specs.declared.tree.DefuzzyLine.TheVariants as defuzzy
 use Rattle.fcl_syntax.specs.declared.tree.FallbackValue.{FallbackValue}
 use Rattle.fcl_syntax.specs.declared.tree.FallbackValue.TheVariants as fallback
 use Rattle.fcl_syntax.specs.declared.tree.Fuzzify.{Fuzzify}
-use Rattle.fcl_syntax.specs.declared.tree.Num.{Num}
-use Rattle.fcl_syntax.specs.declared.tree.Num.TheVariants as num
+use Rattle.fcl_syntax.specs.declared.tree.SignedNumber.{SignedNumber}
+use Rattle.fcl_syntax.specs.declared.tree.SignedNumber.TheVariants as signed
 use Rattle.fcl_syntax.specs.declared.tree.Point.{Point}
 use Rattle.fcl_syntax.specs.declared.tree.Range.{Range}
 use Rattle.fcl_check.specs.Loaded.{given_or, input_range, widened, output_hull}
@@ -31,10 +31,10 @@ IsInScale-between e z h inside =
 IsInScale-to_scale : (z : ℤ) → IsInScale (to_scale z)
 IsInScale-to_scale z = record { low = omega (arith, ints, clamps); high = omega (arith, ints, clamps) }
 
-pub IsInScale-value : (n : Num) → IsInScale (value n)
-IsInScale-value (num.Plus n) = IsInScale-to_scale (magnitude n.amount)
-IsInScale-value (num.Minus n) = IsInScale-to_scale (neg_ℤ (magnitude n.amount))
-IsInScale-value (num.Bare n) = IsInScale-to_scale (magnitude n.amount)
+pub IsInScale-value : (n : SignedNumber) → IsInScale (value n)
+IsInScale-value (signed.Plus n) = IsInScale-to_scale (magnitude n.amount)
+IsInScale-value (signed.Minus n) = IsInScale-to_scale (neg_ℤ (magnitude n.amount))
+IsInScale-value (signed.Bare n) = IsInScale-to_scale (magnitude n.amount)
 
 lesser-in : (x y : ℤ) → IsInScale x → IsInScale y → IsInScale (int_min x y)
 lesser-in x y h k = record { low = omega (arith, ints, clamps, h.low, k.low); high = omega (arith, ints, clamps, h.high, k.high) }
@@ -68,7 +68,7 @@ pub input_range-in : (s : Fuzzify) (e : Ends) → Some e ≡ input_range s → A
 input_range-in s e h = given_or-in (hull_of (abscissas s)) (fuzzy_range s) e (hull_of-in (abscissas s) e (abscissas-in (flat_map points_of (terms_of s)))) h
 
 fallback-in : (v : FallbackValue) (at : ℕ) (rest : List (ℤ × ℕ)) → AllByRecursion IsInScale (map (λ (n : ℤ × ℕ). n.0) rest)
-    → AllByRecursion IsInScale (map (λ (n : ℤ × ℕ). n.0) (cons_option (option_map (λ (n : Num). (value n, at)) (fallback_number v)) rest))
+    → AllByRecursion IsInScale (map (λ (n : ℤ × ℕ). n.0) (cons_option (option_map (λ (n : SignedNumber). (value n, at)) (fallback_number v)) rest))
 fallback-in (fallback.Number n) at rest all = (IsInScale-value n, all)
 fallback-in (fallback.Nc x) at rest all = all
 

@@ -59,7 +59,8 @@ module _ (f : Name → Name → Condition) where
   pub conjunct_is : (x : Conjunct) (c : Cond) → condition_of c ≡ not_condition f (view_not x.not) → condition_of c ≡ not_condition f (view_conjunct x).1
   conjunct_is x c same = same ∙ ap (λ (u : ℕ × TNot). not_condition f u.1) (sym (conjunct_seen x))
 
-  pub alternative_is : (x : Alternative) (c : Cond) → condition_of c ≡ and_condition f (view_and (out-Alternative x).and) → condition_of c ≡ and_condition f (view_alternative x).1
+  pub alternative_is : (x : Alternative) (c : Cond) → condition_of c ≡ and_condition f (view_and (out-Alternative x).and)
+      → condition_of c ≡ and_condition f (view_alternative x).1
   alternative_is x c same = same ∙ ap (λ (u : ℕ × TAnd). and_condition f u.1) (sym (alternative_seen x))
 
 -- ---- what they name
@@ -68,7 +69,8 @@ module _ (P : Pair → Type 0) where
   pub and_first : (a : And) → AllByRecursion P (and_pairs (view_and a)) → AllByRecursion P (not_pairs (view_not (out-And a).first))
   and_first a h = (parts_of P (not_pairs (view_not (out-And a).first)) _ (subst (λ (t : TAnd). AllByRecursion P (and_pairs t)) (and_seen a) h)).0
 
-  pub and_conjunct : (a : And) (i : ℕ) (x : Conjunct) → AllByRecursion P (and_pairs (view_and a)) → i < length (out-And a).more.items → x ≡ get_or (out-And a).more.items i x
+  pub and_conjunct : (a : And) (i : ℕ) (x : Conjunct) → AllByRecursion P (and_pairs (view_and a)) → i < length (out-And a).more.items
+      → x ≡ get_or (out-And a).more.items i x
       → AllByRecursion P (not_pairs (view_not x.not))
   and_conjunct a i x h within is =
       let rest = (parts_of P (not_pairs (view_not (out-And a).first)) _ (subst (λ (t : TAnd). AllByRecursion P (and_pairs t)) (and_seen a) h)).1 in
@@ -79,10 +81,12 @@ module _ (P : Pair → Type 0) where
   pub or_first : (o : Or) → AllByRecursion P (or_pairs (view_or o)) → AllByRecursion P (and_pairs (view_and (out-Or o).first))
   or_first o h = (parts_of P (and_pairs (view_and (out-Or o).first)) _ (subst (λ t. AllByRecursion P (or_pairs t)) (or_seen o) h)).0
 
-  pub or_alternative : (o : Or) (i : ℕ) (x : Alternative) → AllByRecursion P (or_pairs (view_or o)) → i < length (out-Or o).more.items → x ≡ get_or (out-Or o).more.items i x
+  pub or_alternative : (o : Or) (i : ℕ) (x : Alternative) → AllByRecursion P (or_pairs (view_or o)) → i < length (out-Or o).more.items
+      → x ≡ get_or (out-Or o).more.items i x
       → AllByRecursion P (and_pairs (view_and (out-Alternative x).and))
   or_alternative o i x h within is =
       let rest = (parts_of P (and_pairs (view_and (out-Or o).first)) _ (subst (λ t. AllByRecursion P (or_pairs t)) (or_seen o) h)).1 in
       let here = pairs_of-alternative P (out-Or o).more.items i x rest within in
-      let mine : AllByRecursion P (and_pairs (view_alternative x).1) = subst (λ (y : Alternative). AllByRecursion P (and_pairs (view_alternative y).1)) (sym is) here in
+      let mine : AllByRecursion P (and_pairs (view_alternative x).1) =
+      subst (λ (y : Alternative). AllByRecursion P (and_pairs (view_alternative y).1)) (sym is) here in
       subst (λ (u : ℕ × TAnd). AllByRecursion P (and_pairs u.1)) (alternative_seen x) mine

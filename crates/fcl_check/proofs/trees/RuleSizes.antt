@@ -74,8 +74,8 @@ abbrev tail_text : FunctionBlock → List Sym
 tail_text b = rules_text b ++ key_text key.EndRuleblock b.rules.end
 
 module _ (b : FunctionBlock) where
-  abbrev vars : List Sym
-  vars = each section_text (map view_section b.vars.items)
+  abbrev variables : List Sym
+  variables = each section_text (map view_section b.variables.items)
 
   abbrev parts : List Sym
   parts = each part_text (map view_part b.parts.items)
@@ -91,7 +91,7 @@ module _ (b : FunctionBlock) where
       let ending = end_text (view b).end in
       omega (
         arith,
-        count-append vars (parts ++ (rulebase ++ ending)),
+        count-append variables (parts ++ (rulebase ++ ending)),
         count-append parts (rulebase ++ ending),
         count-append rulebase ending,
         count-append lines (tail_text b),
@@ -101,8 +101,8 @@ module _ (b : FunctionBlock) where
   pub clean-rules : IsClean (block_text (view b)) → IsClean (rules_text b)
   clean-rules clean =
       let ending = end_text (view b).end in
-      let behind_vars = clean_parts vars (parts ++ (rulebase ++ ending)) clean.1.1 in
-      let behind_parts = clean_parts parts (rulebase ++ ending) behind_vars.1 in
+      let behind_variables = clean_parts variables (parts ++ (rulebase ++ ending)) clean.1.1 in
+      let behind_parts = clean_parts parts (rulebase ++ ending) behind_variables.1 in
       let base = clean_parts rulebase ending behind_parts.1 in
       let behind_lines = clean_parts lines (tail_text b) base.0.1.1 in
       (clean_parts (rules_text b) (key_text key.EndRuleblock b.rules.end) behind_lines.1).0

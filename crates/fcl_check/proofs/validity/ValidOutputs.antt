@@ -15,7 +15,7 @@ use Rattle.fcl_syntax.specs.declared.tree.Fallback.{Fallback}
 use Rattle.fcl_syntax.specs.declared.tree.FallbackValue.{FallbackValue}
 use Rattle.fcl_syntax.specs.declared.tree.FallbackValue.TheVariants as fallback
 use Rattle.fcl_syntax.specs.declared.tree.FunctionBlock.{FunctionBlock}
-use Rattle.fcl_syntax.specs.declared.tree.Num.{Num}
+use Rattle.fcl_syntax.specs.declared.tree.SignedNumber.{SignedNumber}
 use Rattle.fcl_syntax.specs.declared.tree.Part.TheVariants as part
 use Rattle.fcl_syntax.specs.declared.tree.Range.{Range}
 use Rattle.fcl_syntax.specs.declared.tree.Singleton.{Singleton}
@@ -35,14 +35,14 @@ module _ (P : ℤ → Type 0) where
   abbrev AllNumbers : List DefuzzyLine → Type 0
   AllNumbers lines = AllByRecursion (λ (n : ℤ × ℕ). P n.0) (filter_map number_line lines)
 
-  fallback_of : (v : FallbackValue) (n : Num) (at : ℕ) (rest : List (ℤ × ℕ)) → fallback_number v ≡ Some n
-      → AllByRecursion (λ (n : ℤ × ℕ). P n.0) (cons_option (option_map (λ (n : Num). (value n, at)) (fallback_number v)) rest) → P (value n)
+  fallback_of : (v : FallbackValue) (n : SignedNumber) (at : ℕ) (rest : List (ℤ × ℕ)) → fallback_number v ≡ Some n
+      → AllByRecursion (λ (n : ℤ × ℕ). P n.0) (cons_option (option_map (λ (n : SignedNumber). (value n, at)) (fallback_number v)) rest) → P (value n)
   fallback_of (fallback.Number m) n at rest is all = let same : m ≡ n = cc in rw (← same) all.0
   fallback_of (fallback.Nc x) n at rest is all = absurd cc
 
   behind : (v : FallbackValue) (at : ℕ) (rest : List (ℤ × ℕ)) → AllByRecursion (λ (n : ℤ × ℕ). P n.0)
-      (cons_option (option_map (λ (n : Num). (value n, at)) (fallback_number v)) rest) → AllByRecursion (λ (n : ℤ × ℕ). P n.0) rest
-  behind v at rest all = rest_of (λ (n : ℤ × ℕ). P n.0) (option_map (λ (n : Num). (value n, at)) (fallback_number v)) rest all
+      (cons_option (option_map (λ (n : SignedNumber). (value n, at)) (fallback_number v)) rest) → AllByRecursion (λ (n : ℤ × ℕ). P n.0) rest
+  behind v at rest all = rest_of (λ (n : ℤ × ℕ). P n.0) (option_map (λ (n : SignedNumber). (value n, at)) (fallback_number v)) rest all
 
   all_singletons : (lines : List DefuzzyLine) → AllNumbers lines → AllByRecursion (λ (t : Singleton). P (value t.value)) (filter_map singleton_of lines)
   all_singletons [] all = tt
@@ -52,7 +52,7 @@ module _ (P : ℤ → Type 0) where
   all_singletons (defuzzy.Default d ∷ lines) all = all_singletons lines (behind d.value d.at (filter_map number_line lines) all)
   all_singletons (defuzzy.Range x ∷ lines) all = all_singletons lines all
 
-  at_default : (lines : List DefuzzyLine) (d : Fallback) (n : Num) → AllNumbers lines → first (filter_map default_line lines) ≡ Some d
+  at_default : (lines : List DefuzzyLine) (d : Fallback) (n : SignedNumber) → AllNumbers lines → first (filter_map default_line lines) ≡ Some d
       → fallback_number d.value ≡ Some n → P (value n)
   at_default [] d n all found is = absurd cc
   at_default (defuzzy.Singleton t ∷ lines) d n all found is = at_default lines d n all.1 found is
@@ -63,13 +63,13 @@ module _ (P : ℤ → Type 0) where
       fallback_of c.value n c.at (filter_map number_line lines) (rw same is) all
   at_default (defuzzy.Range x ∷ lines) d n all found is = at_default lines d n all found is
 
-  fallback_in : (o : Option Num) (n : ℤ) → option_map value o ≡ Some n → ((m : Num) → o ≡ Some m → P (value m)) → P n
+  fallback_in : (o : Option SignedNumber) (n : ℤ) → option_map value o ≡ Some n → ((m : SignedNumber) → o ≡ Some m → P (value m)) → P n
   fallback_in None n is all = absurd cc
   fallback_in (Some m) n is all = let same : value m ≡ n = cc in rw (← same) (all m refl)
 
   -- the number of DEFAULT, where it has one
   default_in : (o : Option Fallback) (y : Option Dec) → Some (number_of y) ≡ option_map default_number o
-      → ((d : Fallback) (n : Num) → o ≡ Some d → fallback_number d.value ≡ Some n → P (value n)) → IfSome y (λ d. P d.0)
+      → ((d : Fallback) (n : SignedNumber) → o ≡ Some d → fallback_number d.value ≡ Some n → P (value n)) → IfSome y (λ d. P d.0)
   default_in o None is all = tt
   default_in None (Some y) is all = absurd cc
   default_in (Some d) (Some y) is all =

@@ -1,7 +1,7 @@
 -- The rule of a rule without faults is valid over the inputs and outputs of its tree.
-use Rattle.std.proofs.Common.{◌≡◌, ℕ, suc, ◌-◌, ◌≤◌, true, false, ◌||◌, List, [], length, map, Option, Some, None, option_map, sym, subst, ap, arith, inl, inr}
+use Rattle.std.proofs.Common.{◌≡◌, ℕ, suc, ◌-◌, ◌≤◌, true, false, ◌||◌, List, [], length, map, Option, Some, None, option_and_then, option_map, sym, subst, ap, arith, inl, inr}
 use Rattle.std.specs.Prelude.{IfSome, IsSomeAnd, ℤ, pos, ◌≤ℤ◌, int_lt}
-use Rattle.std.specs.List.{AllByRecursion, slice_get}
+use Rattle.std.specs.List.{AllByRecursion, AllZip, slice_get}
 use Rattle.std.proofs.lemmas.Bool.{cases_Bool}
 use Rattle.std.proofs.lemmas.Int.{ints}
 use Rattle.std.proofs.lemmas.List.{length-map}
@@ -16,18 +16,20 @@ use Rattle.fuzzy_meaning.specs.declared.block.Rule.{Rule}
 use Rattle.fuzzy_meaning.specs.Blocks.{HasSingleton, HasTerm, IsValidRule, IsWeight}
 use Rattle.fcl_syntax.specs.declared.tree.Conclusion.{Conclusion}
 use Rattle.fcl_syntax.specs.declared.tree.Defuzzify.{Defuzzify}
+use Rattle.fcl_syntax.specs.declared.tree.Direction.{Direction}
 use Rattle.fcl_syntax.specs.declared.tree.Direction.TheVariants as side
 use Rattle.fcl_syntax.specs.declared.tree.FunctionBlock.{FunctionBlock}
 use Rattle.fcl_syntax.specs.declared.tree.Fuzzify.{Fuzzify}
 use Rattle.fcl_syntax.specs.declared.tree.Name.{Name}
+use Rattle.fcl_syntax.specs.declared.tree.Part.{Part}
 use Rattle.fcl_syntax.specs.declared.tree.Rule.{Rule as RuleNode}
 use Rattle.fcl_syntax.specs.declared.tree.Singleton.{Singleton}
 use Rattle.fcl_syntax.specs.declared.tree.Term.{Term}
 use Rattle.fcl_syntax.specs.declared.tree.Weight.{Weight}
 use Rattle.fcl_syntax.specs.View.{view_or}
-use Rattle.fcl_check.specs.Faults.{Pair, conclusions_of}
-use Rattle.fcl_check.specs.Loaded.{IsBlockOf, IsInputNamed, IsOutputNamed, IsRuleOf, IsTermOf, conclusion_of, literal_of, number_of, or_zero}
-use Rattle.fcl_check.specs.Names.{declared_as, declared_in, defuzzify_of, fuzzify_of, letters, number_in, singleton_names, singletons_of, term_names, term_number, terms_of, variable_number}
+use Rattle.fcl_check.specs.Faults.{Pair, conclusions_of, is_declared_as}
+use Rattle.fcl_check.specs.Loaded.{IsBlockOf, IsInputOf, IsOutputOf, IsRuleOf, IsTermOf, IsVariableNamed, conclusion_of, literal_of, number_of, or_zero}
+use Rattle.fcl_check.specs.Names.{as_defuzzify, as_fuzzify, declared_as, declared_in, letters, number_in, section_of, singleton_names, singletons_of, term_names, term_number, terms_of, variable_number}
 use Rattle.fcl_check.specs.Places.{at_if, at_some}
 use Rattle.fcl_check.specs.Sections.{value}
 use Rattle.fcl_check.specs.Sound.{IsKnown, IsSoundRule}
@@ -40,19 +42,51 @@ use Rattle.fcl_check.proofs.trees.WholeConditions.{whole}
 
 -- ---- what names stand for
 
-input_with : (block : Block) (i t index : ℕ) (x : Input) → i ≡ suc index → slice_get block.inputs index ≡ Some x → 1 ≤ t → t ≤ length x.terms
-    → HasTerm block i t
-input_with block i t index x numbered_so here from to =
-    let before : i - 1 ≡ index = omega (arith, numbered_so) in
-    let there : IsSomeAnd (slice_get block.inputs (i - 1)) (λ (x : Input). t ≤ length x.terms) = rw (before, here) to in
-    record { input_from = omega (arith, numbered_so); term_from = from; term_to = there }
+-- the number of a variable that there is, and of a term that it has
+record HasNumbers {X : Type 0} (size : X → ℕ) (xs : List X) (i t : ℕ) : Type 0 where
+  variable_from : 1 ≤ i
+  term_from : 1 ≤ t
+  term_to : IsSomeAnd (slice_get xs (i - 1)) (λ x. t ≤ size x)
 
-output_with : (block : Block) (o t index : ℕ) (y : Output) → o ≡ suc index → slice_get block.outputs index ≡ Some y → 1 ≤ t → t ≤ length y.singletons
-    → HasSingleton block o t
-output_with block o t index y numbered_so here from to =
-    let before : o - 1 ≡ index = omega (arith, numbered_so) in
-    let there : IsSomeAnd (slice_get block.outputs (o - 1)) (λ (y : Output). t ≤ length y.singletons) = rw (before, here) to in
-    record { output_from = omega (arith, numbered_so); term_from = from; term_to = there }
+numbers_at : {X : Type 0} (size : X → ℕ) (xs : List X) (i t index : ℕ) (x : X) → i ≡ suc index → slice_get xs index ≡ Some x → 1 ≤ t → t ≤ size x
+    → HasNumbers size xs i t
+numbers_at size xs i t index x numbered_so here from to =
+    let before : i - 1 ≡ index = omega (arith, numbered_so) in
+    let there : IsSomeAnd (slice_get xs (i - 1)) (λ x. t ≤ size x) = rw (before, here) to in
+    record { variable_from = omega (arith, numbered_so); term_from = from; term_to = there }
+
+-- of a variable whose section names as many terms as it has
+module _ {S X : Type 0} (as_section : Part → Option S) (IsOf : S → X → Type 0) (names : S → List Name) (size : X → ℕ)
+    (long : (s : S) (x : X) → IsOf s x → size x ≡ length (names s)) (text : List ℕ) (b : FunctionBlock) where
+  has_numbers : (side : Direction) (xs : List X) → AllZip (IsVariableNamed as_section IsOf text b) (declared_as side b) xs → (v t : Name) (k : ℕ)
+      → is_declared_as text b side v ≡ true
+      → option_and_then (λ (s : S). number_in text (names s) (letters text t)) (option_and_then as_section (section_of text b (letters text v))) ≡ Some k
+      → HasNumbers size xs (or_zero (variable_number text b side (letters text v))) k
+  has_numbers side xs all v t k declared number =
+      let ls = letters text v in
+      let at = numbered text ls (IsVariableNamed as_section IsOf text b) (declared_as side b) xs all (declared_any text ls side (declared_in b) declared) in
+      let s : S = at.related.0 in
+      let same : ls ≡ letters text at.name = (bytes_eq-Decides ls (letters text at.name)).0 at.named in
+      let section : option_and_then as_section (section_of text b ls) ≡ Some s =
+      subst (λ (ms : List ℕ). option_and_then as_section (section_of text b ms) ≡ Some s) (sym same) at.related.1 in
+      let here : number_in text (names s) (letters text t) ≡ Some k = rw section at number in
+      let within = number_within text (names s) (letters text t) k here in
+      numbers_at size xs (or_zero (variable_number text b side ls)) k at.index at.item (ap or_zero at.number) at.here within.0
+      (omega (arith, within.1, long s at.item at.related.2))
+
+many_terms : (s : Fuzzify) (x : Input) → IsInputOf s x → length x.terms ≡ length (term_names s)
+many_terms s x of = omega (arith, AllZip-long IsTermOf (terms_of s) x.terms of.terms, length-map (terms_of s) (λ (t : Term). t.name))
+
+many_singletons : (s : Defuzzify) (y : Output) → IsOutputOf s y → length y.singletons ≡ length (singleton_names s)
+many_singletons s y of =
+    let ts = singletons_of s in
+    omega (
+      arith,
+      length-map ts (λ (t : Singleton). t.name),
+      length-map y.singletons (λ (d : Dec). d.0),
+      length-map ts (λ (t : Singleton). value t.value),
+      ap length of.singletons,
+    )
 
 -- ---- weights
 
@@ -67,14 +101,14 @@ weighed w h =
     ]
 
 abbrev beyond : Weight → List ℕ
-beyond w = at_if (int_lt (value w.num) (pos 0) || int_lt (pos 10000) (value w.num)) w.at
+beyond w = at_if (int_lt (value w.value) (pos 0) || int_lt (pos 10000) (value w.value)) w.at
 
-valid_weight : (o : Option Weight) (d : Option Dec) → at_some beyond o ≡ [] → number_of d ≡ option_map (λ (w : Weight). value w.num) o → IfSome d IsWeight
+valid_weight : (o : Option Weight) (d : Option Dec) → at_some beyond o ≡ [] → number_of d ≡ option_map (λ (w : Weight). value w.value) o → IfSome d IsWeight
 valid_weight o None none e = tt
 valid_weight None (Some d) none e = absurd cc
 valid_weight (Some w) (Some d) none e =
-    let same : d.0 ≡ value w.num = cc in
-    let both = weighed (value w.num) (no_place (int_lt (value w.num) (pos 0) || int_lt (pos 10000) (value w.num)) w.at none) in
+    let same : d.0 ≡ value w.value = cc in
+    let both = weighed (value w.value) (no_place (int_lt (value w.value) (pos 0) || int_lt (pos 10000) (value w.value)) w.at none) in
     record { low = rw same both.0; high = rw same both.1 }
 
 -- ---- rules
@@ -83,40 +117,18 @@ module _ (text : List ℕ) (b : FunctionBlock) (block : Block) (of : IsBlockOf t
   has_term : (v t : Name) → IsKnown text b side.Input v t → HasTerm block (or_zero (variable_number text b side.Input (letters text v)))
       (or_zero (term_number text b side.Input (letters text v) (letters text t)))
   has_term v t known =
-      let ls = letters text v in
-      let names = declared_as side.Input b in
-      let at = numbered text ls (IsInputNamed text b) names block.inputs of.inputs (declared_any text ls side.Input (declared_in b) known.declared) in
-      let s : Fuzzify = at.related.0 in
-      let same : ls ≡ letters text at.name = (bytes_eq-Decides ls (letters text at.name)).0 at.named in
-      let section : fuzzify_of text b ls ≡ Some s = subst (λ (ms : List ℕ). fuzzify_of text b ms ≡ Some s) (sym same) at.related.1 in
-      let number : number_in text (term_names s) (letters text t) ≡ Some known.number = rw section at known.numbered in
-      let within = number_within text (term_names s) (letters text t) known.number number in
-      let many : length (term_names s) ≡ length (terms_of s) = length-map (terms_of s) (λ (t : Term). t.name) in
-      let long : length at.item.terms ≡ length (terms_of s) = AllZip-long IsTermOf (terms_of s) at.item.terms at.related.2.terms in
-      let term : or_zero (term_number text b side.Input ls (letters text t)) ≡ known.number = ap or_zero known.numbered in
-      rw term (input_with block (or_zero (variable_number text b side.Input ls)) known.number at.index at.item (ap or_zero at.number) at.here within.0
-      (omega (arith, within.1, many, long)))
+      let term : or_zero (term_number text b side.Input (letters text v) (letters text t)) ≡ known.number = ap or_zero known.numbered in
+      let has = has_numbers as_fuzzify IsInputOf term_names (λ (x : Input). length x.terms) many_terms text b side.Input block.inputs of.inputs v t known.number
+      known.declared known.numbered in
+      rw term (record { input_from = has.variable_from; term_from = has.term_from; term_to = has.term_to })
 
   has_singleton : (v t : Name) → IsKnown text b side.Output v t → HasSingleton block (or_zero (variable_number text b side.Output (letters text v)))
       (or_zero (term_number text b side.Output (letters text v) (letters text t)))
   has_singleton v t known =
-      let ls = letters text v in
-      let names = declared_as side.Output b in
-      let at = numbered text ls (IsOutputNamed text b) names block.outputs of.outputs (declared_any text ls side.Output (declared_in b) known.declared) in
-      let s : Defuzzify = at.related.0 in
-      let same : ls ≡ letters text at.name = (bytes_eq-Decides ls (letters text at.name)).0 at.named in
-      let section : defuzzify_of text b ls ≡ Some s = subst (λ (ms : List ℕ). defuzzify_of text b ms ≡ Some s) (sym same) at.related.1 in
-      let number : number_in text (singleton_names s) (letters text t) ≡ Some known.number = rw section at known.numbered in
-      let within = number_within text (singleton_names s) (letters text t) known.number number in
-      let many : length (singleton_names s) ≡ length (singletons_of s) = length-map (singletons_of s) (λ (t : Singleton). t.name) in
-      let one : length (map (λ (d : Dec). d.0) at.item.singletons) ≡ length at.item.singletons = length-map at.item.singletons (λ (d : Dec). d.0) in
-      let two : length (map (λ (t : Singleton). value t.value) (singletons_of s)) ≡ length (singletons_of s) =
-      length-map (singletons_of s) (λ (t : Singleton). value t.value) in
-      let long : length (map (λ (d : Dec). d.0) at.item.singletons) ≡ length (map (λ (t : Singleton). value t.value) (singletons_of s)) =
-      ap length at.related.2.singletons in
-      let term : or_zero (term_number text b side.Output ls (letters text t)) ≡ known.number = ap or_zero known.numbered in
-      rw term (output_with block (or_zero (variable_number text b side.Output ls)) known.number at.index at.item (ap or_zero at.number) at.here within.0
-      (omega (arith, within.1, many, one, two, long)))
+      let term : or_zero (term_number text b side.Output (letters text v) (letters text t)) ≡ known.number = ap or_zero known.numbered in
+      let has = has_numbers as_defuzzify IsOutputOf singleton_names (λ (y : Output). length y.singletons) many_singletons text b side.Output block.outputs
+      of.outputs v t known.number known.declared known.numbered in
+      rw term (record { output_from = has.variable_from; term_from = has.term_from; term_to = has.term_to })
 
   pub valid_rule : (r : RuleNode) (q : Rule) → IsSoundRule text b r → IsRuleOf text b r q → IsShallow q → IsValidRule block q
   valid_rule r q sound rule deep =

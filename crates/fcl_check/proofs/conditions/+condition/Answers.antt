@@ -14,7 +14,8 @@ use Rattle.fcl_check.proofs.conditions.+condition.Goals as goal
 
 pub and-returns-then-is_empty : goal.and-returns-then-is_empty
 and-returns-then-is_empty t c =
-    let none : length (out-And c.args.and.now).more.items ≡ 0 = omega (arith, (out-And c.args.and.now).more.ok.0, eqb-true _ _ (sym c.is_empty.ensures ∙ c.if-is_empty.true)) in
+    let none : length (out-And c.args.and.now).more.items ≡ 0 =
+    omega (arith, (out-And c.args.and.now).more.ok.0, eqb-true _ _ (sym c.is_empty.ensures ∙ c.if-is_empty.true)) in
     and_alone (literal_of c.args.source.now.tree.now.text.items c.args.source.now.tree.now.block) c.args.and.now c.in_ok-first.first none c.in_ok-first.ensures
 
 pub and-each-init : goal.and-each-init
@@ -24,16 +25,20 @@ pub and-each-preserved : goal.and-each-preserved
 and-each-preserved t c =
     let items = (out-And c.args.and.now).more.items in
     let value = c.deref-conjunct-items.ensures.value in
-    let more = one_further items c.each.conjunct-index c.conjunct-item.result c.conjunct-item.result (rw value at c.each-test.true) (rw value at c.conjunct-item.is) refl in
-    let same = conjunct_is (literal_of c.args.source.now.tree.now.text.items c.args.source.now.tree.now.block) c.conjunct-item.result c.in_ok-part.part c.in_ok-part.ensures in
-    rw (c.in_ok-push-2.ensures.items, more) (parts_more _ _ (take c.each.conjunct-index items) c.conjunct-item.result c.each.parts.items c.in_ok-part.part c.each.invariant same)
+    let more = one_further items c.each.conjunct-index c.conjunct-item.result c.conjunct-item.result (rw value at c.each-test.true)
+    (rw value at c.conjunct-item.is) refl in
+    let same = conjunct_is
+    (literal_of c.args.source.now.tree.now.text.items c.args.source.now.tree.now.block) c.conjunct-item.result c.in_ok-part.part c.in_ok-part.ensures in
+    rw (c.in_ok-push-2.ensures.items, more)
+    (parts_more _ _ (take c.each.conjunct-index items) c.conjunct-item.result c.each.parts.items c.in_ok-part.part c.each.invariant same)
 
 pub and-returns : goal.and-returns
 and-returns t c =
     let node = out-And c.args.and.now in
     let some : 1 ≤ length node.more.items = omega (arith, node.more.ok.0, eqb-false _ _ (sym c.is_empty.ensures ∙ c.if-is_empty.false)) in
     let whole = take_all c.each.conjunct-index node.more.items (rw c.deref-conjunct-items.ensures.value at c.each-test.false) in
-    and_together (literal_of c.args.source.now.tree.now.text.items c.args.source.now.tree.now.block) c.args.and.now c.each.parts.items (cond.And c.each.parts) some
+    and_together (literal_of c.args.source.now.tree.now.text.items c.args.source.now.tree.now.block) c.args.and.now c.each.parts.items
+    (cond.And c.each.parts) some
     (search (rules, the_lemmas)) (rw whole at c.each.invariant)
 
 pub and-not-requires : goal.and-not-requires
@@ -41,12 +46,15 @@ and-not-requires t c = (search (rules, tree_lemmas), and_first _ c.args.and.now 
 
 pub and-not-requires-in-each : goal.and-not-requires-in-each
 and-not-requires-in-each t c =
-    let value = c.deref-conjunct-items.ensures.value in
-    (search (rules, tree_lemmas), and_conjunct _ c.args.and.now c.each.conjunct-index c.conjunct-item.result c.requires (rw value at c.each-test.true) (rw value at c.conjunct-item.is))
+    let value = c.deref-conjunct-items.ensures.value in (
+      search (rules, tree_lemmas),
+      and_conjunct _ c.args.and.now c.each.conjunct-index c.conjunct-item.result c.requires (rw value at c.each-test.true) (rw value at c.conjunct-item.is),
+    )
 
 pub or-returns-then-is_empty : goal.or-returns-then-is_empty
 or-returns-then-is_empty t c =
-    let none : length (out-Or c.args.or.now).more.items ≡ 0 = omega (arith, (out-Or c.args.or.now).more.ok.0, eqb-true _ _ (sym c.is_empty.ensures ∙ c.if-is_empty.true)) in
+    let none : length (out-Or c.args.or.now).more.items ≡ 0 =
+    omega (arith, (out-Or c.args.or.now).more.ok.0, eqb-true _ _ (sym c.is_empty.ensures ∙ c.if-is_empty.true)) in
     or_alone (literal_of c.args.source.now.tree.now.text.items c.args.source.now.tree.now.block) c.args.or.now c.in_ok-first.first none c.in_ok-first.ensures
 
 pub or-each-init : goal.or-each-init
@@ -56,9 +64,12 @@ pub or-each-preserved : goal.or-each-preserved
 or-each-preserved t c =
     let items = (out-Or c.args.or.now).more.items in
     let value = c.deref-alternative-items.ensures.value in
-    let more = one_further items c.each.alternative-index c.alternative-item.result c.alternative-item.result (rw value at c.each-test.true) (rw value at c.alternative-item.is) refl in
-    let same = alternative_is (literal_of c.args.source.now.tree.now.text.items c.args.source.now.tree.now.block) c.alternative-item.result c.in_ok-part.part c.in_ok-part.ensures in
-    rw (c.in_ok-push-2.ensures.items, more) (parts_more _ _ (take c.each.alternative-index items) c.alternative-item.result c.each.parts.items c.in_ok-part.part c.each.invariant same)
+    let more = one_further items c.each.alternative-index c.alternative-item.result c.alternative-item.result (rw value at c.each-test.true)
+    (rw value at c.alternative-item.is) refl in
+    let same = alternative_is
+    (literal_of c.args.source.now.tree.now.text.items c.args.source.now.tree.now.block) c.alternative-item.result c.in_ok-part.part c.in_ok-part.ensures in
+    rw (c.in_ok-push-2.ensures.items, more)
+    (parts_more _ _ (take c.each.alternative-index items) c.alternative-item.result c.each.parts.items c.in_ok-part.part c.each.invariant same)
 
 pub or-returns : goal.or-returns
 or-returns t c =
@@ -73,5 +84,8 @@ or-and-requires t c = (search (rules, tree_lemmas), or_first _ c.args.or.now c.r
 
 pub or-and-requires-in-each : goal.or-and-requires-in-each
 or-and-requires-in-each t c =
-    let value = c.deref-alternative-items.ensures.value in
-    (search (rules, tree_lemmas), or_alternative _ c.args.or.now c.each.alternative-index c.alternative-item.result c.requires (rw value at c.each-test.true) (rw value at c.alternative-item.is))
+    let value = c.deref-alternative-items.ensures.value in (
+      search (rules, tree_lemmas),
+      or_alternative _ c.args.or.now c.each.alternative-index c.alternative-item.result c.requires (rw value at c.each-test.true)
+          (rw value at c.alternative-item.is),
+    )

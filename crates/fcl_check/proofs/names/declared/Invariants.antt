@@ -4,4 +4,4 @@ use Rattle.fcl_check.specs.Names.{declared_by}
 use Rattle.fcl_check.proofs.names.declared.Given as goal
 
 abbrev pub invariant-each : goal.invariant-each
-invariant-each l = l.names.items ≡ flat_map declared_by (take l.section-index l.vars)
+invariant-each l = l.names.items ≡ flat_map declared_by (take l.section-index l.variables)

@@ -10,7 +10,8 @@ returns-in_err-add_term-clause-fault c =
     let more = take_more c.args.section.now.lines.items c.each.line-index _ (rw c.deref-line-items.ensures.value at c.each-test.true) in
     rw passed (singleton_twice c.args.tree.now.text.items c.args.tree.now.block c.args.section.now.lines.items c.each.line-index _ more c.each.invariant.once
     c.in-Singleton.singleton
-    (rw c.deref-line-items.ensures.value at c.in-Singleton.is) c.each.terms c.each.invariant.numbers c.in_err-add_term.field-0.0 c.in_err-add_term.ensures.fault)
+    (rw c.deref-line-items.ensures.value at c.in-Singleton.is) c.each.terms c.each.invariant.numbers c.in_err-add_term.field-0.0
+    c.in_err-add_term.ensures.fault)
 
 pub returns-then-has_kind : goal.returns-then-has_kind
 returns-then-has_kind c =
@@ -34,7 +35,8 @@ each-preserved c =
     elim c.match-line.branch [
       | in-Singleton+in_ok-add_term w ↦ (let is = rw value at w.in-Singleton.is in record {
         numbers = rw w.terms-is
-            (singleton_numbers text b lines i _ more so_far.once w.in-Singleton.singleton is c.each.terms so_far.numbers w.add_term.new.terms w.in_ok-add_term.ensures.added w.in_ok-add_term.ensures.len);
+            (singleton_numbers text b lines i _ more so_far.once w.in-Singleton.singleton is c.each.terms so_far.numbers w.add_term.new.terms
+            w.in_ok-add_term.ensures.added w.in_ok-add_term.ensures.len);
         others = rw (w.others-is, singleton_others text b lines i _ more so_far.once w.in-Singleton.singleton is c.each.terms so_far.numbers) so_far.others;
         once = singleton_once text b lines i _ more so_far.once w.in-Singleton.singleton is c.each.terms so_far.numbers w.in_ok-add_term.ensures.fault;
       })

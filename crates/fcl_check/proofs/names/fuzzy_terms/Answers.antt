@@ -32,7 +32,8 @@ each-preserved c =
     elim c.match-line.branch [
       | in-Term+in_ok-add_term-in-Term w ↦ record {
         numbers = rw w.terms-is
-            (term_numbers text b lines i x h here so_far.once w.in-Term.term w.in-Term.is c.each.terms so_far.numbers w.add_term.new.terms w.in_ok-add_term-in-Term.ensures.added w.in_ok-add_term-in-Term.ensures.len);
+            (term_numbers text b lines i x h here so_far.once w.in-Term.term w.in-Term.is c.each.terms so_far.numbers w.add_term.new.terms
+            w.in_ok-add_term-in-Term.ensures.added w.in_ok-add_term-in-Term.ensures.len);
         range = rw w.has_range-is
             (term_range text b lines i x h here so_far.once w.in-Term.term w.in-Term.is c.each.terms so_far.numbers c.each.has_range so_far.range);
         once = term_once text b lines i x h here so_far.once w.in-Term.term w.in-Term.is c.each.terms so_far.numbers w.in_ok-add_term-in-Term.ensures.fault;

@@ -14,7 +14,8 @@ next-requires c =
 pub returns-in_err-add-clause-fault : goal.returns-in_err-add-clause-fault
 returns-in_err-add-clause-fault c =
     let passed : c.from_residual.result ≡ Err c.in_err-add.field-0.0 = search rules in
-    rw passed (variables_twice c.args.tree.now.text.items c.args.tree.now.block c.args.declared.now c.each.direction-index _ c.each.variables c.in_err-add.field-0.0 c.each-test.true c.each.invariant.variables c.each.invariant.once c.in_err-add.ensures.fault)
+    rw passed (variables_twice c.args.tree.now.text.items c.args.tree.now.block c.args.declared.now c.each.direction-index _ c.each.variables
+    c.in_err-add.field-0.0 c.each-test.true c.each.invariant.variables c.each.invariant.once c.in_err-add.ensures.fault)
 
 pub each-preserved : goal.each-preserved
 each-preserved c =
@@ -23,7 +24,8 @@ each-preserved c =
     let ds = c.args.declared.now in
     let i = c.each.direction-index in
     record {
-      variables = variables_more text b ds i _ c.each.variables c.add.new.values c.each.counts c.next.result c.each-test.true c.each.invariant.variables c.each.invariant.counts c.next.ensures.number c.in_ok-add.ensures.added;
+      variables = variables_more text b ds i _ c.each.variables c.add.new.values c.each.counts c.next.result c.each-test.true
+          c.each.invariant.variables c.each.invariant.counts c.next.ensures.number c.in_ok-add.ensures.added;
       counts = counts_more text b ds i _ c.each.counts c.next.new.self c.each-test.true c.each.invariant.counts c.next.ensures.counts;
       once = variables_once text b ds i _ c.each.variables c.each-test.true c.each.invariant.variables c.each.invariant.once c.in_ok-add.ensures.fault;
     }

@@ -1,7 +1,8 @@
-use Rattle.std.proofs.Common.{◌≡◌, [], take}
+use Rattle.std.proofs.Common.{◌≡◌, drop}
 use Rattle.std.specs.List.{filter_map}
-use Rattle.fcl_check.specs.Sections.{default_line}
+use Rattle.fcl_check.specs.Places.{first}
+use Rattle.fcl_check.specs.Sections.{default_line, default_of}
 use Rattle.fcl_check.proofs.outputs.fallback.Given as goal
 
 abbrev pub invariant-loop-line : goal.invariant-loop-line
-invariant-loop-line l = filter_map default_line (take l.line-index l.section.lines.items) ≡ []
+invariant-loop-line l = first (filter_map default_line (drop l.line-index l.section.lines.items)) ≡ default_of l.section

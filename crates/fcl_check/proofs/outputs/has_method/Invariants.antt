@@ -1,7 +1,9 @@
-use Rattle.std.proofs.Common.{◌≡◌, [], take}
+use Rattle.std.proofs.Common.{◌≡◌, drop}
 use Rattle.std.specs.List.{filter_map}
+use Rattle.fcl_check.specs.Places.{first}
 use Rattle.fcl_check.specs.Sections.{method_line}
 use Rattle.fcl_check.proofs.outputs.has_method.Given as goal
 
 abbrev pub invariant-loop-line : goal.invariant-loop-line
-invariant-loop-line l = filter_map method_line (take l.line-index l.section.lines.items) ≡ []
+invariant-loop-line l =
+    first (filter_map method_line (drop l.line-index l.section.lines.items)) ≡ first (filter_map method_line l.section.lines.items)

@@ -13,12 +13,14 @@ returns-in-Some-clause-fault c = λ _. not_free c.in-Ok-Some.request c.in-Some.a
     (subst (λ (ws : List Write). IsFirstTaken ws c.in-Some.at) c.as_slice.ensures c.in-Some.ensures)
 
 pub returns-in-Some-last-clause-fault : goal.returns-in-Some-last-clause-fault
-returns-in-Some-last-clause-fault c = λ _. not_ascending c.in-Ok-Some.request (rw c.in-Ok-Some.field-0-is at c.in-Ok-Some.ensures) (subst AreFree c.as_slice.ensures c.in_default.ensures) (record {
-  front = take (length c.args.before.now - 1) c.args.before.now;
-  last = c.in-Some-last.last.now;
-  before_is = last_is c.args.before.now c.in-Some-last.last.now c.in-Some-last.ensures.value;
-  falls = λ follows. let bad : false ≡ true = c.if-not-is_not_after.ensures.1 follows in cc;
-})
+returns-in-Some-last-clause-fault c = λ _.
+    not_ascending c.in-Ok-Some.request (rw c.in-Ok-Some.field-0-is at c.in-Ok-Some.ensures) (subst AreFree c.as_slice.ensures c.in_default.ensures) (record {
+      front = take (length c.args.before.now - 1) c.args.before.now;
+      last = c.in-Some-last.last.now;
+      before_is = last_is c.args.before.now c.in-Some-last.last.now c.in-Some-last.ensures.value;
+      falls = λ follows. let bad : false ≡ true = c.if-not-is_not_after.ensures.1 follows in cc;
+    })
 
 pub returns-in_default-last-clause-good : goal.returns-in_default-last-clause-good
-returns-in_default-last-clause-good c = good_request _ c.in-Ok-Some.request (rw c.in-Ok-Some.field-0-is at c.in-Ok-Some.ensures) (subst AreFree c.as_slice.ensures c.in_default.ensures)
+returns-in_default-last-clause-good c =
+    good_request _ c.in-Ok-Some.request (rw c.in-Ok-Some.field-0-is at c.in-Ok-Some.ensures) (subst AreFree c.as_slice.ensures c.in_default.ensures)

@@ -1,5 +1,0 @@
-use Rattle.std.proofs.Common.{◌≡◌, ◌∷◌, ◌++◌, map, take}
-use Rattle.fcl_check.proofs.names.push_decl.Given as goal
-
-abbrev pub invariant-each : goal.invariant-each
-invariant-each l = l.into.items ≡ l.fn.into.items ++ map (λ n. (l.direction, n)) (l.decl.first ∷ take l.name-index l.decl.more.items)

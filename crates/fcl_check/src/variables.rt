@@ -1,0 +1,70 @@
+//! The inputs and the outputs of a block, each made from its section.
+
+ghost use Rattle.std.specs.Prelude.{◌≡◌, Option, All, option_map, IfOk};
+ghost use Rattle.std.specs.List.{AllZip};
+ghost use Rattle.fcl_syntax.specs.declared.tree.Direction.{Direction};
+ghost use Rattle.fcl_syntax.specs.declared.tree.Part.{Part};
+ghost use Rattle.fcl_check.specs.Known.{Knows};
+ghost use Rattle.fcl_check.specs.Loaded.{IsVariableNamed};
+ghost use Rattle.fcl_check.specs.Names.{declared_as, declared_in};
+ghost use Rattle.fcl_check.specs.Sound.{HasSection};
+
+use crate::names::Names;
+use fcl_syntax::{Direction, Part, Tree};
+use std::alloc::{AllocError, Global};
+
+/// What a block has of a declared variable: an input, or an output.
+///
+/// Its section is FUZZIFY or DEFUZZIFY, and stands in the tree as one of the parts.
+pub trait FromSection: Sized + Drop {
+    /// The section that tells what it is.
+    type Section;
+
+    /// The direction in which it is declared.
+    ghost side: { Direction };
+
+    /// The section that a part is, if it is one of this kind.
+    ghost as_section: { Part → Option Self.Section };
+
+    /// Whether a section has no fault that a builder would meet.
+    ghost IsSound: { Self.Section → Type 0 };
+
+    /// What is made of a section.
+    ghost IsOf: { Self.Section → Self → Type 0 };
+
+    /// The direction in which it is declared.
+    fn direction() -> Direction
+        ensures { result ≡ side };
+
+    /// The section that a part is, if it is one of this kind.
+    fn section(part: &Part) -> Option<&Self::Section>
+        ensures { option_map (λ s. s.now) result ≡ as_section part.now };
+
+    /// What is made of a sound section. Only memory can be wanting.
+    fn from_section(alloc: Global, section: &Self::Section) -> Result<Self, AllocError>
+        requires { IsSound section.now }
+        ensures { IfOk result (IsOf section.now) };
+}
+
+/// The variables of one direction in the order of their declaration.
+pub fn variables<V: FromSection>(
+    alloc: Global,
+    tree: &Tree,
+    names: &Names<'_>,
+) -> Result<Vec<V>, AllocError>
+    requires known { Knows tree.now names.now }
+    requires sound { All (HasSection V.side V.as_section V.IsSound tree.now.text.items tree.now.block)
+        (declared_in tree.now.block) }
+    ensures same { IfOk result (λ v. AllZip (IsVariableNamed V.as_section V.IsOf tree.now.text.items tree.now.block)
+        (declared_as V.side tree.now.block) v.items) }
+{
+    let mut variables = Vec::new(alloc);
+    'each: for (direction, name) in &names.declared {
+        if *direction == V::direction() {
+            let part = names.section(tree.letters(*name)).unwrap();
+            let section = V::section(part).unwrap();
+            variables.push(V::from_section(alloc, section)?)?;
+        }
+    }
+    Ok(variables)
+}

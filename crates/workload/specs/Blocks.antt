@@ -1,0 +1,40 @@
+-- The block that is drawn: nine terms over each of two inputs, and a rule for each pair of them.
+use Rattle.std.specs.Prelude.{◌≡◌, ℕ, ◌+◌, ◌-◌, ◌*◌, ◌/◌, ◌%◌, ◌==◌, if◌then◌else◌, List, [], ◌∷◌, length, map, Some, None, slice_get, pos}
+use Rattle.fz_num.specs.declared.dec.Dec.{Dec}
+use Rattle.fuzzy_meaning.specs.Conditions.{Condition, is, all, also, end, condition_of}
+use Rattle.fuzzy_meaning.specs.declared.block.Block.{Block}
+use Rattle.fuzzy_meaning.specs.declared.block.Input.{Input}
+use Rattle.fuzzy_meaning.specs.declared.block.Output.{Output}
+use Rattle.fuzzy_meaning.specs.declared.block.Rule.{Rule}
+use Rattle.fuzzy_meaning.specs.declared.block.Trapezoid.{Trapezoid}
+
+-- a whole number
+abbrev pub whole : ℕ → Dec
+whole n = record { 0 = pos (n * 10000) }
+
+-- the terms rise and fall over 32; the first and the last have one side
+abbrev pub term_number : ℕ → Trapezoid
+term_number j = record {
+  a = if j == 0 then None else Some (whole (32 * j - 32));
+  b = whole (32 * j);
+  c = whole (32 * j);
+  d = if j == 8 then None else Some (whole (32 * j + 32));
+}
+
+abbrev pub drawn_input : Input
+drawn_input = record { lo = whole 0; hi = whole 256; terms = map term_number (0 ∷ 1 ∷ 2 ∷ 3 ∷ 4 ∷ 5 ∷ 6 ∷ 7 ∷ 8 ∷ []) }
+
+abbrev pub drawn_output : Output
+drawn_output = record { lo = whole 0; hi = whole 100; singletons = map whole (0 ∷ 25 ∷ 50 ∷ 75 ∷ 100 ∷ []); default = Some (whole 0) }
+
+-- rule number n, from 0, under a shift: where x is term n / 9 and y is term n % 9
+pub record IsDrawnRule (shift n : ℕ) (r : Rule) : Type 0 where
+  pub condition : condition_of r.cond ≡ all (also (is 1 (n / 9 + 1)) (also (is 2 (n % 9 + 1)) end))
+  pub weight : r.weight ≡ None
+  pub conclusion : r.concl ≡ (1, (n / 9 + 2 * (n % 9) + shift) % 5 + 1) ∷ []
+
+pub record IsDrawnBlock (shift : ℕ) (block : Block) : Type 0 where
+  pub inputs : block.inputs ≡ drawn_input ∷ drawn_input ∷ []
+  pub outputs : block.outputs ≡ drawn_output ∷ []
+  pub count : length block.rules ≡ 81
+  pub rules : (n : ℕ) (r : Rule) → slice_get block.rules n ≡ Some r → IsDrawnRule shift n r
