@@ -151,7 +151,8 @@ record IsOutdone (b : Block) (box : List Interval) (o n k : ℕ) : Type 0 where
   candidate : IsCandidate b box o n part
   above : k ≤ part
 
-outdone : (b : Block) (box : List Interval) (o n k : ℕ) (r : Rule) → 1 ≤ n → 1 ≤ k → rule_at b n ≡ Some r → IsStrong b box o r k → IsOutdone b box o n k
+outdone : (b : Block) (box : List Interval) (o n k : ℕ) (r : Rule) → 1 ≤ n → 1 ≤ k → rule_at b n ≡ Some r → IsStrong b box o r k
+    → IsOutdone b box o n k
 outdone b box o n k r from some er s =
     let f = (rule_span b box r).low in
     let above = part_above k f.num f.den (rule_ordered b box r).low.pos s.low.cross in
@@ -170,7 +171,8 @@ outdone b box o n k r from some er s =
     }
 
 -- where the silent leaf holds no rule is strong
-silent_not_strong : (b : Block) (box : List Interval) (o n k : ℕ) (r : Rule) → Holds b box o silent_leaf → rule_at b n ≡ Some r → IsStrong b box o r k → ⊥
+silent_not_strong : (b : Block) (box : List Interval) (o n k : ℕ) (r : Rule) → Holds b box o silent_leaf → rule_at b n ≡ Some r
+    → IsStrong b box o r k → ⊥
 silent_not_strong b box o n k r (strong r' from some to e' s') er s = absurd (omega arith)
 silent_not_strong b box o n k r (silent z y every) er s =
     let still : (t : ℕ) → IsTrue (concludes r o t) → IsStill b box r =
@@ -250,7 +252,10 @@ strong-falls x h s j k range hh hj le =
     let jp : 0 < billion * j = mul-pos (omega arith) hj in
     let kp : 0 < billion * k = mul-pos (omega arith) (omega arith) in
     let fp : 0 < 255 * w * (255 * h) = mul-pos (mul-pos (omega arith) wp) (mul-pos (omega arith) hh) in
-    in_millionths-mono (plus a f) (plus c f) (record { pos = mul-pos kp fp }) (record { pos = mul-pos jp fp }) (record { cross = crossed s j k f.num f.den le })
+    in_millionths-mono (plus a f) (plus c f) (record {
+      pos =
+          mul-pos kp fp;
+    }) (record { pos = mul-pos jp fp }) (record { cross = crossed s j k f.num f.den le })
   where
     crossed : (s j k n d : ℕ) → j ≤ k → (s * 255 * d + n * (billion * k)) * (billion * j * d) ≤ (s * 255 * d + n * (billion * j)) * (billion * k * d)
     crossed s j k n d le =
@@ -263,8 +268,10 @@ moved e f h = omega arith
 at_most : (n k m j : ℕ) → (j < k) ⊎ ((j ≡ k) × (n ≤ m)) → j ≤ k
 at_most n k m j p = ⊎_elim (λ (l : j < k). omega arith) (λ (l : (j ≡ k) × (n ≤ m)). (let e = l.0 in omega arith)) p
 
-module _ (b : Block) (box : List Interval) (o : ℕ) (x : Output) (h : ℕ) (leaf : Leaf) (valid : IsValid b) (range : x.lo.0 <ℤ x.hi.0) (hh : 1 ≤ h) (count : length box ≡ length b.inputs) where
-  by_best : (best : Leaf) (n m : ℕ) → IsBest b box o (Some best) → IsBound b box o x h best n → Holds b box o leaf → IsBound b box o x h leaf m → n ≤ m
+module _ (b : Block) (box : List Interval) (o : ℕ) (x : Output) (h : ℕ) (leaf : Leaf) (valid : IsValid b)
+    (range : x.lo.0 <ℤ x.hi.0) (hh : 1 ≤ h) (count : length box ≡ length b.inputs) where
+  by_best : (best : Leaf) (n m : ℕ) → IsBest b box o (Some best) → IsBound b box o x h best n → Holds b box o leaf
+      → IsBound b box o x h leaf m → n ≤ m
   by_best _ n m (best_silent hs) p (silent z y every) q =
       let e = bound_silent x h leaf.k (errors_from b q.errors o 1 x.singletons) y in
       moved p.is (q.is ∙ e) (omega arith)

@@ -114,7 +114,8 @@ length-cell (n ∷ ns) = ap suc (length-cell ns)
 pub cell_count : (b : Block) (bytes : List ℕ) → IsBoxOf b (cell_of bytes) → length bytes ≡ length b.inputs
 cell_count b bytes is = sym (length-cell bytes) ∙ is.count
 
-byte_of_cell : (bytes : List ℕ) (k d : ℕ) → k < length bytes → slice_get (cell_of bytes) k ≡ Some (record { from = get_or bytes k d; to = get_or bytes k d })
+byte_of_cell : (bytes : List ℕ) (k d : ℕ) → k < length bytes
+    → slice_get (cell_of bytes) k ≡ Some (record { from = get_or bytes k d; to = get_or bytes k d })
 byte_of_cell [] k d h = absurd (omega arith)
 byte_of_cell (n ∷ ns) zero d h = refl
 byte_of_cell (n ∷ ns) (suc k) d h = byte_of_cell ns k d (omega arith)
@@ -147,7 +148,8 @@ pub record IsWidestOf (box : List Interval) (n k : ℕ) : Type 0 where
 
 -- ---- how often a box can be cut
 
-left_fewer : (box : List Interval) (k c : ℕ) (v : Interval) → slice_get box k ≡ Some v → v.from < c → c ≤ v.to → cuts_of (left_of k c box) < cuts_of box
+left_fewer : (box : List Interval) (k c : ℕ) (v : Interval) → slice_get box k ≡ Some v → v.from < c → c ≤ v.to
+    → cuts_of (left_of k c box) < cuts_of box
 left_fewer [] k c v e f t = absurd (let z : ⊥ = cc in z)
 left_fewer (w ∷ ws) zero c v e f t =
     let same : w ≡ v = cc in
@@ -156,7 +158,8 @@ left_fewer (w ∷ ws) zero c v e f t =
     omega arith
 left_fewer (w ∷ ws) (suc k) c v e f t = let rest = left_fewer ws k c v e f t in omega arith
 
-right_fewer : (box : List Interval) (k c : ℕ) (v : Interval) → slice_get box k ≡ Some v → v.from < c → c ≤ v.to → cuts_of (right_of k c box) < cuts_of box
+right_fewer : (box : List Interval) (k c : ℕ) (v : Interval) → slice_get box k ≡ Some v → v.from < c → c ≤ v.to
+    → cuts_of (right_of k c box) < cuts_of box
 right_fewer [] k c v e f t = absurd (let z : ⊥ = cc in z)
 right_fewer (w ∷ ws) zero c v e f t =
     let same : w ≡ v = cc in
@@ -165,7 +168,8 @@ right_fewer (w ∷ ws) zero c v e f t =
     omega arith
 right_fewer (w ∷ ws) (suc k) c v e f t = let rest = right_fewer ws k c v e f t in omega arith
 
-pub halves_fewer : (box : List Interval) (k c : ℕ) → IsHalvedAt box k c → (cuts_of (left_of k c box) < cuts_of box) × (cuts_of (right_of k c box) < cuts_of box)
+pub halves_fewer : (box : List Interval) (k c : ℕ) → IsHalvedAt box k c
+    → (cuts_of (left_of k c box) < cuts_of box) × (cuts_of (right_of k c box) < cuts_of box)
 halves_fewer box k c at =
     let v = at.interval in
     let m = middle_inside v.from v.to at.more in
@@ -177,16 +181,19 @@ halves_fewer box k c at =
 -- ---- a box of single bytes
 
 -- where the widest interval has one byte all have
-pub cell_is : (box : List Interval) (k : ℕ) (v : Interval) → IsBox box → IsWidest box k v → v.from ≡ v.to → box ≡ cell_of (map (λ (u : Interval). u.from) box)
+pub cell_is : (box : List Interval) (k : ℕ) (v : Interval) → IsBox box → IsWidest box k v → v.from ≡ v.to
+    → box ≡ cell_of (map (λ (u : Interval). u.from) box)
 cell_is box k v is w e = single box (λ j u eu.
     let most = w.most j u eu in
     let order = (is.some j u eu).0 in
     omega arith)
   where
-    single : (box : List Interval) → ((j : ℕ) (u : Interval) → slice_get box j ≡ Some u → u.from ≡ u.to) → box ≡ cell_of (map (λ (u : Interval). u.from) box)
+    single : (box : List Interval) → ((j : ℕ) (u : Interval) → slice_get box j ≡ Some u → u.from ≡ u.to)
+        → box ≡ cell_of (map (λ (u : Interval). u.from) box)
     single [] h = refl
     single (u ∷ us) h =
         let first = h 0 u refl in
         let rest = single us (λ j x ex. h (suc j) x ex) in
-        let here : u ≡ (record { from = u.from; to = u.from }) = ap (λ (n : ℕ). let x : Interval = record { from = u.from; to = n } in x) (sym first) in
+        let here : u ≡ (record { from = u.from; to = u.from }) = ap
+        (λ (n : ℕ). let x : Interval = record { from = u.from; to = n } in x) (sym first) in
         ap₂ (λ (x : Interval) (xs : List Interval). x ∷ xs) here rest

@@ -28,12 +28,14 @@ leaf_count-append [] ys = omega arith
 leaf_count-append (Split i c ∷ xs) ys = leaf_count-append xs ys
 leaf_count-append (Leaf pairs ∷ xs) ys = let r = leaf_count-append xs ys in omega arith
 
-halved_open : OpenBoxesGoOn → (b : Block) (h target : ℕ) (box : List Interval) (n m : ℕ) (nodes : List Node) → Halves b h target box n nodes m → (i : ℕ) → open_from (suc i) nodes ≡ Some i
+halved_open : OpenBoxesGoOn → (b : Block) (h target : ℕ) (box : List Interval) (n m : ℕ) (nodes : List Node)
+    → Halves b h target box n nodes m → (i : ℕ) → open_from (suc i) nodes ≡ Some i
 halved_open on b h target _ _ _ _ (halved_leaf box n pairs w few) i = refl
 halved_open on b h target _ _ _ _ (halved_split box k c n m r out up left right a at l t) i =
     on (suc (suc i)) (suc i) left right (halved_open on b h target _ n m left l (suc i)) ∙ halved_open on b h target _ m r right t i
 
-halved_leaves : (b : Block) (h target : ℕ) (box : List Interval) (n m : ℕ) (nodes : List Node) → Halves b h target box n nodes m → (leaf_count nodes + n ≡ m) × (m ≤ 4096)
+halved_leaves : (b : Block) (h target : ℕ) (box : List Interval) (n m : ℕ) (nodes : List Node) → Halves b h target box n nodes m
+    → (leaf_count nodes + n ≡ m) × (m ≤ 4096)
 halved_leaves b h target _ _ _ _ (halved_leaf box n pairs w few) = (omega arith, omega arith)
 halved_leaves b h target _ _ _ _ (halved_split box k c n m r out up left right a at l t) =
     let p = halved_leaves b h target _ n m left l in
@@ -59,7 +61,8 @@ no_error (suc n) (suc k) = no_error n k
 one_value : (xs : List ℕ) (k e c : ℕ) → slice_get xs k ≡ Some e → slice_get xs k ≡ Some c → e ≤ c
 one_value xs k e c p q = let same : e ≡ c = cc in omega arith
 
-greatest_of : (b : Block) (h target o : ℕ) (x : Output) (parts : List Part) (old e : ℕ) → 0 < length parts → old ≡ 0 → RisesTo b h target o x parts old e → IsGreatestBound b o x h parts e
+greatest_of : (b : Block) (h target o : ℕ) (x : Output) (parts : List Part) (old e : ℕ) → 0 < length parts → old ≡ 0
+    → RisesTo b h target o x parts old e → IsGreatestBound b o x h parts e
 greatest_of b h target o x parts old e some zero_before r = record {
   each = r.each;
   some = ⊎_elim
@@ -69,15 +72,18 @@ greatest_of b h target o x parts old e some zero_before r = record {
       let first = r.each 0 p.0 some in
       let small = first.2 in
       let none : first.0 ≡ e = omega arith in
-      let has : HasBound b o x h p.0 e = subst (λ (q : Part). HasBound b o x h q e) at (subst (λ n. HasBound b o x h (get_or parts 0 p.0) n) none first.1) in
+      let has : HasBound b o x h p.0 e = subst (λ (q : Part). HasBound b o x h q e) at
+      (subst (λ n. HasBound b o x h (get_or parts 0 p.0) n) none first.1) in
       let z : Any (λ q. HasBound b o x h q e) parts = (0, p.0, some, at, has) in
       z)
       (λ (a : Any (λ q. HasBound b o x h q e) parts). a)
       r.some;
 }
 
-module _ (b : Block) (h target : ℕ) (old new : Tree) (cert : Cert) (valid : IsValid b) (no_nodes : old.nodes.items ≡ []) (zeros : old.errors.items ≡ replicate (length b.outputs) 0)
-    (no_leaves : old.leaves ≡ 0) (g : Grows b h target (whole b) old new) (claims : cert.claims ≡ new.errors.items) (nodes : cert.nodes ≡ new.nodes.items) where
+module _ (b : Block) (h target : ℕ) (old new : Tree) (cert : Cert) (valid : IsValid b) (no_nodes : old.nodes.items ≡ [])
+    (zeros : old.errors.items ≡ replicate (length b.outputs) 0)
+    (no_leaves : old.leaves ≡ 0) (g : Grows b h target (whole b) old new) (claims : cert.claims ≡ new.errors.items)
+    (nodes : cert.nodes ≡ new.nodes.items) where
   count : length cert.claims ≡ length b.outputs
   count = ap length claims ∙ g.count ∙ ap length zeros ∙ length-replicate (length b.outputs) 0
 
@@ -88,7 +94,8 @@ module _ (b : Block) (h target : ℕ) (old new : Tree) (cert : Cert) (valid : Is
   zero_at k = ap (λ (xs : List ℕ). slice_index xs k) zeros ∙ no_error (length b.outputs) k
 
   halved : Halves b h target (whole b) 0 cert.nodes new.leaves
-  halved = subst (λ (xs : List Node). Halves b h target (whole b) 0 xs new.leaves) all_added (subst (λ n. Halves b h target (whole b) n g.added new.leaves) no_leaves g.halves)
+  halved = subst (λ (xs : List Node). Halves b h target (whole b) 0 xs new.leaves) all_added
+      (subst (λ n. Halves b h target (whole b) n g.added new.leaves) no_leaves g.halves)
 
   tree : IsTree (whole b) cert.nodes g.parts []
   tree = subst (λ (xs : List Node). IsTree (whole b) xs g.parts []) (append-nil g.added ∙ all_added) (g.tree [])
@@ -96,14 +103,16 @@ module _ (b : Block) (h target : ℕ) (old new : Tree) (cert : Cert) (valid : Is
   error_at : (k e : ℕ) → slice_get cert.claims k ≡ Some e → slice_index new.errors.items k ≡ e
   error_at k e p = ap (λ (xs : List ℕ). slice_index xs k) (sym claims) ∙ get_or_from_slice_get cert.claims k e 0 p
 
-  greatest : (o : ℕ) (x : Output) (e : ℕ) → 1 ≤ o → output_at b o ≡ Some x → slice_get cert.claims (o - 1) ≡ Some e → IsGreatestBound b o x h g.parts e
+  greatest : (o : ℕ) (x : Output) (e : ℕ) → 1 ≤ o → output_at b o ≡ Some x → slice_get cert.claims (o - 1) ≡ Some e
+      → IsGreatestBound b o x h g.parts e
   greatest o x e from ex ee =
       let number : o - 1 + 1 ≡ o = omega arith in
       let r = g.errors (o - 1) x ex in
       let rises : RisesTo b h target o x g.parts (slice_index old.errors.items (o - 1)) e =
       subst (λ j. RisesTo b h target j x g.parts (slice_index old.errors.items (o - 1)) e) number
       (subst (λ n. RisesTo b h target (o - 1 + 1) x g.parts (slice_index old.errors.items (o - 1)) n) (error_at (o - 1) e ee) r) in
-      greatest_of b h target o x g.parts (slice_index old.errors.items (o - 1)) e (some_part (whole b) cert.nodes [] g.parts tree) (zero_at (o - 1)) rises
+      greatest_of b h target o x g.parts (slice_index old.errors.items (o - 1)) e
+      (some_part (whole b) cert.nodes [] g.parts tree) (zero_at (o - 1)) rises
 
   accepted : IsAccepted b h cert cert.claims
   accepted = record {

@@ -48,7 +48,8 @@ All-one P x p (suc k) d l = absurd (omega arith)
 
 -- ---- errors
 
-rises_on : (b : Block) (h target o : ℕ) (x : Output) (ps qs : List Part) (old mid new : ℕ) → RisesTo b h target o x ps old mid → RisesTo b h target o x qs mid new
+rises_on : (b : Block) (h target o : ℕ) (x : Output) (ps qs : List Part) (old mid new : ℕ) → RisesTo b h target o x ps old mid
+    → RisesTo b h target o x qs mid new
     → RisesTo b h target o x (ps ++ qs) old new
 rises_on b h target o x ps qs old mid new p q =
     let up = p.rises in
@@ -61,13 +62,15 @@ rises_on b h target o x ps qs old mid new p q =
       some = ⊎_elim
           (λ (e : new ≡ mid). ⊎_elim
           (λ (f : mid ≡ old). let z : (new ≡ old) ⊎ Any (λ r. HasBound b o x h r new) (ps ++ qs) = inl (e ∙ f) in z)
-          (λ (a : Any (λ r. HasBound b o x h r mid) ps). inr (Any-left (λ r. HasBound b o x h r new) ps qs (subst (λ m. Any (λ r. HasBound b o x h r m) ps) (sym e) a)))
+          (λ (a : Any (λ r. HasBound b o x h r mid) ps). inr
+          (Any-left (λ r. HasBound b o x h r new) ps qs (subst (λ m. Any (λ r. HasBound b o x h r m) ps) (sym e) a)))
           p.some)
           (λ (a : Any (λ r. HasBound b o x h r new) qs). inr (Any-right (λ r. HasBound b o x h r new) ps qs a))
           q.some;
     }
 
-named : (pairs : List (ℕ × ℕ)) (k : ℕ) (p : ℕ × ℕ) → slice_get pairs k ≡ Some p → slice_get (leaves_of pairs) k ≡ Some (record { rule = p.0; k = p.1 })
+named : (pairs : List (ℕ × ℕ)) (k : ℕ) (p : ℕ × ℕ) → slice_get pairs k ≡ Some p
+    → slice_get (leaves_of pairs) k ≡ Some (record { rule = p.0; k = p.1 })
 named [] k p e = absurd (let z : ⊥ = cc in z)
 named (q ∷ qs) zero p e = let s : q ≡ p = cc in ap (λ (r : ℕ × ℕ). Some (record { rule = r.0; k = r.1 })) s
 named (q ∷ qs) (suc k) p e = named qs k p e
@@ -79,7 +82,8 @@ length-leaves (p ∷ ps) = ap suc (length-leaves ps)
 number_at : (xs : List ℕ) (k n : ℕ) → slice_get xs k ≡ Some n → slice_index xs k ≡ n
 number_at xs k n e = get_or_from_slice_get xs k n 0 e
 
-module _ (hold : BestLeavesHold) (b : Block) (h target : ℕ) (box : List Interval) (leaves : BestLeaves) (best : AreBestLeaves b h target box leaves) where
+module _ (hold : BestLeavesHold) (b : Block) (h target : ℕ) (box : List Interval) (leaves : BestLeaves)
+    (best : AreBestLeaves b h target box leaves) where
   pub within_target : AreWithinTarget b h target box (leaves_of leaves.pairs.items)
   within_target = record {
     count = length-leaves leaves.pairs.items ∙ best.count;
@@ -113,7 +117,8 @@ module _ (hold : BestLeavesHold) (b : Block) (h target : ℕ) (box : List Interv
         some = ⊎_elim
             (λ (l : old < p.bound).
             let same : p.bound ≡ new = omega arith in
-            let z : (new ≡ old) ⊎ Any (λ r. HasBound b (k + 1) x h r new) (part ∷ []) = inr (Any-one (λ r. HasBound b (k + 1) x h r new) part (subst (λ m. HasBound b (k + 1) x h part m) same has)) in
+            let z : (new ≡ old) ⊎ Any (λ r. HasBound b (k + 1) x h r new) (part ∷ []) = inr
+            (Any-one (λ r. HasBound b (k + 1) x h r new) part (subst (λ m. HasBound b (k + 1) x h part m) same has)) in
             z)
             (λ (l : p.bound ≤ old). inl (omega arith))
             (cases_lt old p.bound);
@@ -121,12 +126,14 @@ module _ (hold : BestLeavesHold) (b : Block) (h target : ℕ) (box : List Interv
 
   -- by a leaf
   pub grows_leaf : (old new : Tree) → length old.errors.items ≡ length b.outputs → new.nodes.items ≡ old.nodes.items ++ Leaf leaves.pairs ∷ []
-      → AreRaised leaves.bounds.items old.errors.items new.errors.items → new.leaves ≡ old.leaves + 1 → old.leaves < 4096 → Grows b h target box old new
+      → AreRaised leaves.bounds.items old.errors.items new.errors.items → new.leaves ≡ old.leaves + 1 → old.leaves < 4096
+      → Grows b h target box old new
   grows_leaf old new count nodes raised more few = record {
     added = Leaf leaves.pairs ∷ [];
     parts = part_of box leaves.pairs.items ∷ [];
     nodes = nodes;
-    halves = subst (λ m. Halves b h target box old.leaves (Leaf leaves.pairs ∷ []) m) (sym more) (halved_leaf box old.leaves leaves.pairs within_target few);
+    halves = subst (λ m. Halves b h target box old.leaves (Leaf leaves.pairs ∷ []) m) (sym more)
+        (halved_leaf box old.leaves leaves.pairs within_target few);
     tree = λ rest. leaf box leaves.pairs rest;
     good = All-one (IsNode (length b.outputs)) (Leaf leaves.pairs) (best.count, best.good);
     count = raised.count;
@@ -144,7 +151,8 @@ module _ (hold : BestLeavesHold) (b : Block) (h target : ℕ) (box : List Interv
 regroup : (old : List Node) (x : Node) (ls rs : List Node) → ((old ++ x ∷ []) ++ ls) ++ rs ≡ old ++ (x ∷ (ls ++ rs))
 regroup old x ls rs = simp append_assoc
 
-split_nodes : (old pushed mid new ls rs : List Node) (x : Node) → pushed ≡ old ++ x ∷ [] → mid ≡ pushed ++ ls → new ≡ mid ++ rs → new ≡ old ++ (x ∷ (ls ++ rs))
+split_nodes : (old pushed mid new ls rs : List Node) (x : Node) → pushed ≡ old ++ x ∷ [] → mid ≡ pushed ++ ls → new ≡ mid ++ rs
+    → new ≡ old ++ (x ∷ (ls ++ rs))
 split_nodes old pushed mid new ls rs x p m n =
     n ∙ ap (λ (xs : List Node). xs ++ rs) (m ∙ ap (λ (xs : List Node). xs ++ ls) p) ∙ regroup old x ls rs
 
@@ -159,14 +167,18 @@ split_tree box k c ls rs rest ps qs cut l r =
     (subst (λ j. IsTree (left_of j c box) ((ls ++ rs) ++ rest) ps (rs ++ rest)) place left)
     (subst (λ j. IsTree (right_of j c box) (rs ++ rest) qs rest) place r)
 
-split_node : (b : Block) (box : List Interval) (k c : ℕ) → length b.inputs ≤ 8 → IsBoxOf b box → (at : IsHalvedAt box k c) → c ≤ 255 → IsNode (length b.outputs) (Split (k + 1) c)
+split_node : (b : Block) (box : List Interval) (k c : ℕ) → length b.inputs ≤ 8 → IsBoxOf b box → (at : IsHalvedAt box k c)
+    → c ≤ 255 → IsNode (length b.outputs) (Split (k + 1) c)
 split_node b box k c few is at small =
     let inside = slice_get_within box k at.interval at.widest.is_at in
     let count = is.count in
     record { some = omega arith; few = omega arith; byte = small }
 
-pub grows_split : CutsHaveHalves → (b : Block) (h target : ℕ) (box : List Interval) (k c out above : ℕ) (old pushed mid new : Tree) → length b.inputs ≤ 8 → IsBoxOf b box
-    → IsFirstAbove b h target box out above → IsHalvedAt box k c → c ≤ 255 → pushed.nodes.items ≡ old.nodes.items ++ Split (k + 1) c ∷ [] → pushed.errors ≡ old.errors → pushed.leaves ≡ old.leaves
+pub grows_split : CutsHaveHalves
+    → (b : Block) (h target : ℕ) (box : List Interval) (k c out above : ℕ) (old pushed mid new : Tree) → length b.inputs ≤ 8
+    → IsBoxOf b box
+    → IsFirstAbove b h target box out above → IsHalvedAt box k c → c ≤ 255
+    → pushed.nodes.items ≡ old.nodes.items ++ Split (k + 1) c ∷ [] → pushed.errors ≡ old.errors → pushed.leaves ≡ old.leaves
     → Grows b h target (left_of k c box) pushed mid → Grows b h target (right_of k c box) mid new → Grows b h target box old new
 grows_split cuts b h target box k c out above old pushed mid new few is first at small nodes errors leaves l r =
     let cut = (halves_of cuts box k c at).cut in
@@ -180,7 +192,9 @@ grows_split cuts b h target box k c out above old pushed mid new few is first at
       good = All-cons (IsNode (length b.outputs)) (Split (k + 1) c) (l.added ++ r.added) (split_node b box k c few is at small)
           (All-append (IsNode (length b.outputs)) l.added r.added l.good r.good);
       count = r.count ∙ l.count ∙ ap (λ (v : Vec ℕ). length v.items) errors;
-      errors = λ j x e. rises_on b h target (j + 1) x l.parts r.parts (slice_index old.errors.items j) (slice_index mid.errors.items j) (slice_index new.errors.items j)
-          (subst (λ (v : Vec ℕ). RisesTo b h target (j + 1) x l.parts (slice_index v.items j) (slice_index mid.errors.items j)) errors (l.errors j x e))
+      errors = λ j x e. rises_on b h target (j + 1) x l.parts r.parts (slice_index old.errors.items j)
+          (slice_index mid.errors.items j) (slice_index new.errors.items j)
+          (subst (λ (v : Vec ℕ). RisesTo b h target (j + 1) x l.parts (slice_index v.items j)
+          (slice_index mid.errors.items j)) errors (l.errors j x e))
           (r.errors j x e);
     }

@@ -23,7 +23,8 @@ pub if_err : {T E : Type 0} (P Q : E → Type 0) (r : Result T E) → IfErr r P 
 if_err P Q (Ok x) p f = tt
 if_err P Q (Err e) p f = f e p
 
-pub halved_at : (b : Block) (box : List Interval) (k c : ℕ) (v : Interval) → IsBoxOf b box → IsWidest box k v → (v.from ≡ v.to → ⊥) → c ≡ middle_of v → IsHalvedAt box k c
+pub halved_at : (b : Block) (box : List Interval) (k c : ℕ) (v : Interval) → IsBoxOf b box → IsWidest box k v
+    → (v.from ≡ v.to → ⊥) → c ≡ middle_of v → IsHalvedAt box k c
 halved_at b box k c v is widest apart middle =
     let order = (is.intervals.some k v widest.is_at).0 in
     record { interval = v; widest = widest; more = omega (arith, apart); middle = middle }
@@ -33,12 +34,14 @@ halved_at b box k c v is widest apart middle =
 pub box_for : (a b : Block) (box : List Interval) → a ≡ b → box ≡ whole b → IsBoxOf a box
 box_for a b box e f = subst (λ (y : Block). IsBoxOf y box) (sym e) (subst (λ (x : List Interval). IsBoxOf b x) (sym f) (whole_box b))
 
-pub grows_for : (a b : Block) (g h s t : ℕ) (box : List Interval) (old new : Tree) → a ≡ b → g ≡ h → s ≡ t → box ≡ whole b → Grows a g s box old new → Grows b h t (whole b) old new
+pub grows_for : (a b : Block) (g h s t : ℕ) (box : List Interval) (old new : Tree) → a ≡ b → g ≡ h → s ≡ t → box ≡ whole b
+    → Grows a g s box old new → Grows b h t (whole b) old new
 grows_for a b g h s t box old new ea eg es ebox grows =
     subst (λ (x : List Interval). Grows b h t x old new) ebox
     (subst (λ (y : Block). Grows y h t box old new) ea (subst (λ n. Grows a n t box old new) eg (subst (λ n. Grows a g n box old new) es grows)))
 
-pub tree_for : (a b : Block) (tree : Tree) (n : ℕ) → a ≡ b → tree.errors.items ≡ replicate n 0 → n ≡ length b.outputs → tree.leaves ≡ 0 → IsTreeFor a tree
+pub tree_for : (a b : Block) (tree : Tree) (n : ℕ) → a ≡ b → tree.errors.items ≡ replicate n 0 → n ≡ length b.outputs
+    → tree.leaves ≡ 0 → IsTreeFor a tree
 tree_for a b tree n e zeros count leaves = record {
   errors = ap length zeros ∙ length-replicate n 0 ∙ count ∙ ap (λ (y : Block). length y.outputs) (sym e);
   leaves = omega arith;

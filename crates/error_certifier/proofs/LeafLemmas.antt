@@ -18,7 +18,8 @@ use Rattle.error_certifier.specs.Halving.{IsWithinTarget, IsFirstAbove}
 use Rattle.error_certifier.specs.Trees.{IsBestPair}
 
 -- a best leaf is a pair of a certificate
-pub pair_of_best : (b : Block) (box : List Interval) (o : ℕ) (leaf : the.Leaf) → IsValid b → leaf.k ≤ 255 → IsBest b box o (Some leaf) → IsPair (leaf.rule, leaf.k)
+pub pair_of_best : (b : Block) (box : List Interval) (o : ℕ) (leaf : the.Leaf) → IsValid b → leaf.k ≤ 255
+    → IsBest b box o (Some leaf) → IsPair (leaf.rule, leaf.k)
 pair_of_best b box o _ valid small (silent h) = record { rule = omega arith; part = omega arith; both = (λ _. refl, λ _. refl) }
 pair_of_best b box o _ valid small (strong n k quiet c first) =
     let within = slice_get_within b.rules (n - 1) c.rule c.rule_is in
@@ -45,13 +46,16 @@ slice_get-last : {X : Type 0} (xs : List X) (y : X) → slice_get (xs ++ y ∷ [
 slice_get-last [] y = refl
 slice_get-last (w ∷ ws) y = slice_get-last ws y
 
-module _ (b : Block) (h target : ℕ) (box : List Interval) (old new : BestLeaves) (p : ℕ × ℕ) (n : ℕ) (pairs : new.pairs.items ≡ old.pairs.items ++ p ∷ []) (bounds : new.bounds.items ≡ old.bounds.items ++ n ∷ []) where
+module _ (b : Block) (h target : ℕ) (box : List Interval) (old new : BestLeaves) (p : ℕ × ℕ) (n : ℕ)
+    (pairs : new.pairs.items ≡ old.pairs.items ++ p ∷ []) (bounds : new.bounds.items ≡ old.bounds.items ++ n ∷ []) where
   pair_before : (k : ℕ) (x : Output) → IsBestPair b h target box k x old → IsBestPair b h target box k x new
   pair_before k x best = record {
     pair = best.pair;
     bound = best.bound;
-    pair_is = subst (λ (xs : List (ℕ × ℕ)). slice_get xs k ≡ Some best.pair) (sym pairs) (slice_get-before old.pairs.items p k best.pair best.pair_is);
-    bound_is = subst (λ (xs : List ℕ). slice_get xs k ≡ Some best.bound) (sym bounds) (slice_get-before old.bounds.items n k best.bound best.bound_is);
+    pair_is = subst (λ (xs : List (ℕ × ℕ)). slice_get xs k ≡ Some best.pair) (sym pairs)
+        (slice_get-before old.pairs.items p k best.pair best.pair_is);
+    bound_is = subst (λ (xs : List ℕ). slice_get xs k ≡ Some best.bound) (sym bounds)
+        (slice_get-before old.bounds.items n k best.bound best.bound_is);
     within = best.within;
   }
 
@@ -60,8 +64,10 @@ module _ (b : Block) (h target : ℕ) (box : List Interval) (old new : BestLeave
   pair_last k x ep eb within = record {
     pair = p;
     bound = n;
-    pair_is = subst (λ (xs : List (ℕ × ℕ)). slice_get xs k ≡ Some p) (sym pairs) (subst (λ j. slice_get (old.pairs.items ++ p ∷ []) j ≡ Some p) ep (slice_get-last old.pairs.items p));
-    bound_is = subst (λ (xs : List ℕ). slice_get xs k ≡ Some n) (sym bounds) (subst (λ j. slice_get (old.bounds.items ++ n ∷ []) j ≡ Some n) eb (slice_get-last old.bounds.items n));
+    pair_is = subst (λ (xs : List (ℕ × ℕ)). slice_get xs k ≡ Some p) (sym pairs)
+        (subst (λ j. slice_get (old.pairs.items ++ p ∷ []) j ≡ Some p) ep (slice_get-last old.pairs.items p));
+    bound_is = subst (λ (xs : List ℕ). slice_get xs k ≡ Some n) (sym bounds)
+        (subst (λ j. slice_get (old.bounds.items ++ n ∷ []) j ≡ Some n) eb (slice_get-last old.bounds.items n));
     within = within;
   }
 

@@ -43,7 +43,8 @@ same_cell xs ys o p n m e f g =
     cc
 
 module _ (best_one : BestLeavesAreOne) (bound_one : BoundsAreDetermined) (b : Block) (h target : ℕ) (valid : IsValid b) where
-  one_best_bound : (box : List Interval) (o : ℕ) (x : Output) (n m : ℕ) → IsBoxOf b box → IsBestBound b box o x h n → IsBestBound b box o x h m → n ≡ m
+  one_best_bound : (box : List Interval) (o : ℕ) (x : Output) (n m : ℕ) → IsBoxOf b box → IsBestBound b box o x h n
+      → IsBestBound b box o x h m → n ≡ m
   one_best_bound box o x _ _ is (of_leaf l n best bound) (of_leaf k m best' bound') =
       let e = best_one b box o (Some l) (Some k) best best' in
       let same : k ≡ l = cc in
@@ -85,7 +86,8 @@ module _ (best_one : BestLeavesAreOne) (bound_one : BoundsAreDetermined) (b : Bl
       let moved : IsBestBound b box (k + 1) p.output h m = subst (λ (x : Output). IsBestBound b box (k + 1) x h m) same q.bound in
       one_best_bound box (k + 1) p.output n m is p.bound moved
 
-  one_above : (box : List Interval) (k j n m : ℕ) → IsBoxOf b box → IsFirstAbove b h target box k n → IsFirstAbove b h target box j m → (k ≡ j) × (n ≡ m)
+  one_above : (box : List Interval) (k j n m : ℕ) → IsBoxOf b box → IsFirstAbove b h target box k n
+      → IsFirstAbove b h target box j m → (k ≡ j) × (n ≡ m)
   one_above box k j n m is p q = ⊎_elim
       (λ (l : k < j). absurd (not_before box k j n m is p q l))
       (λ (l : j ≤ k). ⊎_elim
@@ -106,7 +108,8 @@ module _ (best_one : BestLeavesAreOne) (bound_one : BoundsAreDetermined) (b : Bl
       let right = q.each k x.0 x.1 in
       left.2 ∙ best_one b box (k + 1) (Some left.0) (Some right.0) left.3.best right.3.best ∙ sym right.2)
 
-  one_leaf : (box : List Interval) (p q : ArrayVec (ℕ × ℕ)) → AreWithinTarget b h target box (leaves_of p.items) → AreWithinTarget b h target box (leaves_of q.items) → p ≡ q
+  one_leaf : (box : List Interval) (p q : ArrayVec (ℕ × ℕ)) → AreWithinTarget b h target box (leaves_of p.items)
+      → AreWithinTarget b h target box (leaves_of q.items) → p ≡ q
   one_leaf box p q w v =
       let e = one_list box (leaves_of p.items) (leaves_of q.items) w v in
       let vec : List (ℕ × ℕ) → ArrayVec (ℕ × ℕ) = λ (xs : List (ℕ × ℕ)). record { items = xs } in
@@ -117,7 +120,8 @@ module _ (best_one : BestLeavesAreOne) (bound_one : BoundsAreDetermined) (b : Bl
   moved_above : (box other : List Interval) (k n : ℕ) → box ≡ other → IsFirstAbove b h target other k n → IsFirstAbove b h target box k n
   moved_above box other k n e p = subst (λ (x : List Interval). IsFirstAbove b h target x k n) (sym e) p
 
-  moved_within : (box other : List Interval) (ls : List the.Leaf) → box ≡ other → AreWithinTarget b h target other ls → AreWithinTarget b h target box ls
+  moved_within : (box other : List Interval) (ls : List the.Leaf) → box ≡ other → AreWithinTarget b h target other ls
+      → AreWithinTarget b h target box ls
   moved_within box other ls e p = subst (λ (x : List Interval). AreWithinTarget b h target x ls) (sym e) p
 
   moved_halved : (box other : List Interval) (k c : ℕ) → box ≡ other → IsHalvedAt other k c → IsHalvedAt box k c
@@ -129,11 +133,13 @@ module _ (best_one : BestLeavesAreOne) (bound_one : BoundsAreDetermined) (b : Bl
   same_right : (box other : List Interval) (k j c d : ℕ) → box ≡ other → k ≡ j → c ≡ d → right_of k c box ≡ right_of j d other
   same_right box other k j c d e f g = cc
 
-  same_split : (k j c d : ℕ) (ls ks rs ts : List Node) → k ≡ j → c ≡ d → ls ≡ ks → rs ≡ ts → Split (k + 1) c ∷ (ls ++ rs) ≡ Split (j + 1) d ∷ (ks ++ ts)
+  same_split : (k j c d : ℕ) (ls ks rs ts : List Node) → k ≡ j → c ≡ d → ls ≡ ks → rs ≡ ts
+      → Split (k + 1) c ∷ (ls ++ rs) ≡ Split (j + 1) d ∷ (ks ++ ts)
   same_split k j c d ls ks rs ts e f g i = cc
 
   module _ (cuts : CutsHaveHalves) where
-    one_tree : (box other : List Interval) (n o m r : ℕ) (ns ks : List Node) → IsBoxOf b box → Halves b h target box n ns m → Halves b h target other o ks r
+    one_tree : (box other : List Interval) (n o m r : ℕ) (ns ks : List Node) → IsBoxOf b box → Halves b h target box n ns m
+        → Halves b h target other o ks r
         → box ≡ other → n ≡ o → (ns ≡ ks) × (m ≡ r)
     one_tree _ _ _ _ _ _ _ _ is (leaf box n p w few) (leaf other o q v also) e f =
         let same = one_leaf box p q w (moved_within box other (leaves_of q.items) e v) in
@@ -144,55 +150,83 @@ module _ (best_one : BestLeavesAreOne) (bound_one : BoundsAreDetermined) (b : Bl
         absurd (not_both box (leaves_of q.items) out up is (moved_within box other (leaves_of q.items) e v) a)
     one_tree _ _ _ _ _ _ _ _ is (split box k c n m r out up left right a at l t) (split other j d o m' r' out' up' left' right' a' at' l' t') e f =
         let same = one_halving box k j c d at (moved_halved box other j d e at') in
-        let lower = one_tree (left_of k c box) (left_of j d other) n o m m' left left' (left_box cuts b box k c at is) l l' (same_left box other k j c d e same.0 same.1) f in
-        let upper = one_tree (right_of k c box) (right_of j d other) m m' r r' right right' (right_box cuts b box k c at is) t t' (same_right box other k j c d e same.0 same.1) lower.1 in
+        let lower = one_tree (left_of k c box) (left_of j d other) n o m m' left left' (left_box cuts b box k c at is) l l'
+        (same_left box other k j c d e same.0 same.1) f in
+        let upper = one_tree (right_of k c box) (right_of j d other) m m' r r' right right'
+        (right_box cuts b box k c at is) t t' (same_right box other k j c d e same.0 same.1) lower.1 in
         (same_split k j c d left left' right right' same.0 same.1 lower.0 upper.0, upper.1)
 
-    no_stop : (box other : List Interval) (n o m : ℕ) (ns : List Node) (s : NotReached) → IsBoxOf b box → Halves b h target box n ns m → Stops b h target other o s
+    no_stop : (box other : List Interval) (n o m : ℕ) (ns : List Node) (s : NotReached) → IsBoxOf b box
+        → Halves b h target box n ns m → Stops b h target other o s
         → box ≡ other → n ≡ o → ⊥
-    no_stop _ _ _ _ _ _ _ is (leaf box n p w few) (cell other o bytes out up single a) e f = not_both box (leaves_of p.items) out up is w (moved_above box other out up e a)
+    no_stop _ _ _ _ _ _ _ is (leaf box n p w few) (cell other o bytes out up single a) e f =
+        not_both box (leaves_of p.items) out up is w (moved_above box other out up e a)
     no_stop _ _ _ _ _ _ _ is (leaf box n p w few) (limit other o ls v many) e f = absurd (omega arith)
-    no_stop _ _ _ _ _ _ _ is (leaf box n p w few) (in_left other j d o out up s a at stop) e f = not_both box (leaves_of p.items) out up is w (moved_above box other out up e a)
-    no_stop _ _ _ _ _ _ _ is (leaf box n p w few) (in_right other j d o m' out up left s a at l stop) e f = not_both box (leaves_of p.items) out up is w (moved_above box other out up e a)
-    no_stop _ _ _ _ _ _ _ is (split box k c n m r out up left right a at l t) (cell other o bytes out' up' single a') e f = cell_not_halved box bytes.items k c (e ∙ single) at
-    no_stop _ _ _ _ _ _ _ is (split box k c n m r out up left right a at l t) (limit other o ls v many) e f = not_both box ls out up is (moved_within box other ls e v) a
+    no_stop _ _ _ _ _ _ _ is (leaf box n p w few) (in_left other j d o out up s a at stop) e f =
+        not_both box (leaves_of p.items) out up is w (moved_above box other out up e a)
+    no_stop _ _ _ _ _ _ _ is (leaf box n p w few) (in_right other j d o m' out up left s a at l stop) e f =
+        not_both box (leaves_of p.items) out up is w (moved_above box other out up e a)
+    no_stop _ _ _ _ _ _ _ is (split box k c n m r out up left right a at l t) (cell other o bytes out' up' single a') e f =
+        cell_not_halved box bytes.items k c (e ∙ single) at
+    no_stop _ _ _ _ _ _ _ is (split box k c n m r out up left right a at l t) (limit other o ls v many) e f =
+        not_both box ls out up is (moved_within box other ls e v) a
     no_stop _ _ _ _ _ _ _ is (split box k c n m r out up left right a at l t) (in_left other j d o out' up' s a' at' stop) e f =
         let same = one_halving box k j c d at (moved_halved box other j d e at') in
-        no_stop (left_of k c box) (left_of j d other) n o m left s (left_box cuts b box k c at is) l stop (same_left box other k j c d e same.0 same.1) f
+        no_stop (left_of k c box) (left_of j d other) n o m left s (left_box cuts b box k c at is) l stop
+        (same_left box other k j c d e same.0 same.1) f
     no_stop _ _ _ _ _ _ _ is (split box k c n m r out up left right a at l t) (in_right other j d o m' out' up' left' s a' at' l' stop) e f =
         let same = one_halving box k j c d at (moved_halved box other j d e at') in
-        let lower = one_tree (left_of k c box) (left_of j d other) n o m m' left left' (left_box cuts b box k c at is) l l' (same_left box other k j c d e same.0 same.1) f in
-        no_stop (right_of k c box) (right_of j d other) m m' r right s (right_box cuts b box k c at is) t stop (same_right box other k j c d e same.0 same.1) lower.1
+        let lower = one_tree (left_of k c box) (left_of j d other) n o m m' left left' (left_box cuts b box k c at is) l l'
+        (same_left box other k j c d e same.0 same.1) f in
+        no_stop (right_of k c box) (right_of j d other) m m' r right s (right_box cuts b box k c at is) t stop
+        (same_right box other k j c d e same.0 same.1) lower.1
 
-    one_stop : (box other : List Interval) (n o : ℕ) (s t : NotReached) → IsBoxOf b box → Stops b h target box n s → Stops b h target other o t → box ≡ other → n ≡ o → s ≡ t
+    one_stop : (box other : List Interval) (n o : ℕ) (s t : NotReached) → IsBoxOf b box → Stops b h target box n s
+        → Stops b h target other o t → box ≡ other → n ≡ o → s ≡ t
     one_stop _ _ _ _ _ _ is (cell box n bytes out up single a) (cell other o bytes' out' up' single' a') e f =
         let same = one_above box out out' up up' is a (moved_above box other out' up' e a') in
-        same_cell bytes bytes' out out' up up' (sym (cell_bytes bytes.items) ∙ ap lows (sym single ∙ e ∙ single') ∙ cell_bytes bytes'.items) same.0 same.1
-    one_stop _ _ _ _ _ _ is (cell box n bytes out up single a) (limit other o ls v many) e f = absurd (not_both box ls out up is (moved_within box other ls e v) a)
-    one_stop _ _ _ _ _ _ is (cell box n bytes out up single a) (in_left other j d o out' up' t a' at stop) e f = absurd (cell_not_halved box bytes.items j d single (moved_halved box other j d e at))
-    one_stop _ _ _ _ _ _ is (cell box n bytes out up single a) (in_right other j d o m out' up' left t a' at l stop) e f = absurd (cell_not_halved box bytes.items j d single (moved_halved box other j d e at))
-    one_stop _ _ _ _ _ _ is (limit box n ls w many) (cell other o bytes out up single a) e f = absurd (not_both box ls out up is w (moved_above box other out up e a))
+        same_cell bytes bytes' out out' up up'
+        (sym (cell_bytes bytes.items) ∙ ap lows (sym single ∙ e ∙ single') ∙ cell_bytes bytes'.items) same.0 same.1
+    one_stop _ _ _ _ _ _ is (cell box n bytes out up single a) (limit other o ls v many) e f =
+        absurd (not_both box ls out up is (moved_within box other ls e v) a)
+    one_stop _ _ _ _ _ _ is (cell box n bytes out up single a) (in_left other j d o out' up' t a' at stop) e f =
+        absurd (cell_not_halved box bytes.items j d single (moved_halved box other j d e at))
+    one_stop _ _ _ _ _ _ is (cell box n bytes out up single a) (in_right other j d o m out' up' left t a' at l stop) e f =
+        absurd (cell_not_halved box bytes.items j d single (moved_halved box other j d e at))
+    one_stop _ _ _ _ _ _ is (limit box n ls w many) (cell other o bytes out up single a) e f =
+        absurd (not_both box ls out up is w (moved_above box other out up e a))
     one_stop _ _ _ _ _ _ is (limit box n ls w many) (limit other o ks v more) e f = refl
-    one_stop _ _ _ _ _ _ is (limit box n ls w many) (in_left other j d o out up t a at stop) e f = absurd (not_both box ls out up is w (moved_above box other out up e a))
-    one_stop _ _ _ _ _ _ is (limit box n ls w many) (in_right other j d o m out up left t a at l stop) e f = absurd (not_both box ls out up is w (moved_above box other out up e a))
-    one_stop _ _ _ _ _ _ is (in_left box k c n out up s a at stop) (cell other o bytes out' up' single a') e f = absurd (cell_not_halved box bytes.items k c (e ∙ single) at)
-    one_stop _ _ _ _ _ _ is (in_left box k c n out up s a at stop) (limit other o ls v many) e f = absurd (not_both box ls out up is (moved_within box other ls e v) a)
+    one_stop _ _ _ _ _ _ is (limit box n ls w many) (in_left other j d o out up t a at stop) e f =
+        absurd (not_both box ls out up is w (moved_above box other out up e a))
+    one_stop _ _ _ _ _ _ is (limit box n ls w many) (in_right other j d o m out up left t a at l stop) e f =
+        absurd (not_both box ls out up is w (moved_above box other out up e a))
+    one_stop _ _ _ _ _ _ is (in_left box k c n out up s a at stop) (cell other o bytes out' up' single a') e f =
+        absurd (cell_not_halved box bytes.items k c (e ∙ single) at)
+    one_stop _ _ _ _ _ _ is (in_left box k c n out up s a at stop) (limit other o ls v many) e f =
+        absurd (not_both box ls out up is (moved_within box other ls e v) a)
     one_stop _ _ _ _ _ _ is (in_left box k c n out up s a at stop) (in_left other j d o out' up' t a' at' stop') e f =
         let same = one_halving box k j c d at (moved_halved box other j d e at') in
-        one_stop (left_of k c box) (left_of j d other) n o s t (left_box cuts b box k c at is) stop stop' (same_left box other k j c d e same.0 same.1) f
+        one_stop (left_of k c box) (left_of j d other) n o s t (left_box cuts b box k c at is) stop stop'
+        (same_left box other k j c d e same.0 same.1) f
     one_stop _ _ _ _ _ _ is (in_left box k c n out up s a at stop) (in_right other j d o m out' up' left t a' at' l stop') e f =
         let same = one_halving box k j c d at (moved_halved box other j d e at') in
         let left_is = same_left box other k j c d e same.0 same.1 in
-        absurd (no_stop (left_of j d other) (left_of k c box) o n m left s (subst (IsBoxOf b) left_is (left_box cuts b box k c at is)) l stop (sym left_is) (sym f))
-    one_stop _ _ _ _ _ _ is (in_right box k c n m out up left s a at l stop) (cell other o bytes out' up' single a') e f = absurd (cell_not_halved box bytes.items k c (e ∙ single) at)
-    one_stop _ _ _ _ _ _ is (in_right box k c n m out up left s a at l stop) (limit other o ls v many) e f = absurd (not_both box ls out up is (moved_within box other ls e v) a)
+        absurd (no_stop (left_of j d other) (left_of k c box) o n m left s
+        (subst (IsBoxOf b) left_is (left_box cuts b box k c at is)) l stop (sym left_is) (sym f))
+    one_stop _ _ _ _ _ _ is (in_right box k c n m out up left s a at l stop) (cell other o bytes out' up' single a') e f =
+        absurd (cell_not_halved box bytes.items k c (e ∙ single) at)
+    one_stop _ _ _ _ _ _ is (in_right box k c n m out up left s a at l stop) (limit other o ls v many) e f =
+        absurd (not_both box ls out up is (moved_within box other ls e v) a)
     one_stop _ _ _ _ _ _ is (in_right box k c n m out up left s a at l stop) (in_left other j d o out' up' t a' at' stop') e f =
         let same = one_halving box k j c d at (moved_halved box other j d e at') in
-        absurd (no_stop (left_of k c box) (left_of j d other) n o m left t (left_box cuts b box k c at is) l stop' (same_left box other k j c d e same.0 same.1) f)
+        absurd (no_stop (left_of k c box) (left_of j d other) n o m left t (left_box cuts b box k c at is) l stop'
+        (same_left box other k j c d e same.0 same.1) f)
     one_stop _ _ _ _ _ _ is (in_right box k c n m out up left s a at l stop) (in_right other j d o m' out' up' left' t a' at' l' stop') e f =
         let same = one_halving box k j c d at (moved_halved box other j d e at') in
-        let lower = one_tree (left_of k c box) (left_of j d other) n o m m' left left' (left_box cuts b box k c at is) l l' (same_left box other k j c d e same.0 same.1) f in
-        one_stop (right_of k c box) (right_of j d other) m m' s t (right_box cuts b box k c at is) stop stop' (same_right box other k j c d e same.0 same.1) lower.1
+        let lower = one_tree (left_of k c box) (left_of j d other) n o m m' left left' (left_box cuts b box k c at is) l l'
+        (same_left box other k j c d e same.0 same.1) f in
+        one_stop (right_of k c box) (right_of j d other) m m' s t (right_box cuts b box k c at is) stop stop'
+        (same_right box other k j c d e same.0 same.1) lower.1
 
 -- ---- one list of claims
 
@@ -232,7 +266,8 @@ claiming b h es cs ns ks e a count most = record {
   claimed = most;
 }
 
-one_claims : ErrorsAreDetermined → (b : Block) (h : ℕ) (es fs : List ℕ) (ns ks : List Node) → IsValid b → ns ≡ ks → IsAccepted b h (record { claims = es; nodes = ns }) es
+one_claims : ErrorsAreDetermined → (b : Block) (h : ℕ) (es fs : List ℕ) (ns ks : List Node) → IsValid b → ns ≡ ks
+    → IsAccepted b h (record { claims = es; nodes = ns }) es
     → IsAccepted b h (record { claims = fs; nodes = ks }) fs → es ≡ fs
 one_claims errors_one b h es fs ns ks valid e p q =
     let cs = greater_of es fs in
@@ -243,7 +278,9 @@ one_claims errors_one b h es fs ns ks valid e p q =
 
 pub one_answer : ErrorsAreDetermined → BestLeavesAreOne → BoundsAreDetermined → CutsHaveHalves → AnswersAreOne
 one_answer errors_one best_one bound_one cuts b h target (Ok p) (Ok q) valid x y =
-    let nodes = (one_tree best_one bound_one b h target valid cuts (whole b) (whole b) 0 0 x.leaves y.leaves p.nodes q.nodes (whole_box b) x.nodes y.nodes refl refl).0 in
+    let nodes =
+    (one_tree best_one bound_one b h target valid cuts (whole b) (whole b) 0 0 x.leaves y.leaves p.nodes q.nodes
+    (whole_box b) x.nodes y.nodes refl refl).0 in
     let claims = one_claims errors_one b h p.claims q.claims p.nodes q.nodes valid nodes x.claims y.claims in
     let same : p ≡ q = ap₂ (λ (cs : List ℕ) (ns : List Node). let c : Cert = record { claims = cs; nodes = ns } in c) claims nodes in
     ap (λ (c : Cert). let r : Result Cert NotReached = Ok c in r) same

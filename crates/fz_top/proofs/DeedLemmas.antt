@@ -5,7 +5,6 @@ use Rattle.fuzzy_meaning.specs.declared.block.Block.{Block}
 use Rattle.fuzzy_meaning.specs.declared.block.Input.{Input}
 use Rattle.fcl_syntax.specs.Readings.{FirstFaultsAreOne}
 use Rattle.fcl_syntax.specs.View.{view}
-use Rattle.fuzzy_meaning.specs.SameBlocks.{IsSameBlock}
 use Rattle.fcl_check.specs.OneBlock.{SpelledBlocksAreOne}
 use Rattle.fcl_check.specs.Texts.{LoadFaultsAreOne, SpellsBlock}
 use Rattle.rule_layout.specs.Alike.{LayoutsAreOne, LimitsHaveNoFault}
@@ -103,16 +102,16 @@ module _ (first : FirstFaultsAreOne) (load : LoadFaultsAreOne) (alike : SpelledB
   run_stands : (run : Run) (files : Files) (report : Report) → CertifiedRun run.width run.flags files report
       → NoneRefuses (run_refusals run files)
   run_stands run files report c (status.Fcl f) is = text_apart files.fcl c.block c.compiled.spelled c.compiled.limits f is.0 is.1
-  run_stands run files report c (status.Image f) (carries, other, others, gives, refuses) =
+  run_stands run files report c (status.Image f) (carries, (other, others, gives, refuses)) =
       image_apart run.width files.fcl files.image c.block c.firmware c.compiled c.image f carries other others gives refuses
-  run_stands run files report c (status.Cert f) (carries, other, others, gives, refuses) =
+  run_stands run files report c (status.Cert f) (carries, (other, others, gives, refuses)) =
       let same = alike files.fcl other c.block gives.spelled c.compiled.spelled in
       cert_apart certs blocks run.width files.cert report.errors c.block other c.compiled.spelled.valid same c.accepted f refuses.1
-  run_stands run files report c (status.Trace f) (carries, other, others, gives, refuses) =
+  run_stands run files report c (status.Trace f) (carries, (other, others, gives, refuses)) =
       let same = alike files.fcl other c.block gives.spelled c.compiled.spelled in
       traces other.inputs files.trace c.samples f
       (subst (λ (is : List Input). Spells is files.trace c.samples) (sym same.inputs) c.in_range) refuses.3
-  run_stands run files report c (status.Plan f) (carries, other, others, gives, refuses) =
+  run_stands run files report c (status.Plan f) (carries, (other, others, gives, refuses)) =
       plans files.plan c.plan f c.good_plan refuses.5
   run_stands run files report c s is = is.1
 
@@ -121,7 +120,7 @@ module _ (first : FirstFaultsAreOne) (load : LoadFaultsAreOne) (alike : SpelledB
       → AcceptsCert width block cert errors → NoneRefuses (check_refusals (check_in width) text cert)
   check_stands width text cert errors block spelled within accepts (status.Fcl f) is =
       text_apart text block spelled within f is.0 is.1
-  check_stands width text cert errors block spelled within accepts (status.Cert f) (carries, other, others, gives, refuses) =
+  check_stands width text cert errors block spelled within accepts (status.Cert f) (carries, (other, others, gives, refuses)) =
       let same = alike text other block gives.spelled spelled in
       cert_apart certs blocks width cert errors block other spelled.valid same accepts f refuses
   check_stands width text cert errors block spelled within accepts s is = is.1
@@ -152,9 +151,9 @@ module _ (first : FirstFaultsAreOne) (load : LoadFaultsAreOne) (alike : SpelledB
       → NoneRefuses (exec_refusals exec text)
   exec_stands exec text deed gives (status.Image f) is =
       records_apart text gives.arrives.image gives.arrives.spelled f is.0 is.1
-  exec_stands exec text deed gives (status.Trap pc byte) (carries, last, ends_so) =
+  exec_stands exec text deed gives (status.Trap pc byte) (carries, (last, ends_so)) =
       let same = ends_alike exec text (end.Arrived gives.steps) (end.Trap pc byte) gives.last last gives.arrives ends_so in cc
-  exec_stands exec text deed gives (status.Budget n) (carries, last, ends_so) =
+  exec_stands exec text deed gives (status.Budget n) (carries, (last, ends_so)) =
       let same = ends_alike exec text (end.Arrived gives.steps) (end.Budget n) gives.last last gives.arrives ends_so in cc
   exec_stands exec text deed gives s is = is.1
 

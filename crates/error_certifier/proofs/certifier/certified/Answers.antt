@@ -21,7 +21,8 @@ returns-in-Ok-halve-clause-halved c =
     let grows = grows_for c.in-Ok.task.block.now b c.in-Ok.task.parts c.args.parts c.in-Ok.task.target c.args.target c.whole_box.result.0.items old new
     e.block e.parts e.target c.whole_box.ensures c.in-Ok-halve.ensures.grows in
     is_halving b c.args.parts c.args.target old new c.into_cert.result c.requires.block c.in-Ok-new.ensures.nodes
-    (c.in-Ok-new.ensures.errors ∙ ap (λ n. replicate n 0) c.len.ensures) c.in-Ok-new.ensures.leaves grows c.into_cert.ensures.claims c.into_cert.ensures.nodes
+    (c.in-Ok-new.ensures.errors ∙ ap
+    (λ n. replicate n 0) c.len.ensures) c.in-Ok-new.ensures.leaves grows c.into_cert.ensures.claims c.into_cert.ensures.nodes
 
 pub returns-in-Ok-halve-clause-within : goal.returns-in-Ok-halve-clause-within
 returns-in-Ok-halve-clause-within c =
@@ -32,7 +33,8 @@ returns-in-Ok-halve-clause-within c =
     let grows = grows_for c.in-Ok.task.block.now b c.in-Ok.task.parts c.args.parts c.in-Ok.task.target c.args.target c.whole_box.result.0.items old new
     e.block e.parts e.target c.whole_box.ensures c.in-Ok-halve.ensures.grows in
     claims_within b c.args.parts c.args.target old new c.into_cert.result c.requires.block c.in-Ok-new.ensures.nodes
-    (c.in-Ok-new.ensures.errors ∙ ap (λ n. replicate n 0) c.len.ensures) c.in-Ok-new.ensures.leaves grows c.into_cert.ensures.claims c.into_cert.ensures.nodes
+    (c.in-Ok-new.ensures.errors ∙ ap
+    (λ n. replicate n 0) c.len.ensures) c.in-Ok-new.ensures.leaves grows c.into_cert.ensures.claims c.into_cert.ensures.nodes
 
 pub returns-in-Ok-halve-clause-cert : goal.returns-in-Ok-halve-clause-cert
 returns-in-Ok-halve-clause-cert c =
@@ -43,5 +45,6 @@ returns-in-Ok-halve-clause-cert c =
     let grows = grows_for c.in-Ok.task.block.now b c.in-Ok.task.parts c.args.parts c.in-Ok.task.target c.args.target c.whole_box.result.0.items old new
     e.block e.parts e.target c.whole_box.ensures c.in-Ok-halve.ensures.grows in
     is_cert b c.args.parts c.args.target old new c.into_cert.result c.requires.block c.in-Ok-new.ensures.nodes
-    (c.in-Ok-new.ensures.errors ∙ ap (λ n. replicate n 0) c.len.ensures) c.in-Ok-new.ensures.leaves grows c.into_cert.ensures.claims c.into_cert.ensures.nodes
+    (c.in-Ok-new.ensures.errors ∙ ap
+    (λ n. replicate n 0) c.len.ensures) c.in-Ok-new.ensures.leaves grows c.into_cert.ensures.claims c.into_cert.ensures.nodes
     c.open_boxes_go_on.ensures c.requires.target

@@ -1,4 +1,3 @@
-use Rattle.std.proofs.Common.{refl}
 use Rattle.fz_top.proofs.LineLemmas.{run_written}
 use Rattle.fz_top.proofs.run_lines.lines.Goals as goal
 

@@ -1,4 +1,4 @@
-use Rattle.std.proofs.Common.{◌+◌, ◌∙◌, ◌++◌, ℕ, List, ap}
+use Rattle.std.proofs.Common.{◌+◌, ◌∙◌, ◌++◌, ap}
 use Rattle.fz_run.specs.Rows.{row_seen}
 use Rattle.fz_run.specs.declared.rows.Row.{Row}
 use Rattle.fz_shelf.specs.Lines.{text_of}

@@ -71,7 +71,8 @@ halve-requires t c =
       (
         c.requires.task,
         (
-          subst (λ (x : List Interval). IsBoxOf b x) (sym c.halves-left.ensures.left) (left_box c.cuts_have_halves.ensures b box k cut at c.requires.bytes),
+          subst (λ (x : List Interval). IsBoxOf b x) (sym c.halves-left.ensures.left)
+              (left_box c.cuts_have_halves.ensures b box k cut at c.requires.bytes),
           record { errors = c.requires.tree.errors; leaves = c.requires.tree.leaves },
         ),
       ),
@@ -104,7 +105,8 @@ halve-requires-2 t c =
       (
         c.requires.task,
         (
-          subst (λ (x : List Interval). IsBoxOf b x) (sym c.halves-left.ensures.right) (right_box c.cuts_have_halves.ensures b box k cut at c.requires.bytes),
+          subst (λ (x : List Interval). IsBoxOf b x) (sym c.halves-left.ensures.right)
+              (right_box c.cuts_have_halves.ensures b box k cut at c.requires.bytes),
           c.in_ok-halve.ensures.tree,
         ),
       ),
