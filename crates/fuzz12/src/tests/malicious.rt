@@ -65,10 +65,7 @@ const ASM: Given = Given {
     ..RUN
 };
 
-// A frame at the first boundary of the first sample has PC `$C008` and CCR `$C4` (S and X of reset, and Z of
-// the byte that was cleared), and zeros else. JSR then leaves C0 10 in the place of PC: the sum is 404.
-static GIVEN: [Given; 43] = [
-    // blocks
+static BLOCKS: [Given; 8] = [
     Given {
         text: &[(BLOCK, 1), (" ", 1_048_202)],
         ..CHECK
@@ -79,29 +76,29 @@ static GIVEN: [Given; 43] = [
         ..CHECK
     },
     Given {
-        text: &[("(*", 524_288)],
+        text: &[("(*", 1000)],
         left: Leaves::Refused(4, "fcl: at 0: open comment\n"),
         ..CHECK
     },
     Given {
-        text: &[("9", 1_048_576)],
+        text: &[("9", 1000)],
         left: Leaves::Refused(4, "fcl: at 0: number\n"),
         ..CHECK
     },
     Given {
-        text: &[("0", 1_048_576)],
+        text: &[("0", 1000)],
         left: Leaves::Refused(4, "fcl: at 0: expected\n"),
         ..CHECK
     },
     Given {
-        text: &[(FRONT, 1), (OPENED, 1), ("(", 1_000_000)],
+        text: &[(FRONT, 1), (OPENED, 1), ("(", 1000)],
         left: Leaves::Refused(4, "fcl: at 337: too deep\n"),
         ..CHECK
     },
     Given {
         text: &[
             ("FUNCTION_BLOCK a VAR_INPUT x", 1),
-            (",x", 500_000),
+            (",x", 1000),
             (
                 " : REAL; END_VAR RULEBLOCK r END_RULEBLOCK END_FUNCTION_BLOCK",
                 1,
@@ -114,48 +111,52 @@ static GIVEN: [Given; 43] = [
         text: &[
             (FRONT, 1),
             ("0; END_DEFUZZIFY\nRULEBLOCK r\n", 1),
-            ("RULE 1 : IF t IS cold THEN power IS off;\n", 25_000),
+            ("RULE 1 : IF t IS cold THEN power IS off;\n", 300),
             ("RULE 1 : IF t IS cold THEN power IS off", 1),
             (BACK, 1),
         ],
         left: Leaves::Refused(4, "fcl: at 10757: load 4\n"),
         ..CHECK
     },
-    // images
+];
+
+static IMAGES: [Given; 7] = [
     Given {
         image: &[(FALLING, 1)],
         ..RUN
     },
     Given {
-        image: &[("S0030000FC\n", 95_325)],
+        image: &[("S0030000FC\n", 1000)],
         left: Leaves::Refused(5, "image: no end\n"),
         ..EXEC
     },
     Given {
-        image: &[("S0030000FC\r\n", 87_380), ("S903C0003C", 1)],
+        image: &[("S0030000FC\r\n", 1000), ("S903C0003C", 1)],
         ..EXEC
     },
     Given {
-        image: &[("S0030000FC\n", 95_000), ("S5030001FB\n", 1)],
+        image: &[("S0030000FC\n", 1000), ("S5030001FB\n", 1)],
         left: Leaves::Refused(5, "image: count 1 0\n"),
         ..EXEC
     },
     Given {
-        image: &[("S105FFFEC0003D\n", 69_905)],
+        image: &[("S105FFFEC0003D\n", 1000)],
         left: Leaves::Refused(5, "image: line 2: overlap\n"),
         ..EXEC
     },
     Given {
-        image: &[("S", 1_048_576)],
+        image: &[("S", 1000)],
         left: Leaves::Refused(5, "image: line 1: bad line\n"),
         ..EXEC
     },
     Given {
-        image: &[("S903C0003C\n", 95_325)],
+        image: &[("S903C0003C\n", 1000)],
         left: Leaves::Refused(5, "image: line 2: after end\n"),
         ..EXEC
     },
-    // certificates
+];
+
+static CERTIFICATES: [Given; 6] = [
     Given {
         cert: &[(
             "FZC 1\nclaim 19609\nsplit 1 255\nleaf 1 127\nleaf 2 127\n",
@@ -165,26 +166,22 @@ static GIVEN: [Given; 43] = [
         ..CHECK
     },
     Given {
-        cert: &[("FZC 1\nclaim 19609\n", 1), ("split 1 1\n", 104_855)],
+        cert: &[("FZC 1\nclaim 19609\n", 1), ("split 1 1\n", 10_000)],
         left: Leaves::Refused(6, "cert: early\n"),
         ..CHECK
     },
     Given {
-        cert: &[("FZC 1\nclaim 19609\n", 1), ("split 8 255\n", 87_379)],
+        cert: &[("FZC 1\nclaim 19609\n", 1), ("split 8 255\n", 3)],
         left: Leaves::Refused(6, "cert: early\n"),
         ..CHECK
     },
     Given {
-        cert: &[
-            ("FZC 1\nclaim 19609\nleaf 1 ", 1),
-            ("1", 1_000_000),
-            ("\n", 1),
-        ],
+        cert: &[("FZC 1\nclaim 19609\nleaf 1 ", 1), ("1", 1000), ("\n", 1)],
         left: Leaves::Refused(6, "cert: line 3: bad line\n"),
         ..CHECK
     },
     Given {
-        cert: &[("FZC 1\nclaim", 1), (" 1", 500_000), ("\n", 1)],
+        cert: &[("FZC 1\nclaim", 1), (" 1", 1000), ("\n", 1)],
         left: Leaves::Refused(6, "cert: line 2: bad line\n"),
         ..CHECK
     },
@@ -192,32 +189,34 @@ static GIVEN: [Given; 43] = [
         cert: &[
             ("FZC 1\nclaim 19609\n", 1),
             (HALVES, 1),
-            ("leaf 0 0\n", 100_000),
+            ("leaf 0 0\n", 1000),
         ],
         left: Leaves::Refused(6, "cert: line 6: late\n"),
         ..CHECK
     },
-    // traces
+];
+
+static TRACES: [Given; 7] = [
     Given {
-        trace: &[("\"\"\n", 349_525)],
+        trace: &[("\"\"\n", 10_001)],
         left: Leaves::Refused(7, "trace: row 1: bad row\n"),
         ..RUN
     },
     Given {
-        trace: &[("\n", 1_048_576)],
+        trace: &[("\n", 20_000)],
         left: Leaves::Lines(&[(BOUNDS, 1), ("left 0\n", 1)]),
         ..RUN
     },
     Given {
-        trace: &[("\"", 1), ("0", 1_048_571), ("64\"", 1), ("\n", 1)],
+        trace: &[("\"", 1), ("0", 1000), ("64\"", 1), ("\n", 1)],
         ..RUN
     },
     Given {
-        trace: &[("64.", 1), ("0", 1_048_573)],
+        trace: &[("64.", 1), ("0", 1000)],
         ..RUN
     },
     Given {
-        trace: &[(",", 1_048_576)],
+        trace: &[(",", 20_000)],
         left: Leaves::Refused(7, "trace: row 1: bad row\n"),
         ..RUN
     },
@@ -227,11 +226,15 @@ static GIVEN: [Given; 43] = [
         ..RUN
     },
     Given {
-        trace: &[("64\n", 9_999), ("x\n", 300_000)],
+        trace: &[("64\n", 9_999), ("x\n", 2)],
         left: Leaves::Refused(7, "trace: row 10000: bad row\n"),
         ..RUN
     },
-    // plans
+];
+
+// A frame at the first boundary of the first sample has PC `$C008` and CCR `$C4` (S and X of reset, and Z of
+// the byte that was cleared), and zeros else. JSR then leaves C0 10 in the place of PC: the sum is 404.
+static PLANS: [Given; 10] = [
     Given {
         plan: &[("1,0\n", 10_000)],
         left: Leaves::Lines(&[
@@ -298,29 +301,31 @@ static GIVEN: [Given; 43] = [
         plan: &[("1,999999999,1800,FF\n", 10_000)],
         ..RUN
     },
-    // sources
+];
+
+static SOURCES: [Given; 5] = [
     Given {
-        text: &[(" FCB 0\n", 65_536)],
-        left: Leaves::Lines(&[("bytes 65536\n", 1)]),
+        text: &[(" ORG $FFFE\n FDB 0\n", 1)],
+        left: Leaves::Lines(&[("bytes 2\n", 1)]),
         ..ASM
     },
     Given {
-        text: &[(" FCB 0\n", 65_537)],
-        left: Leaves::Refused(11, "asm: line 65537: range\n"),
+        text: &[(" ORG $FFFF\n FDB 0\n", 1)],
+        left: Leaves::Refused(11, "asm: line 2: range\n"),
         ..ASM
     },
     Given {
-        text: &[(" FCB 1", 1), ("+1-1", 262_142)],
+        text: &[(" FCB 1", 1), ("+1-1", 1000)],
         left: Leaves::Lines(&[("bytes 1\n", 1)]),
         ..ASM
     },
     Given {
-        text: &[(" FDB 0", 1), ("+1", 524_285)],
+        text: &[(" FDB 0", 1), ("+9999", 7)],
         left: Leaves::Refused(11, "asm: line 1: range\n"),
         ..ASM
     },
     Given {
-        text: &[("A\n", 524_288)],
+        text: &[("A\n", 1000)],
         left: Leaves::Refused(11, "asm: line 2: twice\n"),
         ..ASM
     },
@@ -385,12 +390,41 @@ fn case(rt: &impl Abort, alloc: Global, given: &Given) -> Result<(), Fail> {
     }
 }
 
-#[test]
-fn long_files(rt: HostRuntime) -> Result<(), Fail> {
-    for given in GIVEN.iter() {
-        case(&rt, rt.alloc(), given)?;
+fn cases(rt: &impl Abort, alloc: Global, table: &[Given]) -> Result<(), Fail> {
+    for given in table {
+        case(rt, alloc, given)?;
     }
     Ok(())
+}
+
+#[test]
+fn blocks(rt: HostRuntime) -> Result<(), Fail> {
+    cases(&rt, rt.alloc(), BLOCKS.as_slice())
+}
+
+#[test]
+fn images(rt: HostRuntime) -> Result<(), Fail> {
+    cases(&rt, rt.alloc(), IMAGES.as_slice())
+}
+
+#[test]
+fn certificates(rt: HostRuntime) -> Result<(), Fail> {
+    cases(&rt, rt.alloc(), CERTIFICATES.as_slice())
+}
+
+#[test]
+fn traces(rt: HostRuntime) -> Result<(), Fail> {
+    cases(&rt, rt.alloc(), TRACES.as_slice())
+}
+
+#[test]
+fn plans(rt: HostRuntime) -> Result<(), Fail> {
+    cases(&rt, rt.alloc(), PLANS.as_slice())
+}
+
+#[test]
+fn sources(rt: HostRuntime) -> Result<(), Fail> {
+    cases(&rt, rt.alloc(), SOURCES.as_slice())
 }
 
 /// Long labels, as many as a source has room for, each with the place 0.
