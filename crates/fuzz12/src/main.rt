@@ -4,19 +4,25 @@
 
 use fz_shelf::{FileShelf, StdSink};
 use fz_top::{Status, fuzz12};
+use std::alloc::AllocError;
 use std::io::ErrorKind;
 use std::process::ExitCode;
 
+/// The program's words. One that is no UTF-8 is of no command, and so are none.
+fn words_of(rt: &HostRuntime) -> Result<Vec<String>, AllocError> {
+    let alloc = rt.alloc();
+    match std::env::args(rt) {
+        Ok(words) => words.collect(alloc),
+        Err(error) if error.kind() == ErrorKind::InvalidData => Ok(Vec::new(alloc)),
+        Err(_) => Err(AllocError),
+    }
+}
+
 fn main(rt: HostRuntime) -> anyhow::Result<ExitCode> {
     let alloc = rt.alloc();
-    let words: Vec<String> = match std::env::args(&rt) {
-        Ok(words) => words.collect(alloc)?,
-        // a word that is no UTF-8 is of no command
-        Err(error) if error.kind() == ErrorKind::InvalidData => Vec::new(alloc),
-        Err(_) => {
-            eprintln!(rt; "memory")?;
-            return Ok(ExitCode::from(Status::Memory.code()));
-        }
+    let Ok(words) = words_of(&rt) else {
+        eprintln!(rt; "memory")?;
+        return Ok(ExitCode::from(Status::Memory.code()));
     };
     let mut shelf = FileShelf::new(alloc, rt.clone()?);
     let mut out = StdSink::new(rt.stdout());

@@ -1,6 +1,6 @@
 //! The program's call over a shelf and sinks in memory.
 use fz_list::{List, Text};
-use fz_shelf::{MemFile, MemShelf, MemSink};
+use fz_shelf::{MemFile, MemShelf, MemSink, Shelf};
 use fz_top::fuzz12;
 use std::alloc::{AllocError, Global};
 use std::process::Abort;
@@ -9,7 +9,9 @@ use std::test::Fail;
 mod blocks;
 mod certs;
 mod exec;
+mod failures;
 mod images;
+mod malicious;
 mod reads;
 mod refused;
 mod runs;
@@ -71,6 +73,9 @@ impl Left<'_> {
     }
 }
 
+/// What a file that can be written holds before it is.
+const BEFORE: &str = "as before\n";
+
 const USAGE: Left<'static> = Left::Refused(
     1,
     "usage: fuzz12 compile, certify, check, run, asm, exec or gen\n",
@@ -85,31 +90,46 @@ fn joined(alloc: Global, parts: &[&str]) -> Result<Vec<u8>, AllocError> {
     Ok(text)
 }
 
-/// A file of this name that has the parts of a text, and takes no byte more.
-fn file(alloc: Global, name: &str, text: &[&str]) -> Result<MemFile, AllocError> {
+/// A file of this name with these bytes, in whose place so many may be written.
+fn file(alloc: Global, name: &str, bytes: &[u8], room: u64) -> Result<MemFile, AllocError> {
     Ok(MemFile {
         name: Text::new(String::from_str(alloc, name)?),
-        bytes: List::new(joined(alloc, text)?),
-        room: 0,
+        bytes: List::new(bytes.to_vec(alloc)?),
+        room,
     })
 }
 
+fn push_bytes(
+    alloc: Global,
+    files: &mut Vec<MemFile>,
+    name: &str,
+    bytes: &[u8],
+) -> Result<(), AllocError> {
+    files.push(file(alloc, name, bytes, 0)?)?;
+    Ok(())
+}
+
+/// A file that has the parts of a text.
 fn push_file(
     alloc: Global,
     files: &mut Vec<MemFile>,
     name: &str,
     text: &[&str],
 ) -> Result<(), AllocError> {
-    files.push(file(alloc, name, text)?)?;
+    push_bytes(alloc, files, name, &joined(alloc, text)?)
+}
+
+/// A file that can be written, which has a line.
+fn push_room(alloc: Global, files: &mut Vec<MemFile>, name: &str) -> Result<(), AllocError> {
+    files.push(file(alloc, name, BEFORE.as_bytes(), 1_000_000)?)?;
     Ok(())
 }
 
-/// An empty file that can be written.
-fn push_room(alloc: Global, files: &mut Vec<MemFile>, name: &str) -> Result<(), AllocError> {
-    let mut file = file(alloc, name, &[])?;
-    file.room = 2000;
-    files.push(file)?;
-    Ok(())
+/// What a file is to hold.
+fn file_holds(rt: &impl Abort, alloc: Global, shelf: &mut MemShelf, name: &str, bytes: &[u8]) {
+    let mut held = Vec::new(alloc);
+    assert!(rt; shelf.read(name, &mut held).is_ok());
+    assert_eq!(rt; held.as_slice(), bytes);
 }
 
 fn numbers(alloc: Global, numbers: &[u32]) -> Result<List<u32>, AllocError> {
@@ -124,7 +144,7 @@ fn shelf_of(alloc: Global, files: Vec<MemFile>, faults: &Faults) -> Result<MemSh
 
 fn sink_of(alloc: Global, failing: &[u32], most: u64) -> Result<MemSink, Fail> {
     let failing = numbers(alloc, failing)?;
-    Ok(MemSink::new(alloc, 1000, failing, most)?)
+    Ok(MemSink::new(alloc, 1_048_576, failing, most)?)
 }
 
 fn words_of(alloc: Global, line: &[&str]) -> Result<Vec<String>, AllocError> {
@@ -161,7 +181,7 @@ fn call(
 ) -> Result<(), Fail> {
     let words = words_of(alloc, line)?;
     let mut out = sink_of(alloc, faults.puts, faults.most)?;
-    let mut err = sink_of(alloc, faults.err_puts, 1000)?;
+    let mut err = sink_of(alloc, faults.err_puts, faults.most)?;
     let code = code_of(alloc, &words, shelf, &mut out, &mut err);
     holds(rt, &err, left.err());
     holds(rt, &out, left.out());

@@ -1,18 +1,15 @@
 //! Images that are written.
 use super::texts::{BLOCK, RECORDS, SOURCE, SOURCE_RECORDS};
-use super::{Faults, Left, NONE, call, push_file, push_room, shelf_of};
-use fz_shelf::{MemShelf, Shelf};
+use super::{BEFORE, Left, NONE, call, file_holds, push_file, push_room, shelf_of};
 use std::alloc::Global;
 use std::process::Abort;
 use std::test::Fail;
 
-/// A command, the text of its file, the calls that fail, what it leaves, and what
-/// the file OUT holds then, if that is said.
+/// A command, the text of its file, what it leaves, and what the file OUT holds then, if that is said.
 #[derive(Clone, Copy)]
 struct Written {
     command: &'static str,
     source: &'static str,
-    faults: Faults<'static>,
     left: Left<'static>,
     records: Option<&'static str>,
 }
@@ -20,12 +17,11 @@ struct Written {
 const COMPILED: Written = Written {
     command: "compile",
     source: BLOCK,
-    faults: NONE,
     left: Left::Lines("instructions 28\nsteps 36\nbytes 99\n"),
     records: Some(RECORDS),
 };
 
-static WRITTEN: [Written; 6] = [
+static WRITTEN: [Written; 5] = [
     COMPILED,
     Written {
         command: "compile16",
@@ -36,50 +32,32 @@ static WRITTEN: [Written; 6] = [
     Written {
         source: "",
         left: Left::Refused(4, "fcl: at 0: expected\n"),
-        records: Some(""),
-        ..COMPILED
-    },
-    Written {
-        faults: Faults {
-            writes: &[1],
-            ..NONE
-        },
-        left: Left::Broken(""),
-        records: None,
+        records: Some(BEFORE),
         ..COMPILED
     },
     Written {
         command: "asm",
         source: SOURCE,
-        faults: NONE,
         left: Left::Lines("bytes 7\n"),
         records: Some(SOURCE_RECORDS),
     },
     Written {
         command: "asm",
         source: "A NOP\na NOP\n",
-        faults: NONE,
         left: Left::Refused(11, "asm: line 2: twice\n"),
-        records: Some(""),
+        records: Some(BEFORE),
     },
 ];
-
-/// Fails where OUT holds something else.
-fn holds(rt: &impl Abort, alloc: Global, shelf: &mut MemShelf, records: &str) {
-    let mut held = Vec::new(alloc);
-    assert!(rt; shelf.read("out", &mut held).is_ok());
-    assert_eq!(rt; held.as_slice(), records.as_bytes());
-}
 
 fn write(rt: &impl Abort, alloc: Global, row: &Written) -> Result<(), Fail> {
     let mut files = Vec::new(alloc);
     push_file(alloc, &mut files, "in", &[row.source])?;
     push_room(alloc, &mut files, "out")?;
-    let mut shelf = shelf_of(alloc, files, &row.faults)?;
+    let mut shelf = shelf_of(alloc, files, &NONE)?;
     let line = ["fuzz12", row.command, "in", "out"];
-    call(rt, alloc, &line, &mut shelf, &row.faults, &row.left)?;
+    call(rt, alloc, &line, &mut shelf, &NONE, &row.left)?;
     if let Some(records) = row.records {
-        holds(rt, alloc, &mut shelf, records);
+        file_holds(rt, alloc, &mut shelf, "out", records.as_bytes());
     }
     Ok(())
 }

@@ -1,8 +1,7 @@
-//! The files of a run: which are read, and what comes of calls that fail.
+//! The files of a run: which are read, and which is blamed.
 use super::texts::{BLOCK, HALVES, RECORDS, RECORDS_OF_ANOTHER};
-use super::{Faults, Left, NONE, call, push_file, shelf_of};
-use fz_list::{List, Text};
-use fz_shelf::{MemFile, MemShelf};
+use super::{Left, NONE, call, push_bytes, push_file, shelf_of};
+use fz_shelf::MemShelf;
 use std::alloc::{AllocError, Global};
 use std::process::Abort;
 use std::test::Fail;
@@ -18,24 +17,20 @@ static HOUSE: [(&str, &[&str]); 7] = [
     ("over.csv", &["256.0001"]),
 ];
 
-/// A file that is a byte too long.
-fn long_file(alloc: Global) -> Result<MemFile, AllocError> {
+/// A byte more than is read.
+fn long(alloc: Global) -> Result<Vec<u8>, AllocError> {
     let mut long = Vec::with_capacity(alloc, 1_048_577)?;
     long.resize(1_048_577, b'0')?;
-    Ok(MemFile {
-        name: Text::new(String::from_str(alloc, "long")?),
-        bytes: List::new(long),
-        room: 0,
-    })
+    Ok(long)
 }
 
-fn house(alloc: Global, faults: &Faults) -> Result<MemShelf, Fail> {
+fn house(alloc: Global) -> Result<MemShelf, Fail> {
     let mut files = Vec::new(alloc);
     for (name, text) in HOUSE.iter() {
         push_file(alloc, &mut files, name, text)?;
     }
-    files.push(long_file(alloc)?)?;
-    shelf_of(alloc, files, faults)
+    push_bytes(alloc, &mut files, "long", &long(alloc)?)?;
+    shelf_of(alloc, files, &NONE)
 }
 
 /// A call over these files. Fails where it reads more or fewer of them, or leaves something else.
@@ -43,12 +38,11 @@ pub(super) fn case(
     rt: &impl Abort,
     alloc: Global,
     line: &[&str],
-    faults: &Faults,
     reads: usize,
     left: &Left,
 ) -> Result<(), Fail> {
-    let mut shelf = house(alloc, faults)?;
-    call(rt, alloc, line, &mut shelf, faults, left)?;
+    let mut shelf = house(alloc)?;
+    call(rt, alloc, line, &mut shelf, &NONE, left)?;
     assert_eq!(rt; shelf.asked().len(), reads);
     Ok(())
 }
@@ -139,108 +133,7 @@ fn reads(rt: HostRuntime) -> Result<(), Fail> {
     for row in READS.iter() {
         let [fcl, image, cert, trace, plan] = row.names;
         let line = ["fuzz12", "run", fcl, image, cert, trace, plan, "00"];
-        case(&rt, rt.alloc(), &line, &NONE, row.reads, &row.left)?;
-    }
-    Ok(())
-}
-
-/// The calls that fail in a run, how many files are read, and what it leaves.
-struct Failure {
-    faults: Faults<'static>,
-    reads: usize,
-    left: Left<'static>,
-}
-
-static FAILURES: [Failure; 11] = [
-    Failure {
-        faults: Faults {
-            reads: &[1],
-            ..NONE
-        },
-        reads: 1,
-        left: Left::Refused(2, "read fault: a.fcl\n"),
-    },
-    Failure {
-        faults: Faults {
-            reads: &[2],
-            ..NONE
-        },
-        reads: 2,
-        left: Left::Refused(2, "read fault: a.s19\n"),
-    },
-    Failure {
-        faults: Faults {
-            reads: &[3],
-            ..NONE
-        },
-        reads: 3,
-        left: Left::Refused(2, "read fault: a.cert\n"),
-    },
-    Failure {
-        faults: Faults {
-            reads: &[4],
-            ..NONE
-        },
-        reads: 4,
-        left: Left::Refused(2, "read fault: a.csv\n"),
-    },
-    Failure {
-        faults: Faults {
-            reads: &[5],
-            ..NONE
-        },
-        reads: 5,
-        left: Left::Refused(2, "read fault: empty\n"),
-    },
-    Failure {
-        faults: Faults { puts: &[1], ..NONE },
-        reads: 5,
-        left: Left::Broken(""),
-    },
-    Failure {
-        faults: Faults { puts: &[2], ..NONE },
-        reads: 5,
-        left: Left::Broken("error 1 19609\n"),
-    },
-    Failure {
-        faults: Faults { most: 1, ..NONE },
-        reads: 5,
-        left: RUN,
-    },
-    Failure {
-        faults: Faults {
-            most: 1,
-            puts: &[4],
-            ..NONE
-        },
-        reads: 5,
-        left: Left::Broken("err"),
-    },
-    Failure {
-        faults: Faults {
-            reads: &[1],
-            err_puts: &[1],
-            ..NONE
-        },
-        reads: 1,
-        left: Left::Refused(2, ""),
-    },
-    Failure {
-        faults: Faults {
-            reads: &[1],
-            err_puts: &[2],
-            ..NONE
-        },
-        reads: 1,
-        left: Left::Refused(2, "read fault: "),
-    },
-];
-
-#[test]
-fn failures(rt: HostRuntime) -> Result<(), Fail> {
-    for row in FAILURES.iter() {
-        let line = run_words("00");
-        case(&rt, rt.alloc(), &line, &row.faults, row.reads, &row.left)?;
+        case(&rt, rt.alloc(), &line, row.reads, &row.left)?;
     }
     Ok(())
 }

@@ -1,12 +1,12 @@
 //! Words that are of a command, and words that are of none.
+use super::USAGE;
 use super::reads::{RUN, case, run_words};
-use super::{NONE, USAGE};
 use std::test::Fail;
 
 #[test]
 fn flags(rt: HostRuntime) -> Result<(), Fail> {
     for flags in ["00", "FF", "fF", "7e"] {
-        case(&rt, rt.alloc(), &run_words(flags), &NONE, 5, &RUN)?;
+        case(&rt, rt.alloc(), &run_words(flags), 5, &RUN)?;
     }
     Ok(())
 }
@@ -14,7 +14,7 @@ fn flags(rt: HostRuntime) -> Result<(), Fail> {
 #[test]
 fn no_flags(rt: HostRuntime) -> Result<(), Fail> {
     for flags in ["", "0", "000", "0g", "+1", "-1"] {
-        case(&rt, rt.alloc(), &run_words(flags), &NONE, 0, &USAGE)?;
+        case(&rt, rt.alloc(), &run_words(flags), 0, &USAGE)?;
     }
     Ok(())
 }
@@ -36,7 +36,7 @@ static OF_NO_COMMAND: [&[&str]; 9] = [
 #[test]
 fn of_no_command(rt: HostRuntime) -> Result<(), Fail> {
     for line in OF_NO_COMMAND.iter() {
-        case(&rt, rt.alloc(), line, &NONE, 0, &USAGE)?;
+        case(&rt, rt.alloc(), line, 0, &USAGE)?;
     }
     Ok(())
 }

@@ -1,0 +1,323 @@
+//! Each read, write and put that fails, one after the other, over every command.
+use super::texts::{BLOCK, HALVES, RECORDS, SOURCE, SOURCE_RECORDS};
+use super::{
+    BEFORE, Faults, Left, NONE, call, file_holds, joined, push_bytes, push_file, push_room,
+    shelf_of,
+};
+use fz_shelf::{MemShelf, Shelf};
+use std::alloc::{AllocError, Global};
+use std::process::Abort;
+use std::test::Fail;
+
+// The files, but for OUT and the records of 16 bits.
+static FILES: [(&str, &[&str]); 8] = [
+    ("a.fcl", &[BLOCK]),
+    ("a.s19", &[RECORDS]),
+    ("a.cert", &["FZC 1\nclaim 19609\n", HALVES]),
+    ("wide.cert", &["FZC 2\nclaim 15702\n", HALVES]),
+    ("a.csv", &["64\n"]),
+    ("empty", &[]),
+    ("small.asm", &[SOURCE]),
+    ("small.s19", &[SOURCE_RECORDS]),
+];
+
+/// A command whose files are accepted.
+struct Accepted {
+    line: &'static [&'static str],
+    /// The files that it reads, in order.
+    reads: &'static [&'static str],
+    /// Whether it writes OUT.
+    writes: bool,
+    lines: &'static [&'static str],
+    /// The first three bytes of its lines.
+    start: &'static str,
+}
+
+static COMMANDS: [Accepted; 8] = [
+    Accepted {
+        line: &["fuzz12", "asm", "small.asm", "out"],
+        reads: &["small.asm"],
+        writes: true,
+        lines: &["bytes 7\n"],
+        start: "byt",
+    },
+    Accepted {
+        line: &["fuzz12", "check", "a.fcl", "a.cert"],
+        reads: &["a.fcl", "a.cert"],
+        writes: false,
+        lines: &["error 1 19609\n", "instructions 28\n"],
+        start: "err",
+    },
+    Accepted {
+        line: &["fuzz12", "check16", "a.fcl", "wide.cert"],
+        reads: &["a.fcl", "wide.cert"],
+        writes: false,
+        lines: &["error 1 15702\n", "instructions 31\n"],
+        start: "err",
+    },
+    Accepted {
+        line: &["fuzz12", "compile", "a.fcl", "out"],
+        reads: &["a.fcl"],
+        writes: true,
+        lines: &["instructions 28\n", "steps 36\n", "bytes 99\n"],
+        start: "ins",
+    },
+    Accepted {
+        line: &["fuzz12", "compile16", "a.fcl", "out"],
+        reads: &["a.fcl"],
+        writes: true,
+        lines: &["instructions 31\n", "steps 39\n", "bytes 112\n"],
+        start: "ins",
+    },
+    Accepted {
+        line: &["fuzz12", "exec", "small.s19", "10", "00"],
+        reads: &["small.s19"],
+        writes: false,
+        lines: &["pc C003 a FA b 00 x 0000 y 0000 sp 0000 ccr D9 steps 2\n"],
+        start: "pc ",
+    },
+    Accepted {
+        line: &[
+            "fuzz12", "run", "a.fcl", "a.s19", "a.cert", "a.csv", "empty", "00",
+        ],
+        reads: &["a.fcl", "a.s19", "a.cert", "a.csv", "empty"],
+        writes: false,
+        lines: &[
+            "error 1 19609\n",
+            "instructions 28\n",
+            "sample 1 bytes 64 answers 64 instructions 28 steps 36 resumed 0 frames 0\n",
+            "left 208\n",
+        ],
+        start: "err",
+    },
+    Accepted {
+        line: &[
+            "fuzz12",
+            "run16",
+            "a.fcl",
+            "wide.s19",
+            "wide.cert",
+            "a.csv",
+            "empty",
+            "00",
+        ],
+        reads: &["a.fcl", "wide.s19", "wide.cert", "a.csv", "empty"],
+        writes: false,
+        lines: &[
+            "error 1 15702\n",
+            "instructions 31\n",
+            "sample 1 bytes 64 answers 16384 instructions 31 steps 39 resumed 0 frames 0\n",
+            "left 208\n",
+        ],
+        start: "err",
+    },
+];
+
+/// The files that stand on the shelf, with these records of 16 bits.
+fn house(alloc: Global, wide: &[u8], faults: &Faults) -> Result<MemShelf, Fail> {
+    let mut files = Vec::new(alloc);
+    for (name, text) in FILES.iter() {
+        push_file(alloc, &mut files, name, text)?;
+    }
+    push_bytes(alloc, &mut files, "wide.s19", wide)?;
+    push_room(alloc, &mut files, "out")?;
+    shelf_of(alloc, files, faults)
+}
+
+/// What comes of a call: what it leaves, how many files it reads, and what OUT holds then.
+#[derive(Clone, Copy)]
+struct Outcome<'a> {
+    left: Left<'a>,
+    reads: usize,
+    out: &'a [u8],
+}
+
+/// Fails where something else comes of a call, or another file than OUT is not as before.
+fn case(
+    rt: &impl Abort,
+    alloc: Global,
+    wide: &[u8],
+    line: &[&str],
+    faults: &Faults,
+    outcome: &Outcome,
+) -> Result<(), Fail> {
+    let mut shelf = house(alloc, wide, faults)?;
+    call(rt, alloc, line, &mut shelf, faults, &outcome.left)?;
+    assert_eq!(rt; shelf.asked().len(), outcome.reads);
+    file_holds(rt, alloc, &mut shelf, "out", outcome.out);
+    file_holds(rt, alloc, &mut shelf, "wide.s19", wide);
+    for (name, text) in FILES.iter() {
+        file_holds(rt, alloc, &mut shelf, name, &joined(alloc, text)?);
+    }
+    Ok(())
+}
+
+/// The parts of a text as one.
+fn text_of(alloc: Global, parts: &[&str]) -> Result<String, AllocError> {
+    let mut text = String::new(alloc);
+    for part in parts {
+        text.push_str(part)?;
+    }
+    Ok(text)
+}
+
+/// What OUT holds behind a call in which nothing fails.
+fn written(
+    rt: &impl Abort,
+    alloc: Global,
+    wide: &[u8],
+    command: &Accepted,
+) -> Result<Vec<u8>, Fail> {
+    let mut shelf = house(alloc, wide, &NONE)?;
+    let text = text_of(alloc, command.lines)?;
+    let left = Left::Lines(text.as_str());
+    call(rt, alloc, command.line, &mut shelf, &NONE, &left)?;
+    let mut out = Vec::new(alloc);
+    assert!(rt; shelf.read("out", &mut out).is_ok());
+    assert_eq!(rt; out.as_slice() == BEFORE.as_bytes(), !command.writes);
+    Ok(out)
+}
+
+/// The records that `compile16` writes.
+fn wide_records(rt: &impl Abort, alloc: Global) -> Result<Vec<u8>, Fail> {
+    written(rt, alloc, &[], &COMMANDS[4])
+}
+
+/// Each read fails: none comes behind it, and nothing is written or put.
+fn failing_reads(
+    rt: &impl Abort,
+    alloc: Global,
+    wide: &[u8],
+    command: &Accepted,
+) -> Result<(), Fail> {
+    for (number, name) in (1..9u32).zip(command.reads) {
+        let failing = [number];
+        let faults = Faults {
+            reads: &failing,
+            ..NONE
+        };
+        let line = text_of(alloc, &["read fault: ", name, "\n"])?;
+        let outcome = Outcome {
+            left: Left::Refused(2, line.as_str()),
+            reads: number as usize,
+            out: BEFORE.as_bytes(),
+        };
+        case(rt, alloc, wide, command.line, &faults, &outcome)?;
+    }
+    Ok(())
+}
+
+/// The write fails: nothing is put.
+fn failing_write(
+    rt: &impl Abort,
+    alloc: Global,
+    wide: &[u8],
+    command: &Accepted,
+) -> Result<(), Fail> {
+    let faults = Faults {
+        writes: &[1],
+        ..NONE
+    };
+    let text = text_of(alloc, command.lines)?;
+    let outcome = Outcome {
+        left: if command.writes {
+            Left::Broken("")
+        } else {
+            Left::Lines(text.as_str())
+        },
+        reads: command.reads.len(),
+        out: BEFORE.as_bytes(),
+    };
+    case(rt, alloc, wide, command.line, &faults, &outcome)
+}
+
+/// Each put of a line fails: those before it stand, and OUT is whole.
+fn failing_puts(
+    rt: &impl Abort,
+    alloc: Global,
+    wide: &[u8],
+    command: &Accepted,
+) -> Result<(), Fail> {
+    let out = written(rt, alloc, wide, command)?;
+    let mut before = String::new(alloc);
+    for (number, line) in (1..9u32).zip(command.lines) {
+        let failing = [number];
+        let faults = Faults {
+            puts: &failing,
+            ..NONE
+        };
+        let outcome = Outcome {
+            left: Left::Broken(before.as_str()),
+            reads: command.reads.len(),
+            out: &out,
+        };
+        case(rt, alloc, wide, command.line, &faults, &outcome)?;
+        before.push_str(line)?;
+    }
+    Ok(())
+}
+
+/// Out takes a byte a put: all lines are put, or where the fourth put fails three bytes.
+fn short_puts(rt: &impl Abort, alloc: Global, wide: &[u8], command: &Accepted) -> Result<(), Fail> {
+    let out = written(rt, alloc, wide, command)?;
+    let text = text_of(alloc, command.lines)?;
+    let whole = Outcome {
+        left: Left::Lines(text.as_str()),
+        reads: command.reads.len(),
+        out: &out,
+    };
+    let faults = Faults { most: 1, ..NONE };
+    case(rt, alloc, wide, command.line, &faults, &whole)?;
+    let faults = Faults {
+        most: 1,
+        puts: &[4],
+        ..NONE
+    };
+    let broken = Outcome {
+        left: Left::Broken(command.start),
+        ..whole
+    };
+    case(rt, alloc, wide, command.line, &faults, &broken)
+}
+
+/// The puts of err fail too: the status stays, and of the line stands what err took.
+fn failing_err(
+    rt: &impl Abort,
+    alloc: Global,
+    wide: &[u8],
+    command: &Accepted,
+) -> Result<(), Fail> {
+    let first = Faults {
+        reads: &[1],
+        err_puts: &[1],
+        ..NONE
+    };
+    let nothing = Outcome {
+        left: Left::Refused(2, ""),
+        reads: 1,
+        out: BEFORE.as_bytes(),
+    };
+    case(rt, alloc, wide, command.line, &first, &nothing)?;
+    let second = Faults {
+        err_puts: &[2],
+        ..first
+    };
+    let part = Outcome {
+        left: Left::Refused(2, "read fault: "),
+        ..nothing
+    };
+    case(rt, alloc, wide, command.line, &second, &part)
+}
+
+#[test]
+fn failures(rt: HostRuntime) -> Result<(), Fail> {
+    let wide = wide_records(&rt, rt.alloc())?;
+    for command in COMMANDS.iter() {
+        failing_reads(&rt, rt.alloc(), &wide, command)?;
+        failing_write(&rt, rt.alloc(), &wide, command)?;
+        failing_puts(&rt, rt.alloc(), &wide, command)?;
+        short_puts(&rt, rt.alloc(), &wide, command)?;
+        failing_err(&rt, rt.alloc(), &wide, command)?;
+    }
+    Ok(())
+}
