@@ -7,6 +7,7 @@ use std::process::Abort;
 use std::test::Fail;
 
 mod blocks;
+mod certify;
 mod certs;
 mod exec;
 mod failures;

@@ -1,5 +1,6 @@
 -- The lines of faults of contents.
 use Rattle.std.specs.Prelude.{ℕ, List, [], ◌++◌, codes, decimal, Option, Some, None}
+use Rattle.std.specs.List.{flat_map}
 use Rattle.box_tree.specs.declared.cert.CertFault.{CertFault}
 use Rattle.box_tree.specs.declared.cert.CertFault.TheVariants as cert
 use Rattle.cert_check.specs.declared.checker.CheckFault.{CheckFault}
@@ -8,11 +9,13 @@ use Rattle.cpu12_asm.specs.declared.items.AsmFault.{AsmFault}
 use Rattle.cpu12_asm.specs.declared.items.AsmFault.TheVariants as asm
 use Rattle.error_bound.specs.declared.boxes.LeafFault.{LeafFault}
 use Rattle.error_bound.specs.declared.boxes.LeafFault.TheVariants as leaf
+use Rattle.error_certifier.specs.declared.certifier.NotReached.{NotReached}
+use Rattle.error_certifier.specs.declared.certifier.NotReached.TheVariants as stop
 use Rattle.fcl_syntax.specs.declared.text.SyntaxFault.{SyntaxFault}
 use Rattle.fcl_syntax.specs.declared.text.SyntaxFault.TheVariants as syntax
 use Rattle.fcl_check.specs.declared.fault.LoadFault.{LoadFault}
 use Rattle.fcl_check.specs.declared.fault.LoadFault.TheVariants as load
-use Rattle.fz_shelf.specs.Parts.{address_digits, byte_digits}
+use Rattle.fz_shelf.specs.Parts.{address_digits, behind_blank, byte_digits}
 use Rattle.interrupt_plan.specs.declared.PlanFault.{PlanFault}
 use Rattle.interrupt_plan.specs.declared.PlanFault.TheVariants as plan
 use Rattle.rule_layout.specs.declared.flat.LayoutFault.{LayoutFault}
@@ -160,6 +163,14 @@ check_line check.Memory = want_of_memory
 abbrev pub cert_line : CertRefusal → List ℕ
 cert_line (refusal.Text f) = text_line f
 cert_line (refusal.Check f) = check_line f
+
+-- halving stops at a cell, of which each byte stands behind a blank, or at the limit of leaves
+abbrev pub not_reached_line : NotReached → List ℕ
+not_reached_line (stop.Cell bytes output bound) =
+    codes "not reached: cell" ++ (flat_map behind_blank bytes.items ++ (codes " output " ++ (decimal output
+    ++ (codes " bound " ++ (decimal bound ++ newline)))))
+not_reached_line stop.LeafLimit = codes "not reached: leaf limit" ++ newline
+not_reached_line stop.Memory = want_of_memory
 
 -- ---- plans and runs
 

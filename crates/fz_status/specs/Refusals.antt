@@ -3,6 +3,7 @@ use Rattle.std.specs.Prelude.{◌≢◌}
 use Rattle.box_tree.specs.declared.cert.CertFault.TheVariants as cert
 use Rattle.cert_check.specs.declared.checker.CheckFault.TheVariants as check
 use Rattle.cpu12_asm.specs.declared.items.AsmFault.TheVariants as asm
+use Rattle.error_certifier.specs.declared.certifier.NotReached.TheVariants as stop
 use Rattle.fcl_syntax.specs.declared.text.SyntaxFault.TheVariants as syntax
 use Rattle.fcl_check.specs.declared.fault.LoadFault.TheVariants as load
 use Rattle.interrupt_plan.specs.declared.PlanFault.TheVariants as plan
@@ -25,6 +26,7 @@ CarriesNoMemory (status.Cert (refusal.Text f)) = f ≢ cert.Memory
 CarriesNoMemory (status.Cert (refusal.Check f)) = f ≢ check.Memory
 CarriesNoMemory (status.Trace f) = f ≢ trace.Memory
 CarriesNoMemory (status.Plan f) = f ≢ plan.Memory
+CarriesNoMemory (status.NotReached f) = f ≢ stop.Memory
 CarriesNoMemory (status.Asm f) = f ≢ asm.Memory
 CarriesNoMemory _ = Unit {0}
 

@@ -3,14 +3,15 @@ ghost use Rattle.std.specs.Prelude.{◌≡◌, ◌++◌};
 ghost use Rattle.fz_shelf.specs.Parts.{part_text, parts_text};
 ghost use Rattle.fz_status.specs.Errors.{Puts};
 ghost use Rattle.fz_status.specs.FaultLines.{asm_line, byte_or_none, cert_line, check_line, fcl_line, image_line};
-ghost use Rattle.fz_status.specs.FaultLines.{layout_line, leaf_line, load_kind, load_line, newline, plan_line};
-ghost use Rattle.fz_status.specs.FaultLines.{records_line, syntax_line, text_line, trace_line, with_number, with_two};
+ghost use Rattle.fz_status.specs.FaultLines.{layout_line, leaf_line, load_kind, load_line, newline, not_reached_line};
+ghost use Rattle.fz_status.specs.FaultLines.{plan_line, records_line, syntax_line, text_line, trace_line, with_number, with_two};
 
 use crate::{CertRefusal, FclFault, ImageFault};
 use box_tree::CertFault;
 use cert_check::CheckFault;
 use cpu12_asm::AsmFault;
 use error_bound::LeafFault;
+use error_certifier::NotReached;
 use fcl_check::LoadFault;
 use fcl_syntax::SyntaxFault;
 use fz_shelf::{Failed, Part, Sink, put_parts};
@@ -388,6 +389,28 @@ pub(crate) fn put_plan<F: Sink>(err: &mut F, fault: &PlanFault) -> Result<(), Fa
         ),
         PlanFault::NotAscending(row) => put_number(err, b"plan: row ", *row, b": not ascending"),
         PlanFault::Memory => put_text(err, b"memory"),
+    }
+}
+
+pub(crate) fn put_not_reached<F: Sink>(err: &mut F, fault: &NotReached) -> Result<(), Failed>
+    ensures { Puts (not_reached_line fault.now) (F.told err.old) (F.told err.new)
+        (F.faults err.old) (F.faults err.new) (F.sound err.old) (F.sound err.new) result }
+{
+    match fault {
+        NotReached::Cell(bytes, output, bound) => put(
+            err,
+            &[
+                Part::Text(b"not reached: cell"),
+                Part::Numbers(bytes.as_slice()),
+                Part::Text(b" output "),
+                Part::Number(u64::from(*output)),
+                Part::Text(b" bound "),
+                Part::Number(u64::from(*bound)),
+                Part::Text(b"\n"),
+            ],
+        ),
+        NotReached::LeafLimit => put_text(err, b"not reached: leaf limit"),
+        NotReached::Memory => put_text(err, b"memory"),
     }
 }
 

@@ -4,6 +4,7 @@ ghost use Rattle.std.specs.Prelude.{◌≡◌};
 use box_tree::CertFault;
 use cert_check::CheckFault;
 use cpu12_asm::AsmFault;
+use error_certifier::NotReached;
 use fcl_check::LoadFault;
 use fcl_syntax::SyntaxFault;
 use interrupt_plan::PlanFault;
@@ -32,6 +33,8 @@ pub enum Status {
     Trace(TraceFault),
     /// The text is no plan.
     Plan(PlanFault),
+    /// Halving gives no certificate for the target. It is never `NotReached::Memory`.
+    NotReached(NotReached),
     /// Memory was wanted and not found.
     Memory,
     /// The file of that word has more than 1048576 bytes.
@@ -92,6 +95,7 @@ impl Status {
             Status::Cert(_) => 6,
             Status::Trace(_) => 7,
             Status::Plan(_) => 7,
+            Status::NotReached(_) => 8,
             Status::Memory => 9,
             Status::TooLong(_) => 10,
             Status::Asm(_) => 11,

@@ -1,6 +1,6 @@
 -- Contents that make a deed make no fault.
 use Rattle.std.proofs.Common.{◌≡◌, ℕ, List, sym, ◌∙◌, subst, ap}
-use Rattle.std.specs.Prelude.{Err}
+use Rattle.std.specs.Prelude.{Result, Ok, Err}
 use Rattle.fuzzy_meaning.specs.declared.block.Block.{Block}
 use Rattle.fuzzy_meaning.specs.declared.block.Input.{Input}
 use Rattle.fcl_syntax.specs.Readings.{FirstFaultsAreOne}
@@ -31,7 +31,13 @@ use Rattle.fz_top.specs.Images.{RefusesImage, RefusesRecords}
 use Rattle.codegen.specs.declared.width.Width.{Width}
 use Rattle.cert_check.specs.Laws.{TextAnswersAreOne}
 use Rattle.cert_check.specs.SameBlocks.{SameBlocksAnswerAlike}
+use Rattle.box_tree.specs.declared.cert.Cert.{Cert}
+use Rattle.codegen.specs.Widths.{parts}
+use Rattle.error_certifier.specs.Laws.{AnswersAreOne, SameBlocksStopAlike}
+use Rattle.error_certifier.specs.declared.certifier.NotReached.{NotReached}
 use Rattle.fz_top.specs.Asm.{AsmGives, source_refusals}
+use Rattle.fz_top.specs.Certify.{CertifyGives, certify_refusals}
+use Rattle.fz_top.specs.declared.certify.Certify.{Certify}
 use Rattle.fz_top.specs.Certs.{AcceptsCert}
 use Rattle.fz_top.specs.Check.{check_in, check_refusals}
 use Rattle.fz_top.proofs.CertLemmas.{cert_apart}
@@ -63,7 +69,8 @@ module _ (first : FirstFaultsAreOne) (load : LoadFaultsAreOne) (alike : SpelledB
     (layouts : LayoutsAreOne) (limits : LimitsHaveNoFault) (traces : SpelledTracesHaveNoFault)
     (images : ImagesAreOne) (good : ImagesHaveNoFault) (loads : ImagesLoadAlike) (ends : RunsEndOnce)
     (certs : TextAnswersAreOne) (blocks : SameBlocksAnswerAlike)
-    (firmwares : FirmwaresAreOne) (plans : SpelledPlansHaveNoFault) where
+    (firmwares : FirmwaresAreOne) (plans : SpelledPlansHaveNoFault)
+    (halvings : AnswersAreOne) (stop_alike : SameBlocksStopAlike) where
   -- a text that gives firmware is not refused
   text_apart : (text : List ℕ) (block : Block) → SpellsBlock text block → IsWithinLimits block
       → (f : FclFault) → CarriesNoMemory (status.Fcl f) → RefusesText text f → ⊥
@@ -125,6 +132,19 @@ module _ (first : FirstFaultsAreOne) (load : LoadFaultsAreOne) (alike : SpelledB
       cert_apart certs blocks width cert errors block other spelled.valid same accepts f refuses
   check_stands width text cert errors block spelled within accepts s is = is.1
 
+  certify_stands : (certify : Certify) (text : List ℕ) (deed : Deed) → CertifyGives certify text deed
+      → NoneRefuses (certify_refusals certify text)
+  certify_stands certify text deed gives (status.Fcl f) is =
+      text_apart text gives.block gives.gives.spelled gives.gives.limits f is.0 is.1
+  certify_stands certify text deed gives (status.NotReached stop) (carries, other, others, gives_other, stops) =
+      let h = parts certify.width in
+      let here = stop_alike other gives.block h certify.target stop (alike text other gives.block gives_other.spelled gives.gives.spelled) stops.stops in
+      let halved : Result Cert NotReached = Ok gives.cert in
+      let stopped : Result Cert NotReached = Err stop in
+      let same : halved ≡ stopped = halvings gives.block h certify.target halved stopped gives.gives.spelled.valid gives.halving here in
+      cc
+  certify_stands certify text deed gives s is = is.1
+
   source_stands : (source : List ℕ) (deed : Deed) → AsmGives source deed → NoneRefuses (source_refusals source)
   source_stands source deed gives (status.Asm f) is =
       let yes = gives.assembles.assembled in
@@ -160,6 +180,7 @@ module _ (first : FirstFaultsAreOne) (load : LoadFaultsAreOne) (alike : SpelledB
   pub apart : DeedsHaveNoFault
   unfolding Makes
   apart command.Asm contents deed s makes fault = source_stands _ deed makes s fault
+  apart (command.Certify certify) contents deed s makes fault = certify_stands certify _ deed makes s fault
   apart (command.Check check) contents deed s makes fault =
       check_stands check.width _ _ makes.errors makes.block makes.gives.spelled makes.gives.limits makes.accepts s fault
   apart (command.Compile compile) contents deed s makes fault =
@@ -173,6 +194,7 @@ faults_carry : (command : Command) (contents : List (List ℕ)) (s : Status) →
     → CarriesNoMemory s
 unfolding Makes
 faults_carry command.Asm contents s makes = makes.0
+faults_carry (command.Certify certify) contents s makes = makes.0
 faults_carry (command.Check check) contents s makes = makes.0
 faults_carry (command.Compile compile) contents s makes = makes.0
 faults_carry (command.Exec exec) contents s makes = makes.0

@@ -5,6 +5,6 @@ pub mod LineLemmas
 pub mod AnswerLemmas
 pub mod DeedLemmas
 pub mod StatusLemmas
-pub mod StepsLemmas
+pub mod NumberLemmas
 pub mod CertLemmas
 pub mod SumLemmas

@@ -8,7 +8,6 @@ use Rattle.std.proofs.lemmas.List.{append-nil, length-take-le}
 use Rattle.fz_shelf.specs.Lines.{text_of}
 use Rattle.fz_run.specs.Rows.{boundary_seen, frames_seen, row_seen}
 use Rattle.fz_run.specs.declared.rows.Row.{Row}
-use Rattle.fz_top.specs.Check.{check_lines}
 use Rattle.fz_status.specs.FaultLines.{newline}
 use Rattle.fz_top.specs.Lines.{counted, error_line, line}
 use Rattle.fz_top.specs.Run.{frame_line, numbers, report_of, row_lines, run_lines, sample_line}
@@ -76,14 +75,14 @@ text_more before items_text more_text next_text now next so_far step whole =
     step ∙ ap (λ (l : List ℕ). l ++ more_text) so_far ∙ append_assoc before items_text more_text
     ∙ ap (λ (l : List ℕ). before ++ l) (sym whole)
 
--- ---- the lines of a check
+-- ---- the lines of errors, and one more
 
-pub check_written : (none errors lines : List (String Global)) (bound_line : String Global) (es : List ℕ) (bound : ℕ)
+pub errors_written : (none errors lines : List (String Global)) (last : String Global) (es label : List ℕ) (n : ℕ)
     → none ≡ [] → text_of errors ≡ text_of none ++ counted error_line 1 es
-    → lines ≡ errors ++ bound_line ∷ [] → string_bytes bound_line ≡ line (codes "instructions ") bound
-    → text_of lines ≡ check_lines es bound
-check_written none errors lines bound_line es bound start e0 e1 b =
-    ap text_of e1 ∙ text_of-snoc errors bound_line
+    → lines ≡ errors ++ last ∷ [] → string_bytes last ≡ line label n
+    → text_of lines ≡ counted error_line 1 es ++ line label n
+errors_written none errors lines last es label n start e0 e1 b =
+    ap text_of e1 ∙ text_of-snoc errors last
     ∙ ap₂ (λ (x y : List ℕ). x ++ y) (e0 ∙ ap (λ (x : List (String Global)). text_of x ++ counted error_line 1 es) start) b
 
 -- ---- the lines of a run

@@ -5,6 +5,7 @@ use Rattle.fz_words.specs.App.{IsRefused}
 use Rattle.fz_words.specs.Table.{Row, row, command_in as command_by}
 use Rattle.codegen.specs.declared.width.Width.TheVariants.{Byte, Word}
 use Rattle.fz_top.specs.Asm.{AsmMakes, asm_inputs}
+use Rattle.fz_top.specs.Certify.{CertifyMakes, certify_in, certify_inputs}
 use Rattle.fz_top.specs.Check.{CheckMakes, check_in, check_inputs}
 use Rattle.fz_top.specs.Compile.{CompileMakes, compile_in, compile_inputs}
 use Rattle.fz_top.specs.Deeds.{Deed}
@@ -13,20 +14,23 @@ use Rattle.fz_top.specs.Run.{RunMakes, files_in, run_in, run_inputs}
 use Rattle.fz_status.specs.Words.{Text}
 use Rattle.fz_top.specs.Contents.{content_at}
 use Rattle.fz_top.specs.declared.command.Command.{Command}
-use Rattle.fz_top.specs.declared.command.Command.TheVariants.{Asm, Check, Compile, Exec, Run}
+use Rattle.fz_top.specs.declared.command.Command.TheVariants.{Asm, Certify, Check, Compile, Exec, Run}
 use Rattle.fz_top.specs.declared.command.Name.{Name}
 use Rattle.fz_top.specs.declared.command.Name.TheVariants as name
 use Rattle.fz_status.specs.declared.status.Status.{Status}
 
 -- the commands by name, each with the number of words that follow
 unfoldable pub table : List (Row Name)
-table = row (codes "asm") 2 name.Asm ∷ row (codes "check") 2 name.Check ∷ row (codes "check16") 2 name.Check16
+table = row (codes "asm") 2 name.Asm ∷ row (codes "certify") 3 name.Certify ∷ row (codes "certify16") 3 name.Certify16
+    ∷ row (codes "check") 2 name.Check ∷ row (codes "check16") 2 name.Check16
     ∷ row (codes "compile") 2 name.Compile ∷ row (codes "compile16") 2 name.Compile16 ∷ row (codes "exec") 3 name.Exec
     ∷ row (codes "run") 6 name.Run ∷ row (codes "run16") 6 name.Run16 ∷ []
 
 -- the command of a name, where the words have its form
 unfoldable pub form_of : Name → List Text → Option Command
 form_of name.Asm words = Some Asm
+form_of name.Certify words = option_map Certify (certify_in Byte words)
+form_of name.Certify16 words = option_map Certify (certify_in Word words)
 form_of name.Check words = Some (Check (check_in Byte))
 form_of name.Check16 words = Some (Check (check_in Word))
 form_of name.Compile words = Some (Compile (compile_in Byte))
@@ -38,6 +42,7 @@ form_of name.Run16 words = option_map Run (run_in Word words)
 -- the words that name the files to read, in order
 unfoldable pub inputs_of : Command → List ℕ
 inputs_of Asm = asm_inputs
+inputs_of (Certify certify) = certify_inputs
 inputs_of (Check check) = check_inputs
 inputs_of (Compile compile) = compile_inputs
 inputs_of (Exec exec) = exec_inputs
@@ -46,6 +51,7 @@ inputs_of (Run run) = run_inputs
 -- what the command makes of the contents of its files
 unfoldable pub Makes : Command → List (List ℕ) → Result Deed Status → Type 0
 Makes Asm contents r = AsmMakes (content_at contents 0) r
+Makes (Certify certify) contents r = CertifyMakes certify (content_at contents 0) r
 Makes (Check check) contents r = CheckMakes check (content_at contents 0) (content_at contents 1) r
 Makes (Compile compile) contents r = CompileMakes compile (content_at contents 0) r
 Makes (Exec exec) contents r = ExecMakes exec (content_at contents 0) r

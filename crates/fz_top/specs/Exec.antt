@@ -1,9 +1,6 @@
 -- The command `exec IMAGE STEPS FLAGS`.
-use Rattle.std.specs.Prelude.{◌≡◌, ℕ, ◌&&◌, nat_le, nat_lt, if◌then◌else◌, List, [], ◌∷◌, ◌++◌, length, codes}
+use Rattle.std.specs.Prelude.{◌≡◌, ℕ, List, [], ◌∷◌, ◌++◌, codes}
 use Rattle.std.specs.Prelude.{Option, Some, None, option_and_then, option_map, Result, Ok, Err}
-use Rattle.std.specs.Char.{is_ascii_digit}
-use Rattle.std.specs.List.{list_all}
-use Rattle.std.specs.Str.Parse.{digits_value}
 use Rattle.cpu12_asm.specs.declared.image.Image.{Image}
 use Rattle.cpu12_isa.specs.declared.instr.Regs.{Regs}
 use Rattle.cpu12_parts.specs.State.{State}
@@ -19,17 +16,10 @@ use Rattle.fz_top.specs.Images.{records_refusals}
 use Rattle.fz_top.specs.Lines.{line}
 use Rattle.fz_status.specs.Refusals.{Refusals, Refuses}
 use Rattle.fz_status.specs.Words.{Text, word_at}
-use Rattle.fz_top.specs.Words.{flags_of}
+use Rattle.fz_top.specs.Words.{flags_of, number_of}
 use Rattle.fz_top.specs.declared.exec.Exec.{Exec}
 use Rattle.fz_status.specs.declared.status.Status.{Status}
 use Rattle.fz_status.specs.declared.status.Status.TheVariants as status
-
--- one or more decimal digits, of a number up to 1000000
-abbrev pub steps_of : Text → Option ℕ
-steps_of text =
-    if nat_lt 0 (length text) && (list_all is_ascii_digit text && nat_le (digits_value 10 text) 1000000)
-    then Some (digits_value 10 text)
-    else None
 
 abbrev pub exec_with : ℕ → ℕ → Exec
 exec_with steps flags = record { steps = steps; flags = flags }
@@ -37,7 +27,7 @@ exec_with steps flags = record { steps = steps; flags = flags }
 -- the command of the words, where the last two are of the forms of STEPS and FLAGS
 abbrev pub exec_in : List Text → Option Exec
 exec_in words =
-    option_and_then (λ steps. option_map (exec_with steps) (flags_of (word_at words 4))) (steps_of (word_at words 3))
+    option_and_then (λ steps. option_map (exec_with steps) (flags_of (word_at words 4))) (number_of (word_at words 3))
 
 -- IMAGE
 abbrev pub exec_inputs : List ℕ

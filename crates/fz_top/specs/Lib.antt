@@ -1,6 +1,7 @@
 pub mod Accepted
 pub mod Asm
 pub mod CertifiedRun
+pub mod Certify
 pub mod Certs
 pub mod Check
 pub mod Commands

@@ -12,6 +12,7 @@ ghost use Rattle.fz_top.specs.Commands.{IsUsage, Makes, command_in, form_of, inp
 ghost use Rattle.fz_top.specs.Deeds.{IsResultOf};
 
 use crate::asm;
+use crate::certify::{self, Certify};
 use crate::check::{self, Check};
 use crate::compile::{self, Compile};
 use crate::exec::{self, Exec};
@@ -27,6 +28,8 @@ use std::alloc::Global;
 #[derive(Clone, Copy)]
 pub(crate) enum Name {
     Asm,
+    Certify,
+    Certify16,
     Check,
     Check16,
     Compile,
@@ -37,8 +40,10 @@ pub(crate) enum Name {
 }
 
 /// The commands by their names on the command line, each with the number of words that follow.
-static COMMANDS: [(&str, usize, Name); 8] = [
+static COMMANDS: [(&str, usize, Name); 10] = [
     ("asm", 2, Name::Asm),
+    ("certify", 3, Name::Certify),
+    ("certify16", 3, Name::Certify16),
     ("check", 2, Name::Check),
     ("check16", 2, Name::Check16),
     ("compile", 2, Name::Compile),
@@ -53,6 +58,8 @@ static COMMANDS: [(&str, usize, Name); 8] = [
 pub enum Command {
     /// `asm SRC OUT`
     Asm,
+    /// `certify FCL TARGET OUT`, and `certify16 FCL TARGET OUT`
+    Certify(Certify),
     /// `check FCL CERT`, and `check16 FCL CERT`
     Check(Check),
     /// `compile FCL OUT`, and `compile16 FCL OUT`
@@ -70,6 +77,8 @@ fn formed(name: Name, words: &[String]) -> Option<Command>
 {
     match name {
         Name::Asm => Some(Command::Asm),
+        Name::Certify => Certify::of(Width::Byte, words).map(Command::Certify),
+        Name::Certify16 => Certify::of(Width::Word, words).map(Command::Certify),
         Name::Check => Some(Command::Check(Check { width: Width::Byte })),
         Name::Check16 => Some(Command::Check(Check { width: Width::Word })),
         Name::Compile => Some(Command::Compile(Compile { width: Width::Byte })),
@@ -88,6 +97,7 @@ impl Command {
     {
         match self {
             Command::Asm => asm::INPUTS.as_slice(),
+            Command::Certify(_) => certify::INPUTS.as_slice(),
             Command::Check(_) => check::INPUTS.as_slice(),
             Command::Compile(_) => compile::INPUTS.as_slice(),
             Command::Exec(_) => exec::INPUTS.as_slice(),
@@ -103,6 +113,7 @@ impl Command {
     {
         match self {
             Command::Asm => asm::work(alloc, content(contents, 0)),
+            Command::Certify(certify) => certify.work(alloc, content(contents, 0)),
             Command::Check(check) => check.work(alloc, content(contents, 0), content(contents, 1)),
             Command::Compile(compile) => compile.work(alloc, content(contents, 0)),
             Command::Exec(exec) => exec.work(alloc, content(contents, 0)),

@@ -1,16 +1,14 @@
 //! The command `exec IMAGE STEPS FLAGS`.
 ghost use Rattle.std.specs.Prelude.{◌≡◌, ◌≤◌, ◌++◌, length, string_bytes, IfOk, OnOk};
-ghost use Rattle.std.specs.Char.{is_ascii_digit};
-ghost use Rattle.std.specs.List.{list_all};
 ghost use Rattle.fz_shelf.specs.Lines.{text_of};
 ghost use Rattle.fz_shelf.specs.Parts.{byte_digits};
 ghost use Rattle.fz_top.specs.Deeds.{IsResultOf};
-ghost use Rattle.fz_top.specs.Exec.{ExecMakes, exec_in, exec_line, steps_of};
+ghost use Rattle.fz_top.specs.Exec.{ExecMakes, exec_in, exec_line};
 ghost use Rattle.fz_status.specs.Words.{texts_of};
 
 use crate::images::image_of;
 use crate::lines::push_address;
-use crate::words::flags;
+use crate::words::{flags, number_in};
 use crate::work::Work;
 use cpu12_asm::Image;
 use cpu12_emul::ends::RunEnd;
@@ -33,42 +31,19 @@ pub struct Exec {
 /// The word IMAGE.
 pub(crate) static INPUTS: [u32; 1] = [2];
 
-/// The most steps that the words may ask for.
-const MOST_STEPS: u32 = 1_000_000;
-
-fn are_digits(text: &str) -> bool
-    ensures { result ≡ list_all is_ascii_digit text.now }
-{
-    text.as_bytes().iter().all(|b| b.is_ascii_digit())
-}
-
-/// The number of one or more decimal digits, up to 1000000.
-fn steps(text: &str) -> Option<u32>
-    ensures { result ≡ steps_of text.now }
-{
-    if !are_digits(text) {
-        return None;
-    }
-    let Ok(steps) = text.parse::<u32>() else {
-        return None;
-    };
-    if steps <= MOST_STEPS {
-        Some(steps)
-    } else {
-        None
-    }
-}
-
 impl Exec {
     /// The command of these words.
     pub(crate) fn of(words: &[String]) -> Option<Exec>
         ensures { result ≡ exec_in (texts_of words.now) }
     {
-        let Some(steps) = steps(word(words, 3)) else {
+        let Some(steps) = number_in(word(words, 3)) else {
             return None;
         };
         match flags(word(words, 4)) {
-            Some(flags) => Some(Exec { steps, flags }),
+            Some(flags) => Some(Exec {
+                steps: steps.get(),
+                flags,
+            }),
             None => None,
         }
     }

@@ -4,6 +4,7 @@ ghost use Rattle.fz_top.specs.Runs.{DeedsHaveNoFault};
 use cert_check::{same_blocks_answer_alike, text_answers_are_one};
 use codegen::firmwares_are_one;
 use cpu12_emul::laws::{images_load_alike, runs_end_once};
+use error_certifier::{answers_are_one, same_blocks_stop_alike};
 use fcl_check::{load_faults_are_one, spelled_blocks_are_one};
 use fcl_syntax::first_faults_are_one;
 use interrupt_plan::spelled_plans_have_no_fault;
@@ -26,6 +27,8 @@ pub(crate) fn deeds_have_no_fault()
     images_load_alike();
     runs_end_once();
     firmwares_are_one();
+    answers_are_one();
+    same_blocks_stop_alike();
     spelled_plans_have_no_fault();
     spelled_traces_have_no_fault()
 }

@@ -10,6 +10,7 @@
 #![tactic(auto)]
 
 mod asm;
+mod certify;
 mod certs;
 mod check;
 mod command;
@@ -27,9 +28,11 @@ mod run_lines;
 mod words;
 mod work;
 
+pub use certify::Certify;
 pub use check::Check;
 pub use command::Command;
 pub use compile::Compile;
+pub use error_certifier::NotReached;
 pub use exec::Exec;
 pub use fz_status::{CertRefusal, FclFault, ImageFault, Status};
 pub use program::fuzz12;

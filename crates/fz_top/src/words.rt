@@ -1,6 +1,10 @@
 //! The forms that words may have.
-ghost use Rattle.std.specs.Prelude.{◌≡◌};
-ghost use Rattle.fz_top.specs.Words.{flags_of};
+ghost use Rattle.std.specs.Prelude.{◌≡◌, ◌≤◌};
+ghost use Rattle.std.specs.Char.{is_ascii_digit};
+ghost use Rattle.std.specs.List.{list_all};
+ghost use Rattle.fz_top.specs.Words.{flags_of, number_of};
+
+use std::marker::Model;
 
 /// Two hexadecimal digits, in either case.
 pub(crate) fn flags(text: &str) -> Option<u8>
@@ -10,5 +14,58 @@ pub(crate) fn flags(text: &str) -> Option<u8>
     match hex::decode_to_slice(text, &mut out) {
         Ok(()) => Some(out[0]),
         Err(_) => None,
+    }
+}
+
+/// The greatest number that words may ask for.
+const MOST: u32 = 1_000_000;
+
+/// A number up to 1000000, which a contract sees as that number.
+#[derive(Clone, Copy, Debug, PartialEq, Eq)]
+pub(crate) struct Number {
+    number: u32,
+}
+
+impl Model for Number {
+    ghost use Rattle.std.specs.Prelude.{ℕ, ◌≤◌};
+
+    ghost Value = { ℕ };
+
+    ghost view = { λ n. n.number };
+
+    ghost invariant = { λ n. n.number ≤ 1000000 };
+
+    ghost inverse = { λ n. record { number = n } };
+}
+
+impl Number {
+    pub(crate) fn get(self) -> u32
+        ensures value { result ≡ self }
+        ensures few { result ≤ 1000000 }
+    {
+        self.number
+    }
+}
+
+fn are_digits(text: &str) -> bool
+    ensures { result ≡ list_all is_ascii_digit text.now }
+{
+    text.as_bytes().iter().all(|b| b.is_ascii_digit())
+}
+
+/// The number of one or more decimal digits, up to 1000000.
+pub(crate) fn number_in(text: &str) -> Option<Number>
+    ensures { result ≡ number_of text.now }
+{
+    if !are_digits(text) {
+        return None;
+    }
+    let Ok(number) = text.parse::<u32>() else {
+        return None;
+    };
+    if number <= MOST {
+        Some(Number { number })
+    } else {
+        None
     }
 }

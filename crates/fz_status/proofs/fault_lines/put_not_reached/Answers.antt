@@ -1,0 +1,5 @@
+use Rattle.fz_status.proofs.fault_lines.put_not_reached.Goals as goal
+
+pub returns-in-Cell : goal.returns-in-Cell
+returns-in-Cell g c =
+    rw (c.in-Cell.is, ← c.as_slice.ensures.value, ← c.from.ensures, ← c.from-in-Cell.ensures) c.put.ensures
