@@ -136,7 +136,7 @@ module _ (first : FirstFaultsAreOne) (load : LoadFaultsAreOne) (alike : SpelledB
       → NoneRefuses (certify_refusals certify text)
   certify_stands certify text deed gives (status.Fcl f) is =
       text_apart text gives.block gives.gives.spelled gives.gives.limits f is.0 is.1
-  certify_stands certify text deed gives (status.NotReached stop) (carries, other, others, gives_other, stops) =
+  certify_stands certify text deed gives (status.NotReached stop) (carries, (other, others, gives_other, stops)) =
       let h = parts certify.width in
       let here = stop_alike other gives.block h certify.target stop (alike text other gives.block gives_other.spelled gives.gives.spelled) stops.stops in
       let halved : Result Cert NotReached = Ok gives.cert in

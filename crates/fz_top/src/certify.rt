@@ -55,7 +55,8 @@ impl Certify {
         requires { length fcl.now ≤ 1048576 }
         ensures { IsResultOf (CertifyMakes self fcl.now) result }
     {
-        let compiled = match firmware_of(alloc, self.width, fcl) {
+        let width = self.width;
+        let compiled = match firmware_of(alloc, width, fcl) {
             Ok(compiled) => compiled,
             Err(status) => return Err(status),
         };
@@ -63,7 +64,7 @@ impl Certify {
             Ok(cert) => cert,
             Err(status) => return Err(status),
         };
-        let text = match text_of_cert(alloc, self.width, &cert) {
+        let text = match text_of_cert(alloc, width, &cert) {
             Ok(text) => text,
             Err(status) => return Err(status),
         };
@@ -131,8 +132,10 @@ fn lines(alloc: Global, cert: &Cert) -> Result<Vec<String>, AllocError>
     ensures { IfOk result (λ lines. text_of lines.items ≡
         certify_lines cert.now.claims (leaf_count cert.now.nodes)) }
 {
+    let errors = cert.claims.as_slice();
+    let nodes = cert.nodes.as_slice();
     let mut lines = Vec::new(alloc);
-    push_errors(alloc, &mut lines, cert.claims.as_slice())?;
-    lines.push(labelled(alloc, "leaves ", count_of_leaves(cert.nodes.as_slice()))?)?;
+    push_errors(alloc, &mut lines, errors)?;
+    lines.push(labelled(alloc, "leaves ", count_of_leaves(nodes))?)?;
     Ok(lines)
 }
