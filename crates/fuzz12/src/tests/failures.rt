@@ -273,9 +273,11 @@ fn short_puts(rt: &impl Abort, alloc: Global, wide: &[u8], command: &Accepted) -
         puts: &[4],
         ..NONE
     };
+    let left = Left::Broken(command.start);
     let broken = Outcome {
-        left: Left::Broken(command.start),
-        ..whole
+        left,
+        reads: command.reads.len(),
+        out: &out,
     };
     case(rt, alloc, wide, command.line, &faults, &broken)
 }
@@ -304,7 +306,8 @@ fn failing_err(
     };
     let part = Outcome {
         left: Left::Refused(2, "read fault: "),
-        ..nothing
+        reads: 1,
+        out: BEFORE.as_bytes(),
     };
     case(rt, alloc, wide, command.line, &second, &part)
 }
