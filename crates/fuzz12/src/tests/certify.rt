@@ -1,6 +1,6 @@
 //! Certificates that are found, and targets that are not reached.
 use super::texts::{BACK, BLOCK, FRONT, LATCH, MIDDLE};
-use super::{Left, NONE, USAGE, call, push_file, push_room, shelf_of};
+use super::{BEFORE, Left, NONE, USAGE, call, push_file, push_room, shelf_of};
 use fz_shelf::Shelf;
 use std::test::Fail;
 
@@ -39,14 +39,14 @@ static SEARCHES: [Search; 9] = [
     Search {
         target: "5000",
         left: Left::Refused(8, "not reached: cell 0 output 1 bound 11765\n"),
-        out: "",
+        out: BEFORE,
         ..HEATER
     },
     Search {
         fcl: &[FRONT, "50", MIDDLE, BACK],
         target: "1000000",
         left: Left::Refused(8, "not reached: cell 254 output 1 bound 1000001\n"),
-        out: "",
+        out: BEFORE,
         ..HEATER
     },
     Search {
@@ -59,19 +59,19 @@ static SEARCHES: [Search; 9] = [
     Search {
         fcl: &[],
         left: Left::Refused(4, "fcl: at 0: expected\n"),
-        out: "",
+        out: BEFORE,
         ..HEATER
     },
     Search {
         target: "1000001",
         left: USAGE,
-        out: "",
+        out: BEFORE,
         ..HEATER
     },
     Search {
         target: "1e4",
         left: USAGE,
-        out: "",
+        out: BEFORE,
         ..HEATER
     },
 ];

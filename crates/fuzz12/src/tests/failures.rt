@@ -33,7 +33,7 @@ struct Accepted {
     start: &'static str,
 }
 
-static COMMANDS: [Accepted; 8] = [
+static COMMANDS: [Accepted; 10] = [
     Accepted {
         line: &["fuzz12", "asm", "small.asm", "out"],
         reads: &["small.asm"],
@@ -109,6 +109,20 @@ static COMMANDS: [Accepted; 8] = [
             "sample 1 bytes 64 answers 16384 instructions 31 steps 39 resumed 0 frames 0\n",
             "left 208\n",
         ],
+        start: "err",
+    },
+    Accepted {
+        line: &["fuzz12", "certify", "a.fcl", "20000", "out"],
+        reads: &["a.fcl"],
+        writes: true,
+        lines: &["error 1 19609\n", "leaves 2\n"],
+        start: "err",
+    },
+    Accepted {
+        line: &["fuzz12", "certify16", "a.fcl", "15702", "out"],
+        reads: &["a.fcl"],
+        writes: true,
+        lines: &["error 1 15702\n", "leaves 2\n"],
         start: "err",
     },
 ];
