@@ -21,6 +21,3 @@ pub use laws::{cert_texts_are_sound, certs_are_one, faults_are_one, open_boxes_g
 pub use lines::Lines;
 pub use reader::{read, read16};
 pub use writer::{write, write16};
-
-#[cfg(test)]
-mod tests;

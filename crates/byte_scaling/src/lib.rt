@@ -17,6 +17,3 @@ pub use inputs::{
 };
 pub use outputs::{near, nearest_is_byte, value, value16};
 pub use weights::weight_byte;
-
-#[cfg(test)]
-mod tests;

@@ -26,6 +26,3 @@ pub use laws::{
 };
 pub use same_leaves::{same_blocks_have_best_leaves, same_blocks_have_bounds};
 pub use text::{TextFault, check_text, check_text16};
-
-#[cfg(test)]
-mod tests;

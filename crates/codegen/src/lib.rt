@@ -25,6 +25,3 @@ pub use laws::{
 };
 pub use layout::Layout;
 pub use width::Width;
-
-#[cfg(test)]
-mod tests;

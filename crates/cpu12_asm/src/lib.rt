@@ -18,8 +18,6 @@ mod lines;
 mod operands;
 mod sources;
 mod statements;
-#[cfg(test)]
-mod tests;
 mod values;
 
 pub use image::{ByteMap, Image};

@@ -13,5 +13,3 @@ pub mod laws;
 pub mod load;
 pub mod machine;
 pub mod run;
-#[cfg(test)]
-mod tests;

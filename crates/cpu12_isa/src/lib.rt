@@ -22,5 +22,3 @@ pub mod mnemonic;
 pub mod pages;
 pub mod regs;
 pub mod stack;
-#[cfg(test)]
-mod vectors;

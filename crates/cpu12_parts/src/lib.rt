@@ -10,6 +10,4 @@ pub mod executions;
 pub mod laws;
 pub mod rules;
 pub mod temps;
-#[cfg(test)]
-mod tests;
 pub mod wav;

@@ -31,6 +31,3 @@ pub use laws::{
 pub use leaves::{is_pair_for, leaf_bound, leaf_bound16};
 pub use rules::BoxTable;
 pub use tables::BlockCells;
-
-#[cfg(test)]
-mod tests;

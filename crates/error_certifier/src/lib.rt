@@ -15,6 +15,3 @@ mod leaves;
 
 pub use certifier::{NotReached, certify, certify16};
 pub use laws::{answers_are_one, cells_are_out_of_reach, same_blocks_stop_alike};
-
-#[cfg(test)]
-mod tests;

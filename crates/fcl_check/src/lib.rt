@@ -29,6 +29,3 @@ pub use laws::{
     places_ascend, spelled_blocks_are_one, spelled_blocks_are_valid, spelled_trees_have_blocks,
 };
 pub use loading::load;
-
-#[cfg(test)]
-mod tests;

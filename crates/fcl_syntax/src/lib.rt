@@ -31,6 +31,3 @@ pub use tree::{
     Label, Name, Not, Number, Operand, Or, Part, Point, Range, Rule, RuleLine, Rulebase, Setting,
     SignedNumber, Singleton, Term, Tree, UnitNumber, Variables, Weight, ZeroNumber,
 };
-
-#[cfg(test)]
-mod tests;

@@ -21,6 +21,3 @@ pub use examples::{examples_are_valid, heater};
 pub use laws::parts_are_valid;
 pub use masses::{concludes, mass, strength};
 pub use truths::truth;
-
-#[cfg(test)]
-mod tests;

@@ -133,6 +133,3 @@ fn with_digits(from: u64, digits: &[u8]) -> u64
     }
     n
 }
-
-#[cfg(test)]
-mod tests;

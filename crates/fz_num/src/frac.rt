@@ -131,6 +131,3 @@ impl Frac {
         self.num as u128 * other.den as u128
     }
 }
-
-#[cfg(test)]
-mod tests;

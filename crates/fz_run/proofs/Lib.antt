@@ -4,7 +4,6 @@ pub mod PortBytes
 pub mod Arrivals
 pub mod PlanSlices
 pub mod RowSteps
-pub mod GoodPlans
 pub mod Stretches
 pub mod Stretching
 pub mod PlainSteps

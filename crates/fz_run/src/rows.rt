@@ -145,6 +145,3 @@ pub(crate) fn copy_of(bytes: &[u8]) -> ArrayVec<u8, 8>
     copy.try_extend_from_slice(bytes).unwrap();
     copy
 }
-
-#[cfg(test)]
-mod tests;

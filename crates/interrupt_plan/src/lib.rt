@@ -63,6 +63,3 @@ pub fn no_interrupts(alloc: Global) -> Plan
 {
     List::new(Vec::new(alloc))
 }
-
-#[cfg(test)]
-mod tests;

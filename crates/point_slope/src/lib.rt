@@ -12,6 +12,3 @@ mod rows;
 pub use answers::answers_are_in_range;
 pub use grades::grade;
 pub use rows::{row, slope, table};
-
-#[cfg(test)]
-mod tests;

@@ -13,7 +13,5 @@ pub mod LayoutLemmas
 pub mod TruthLemmas
 pub mod MassLemmas
 pub mod LaidOutLemmas
-pub mod ExampleLemmas
 pub mod PlaceLemmas
-pub mod WidestLemmas
 pub mod AlikeLemmas

@@ -8,7 +8,5 @@ pub mod Sizes
 pub mod Tables
 pub mod Truths
 pub mod Masses
-pub mod Examples
 pub mod Steps
 pub mod Numbers
-pub mod Widest

@@ -23,8 +23,3 @@ pub use laws::{
     layout_law, layouts_are_one, limits_have_no_fault, mass_law, slot_number_laws, spreading_law,
 };
 pub use layout::spread;
-
-#[cfg(test)]
-mod slot_tests;
-#[cfg(test)]
-mod tests;

@@ -19,6 +19,3 @@ pub use fault::SrecFault;
 pub use laws::{each_text_is_judged, faults_are_one, images_are_one, images_have_few_records};
 pub use reader::read;
 pub use writer::write;
-
-#[cfg(test)]
-mod tests;

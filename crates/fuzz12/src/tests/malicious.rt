@@ -48,6 +48,11 @@ const SAMPLE: &str = "sample 1 bytes 64 answers 64 instructions 28 steps 36 resu
 
 const RAN: Leaves = Leaves::Lines(&[(BOUNDS, 1), (SAMPLE, 1), ("0\nleft 208\n", 1)]);
 
+const COLD_TERM: &str = "t IS cold";
+
+const OFF: &str =
+    " THEN power IS off;\nRULE 2 : IF t IS hot THEN power IS on;\nEND_RULEBLOCK\nEND_FUNCTION_BLOCK\n";
+
 const CHECK: Given = Given {
     line: &["fuzz12", "check", "text", "cert"],
     left: Leaves::Lines(&[(BOUNDS, 1)]),
@@ -65,7 +70,7 @@ const ASM: Given = Given {
     ..RUN
 };
 
-static BLOCKS: [Given; 8] = [
+static BLOCKS: [Given; 10] = [
     Given {
         text: &[(BLOCK, 1), (" ", 1_048_202)],
         ..CHECK
@@ -91,6 +96,28 @@ static BLOCKS: [Given; 8] = [
         ..CHECK
     },
     Given {
+        text: &[
+            (FRONT, 1),
+            (OPENED, 1),
+            ("(", 64),
+            (COLD_TERM, 1),
+            (")", 64),
+            (OFF, 1),
+        ],
+        ..CHECK
+    },
+    Given {
+        text: &[
+            (FRONT, 1),
+            (OPENED, 1),
+            ("NOT (", 32),
+            (COLD_TERM, 1),
+            (")", 32),
+            (OFF, 1),
+        ],
+        ..CHECK
+    },
+    Given {
         text: &[(FRONT, 1), (OPENED, 1), ("(", 1000)],
         left: Leaves::Refused(4, "fcl: at 337: too deep\n"),
         ..CHECK
@@ -111,7 +138,7 @@ static BLOCKS: [Given; 8] = [
         text: &[
             (FRONT, 1),
             ("0; END_DEFUZZIFY\nRULEBLOCK r\n", 1),
-            ("RULE 1 : IF t IS cold THEN power IS off;\n", 300),
+            ("RULE 1 : IF t IS cold THEN power IS off;\n", 25_000),
             ("RULE 1 : IF t IS cold THEN power IS off", 1),
             (BACK, 1),
         ],

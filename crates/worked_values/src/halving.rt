@@ -1,0 +1,31 @@
+//! The heater's certificates, worked by hand.
+use box_tree::{write, write16};
+use error_certifier::{NotReached, certify, certify16};
+use fuzzy_meaning::heater;
+use std::test::Fail;
+
+#[test]
+fn a_heater_is_halved_once(rt: HostRuntime) -> Result<(), Fail> {
+    let alloc = rt.alloc();
+    let block = heater(alloc)?;
+    let cert = certify(alloc, &block, 20_000)?;
+    let text = b"FZC 1\nclaim 19609\nsplit 1 128\nleaf 1 127\nleaf 2 127\n";
+    assert!(rt; write(alloc, &cert)?.as_slice() == text.as_slice());
+    let cert = certify16(alloc, &block, 16_000)?;
+    let text = b"FZC 2\nclaim 15702\nsplit 1 128\nleaf 1 127\nleaf 2 127\n";
+    assert!(rt; write16(alloc, &cert)?.as_slice() == text.as_slice());
+    Ok(())
+}
+
+#[test]
+fn a_cell_above_the_target_is_told(rt: HostRuntime) -> Result<(), Fail> {
+    let block = heater(rt.alloc())?;
+    match certify(rt.alloc(), &block, 5_000) {
+        Err(NotReached::Cell(bytes, output, bound)) => {
+            assert!(rt; bytes.as_slice() == [0].as_slice());
+            assert!(rt; output == 1 && bound == 11_765);
+            Ok(())
+        }
+        _ => Err(Fail::new("no cell")),
+    }
+}

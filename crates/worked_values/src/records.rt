@@ -1,0 +1,81 @@
+//! Records and images.
+use cpu12_asm::{ByteMap, Image};
+use srecord::{SrecFault, read, write};
+use std::alloc::{AllocError, Global};
+use std::test::Fail;
+
+fn put(bytes: &mut ByteMap, at: u16, new: &[u8]) -> Result<(), AllocError> {
+    let mut next = at;
+    for byte in new {
+        bytes.insert(next, *byte)?;
+        next = next.wrapping_add(1);
+    }
+    Ok(())
+}
+
+/// The first and the last record of bytes of a run of 33, and the count.
+#[test]
+fn a_run_is_cut_at_32(rt: HostRuntime) -> Result<(), Fail> {
+    let mut bytes = ByteMap::new(rt.alloc());
+    put(&mut bytes, 0xC000, &[0; 33])?;
+    let image = Image { bytes, start: 0 };
+    let text = write(rt.alloc(), &image)?;
+    let end: &[u8] = b"00001C\nS104C020001B\nS5030002FA\nS9030000FC\n";
+    assert!(rt; text.ends_with(end));
+    Ok(())
+}
+
+/// How many bytes and which start a text gives, or its first fault.
+fn read_from(alloc: Global, text: &[u8]) -> Option<Result<(usize, u16), SrecFault>> {
+    if text.len() > 1_048_576 {
+        return None;
+    }
+    Some(read(alloc, text).map(|image| (image.bytes.len(), image.start)))
+}
+
+const GOOD: [(&[u8], (usize, u16)); 5] = [
+    (b"S903C0003C\n", (0, 0xC000)),
+    (b"s108c00086054120fe4d\r\ns903c0003c\r\n", (5, 0xC000)),
+    (b"S104FFFF00FD\nS5030001FB\nS9030000FC", (1, 0)),
+    (b"S1031234B6\nS5030001FB\nS5030001FB\nS9030000FC\n", (0, 0)),
+    (b"S5030000FC\nS0030000FC\nS0030000FC\nS9030000FC\n", (0, 0)),
+];
+
+#[test]
+fn images(rt: HostRuntime) {
+    for (text, want) in GOOD {
+        assert!(rt; read_from(rt.alloc(), text) == Some(Ok(want)), "{text:?}");
+    }
+}
+
+const BAD: [(&[u8], SrecFault); 19] = [
+    (b"S0030000FC\n", SrecFault::NoEnd),
+    (b"S2", SrecFault::Wide(1)),
+    (b"s3xyz", SrecFault::Wide(1)),
+    (b"S0030000FC\nS70500000000FA", SrecFault::Wide(2)),
+    (b"S804000000FB", SrecFault::Wide(1)),
+    (b"\n", SrecFault::BadLine(1)),
+    (b"S", SrecFault::BadLine(1)),
+    (b"S403C0003C", SrecFault::BadLine(1)),
+    (b"S603C0003C", SrecFault::BadLine(1)),
+    (b"S904C0003B", SrecFault::BadLine(1)),
+    (b"S904C000003B", SrecFault::BadLine(1)),
+    (b"S504000000FB", SrecFault::BadLine(1)),
+    (b"S903C0003C\r", SrecFault::BadLine(1)),
+    (b"S903C0003C ", SrecFault::BadLine(1)),
+    (
+        b"S104C000013A\nS105BFFF02033A",
+        SrecFault::BadSum(2, 0x3A, 0x37),
+    ),
+    (b"S104C000013A\nS105BFFF020337", SrecFault::Overlap(2)),
+    (b"S5030002FA\nS9030000FC", SrecFault::CountDiffers(2, 0)),
+    (b"S903C0003C\nS2\n", SrecFault::AfterEnd(2)),
+    (b"S903C0003C\nS903C0003C", SrecFault::AfterEnd(2)),
+];
+
+#[test]
+fn faults(rt: HostRuntime) {
+    for (text, want) in BAD {
+        assert!(rt; read_from(rt.alloc(), text) == Some(Err(want)), "{text:?}");
+    }
+}
