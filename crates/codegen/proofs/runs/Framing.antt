@@ -37,6 +37,7 @@ use Rattle.codegen.proofs.runs.Calling.{HasRoutine, IsCalled, Back, called}
 -- the code around EVAL
 pub record HasFrame (c : Ctx) : Type 0 where
   pub ready : c.layout.ready < c.layout.inputs
+  pub samples : c.layout.samples ≡ c.layout.inputs
   pub low : 0x2000 ≤ c.layout.wait
   pub high : c.layout.wait + 40 < 65536
   pub load : decode_at c.image c.layout.wait ≡ Ok (LdaaExtended c.layout.ready)
@@ -151,20 +152,20 @@ leave_run c s f low l ep =
     record { t = s2; goes = goes_on c 1 0 1 0 s s1 s2 (goes_one c s s1 _ n1) (goes_one c s1 s2 _ n2); live = n2.live; pc_is = n2.pc_is ∙ omega arith; sp_is = refl; mem_is = refl }
 
 -- the state with a sample's bytes and READY
-pub given_live : (c : Ctx) (bytes : List ℕ) (s : State) → Live c s → All (λ v. v < 2 ^ 8) bytes → c.layout.inputs + length bytes ≤ 0x1800
+pub given_live : (c : Ctx) (bytes : List ℕ) (s : State) → Live c s → All (λ v. v < 2 ^ 8) bytes → c.layout.samples + length bytes ≤ 0x1800
     → c.layout.ready < 0x1800 → Live c (given c.layout bytes s)
 given_live c bytes s l fit le low =
-    let m = put s.mem c.layout.inputs bytes in
-    let lm : length m ≡ 65536 = length-put s.mem c.layout.inputs bytes ∙ l.size in
+    let m = put s.mem c.layout.samples bytes in
+    let lm : length m ≡ 65536 = length-put s.mem c.layout.samples bytes ∙ l.size in
     let ls = l.size in
     record {
       temps = l.temps;
       size = length-set m c.layout.ready 1 ∙ lm;
-      bytes = bytes_after_set m c.layout.ready 1 (bytes_after_put s.mem c.layout.inputs bytes l.bytes fit (omega arith)) (omega arith) (omega arith);
+      bytes = bytes_after_set m c.layout.ready 1 (bytes_after_put s.mem c.layout.samples bytes l.bytes fit (omega arith)) (omega arith) (omega arith);
       fits = l.fits;
       stack = l.stack;
       unmasked = l.unmasked;
-      same = high_set c.image m c.layout.ready 1 (omega arith) (high_put c.image s.mem c.layout.inputs bytes (omega arith) l.same);
+      same = high_set c.image m c.layout.ready 1 (omega arith) (high_put c.image s.mem c.layout.samples bytes (omega arith) l.same);
     }
 
 -- one sample
@@ -266,14 +267,16 @@ sample_run c b w bytes before s h i home =
     let a4 = h.apart.slots in
     let s0 = given c.layout bytes s in
     let l0 = given_live c bytes s home.live i.fit (omega arith) (omega arith) in
-    let m = put s.mem c.layout.inputs bytes in
+    let at = h.frame.samples in
+    let m = put s.mem c.layout.samples bytes in
     let ls = home.live.size in
-    let lm : length m ≡ 65536 = length-put s.mem c.layout.inputs bytes ∙ home.live.size in
+    let lm : length m ≡ 65536 = length-put s.mem c.layout.samples bytes ∙ home.live.size in
     let er : get_or s0.mem c.layout.ready 0 ≡ 1 = get_or-set_same m c.layout.ready 1 0 (omega arith) in
     let hi : HasBytes s0.mem c.layout.inputs bytes =
-    bytes_set_out m c.layout.ready 1 c.layout.inputs bytes (inr (omega arith)) (has_put s.mem c.layout.inputs bytes (omega arith)) in
+    bytes_set_out m c.layout.ready 1 c.layout.inputs bytes (inr (omega arith)) (subst (λ (p : ℕ). HasBytes m p bytes) at (has_put s.mem c.layout.samples bytes (omega arith))) in
     let ho : HasAnswers c.layout b w before s0.mem = λ o lo le.
-    (let at = c.layout.outputs + places w * (o - 1) in
+    (let where_from = h.frame.samples in
+    let at = c.layout.outputs + places w * (o - 1) in
     let vs = bytes_of w (before o) in
-    bytes_set_out m c.layout.ready 1 at vs (inr (omega arith)) (bytes_put_out s.mem c.layout.inputs bytes at vs (inr (omega arith)) (home.outs o lo le))) in
+    bytes_set_out m c.layout.ready 1 at vs (inr (omega arith)) (bytes_put_out s.mem c.layout.samples bytes at vs (inr (omega arith)) (home.outs o lo le))) in
     evaluated c b w bytes before s0 h i l0 hi ho (call_run c s0 h.frame (omega arith) l0 home.pc_is home.sp_is er)

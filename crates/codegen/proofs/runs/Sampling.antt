@@ -5,11 +5,12 @@ use Rattle.cpu12_parts.specs.State.{State}
 use Rattle.codegen.specs.declared.width.Width.{Width}
 use Rattle.codegen.specs.Widths.{answer}
 use Rattle.codegen.specs.Firing.{AreInputBytes}
+use Rattle.codegen.specs.Bounds.{instruction_bound}
 use Rattle.codegen.specs.Answers.{given, IsAnswered, AreAnswered}
 use Rattle.codegen.proofs.runs.Stepping.{Ctx, interruptible_of}
 use Rattle.codegen.proofs.runs.Framing.{Home, Samples, Sampled, sample_run, waits}
 
-answered : (c : Ctx) (b : Block) (w : Width) (bytes : List ℕ) (before : ℕ → ℕ) (s : State) → Samples c b w → (r : Sampled c b w bytes before (given c.layout bytes s)) → IsAnswered c.layout b w c.image c.flags before bytes s r.t
+answered : (c : Ctx) (b : Block) (w : Width) (bytes : List ℕ) (before : ℕ → ℕ) (s : State) → Samples c b w → (r : Sampled c b w bytes before (given c.layout bytes s)) → IsAnswered c.layout b w (instruction_bound w b) c.image c.flags before bytes s r.t
 answered c b w bytes before s h r =
     let lo = h.frame.low in
     let hi = h.frame.high in
@@ -24,7 +25,7 @@ answered c b w bytes before s h r =
       steps = r.steps;
     }
 
-pub are_answered : (c : Ctx) (b : Block) (w : Width) (samples : List (List ℕ)) (before : ℕ → ℕ) (s : State) → Samples c b w → Home c b w before s → All (AreInputBytes b) samples → AreAnswered c.layout b w c.image c.flags before samples s
+pub are_answered : (c : Ctx) (b : Block) (w : Width) (samples : List (List ℕ)) (before : ℕ → ℕ) (s : State) → Samples c b w → Home c b w before s → All (AreInputBytes b) samples → AreAnswered c.layout b w (instruction_bound w b) c.image c.flags before samples s
 are_answered c b w [] before s h home all = tt
 are_answered c b w (bytes ∷ samples) before s h home all =
     let r = sample_run c b w bytes before s h (all 0 bytes (omega arith)) home in

@@ -91,8 +91,8 @@ value_from w m at (suc n) (suc k) v lt h =
 
 -- the answers of samples that are answered
 seen : (b : Block) (f : Firmware) (image : List ℕ) (flags : ℕ) (before : ℕ → ℕ) (samples : List (List ℕ)) (s : State) → f.outputs ≡ length b.outputs
-    → (h : AreAnswered f.layout b (width_of f.wide) image flags before samples s)
-    → AreAnswersTo f flags samples (answers_by b f image flags before samples s h) s × AreAnswersOf (width_of f.wide) b before samples (answers_by b f image flags before samples s h)
+    → (h : AreAnswered f.layout b (width_of f.wide) f.instr_bound image flags before samples s)
+    → AreAnswersTo f flags samples (answers_by b f image flags before samples s h) s × AreAnswersOf (width_of f.wide) b f.instr_bound before samples (answers_by b f image flags before samples s h)
 seen b f image flags before [] s e h = (tt, tt)
 seen b f image flags before (bytes ∷ samples) s e h =
     let w = width_of f.wide in

@@ -1,7 +1,7 @@
 -- The instructions of the code, from their bytes.
 use Rattle.std.proofs.Common.{◌≡◌, ℕ, ◌+◌, ◌*◌, ◌/◌, ◌%◌, ◌^◌, ◌<◌, ◌≤◌, Ok, List, [], ◌∷◌, ◌++◌, flat_map, length, get_or, ap, ◌∙◌, arith}
 use Rattle.cpu12_isa.specs.declared.instr.Instr.{Instr}
-use Rattle.cpu12_isa.specs.declared.instr.Instr.TheVariants.{LdaaImmediate, LdaaExtended, LdabImmediate, LdxImmediate, LdyImmediate, LdsImmediate, StaaExtended, StabExtended, ClrExtended, Coma, CpxImmediate, Beq, Bra, JsrExtended, Rts, Andcc, Orcc, TransferXD, TransferYD, Ediv, Fdiv, Mem, Rev, Revw, Wav}
+use Rattle.cpu12_isa.specs.declared.instr.Instr.TheVariants.{LdaaImmediate, LdaaExtended, LdabImmediate, LdxImmediate, LdyImmediate, LdsImmediate, StaaExtended, StabExtended, ClrExtended, Coma, CpxImmediate, Beq, Bra, JsrExtended, Rts, Andcc, Orcc, TransferXD, TransferYD, Ediv, Fdiv, Rti, Mem, Rev, Revw, Wav}
 use Rattle.cpu12_isa.specs.Code.{encode_of, decode_of, decode_at, FitsOperands, six_from}
 use Rattle.cpu12_isa.specs.Memory.{plus, bytes_at}
 use Rattle.codegen.proofs.steps.Memory.{HasBytes, SameHigh}
@@ -29,6 +29,7 @@ IsUsed TransferXD = Unit {0}
 IsUsed TransferYD = Unit {0}
 IsUsed Ediv = Unit {0}
 IsUsed Fdiv = Unit {0}
+IsUsed Rti = Unit {0}
 IsUsed Mem = Unit {0}
 IsUsed Rev = Unit {0}
 IsUsed Revw = Unit {0}
@@ -74,6 +75,7 @@ decode_here m p TransferXD u le h = two m p 183 84 le h.0 h.1.0
 decode_here m p TransferYD u le h = two m p 183 100 le h.0 h.1.0
 decode_here m p Ediv u le h = one m p 17 h.0
 decode_here m p Fdiv u le h = two m p 24 17 le h.0 h.1.0
+decode_here m p Rti u le h = one m p 11 h.0
 decode_here m p Mem u le h = one m p 1 h.0
 decode_here m p Rev u le h = two m p 24 58 le h.0 h.1.0
 decode_here m p Revw u le h = two m p 24 59 le h.0 h.1.0
