@@ -3,6 +3,7 @@ use Rattle.std.specs.Prelude.{◌≡◌, ℕ, ◌+◌, ◌^◌, ◌<◌, ◌≤�
 use Rattle.fuzzy_meaning.specs.declared.block.Block.{Block}
 use Rattle.fuzzy_meaning.specs.Blocks.{IsValid}
 use Rattle.rule_layout.specs.Layouts.{IsWithinLimits}
+use Rattle.cpu12_isa.specs.Regions.{is_free}
 use Rattle.cpu12_parts.specs.State.{State}
 use Rattle.cpu12_parts.specs.Whole.{PlainWay}
 use Rattle.cpu12_parts.specs.Executions.{Execution, all_steps}
@@ -28,7 +29,7 @@ pub record IsArrived (l : Layout) (image : List ℕ) (flags : ℕ) (s : State) :
   pub way : PlainWay flags l.wait 3 (reset_with image) s
   pub wait : s.regs.pc ≡ l.wait
   pub idle : is_idle l s ≡ true
-  pub interruptible : IsInterruptible image s
+  pub interruptible : IsInterruptible is_free image s
 
 -- a sample's bytes and READY are written
 abbrev pub given : Layout → List ℕ → State → State
@@ -38,9 +39,9 @@ given l bytes s = record s { mem = slice_set (put s.mem l.samples bytes) l.ready
 -- and no more steps than that says.
 pub record IsAnswered (l : Layout) (b : Block) (w : Width) (most : ℕ) (image : List ℕ) (flags : ℕ) (before : ℕ → ℕ) (bytes : List ℕ) (s t : State) : Type 0 where
   pub ds : List ℕ
-  pub execution : Execution (IsInterruptibleStep l image flags) ds (given l bytes s) t
+  pub execution : Execution (IsInterruptibleStep is_free l image flags) ds (given l bytes s) t
   pub idle : is_idle l t ≡ true
-  pub interruptible : IsInterruptible image t
+  pub interruptible : IsInterruptible is_free image t
   pub answers : HasAnswers l b w (λ o. answer w b o bytes (before o)) t.mem
   pub instructions : length ds ≤ most
   pub steps : all_steps ds ≤ steps_by b most

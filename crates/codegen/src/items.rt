@@ -75,7 +75,8 @@ pub(crate) fn push_block(
     push_tables_at(alloc, items, layout, block)?;
     items.push(Item::Place(layout.singletons))?;
     push_singletons(items, block.outputs.as_slice())?;
-    push_rule_data(alloc, items, layout, flat)
+    push_rule_data(alloc, items, layout, flat)?;
+    Ok(())
 }
 
 /// The code that answers a sample, to where it returns.

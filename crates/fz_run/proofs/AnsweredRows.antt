@@ -73,7 +73,7 @@ at_instruction image s c = record {
   fits = c.fits;
   low = low c.stack;
   high = high c.stack;
-  unmasked = c.unmasked;
+  unmasked = c.mask;
   code = c.code;
 }
   where
@@ -85,7 +85,7 @@ at_instruction image s c = record {
     high (inl e) = omega arith
     high (inr e) = omega arith
 
-step_stretch : Laws → (image : List ℕ) (flags d : ℕ) (s t : State) → flags < 2 ^ 8 → IsInterruptibleStep main_layout image flags d s t
+step_stretch : Laws → (image : List ℕ) (flags d : ℕ) (s t : State) → flags < 2 ^ 8 → IsInterruptibleStep is_free main_layout image flags d s t
     → Stretch (Kept is_free flags (On image)) flags d s t
 unfolding On
 step_stretch laws image flags d s t hf h = by h.instruction
@@ -112,7 +112,7 @@ step_stretch laws image flags d s t hf h = by h.instruction
     second away v e g m =
         (off_loop v (λ z. away (sym e ∙ z)), subst IsStack (sym g) stack, λ at le. ap (λ (n : List ℕ). get_or n at 0) m ∙ same at le)
 
-    by : IsShownInstruction main_layout flags d s t → Stretch (Kept is_free flags (On image)) flags d s t
+    by : IsShownInstruction is_free main_layout flags d s t → Stretch (Kept is_free flags (On image)) flags d s t
     by (inl p) =
         subst (λ (k : ℕ). Stretch (Kept is_free flags (On image)) flags k s t) (sym p.1.1)
         (plain_step laws.steps.plain_is_step is_free flags (On image) p.0 s t c p.1.0.step p.1.0.reads p.1.0.writes p.1.0.uncovers here)
@@ -122,7 +122,7 @@ step_stretch laws image flags d s t hf h = by h.instruction
         revw_step laws.steps is_free flags (On image) d p.0 p.1 s t hf c p.2.step (record { reads = p.2.reads; writes = p.2.writes; below = p.2.below; itself = p.2.itself }) (within p.2.away)
     by (inr (inr (inr p))) = average_step laws.steps is_free flags (On image) d s t hf c p.step p.reads here (second p.away)
 
-stretches : Laws → (image : List ℕ) (flags : ℕ) (ds : List ℕ) (s t : State) → flags < 2 ^ 8 → Execution (IsInterruptibleStep main_layout image flags) ds s t
+stretches : Laws → (image : List ℕ) (flags : ℕ) (ds : List ℕ) (s t : State) → flags < 2 ^ 8 → Execution (IsInterruptibleStep is_free main_layout image flags) ds s t
     → Execution (Stretch (Kept is_free flags (On image)) flags) ds s t
 stretches laws image flags [] s t hf h = h
 stretches laws image flags (d ∷ ds) s t hf h = (h.0, (step_stretch laws image flags d s h.0 hf h.1.0, stretches laws image flags ds h.0 t hf h.1.1))
@@ -194,12 +194,12 @@ all_sampled laws f n b w most flags before (bytes ∷ samples) s hf l h =
     )
 
 -- where it waits
-waits_alone : (f : Firmware) (s : State) → IsInterruptible (image_memory f.image.bytes) s → WaitsAlone f s
+waits_alone : (f : Firmware) (s : State) → IsInterruptible is_free (image_memory f.image.bytes) s → WaitsAlone f s
 unfolding IsStack
-waits_alone f s c = record { image = c.same; stack = at_stack s.regs.sp c.stack; unmasked = c.unmasked; sums = c.temps }
+waits_alone f s c = record { image = c.same; stack = at_stack s.regs.sp c.stack; unmasked = c.mask; sums = c.temps }
 
 all_wait : Laws → (f : Firmware) (n : ℕ) (b : Block) (w : Width) (most : ℕ) (flags : ℕ) (before : ℕ → ℕ) (samples : List (List ℕ)) (s : State) → flags < 2 ^ 8
-    → AreShort samples → IsInterruptible (image_memory f.image.bytes) s → (h : AreAnswered main_layout b w most (image_memory f.image.bytes) flags before samples s)
+    → AreShort samples → IsInterruptible is_free (image_memory f.image.bytes) s → (h : AreAnswered main_layout b w most (image_memory f.image.bytes) flags before samples s)
     → AllWait flags (alone f n) (numbers b w most (image_memory f.image.bytes) flags before samples s h) samples s
 unfolding numbers
 all_wait laws f n b w most flags before [] s hf l c h = waits_alone (alone f n) s c

@@ -9,7 +9,7 @@ use Rattle.rule_layout.specs.declared.flat.Conjunction.{Conjunction}
 use Rattle.rule_layout.specs.Slots.{slots_of, singleton_count}
 use Rattle.byte_scaling.specs.Cells.{NearestIsByte}
 use Rattle.rule_layout.specs.Layouts.{conjunctions_of, IsWithinLimits, LayoutLaw}
-use Rattle.codegen.specs.Bounds.{element_count, entry_count, output_bound, instruction_bound, step_bound}
+use Rattle.codegen.specs.Bounds.{element_count, entry_count, output_bound, instruction_bound, steps_by, step_bound}
 use Rattle.fz_num.specs.declared.dec.Dec.{Dec}
 use Rattle.codegen.specs.declared.width.Width.{Width}
 use Rattle.codegen.specs.declared.width.Width.TheVariants.{Byte, Word}

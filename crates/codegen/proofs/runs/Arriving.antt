@@ -1,5 +1,5 @@
 -- From reset to where the code waits.
-use Rattle.std.proofs.Common.{◌≡◌, inl, inr, ⊎_elim, ℕ, ◌+◌, ◌-◌, ◌*◌, ◌/◌, ◌%◌, ◌^◌, ◌<◌, ◌≤◌, Ok, List, [], ◌∷◌, ◌++◌, length, set, get_or, refl, sym, ap, ap₂, ◌∙◌}
+use Rattle.std.proofs.Common.{◌≡◌, inl, inr, ⊎_elim, ℕ, ◌+◌, ◌-◌, ◌*◌, ◌/◌, ◌%◌, ◌^◌, ◌<◌, ◌≤◌, Ok, List, [], ◌∷◌, ◌++◌, map, length, set, get_or, refl, sym, ap, ap₂, ◌∙◌}
 use Rattle.std.proofs.Common.{subst, arith, length-set, get_or-set_same}
 use Rattle.fuzzy_meaning.specs.declared.block.Block.{Block}
 use Rattle.cpu12_isa.specs.declared.instr.Instr.TheVariants.{LdsImmediate, ClrExtended, Andcc}
@@ -9,21 +9,22 @@ use Rattle.cpu12_isa.specs.declared.instr.Instr.{Instr}
 use Rattle.cpu12_asm.specs.declared.items.Item.{Item}
 use Rattle.cpu12_asm.specs.Items.{given_by, IsRising}
 use Rattle.cpu12_parts.specs.State.{State}
-use Rattle.cpu12_parts.specs.Whole.{after_plain}
+use Rattle.cpu12_parts.specs.Whole.{after_plain, PlainWay}
 use Rattle.cpu12_emul.specs.Image.{byte_or_zero}
 use Rattle.cpu12_emul.specs.Step.{reset_with}
 use Rattle.codegen.specs.declared.layout.Layout.{Layout}
 use Rattle.codegen.specs.declared.width.Width.{Width}
 use Rattle.codegen.specs.declared.width.Width.TheVariants.{Byte, Word}
 use Rattle.codegen.specs.Widths.{places, bytes_of}
-use Rattle.codegen.specs.Data.{bytes_of_word}
-use Rattle.codegen.specs.Images.{block_items, IsApart}
-use Rattle.codegen.specs.Answers.{IsArrived}
+use Rattle.codegen.specs.Code.{block_code}
+use Rattle.codegen.specs.Data.{table_bytes, singleton_bytes, weight_bytes, rule_bytes, bytes_of_word}
+use Rattle.codegen.specs.Images.{bytes_at, block_items, IsApart}
+use Rattle.cpu12_asm.specs.declared.items.Item.TheVariants.{Op}
 use Rattle.codegen.proofs.steps.Flags.{unmasked}
 use Rattle.codegen.proofs.steps.Memory.{HasBytes, SameHigh, high_set, bytes_set_out, bytes_after_set}
-use Rattle.codegen.proofs.runs.Stepping.{Ctx, Live, interruptible_of}
+use Rattle.codegen.proofs.runs.Stepping.{Ctx, Live}
 use Rattle.codegen.proofs.steps.Decoding.{code_bytes, decode_same, decode_here}
-use Rattle.codegen.proofs.runs.Framing.{Home, answer_room, waits}
+use Rattle.codegen.proofs.runs.Framing.{Home, answer_room}
 use Rattle.codegen.proofs.runs.Standing.{Rises, HasGiven, none_below}
 use Rattle.codegen.proofs.runs.Founding.{IsStarted, start_code}
 
@@ -32,7 +33,7 @@ pub zero_below : Rises → (image : List ℕ) (l : Layout) (b : Block) (w : Widt
     → HasGiven image (given_by (block_items l b w before behind ++ rest)) → IsRising (block_items l b w before behind ++ rest) → (q : ℕ) → q < l.code
     → q < 65536 → get_or image q 0 ≡ 0
 unfolding block_items
-zero_below rises image l b w before behind rest h rise q lt small = h.bytes q small ∙ ap byte_or_zero (none_below rises l.code q _ rise.1 lt)
+zero_below rises image l b w before behind rest h rise q lt small = h.bytes q small ∙ ap byte_or_zero (none_below rises l.code q ((map Op (block_code l b w before behind) ++ (bytes_at l.tables (table_bytes b) ++ (bytes_at l.singletons (singleton_bytes b) ++ (bytes_at l.weights (weight_bytes b) ++ bytes_at l.rules (rule_bytes l.slots b))))) ++ rest) rise.1 lt)
 
 -- answers that are 0, where memory is
 none_stand : (w : Width) (m : List ℕ) (p : ℕ) → ((q : ℕ) → p ≤ q → q < p + length (bytes_of w 0) → get_or m q 0 ≡ 0) → HasBytes m p (bytes_of w 0)
@@ -42,7 +43,7 @@ none_stand Word m p h = (h p (omega arith) (omega arith), (h (p + 1) (omega arit
 -- the first arrival
 pub record Arrived (c : Ctx) (b : Block) (w : Width) : Type 0 where
   pub t : State
-  pub arrived : IsArrived c.layout c.image c.flags t
+  pub way : PlainWay c.flags c.layout.wait 3 (reset_with c.image) t
   pub home : Home c b w (λ o. 0) t
 
 pub arrive : (c : Ctx) (b : Block) (w : Width) → IsStarted c.layout → IsApart c.layout → length b.outputs ≤ 4
@@ -90,19 +91,14 @@ arrive c b width f a few vector start size bytes zero_low =
       bytes = bm;
       fits = f3;
       stack = inr refl;
-      unmasked = unmasked s2.regs.ccr.0;
+      mask = unmasked s2.regs.ccr.0;
       same = same;
     } in
     let ready : get_or m l.ready 0 ≡ 0 = get_or-set_same c.image l.ready 0 0 (omega arith) in
     let home : s3.regs.pc ≡ l.wait = p3 ∙ sym w in
     record {
       t = s3;
-      arrived = record {
-        way = (s1, (omega arith, (LdsImmediate 0x2000, record { decoded = d0; plain = refl; after = refl }), (s2, (omega arith, (ClrExtended l.ready, record { decoded = d1; plain = refl; after = refl }), (s3, (omega arith, (Andcc 0xEF, record { decoded = d2; plain = refl; after = refl }), refl))))));
-        wait = home;
-        idle = waits l s3 home ready;
-        interruptible = interruptible_of c s3 live (omega arith) (omega arith);
-      };
+      way = (s1, (omega arith, (LdsImmediate 0x2000, record { decoded = d0; plain = refl; after = refl }), (s2, (omega arith, (ClrExtended l.ready, record { decoded = d1; plain = refl; after = refl }), (s3, (omega arith, (Andcc 0xEF, record { decoded = d2; plain = refl; after = refl }), refl))))));
       home = record {
         live = live;
         pc_is = home;

@@ -1,5 +1,5 @@
 -- A firmware's code and data stand in its memory.
-use Rattle.std.proofs.Common.{◌≡◌, ◌⊎◌, ℕ, ◌+◌, ◌<◌, ◌≤◌, List, [], ◌∷◌, ◌++◌, length, refl, sym, ap, ◌∙◌, subst, arith, append_assoc, append-nil}
+use Rattle.std.proofs.Common.{◌≡◌, ◌⊎◌, ℕ, ◌+◌, ◌<◌, ◌≤◌, false, List, [], ◌∷◌, ◌++◌, length, refl, sym, ap, ◌∙◌, subst, arith, append_assoc, append-nil}
 use Rattle.std.proofs.lemmas.Grind.{flat_map-append}
 use Rattle.fuzzy_meaning.specs.declared.block.Block.{Block}
 use Rattle.cpu12_isa.specs.declared.instr.Instr.{Instr}
@@ -68,9 +68,9 @@ start_stands rises image front l h rise =
 
 -- the code before EVAL, EVAL with its data, and the code behind it
 pub record AroundEval (image : List ℕ) (l : Layout) (b : Block) (w : Width) (before behind : List Instr) : Type 0 where
-  pub before : HasBytes image l.code (code_bytes before)
+  pub front : HasBytes image l.code (code_bytes before)
   pub eval : HasEval l b w image
-  pub behind : HasBytes image (l.eval + length (eval_bytes l b w)) (code_bytes behind)
+  pub back : HasBytes image (l.eval + length (eval_bytes l b w)) (code_bytes behind)
 
 pub around_eval : (image : List ℕ) (l : Layout) (b : Block) (w : Width) (before behind : List Instr) → l.eval ≡ l.code + sizes before → Stood image l b w before behind
     → AroundEval image l b w before behind
@@ -83,7 +83,7 @@ around_eval image l b w before behind at h =
     let later : HasBytes image l.eval (code_bytes eval ++ code_bytes behind) =
     subst (λ (p : ℕ). HasBytes image p (code_bytes eval ++ code_bytes behind)) e (bytes_back image l.code (code_bytes before) (code_bytes eval ++ code_bytes behind) code) in
     record {
-      before = bytes_front image l.code (code_bytes before) (code_bytes eval ++ code_bytes behind) code;
+      front = bytes_front image l.code (code_bytes before) (code_bytes eval ++ code_bytes behind) code;
       eval = record {
         code = bytes_front image l.eval (code_bytes eval) (code_bytes behind) later;
         tables = h.tables;
@@ -91,7 +91,7 @@ around_eval image l b w before behind at h =
         weights = h.weights;
         rules = h.rules;
       };
-      behind = bytes_back image l.eval (code_bytes eval) (code_bytes behind) later;
+      back = bytes_back image l.eval (code_bytes eval) (code_bytes behind) later;
     }
 
 -- where the code of a form starts that sets up its stack, clears the byte by which samples come and lets interrupts in
@@ -132,8 +132,8 @@ frame_bytes image l h =
       turn = bytes_front image (l.code + 8 + 3) (code_bytes (turn_code l)) (code_bytes rest) h2;
     }
 
-pub has_frame : (c : Ctx) → IsFramed c.layout → IsApart c.layout → FrameBytes c.image c.layout → HasFrame c
-has_frame c f a h =
+pub has_frame : (c : Ctx) → c.open_to c.layout.ready ≡ false → IsFramed c.layout → IsApart c.layout → FrameBytes c.image c.layout → HasFrame c
+has_frame c shown f a h =
     let l = c.layout in
     let w = f.started.wait in
     let lo = f.started.low in
@@ -147,6 +147,7 @@ has_frame c f a h =
     record {
       ready = f.ready;
       samples = f.samples;
+      shown = shown;
       low = omega arith;
       high = omega arith;
       load = ap (decode_at c.image) w ∙ decode_here c.image (l.code + 8) (LdaaExtended l.ready) tt (omega arith) h.load;
@@ -158,5 +159,5 @@ pub has_routine : (l : Layout) (b : Block) (w : Width) (before : List Instr) (im
 has_routine l b w before image above h = record {
   above = above;
   eval = h.eval;
-  back = bytes_front image (l.eval + length (eval_bytes l b w)) (encode_of Rts) [] h.behind;
+  back = bytes_front image (l.eval + length (eval_bytes l b w)) (encode_of Rts) [] h.back;
 }

@@ -22,7 +22,7 @@ use Rattle.rule_layout.specs.Layouts.{conjunctions_of, weights_of, form_of, IsBe
 use Rattle.cpu12_isa.specs.declared.instr.Instr.{Instr}
 use Rattle.cpu12_isa.specs.declared.instr.Instr.TheVariants.{LdaaImmediate, LdaaExtended, LdabImmediate, LdxImmediate, LdyImmediate, LdsImmediate, StaaExtended}
 use Rattle.cpu12_isa.specs.declared.instr.Instr.TheVariants.{StabExtended, ClrExtended, Coma, CpxImmediate, Beq, Bra, JsrExtended, Rts, Andcc, Orcc, TransferXD}
-use Rattle.cpu12_isa.specs.declared.instr.Instr.TheVariants.{TransferYD, Ediv, Fdiv, Rti, Mem, Rev, Revw, Wav}
+use Rattle.cpu12_isa.specs.declared.instr.Instr.TheVariants.{TransferYD, Ediv, Fdiv, Rti, MovbExtended, Mem, Rev, Revw, Wav}
 use Rattle.cpu12_isa.specs.Code.{encode_of, FitsOperands}
 use Rattle.cpu12_isa.specs.Fits.{AreBytes}
 use Rattle.cpu12_asm.specs.declared.items.Item.{Item}
@@ -78,6 +78,7 @@ encoded_fits TransferYD u h = (omega arith, (omega arith, tt))
 encoded_fits Ediv u h = (omega arith, tt)
 encoded_fits Fdiv u h = (omega arith, (omega arith, tt))
 encoded_fits Rti u h = (omega arith, tt)
+encoded_fits (MovbExtended v w) u h = let a = h.0 in let b = h.1 in (omega arith, (omega arith, (omega arith, (omega arith, (omega arith, (omega arith, tt))))))
 encoded_fits Mem u h = (omega arith, tt)
 encoded_fits Rev u h = (omega arith, (omega arith, tt))
 encoded_fits Revw u h = (omega arith, (omega arith, tt))

@@ -23,4 +23,4 @@ returns c =
     c.in_ok-push_tables_at.ensures
     c.in_ok-push-2.ensures.items
     (c.in_ok-push_singletons.ensures ∙ ap (λ outputs. c.push-2.new.self.items ++ map Byte (flat_map singleton_bytes_of outputs)) c.as_slice-4.ensures)
-    (c.push_rule_data.ensures ∙ ap (λ items. c.push_singletons.new.items.items ++ items) rules)
+    (c.in_ok-push_rule_data.ensures ∙ ap (λ items. c.push_singletons.new.items.items ++ items) rules)
