@@ -74,25 +74,25 @@ answer_to_next : (h : ℕ) (b : Block) (o : ℕ) (before : List (List Dec)) (xs 
 answer_to_next h b o before xs =
     fold-append (λ (n : ℕ) (ds : List Dec). answer_in h b o (bytes_of b.inputs ds) n) 0 before (xs ∷ [])
 
-row_answers : (w : Width) (b : Block) (before : List (List Dec)) (given : ℕ → ℕ)
+row_answers : (w : Width) (b : Block) (most : ℕ) (before : List (List Dec)) (given : ℕ → ℕ)
     → ((o : ℕ) → given o ≡ answer_to (parts w) b o before)
     → (samples : List (List Dec)) (rows : List (RowSeen (List ℕ)))
-    → AreAnswersOf w b given (map (bytes_of b.inputs) samples) (map answer_of_row rows)
+    → AreAnswersOf w b most given (map (bytes_of b.inputs) samples) (map answer_of_row rows)
     → (k : ℕ) (row : RowSeen (List ℕ)) → slice_get rows k ≡ Some row → (o : ℕ) → 1 ≤ o → o ≤ length b.outputs
     → slice_index row.answers (o - 1) ≡ answer_to (parts w) b o (before ++ take (k + 1) samples)
-row_answers w b before given same samples [] answers k row is o from to = absurd (let e : slice_get [] k ≡ Some row = is in cc)
-row_answers w b before given same [] (r ∷ rs) answers k row is o from to = absurd answers
-row_answers w b before given same (xs ∷ ss) (r ∷ rs) answers zero row is o from to =
+row_answers w b most before given same samples [] answers k row is o from to = absurd (let e : slice_get [] k ≡ Some row = is in cc)
+row_answers w b most before given same [] (r ∷ rs) answers k row is o from to = absurd answers
+row_answers w b most before given same (xs ∷ ss) (r ∷ rs) answers zero row is o from to =
     let row_is : r ≡ row = cc in
     let own : slice_index r.answers (o - 1) ≡ answer w b o (bytes_of b.inputs xs) (given o) = answers.0.values o from to in
     ap (λ (q : RowSeen (List ℕ)). slice_index q.answers (o - 1)) (sym row_is) ∙ own
     ∙ ap (λ (n : ℕ). answer_in (parts w) b o (bytes_of b.inputs xs) n) (same o)
     ∙ sym (answer_to_next (parts w) b o before xs)
-row_answers w b before given same (xs ∷ ss) (r ∷ rs) answers (suc k) row is o from to =
+row_answers w b most before given same (xs ∷ ss) (r ∷ rs) answers (suc k) row is o from to =
     let next : (n : ℕ) → answer w b n (bytes_of b.inputs xs) (given n) ≡ answer_to (parts w) b n (before ++ xs ∷ []) =
     λ n. ap (λ (m : ℕ). answer_in (parts w) b n (bytes_of b.inputs xs) m) (same n)
     ∙ sym (answer_to_next (parts w) b n before xs) in
-    let rest = row_answers w b (before ++ xs ∷ []) (λ n. answer w b n (bytes_of b.inputs xs) (given n)) next ss rs answers.1 k row is o from to in
+    let rest = row_answers w b most (before ++ xs ∷ []) (λ n. answer w b n (bytes_of b.inputs xs) (given n)) next ss rs answers.1 k row is o from to in
     let one_more : suc k + 1 ≡ suc (k + 1) = omega arith in
     rest ∙ ap (λ (l : List (List Dec)). answer_to (parts w) b o l) (append_assoc before (xs ∷ []) (take (k + 1) ss)
     ∙ ap (λ (n : ℕ). before ++ take n (xs ∷ ss)) (sym one_more))
@@ -108,11 +108,11 @@ within_errors near b f flags cert errors trace samples rows valid spells block a
     let w = width_of f.wide in
     let xs = numbers_of samples in
     let bytes : map input_bytes samples ≡ map (bytes_of b.inputs) xs = bytes_read b.inputs spells.rows samples spells.spelled in
-    let answers : AreAnswersOf w b (λ n. 0) (map (bytes_of b.inputs) xs) (map answer_of_row rows) =
-    subst (λ (l : List (List ℕ)). AreAnswersOf w b (λ n. 0) l (map answer_of_row rows)) bytes block.answers in
+    let answers : AreAnswersOf w b f.instr_bound (λ n. 0) (map (bytes_of b.inputs) xs) (map answer_of_row rows) =
+    subst (λ (l : List (List ℕ)). AreAnswersOf w b f.instr_bound (λ n. 0) l (map answer_of_row rows)) bytes block.answers in
     let to : o ≤ length b.outputs = (let lt = slice_get_within b.outputs (o - 1) x output in omega (arith, lt, from)) in
     let is : slice_index row.answers (o - 1) ≡ answer_to (parts w) b o (take (k + 1) xs) =
-    row_answers w b [] (λ n. 0) (λ n. refl) xs rows answers k row row_is o from to in
+    row_answers w b f.instr_bound [] (λ n. 0) (λ n. refl) xs rows answers k row row_is o from to in
     let inputs : All (AreInputs b) (take (k + 1) xs) =
     All-take (AreInputs b) (k + 1) xs (are_inputs b spells.rows samples spells.spelled) in
     let close = near b (parts w) cert errors o x e (take (k + 1) xs) valid (parts_some w) accepted from output error inputs in

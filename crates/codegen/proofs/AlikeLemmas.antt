@@ -13,6 +13,7 @@ use Rattle.rule_layout.specs.declared.flat.Conjunction.{Conjunction}
 use Rattle.rule_layout.specs.declared.flat.Flat.{Flat}
 use Rattle.rule_layout.specs.declared.flat.Form.{Form}
 use Rattle.rule_layout.specs.declared.flat.Slot.{Slot}
+use Rattle.cpu12_isa.specs.declared.instr.Instr.{Instr}
 use Rattle.cpu12_isa.specs.declared.instr.Instr.TheVariants.{Rts}
 use Rattle.cpu12_asm.specs.Bytes.{byte_at, start_of, word_or_zero}
 use Rattle.cpu12_asm.specs.Items.{given_by}
@@ -21,27 +22,26 @@ use Rattle.codegen.specs.Alike.{FirmwaresAreOne}
 use Rattle.codegen.specs.Code.{eval_code_over, frame_code}
 use Rattle.codegen.specs.Data.{rule_bytes_by, singleton_bytes_of, weight_bytes_by}
 use Rattle.codegen.specs.Firmwares.{IsFirmwareOf}
-use Rattle.codegen.specs.Images.{bytes_at, code_at, firmware_items, vector_items}
+use Rattle.codegen.specs.Images.{bytes_at, code_at, block_items, firmware_items, vector_items}
 use Rattle.codegen.specs.Layouts.{main_layout}
 use Rattle.codegen.specs.Widths.{width_of}
 use Rattle.codegen.specs.declared.firmware.Firmware.{Firmware}
 use Rattle.codegen.specs.declared.layout.Layout.{Layout}
 use Rattle.codegen.specs.declared.width.Width.{Width}
 
--- the same items by what they are made of
-abbrev items_of : Layout → Width → List Input → List Output → List Slot → List Conjunction → List ℕ → Form → List Item
-items_of l w inputs outputs slots conjunctions weights form =
-    code_at l.code (frame_code l ++ (eval_code_over l w inputs outputs slots form ++ Rts ∷ []))
+-- a block's items by what they are made of
+abbrev items_of : Layout → Width → List Instr → List Instr → List Input → List Output → List Slot → List Conjunction → List ℕ → Form → List Item
+items_of l w before behind inputs outputs slots conjunctions weights form =
+    code_at l.code (before ++ (eval_code_over l w inputs outputs slots form ++ behind))
     ++ (bytes_at l.tables (flat_map (λ row. row) (flat_map rows_of inputs))
     ++ (bytes_at l.singletons (flat_map singleton_bytes_of outputs)
     ++ (bytes_at l.weights (weight_bytes_by form weights)
-    ++ (bytes_at l.rules (rule_bytes_by l.slots form conjunctions)
-    ++ vector_items l))))
+    ++ bytes_at l.rules (rule_bytes_by l.slots form conjunctions))))
 
-made_of : (l : Layout) (b : Block) (w : Width)
-    → firmware_items l b w ≡ items_of l w b.inputs b.outputs (slots_of b) (conjunctions_of b) (weights_of b) (form_of b)
-unfolding firmware_items
-made_of l b w = refl
+made_of : (l : Layout) (b : Block) (w : Width) (before behind : List Instr)
+    → block_items l b w before behind ≡ items_of l w before behind b.inputs b.outputs (slots_of b) (conjunctions_of b) (weights_of b) (form_of b)
+unfolding block_items
+made_of l b w before behind = refl
 
 record SameLayout (p q : Block) : Type 0 where
   slots : slots_of p ≡ slots_of q
@@ -58,21 +58,23 @@ parts_same p q same = record {
   form = ap (λ (f : Flat). f.form) same;
 }
 
-same_items : (l : Layout) (p q : Block) (w : Width) → IsSameBlock p q → SameLayout p q → firmware_items l p w ≡ firmware_items l q w
-same_items l p q w says same =
-    made_of l p w
-    ∙ (λ i. items_of l w (says.inputs i) (says.outputs i) (same.slots i) (same.conjunctions i) (same.weights i) (same.form i))
-    ∙ sym (made_of l q w)
+same_items : (l : Layout) (p q : Block) (w : Width) (before behind : List Instr) → IsSameBlock p q → SameLayout p q
+    → block_items l p w before behind ≡ block_items l q w before behind
+same_items l p q w before behind says same =
+    made_of l p w before behind
+    ∙ (λ i. items_of l w before behind (says.inputs i) (says.outputs i) (same.slots i) (same.conjunctions i) (same.weights i) (same.form i))
+    ∙ sym (made_of l q w before behind)
 
 pub one_image : LayoutsAreOne → FirmwaresAreOne
 one_image layouts p q f g says wide of_p of_q = (bytes, start)
   where
     items : firmware_items main_layout p (width_of f.wide) ≡ firmware_items main_layout q (width_of g.wide)
-    items = same_items main_layout p q (width_of f.wide) says (parts_same p q (layouts.layout p q says))
+    items =
+        ap (λ (xs : List Item). xs ++ vector_items main_layout) (same_items main_layout p q (width_of f.wide) (frame_code main_layout) (Rts ∷ []) says (parts_same p q (layouts.layout p q says)))
         ∙ ap (λ (b : Bool). firmware_items main_layout q (width_of b)) wide
 
     bytes : (at : ℕ) → byte_at f.image.bytes at ≡ byte_at g.image.bytes at
-    bytes at = of_p.image.bytes at ∙ ap (λ (l : List Item). byte_at (given_by l) at) items ∙ sym (of_q.image.bytes at)
+    bytes at = of_p.image.bytes.bytes at ∙ ap (λ (l : List Item). byte_at (given_by l) at) items ∙ sym (of_q.image.bytes.bytes at)
 
     start : f.image.start ≡ g.image.start
-    start = of_p.start ∙ ap₂ word_or_zero (bytes 65534) (bytes 65535) ∙ sym of_q.start
+    start = of_p.image.start ∙ ap₂ word_or_zero (bytes 65534) (bytes 65535) ∙ sym of_q.image.start

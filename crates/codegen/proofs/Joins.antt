@@ -16,9 +16,9 @@ use Rattle.rule_layout.specs.Slots.{slots_of, term_count}
 use Rattle.rule_layout.specs.Layouts.{flat_of, form_of, weights_of, conjunctions_of}
 use Rattle.codegen.specs.declared.layout.Layout.{Layout}
 use Rattle.codegen.specs.declared.width.Width.{Width}
-use Rattle.codegen.specs.Code.{eval_code_over, eval_code, whole_code}
+use Rattle.codegen.specs.Code.{eval_code_over, eval_code, block_code}
 use Rattle.codegen.specs.Data.{table_bytes, singleton_bytes, weight_bytes_by, weight_bytes, rule_bytes_by, rule_bytes}
-use Rattle.codegen.specs.Images.{bytes_at, vector_items, firmware_items}
+use Rattle.codegen.specs.Images.{code_at, bytes_at, block_items}
 
 -- a piece of code behind others
 next_piece : (start later last : List Item) (a b : List Instr) → later ≡ start ++ map Op a → last ≡ later ++ map Op b → last ≡ start ++ map Op (a ++ b)
@@ -60,9 +60,9 @@ sum_by-term_count inputs few valid =
     let few_terms : All (λ x. term_count x ≤ 15) inputs = λ i d h. (All-get_or IsValidInput inputs i d h valid).few_terms in
     omega (arith, sum_by-le term_count 15 inputs few_terms)
 
--- the parts of a firmware in their order
-pub arranged : (p e t s b w v i1 i3 i4 i5 i6 i7 i8 : List Item) → i1 ≡ [] ++ p → i3 ≡ i1 ++ e → i4 ≡ i3 ++ t → i5 ≡ i4 ++ s → i6 ≡ i5 ++ b → i7 ≡ i6 ++ w → i8 ≡ i7 ++ v → i8 ≡ (p ++ e) ++ (t ++ ((s ++ b) ++ (w ++ v)))
-arranged p e t s b w v i1 i3 i4 i5 i6 i7 i8 h1 h3 h4 h5 h6 h7 h8 = simp (h8, h7, h6, h5, h4, h3, h1, append_assoc)
+-- the parts of a block in their order
+arranged : (start p e t s b w i1 i3 i4 i5 i6 i7 : List Item) → i1 ≡ start ++ p → i3 ≡ i1 ++ e → i4 ≡ i3 ++ t → i5 ≡ i4 ++ s → i6 ≡ i5 ++ b → i7 ≡ i6 ++ w → i7 ≡ start ++ ((p ++ e) ++ (t ++ ((s ++ b) ++ w)))
+arranged start p e t s b w i1 i3 i4 i5 i6 i7 h1 h3 h4 h5 h6 h7 = simp (h7, h6, h5, h4, h3, h1, append_assoc)
 
 -- the code over the parts of a block and its rules' layout
 pub eval_code_over-flat : (l : Layout) (b : Block) (w : Width) (flat : Flat) (inputs : List Input) (outputs : List Output) (slots : List Slot) → flat ≡ flat_of b → inputs ≡ b.inputs → outputs ≡ b.outputs → slots ≡ flat.slots → eval_code_over l w inputs outputs slots flat.form ≡ eval_code l b w
@@ -80,10 +80,30 @@ rule_data-flat l b flat h =
     let c = conjunctions-flat_of flat b h in
     rw (f, w, c)
 
--- the parts of a firmware, put one behind the other, are its items
-pub firmware_items-parts : (l : Layout) (b : Block) (w : Width) (i1 i3 i4 i5 i6 i7 i8 : List Item) → i1 ≡ [] ++ Place l.code ∷ [] → i3 ≡ i1 ++ map Op (whole_code l b w) → i4 ≡ i3 ++ bytes_at l.tables (table_bytes b) → i5 ≡ i4 ++ Place l.singletons ∷ [] → i6 ≡ i5 ++ map Byte (singleton_bytes b)
-    → i7 ≡ i6 ++ (bytes_at l.weights (weight_bytes b) ++ bytes_at l.rules (rule_bytes l.slots b)) → i8 ≡ i7 ++ vector_items l → i8 ≡ firmware_items l b w
-unfolding firmware_items
-firmware_items-parts l b w i1 i3 i4 i5 i6 i7 i8 h1 h3 h4 h5 h6 h7 h8 =
-    arranged (Place l.code ∷ []) (map Op (whole_code l b w)) (bytes_at l.tables (table_bytes b)) (Place l.singletons ∷ []) (map Byte (singleton_bytes b)) (bytes_at l.weights (weight_bytes b) ++ bytes_at l.rules (rule_bytes l.slots b)) (vector_items l) i1 i3 i4 i5 i6 i7 i8 h1 h3 h4 h5 h6 h7 h8
-    ∙ ap (λ (y : List Item). (Place l.code ∷ map Op (whole_code l b w)) ++ (bytes_at l.tables (table_bytes b) ++ ((Place l.singletons ∷ map Byte (singleton_bytes b)) ++ y))) (append_assoc (bytes_at l.weights (weight_bytes b)) (bytes_at l.rules (rule_bytes l.slots b)) (vector_items l))
+-- the parts of a block, put one behind the other, are its items
+pub block_items-parts : (l : Layout) (b : Block) (w : Width) (before behind : List Instr) (start i1 i3 i4 i5 i6 i7 : List Item) → i1 ≡ start ++ Place l.code ∷ [] → i3 ≡ i1 ++ map Op (block_code l b w before behind) → i4 ≡ i3 ++ bytes_at l.tables (table_bytes b)
+    → i5 ≡ i4 ++ Place l.singletons ∷ [] → i6 ≡ i5 ++ map Byte (singleton_bytes b) → i7 ≡ i6 ++ (bytes_at l.weights (weight_bytes b) ++ bytes_at l.rules (rule_bytes l.slots b)) → i7 ≡ start ++ block_items l b w before behind
+unfolding block_items
+block_items-parts l b w before behind start i1 i3 i4 i5 i6 i7 h1 h3 h4 h5 h6 h7 =
+    arranged start (Place l.code ∷ []) (map Op (block_code l b w before behind)) (bytes_at l.tables (table_bytes b)) (Place l.singletons ∷ []) (map Byte (singleton_bytes b)) (bytes_at l.weights (weight_bytes b) ++ bytes_at l.rules (rule_bytes l.slots b)) i1 i3 i4 i5 i6 i7 h1 h3 h4 h5 h6 h7
+
+-- the same in their order, before other items
+abbrev pub block_then : Layout → Block → Width → List Instr → List Instr → List Item → List Item
+block_then l b w before behind rest =
+    code_at l.code (block_code l b w before behind)
+    ++ (bytes_at l.tables (table_bytes b)
+    ++ (bytes_at l.singletons (singleton_bytes b)
+    ++ (bytes_at l.weights (weight_bytes b)
+    ++ (bytes_at l.rules (rule_bytes l.slots b)
+    ++ rest))))
+
+pub block_items-then : (l : Layout) (b : Block) (w : Width) (before behind : List Instr) (rest : List Item) → block_items l b w before behind ++ rest ≡ block_then l b w before behind rest
+unfolding block_items
+block_items-then l b w before behind rest =
+    let A = code_at l.code (block_code l b w before behind) in
+    let T = bytes_at l.tables (table_bytes b) in
+    let S = bytes_at l.singletons (singleton_bytes b) in
+    let W = bytes_at l.weights (weight_bytes b) in
+    let R = bytes_at l.rules (rule_bytes l.slots b) in
+    append_assoc A (T ++ (S ++ (W ++ R))) rest
+    ∙ ap (λ (x : List Item). A ++ x) (append_assoc T (S ++ (W ++ R)) rest ∙ ap (λ (x : List Item). T ++ x) (append_assoc S (W ++ R) rest ∙ ap (λ (x : List Item). S ++ x) (append_assoc W R rest)))

@@ -20,11 +20,11 @@ use Rattle.cpu12_asm.specs.Items.{IsRisingFrom, IsRising}
 use Rattle.codegen.specs.declared.layout.Layout.{Layout}
 use Rattle.codegen.specs.declared.width.Width.{Width}
 use Rattle.codegen.specs.Layouts.{main_layout}
-use Rattle.codegen.specs.Code.{frame_code, eval_code, whole_code}
+use Rattle.codegen.specs.Code.{frame_code, eval_code, block_code}
 use Rattle.codegen.specs.Data.{table_bytes, singleton_bytes, weight_bytes_by, weight_bytes, bytes_of_word, rule_bytes_by, rule_bytes}
-use Rattle.codegen.specs.Images.{code_at, bytes_at, vector_items, firmware_items}
+use Rattle.codegen.specs.Images.{code_at, bytes_at, vector_items, block_items, firmware_items}
 use Rattle.codegen.specs.Bounds.{entry_count, element_count}
-use Rattle.codegen.proofs.Joins.{slots-flat_of, sum_by-term_count}
+use Rattle.codegen.proofs.Joins.{slots-flat_of, sum_by-term_count, block_then, block_items-then}
 use Rattle.codegen.proofs.Lists.{length-marked}
 use Rattle.codegen.proofs.Sizes.{code_size, code_size-append, length-le-code_size, code_size-eval, length-tables, length-singletons, length-rule_weights}
 use Rattle.rule_layout.specs.declared.flat.Form.TheVariants as form
@@ -38,13 +38,11 @@ pub record HasSizes (b : Block) : Type 0 where
 pub sizes_by : (b : Block) (flat : Flat) → flat ≡ flat_of b → IsLaidOut flat → IsWithinLimits b → HasSizes b
 sizes_by b flat e h limits = record { few_slots = omega (arith, h.few_slots, ap length (slots-flat_of flat b e)); few_conjunctions = limits.few_conjunctions; short_list = limits.short_list }
 
--- each part ends below the next one
+-- each part behind the code ends below the next one
 pub record IsSpaced (l : Layout) : Type 0 where
-  pub code : l.code + 2448 ≤ l.tables
   pub tables : l.tables + 480 ≤ l.singletons
   pub singletons : l.singletons + 60 ≤ l.weights
   pub weights : l.weights + 512 ≤ l.rules
-  pub rules : l.rules + 9984 ≤ 0xFFF2
 
 rises_code : (at : ℕ) (code : List Instr) (items : List Item) → IsRisingFrom (at + code_size code) items → IsRisingFrom at (map Op code ++ items)
 rises_code at [] items h = subst (λ (n : ℕ). IsRisingFrom n items) (omega arith) h
@@ -101,65 +99,84 @@ vectors_rise : (at : ℕ) (l : Layout) → at ≤ 0xFFF2 → IsRisingFrom at (ve
 vectors_rise at l h = (omega arith, (omega arith, omega arith))
 
 -- the parts by their sizes
-pub record HasPartSizes (l : Layout) (b : Block) (w : Width) : Type 0 where
-  pub code : code_size (whole_code l b w) ≤ 2448
+pub record HasPartSizes (l : Layout) (b : Block) (w : Width) (before behind : List Instr) : Type 0 where
+  pub code : code_size (block_code l b w before behind) ≤ code_size before + 2416 + code_size behind
   pub tables : length (table_bytes b) ≤ 480
   pub singletons : length (singleton_bytes b) ≤ 60
   pub weights : length (weight_bytes b) ≤ 512
   pub rules : length (rule_bytes l.slots b) ≤ 9984
 
-pub part_sizes : (l : Layout) (b : Block) (w : Width) → IsValid b → HasSizes b → HasPartSizes l b w
-part_sizes l b w v h =
+pub part_sizes : (l : Layout) (b : Block) (w : Width) (before behind : List Instr) → IsValid b → HasSizes b → HasPartSizes l b w before behind
+part_sizes l b w before behind v h =
     let terms = sum_by-term_count b.inputs v.few_inputs v.inputs in
     record {
-      code = omega (arith, code_size-append (frame_code l) (eval_code l b w ++ Rts ∷ []), code_size-append (eval_code l b w) (Rts ∷ []), code_size-eval l w b.inputs b.outputs (slots_of b) (form_of b) v.few_inputs terms v.few_outputs h.few_slots);
+      code = omega (arith, code_size-append before (eval_code l b w ++ behind), code_size-append (eval_code l b w) behind, code_size-eval l w b.inputs b.outputs (slots_of b) (form_of b) v.few_inputs terms v.few_outputs h.few_slots);
       tables = omega (arith, length-tables b.inputs, terms);
       singletons = omega (arith, length-singletons b.outputs, sum_by-singleton_count b.outputs v.few_outputs v.outputs);
       weights = omega (arith, length-weights (form_of b) (weights_of b), length-weights_of b, h.few_conjunctions);
       rules = omega (arith, length-rules l.slots b, h.short_list);
     }
 
--- a firmware's items never go back
-pub firmware_rises : (l : Layout) (b : Block) (w : Width) → IsSpaced l → HasPartSizes l b w → IsRising (firmware_items l b w)
-unfolding firmware_items
-firmware_rises l b w s h =
-    let vectors = vectors_rise (l.rules + length (rule_bytes l.slots b)) l (omega (arith, s.rules, h.rules)) in
-    let rules = rises_part (l.weights + length (weight_bytes b)) l.rules (rule_bytes l.slots b) (vector_items l) (omega (arith, s.weights, h.weights)) vectors in
+-- a block's items never go back, where the code ends below the tables
+pub block_rises : (at : ℕ) (l : Layout) (b : Block) (w : Width) (before behind : List Instr) (rest : List Item) → IsSpaced l → HasPartSizes l b w before behind → at ≤ l.code
+    → l.code + (code_size before + 2416 + code_size behind) ≤ l.tables → IsRisingFrom (l.rules + length (rule_bytes l.slots b)) rest
+    → IsRisingFrom at (block_items l b w before behind ++ rest)
+block_rises at l b w before behind rest s h low room behind_rules =
+    let code = block_code l b w before behind in
+    let rules = rises_part (l.weights + length (weight_bytes b)) l.rules (rule_bytes l.slots b) rest (omega (arith, s.weights, h.weights)) behind_rules in
     let weights = rises_part (l.singletons + length (singleton_bytes b)) l.weights (weight_bytes b) _ (omega (arith, s.singletons, h.singletons)) rules in
     let singletons = rises_part (l.tables + length (table_bytes b)) l.singletons (singleton_bytes b) _ (omega (arith, s.tables, h.tables)) weights in
-    let tables = rises_part (l.code + code_size (whole_code l b w)) l.tables (table_bytes b) _ (omega (arith, s.code, h.code)) singletons in
-    (omega arith, rises_code l.code (whole_code l b w) _ tables)
+    let tables = rises_part (l.code + code_size code) l.tables (table_bytes b) _ (omega (arith, room, h.code)) singletons in
+    let whole : IsRisingFrom at (block_then l b w before behind rest) = (low, rises_code l.code code _ tables) in
+    subst (λ (xs : List Item). IsRisingFrom at xs) (sym (block_items-then l b w before behind rest)) whole
 
 -- and are few
-pub length-firmware_items : (l : Layout) (b : Block) (w : Width) → HasPartSizes l b w → length (firmware_items l b w) < 2 ^ 32
-unfolding firmware_items
-length-firmware_items l b w h =
-    let code = whole_code l b w in
+pub length-block_items : (l : Layout) (b : Block) (w : Width) (before behind : List Instr) → HasPartSizes l b w before behind
+    → length (block_items l b w before behind) ≤ code_size before + code_size behind + 13457
+unfolding block_items
+length-block_items l b w before behind h =
+    let code = block_code l b w before behind in
     let t = table_bytes b in
     let s = singleton_bytes b in
     let ws = weight_bytes b in
     let r = rule_bytes l.slots b in
     omega (
       arith,
-      length-append (code_at l.code code) (bytes_at l.tables t ++ (bytes_at l.singletons s ++ (bytes_at l.weights ws ++ (bytes_at l.rules r ++ vector_items l)))),
-      length-append (bytes_at l.tables t) (bytes_at l.singletons s ++ (bytes_at l.weights ws ++ (bytes_at l.rules r ++ vector_items l))),
-      length-append (bytes_at l.singletons s) (bytes_at l.weights ws ++ (bytes_at l.rules r ++ vector_items l)),
-      length-append (bytes_at l.weights ws) (bytes_at l.rules r ++ vector_items l),
-      length-append (bytes_at l.rules r) (vector_items l),
+      length-append (code_at l.code code) (bytes_at l.tables t ++ (bytes_at l.singletons s ++ (bytes_at l.weights ws ++ bytes_at l.rules r))),
+      length-append (bytes_at l.tables t) (bytes_at l.singletons s ++ (bytes_at l.weights ws ++ bytes_at l.rules r)),
+      length-append (bytes_at l.singletons s) (bytes_at l.weights ws ++ bytes_at l.rules r),
+      length-append (bytes_at l.weights ws) (bytes_at l.rules r),
       length-map code (λ i. Op i),
       length-le-code_size code,
       length-map t (λ x. Byte x),
       length-map s (λ x. Byte x),
       length-map ws (λ x. Byte x),
       length-map r (λ x. Byte x),
+      h.code,
+      h.tables,
+      h.singletons,
+      h.weights,
+      h.rules,
     )
 
+-- with the vectors behind a block's items they can be placed
+pub with_vectors_rise : (l : Layout) (b : Block) (w : Width) (before behind : List Instr) → IsSpaced l → HasPartSizes l b w before behind
+    → l.code + (code_size before + 2416 + code_size behind) ≤ l.tables → l.rules + 9984 ≤ 0xFFF2
+    → IsRising (block_items l b w before behind ++ vector_items l)
+with_vectors_rise l b w before behind s h room top =
+    block_rises 0 l b w before behind (vector_items l) s h (omega arith) room (vectors_rise (l.rules + length (rule_bytes l.slots b)) l (omega (arith, top, h.rules)))
+
 main_spaced : IsSpaced main_layout
-main_spaced = record { code = omega arith; tables = omega arith; singletons = omega arith; weights = omega arith; rules = omega arith }
+main_spaced = record { tables = omega arith; singletons = omega arith; weights = omega arith }
 
 -- the items of a firmware that stands alone can be placed
 pub main_rises : (b : Block) (w : Width) (items : List Item) → IsValid b → HasSizes b → items ≡ firmware_items main_layout b w → IsRising items
-main_rises b w items v h e = subst (λ (xs : List Item). IsRising xs) (sym e) (firmware_rises main_layout b w main_spaced (part_sizes main_layout b w v h))
+main_rises b w items v h e =
+    let frame = frame_code main_layout in
+    let room : main_layout.code + (code_size frame + 2416 + code_size (Rts ∷ [])) ≤ main_layout.tables = omega arith in
+    subst (λ (xs : List Item). IsRising xs) (sym e) (with_vectors_rise main_layout b w frame (Rts ∷ []) main_spaced (part_sizes main_layout b w frame (Rts ∷ []) v h) room (omega arith))
 
 pub length-main_items : (b : Block) (w : Width) (items : List Item) → IsValid b → HasSizes b → items ≡ firmware_items main_layout b w → length items < 2 ^ 32
-length-main_items b w items v h e = omega (arith, ap length e, length-firmware_items main_layout b w (part_sizes main_layout b w v h))
+length-main_items b w items v h e =
+    let frame = frame_code main_layout in
+    omega (arith, ap length e, length-append (block_items main_layout b w frame (Rts ∷ [])) (vector_items main_layout), length-block_items main_layout b w frame (Rts ∷ []) (part_sizes main_layout b w frame (Rts ∷ []) v h))

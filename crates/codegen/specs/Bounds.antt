@@ -47,6 +47,9 @@ unfoldable pub instruction_bound : Width → Block → ℕ
 instruction_bound w b =
     13 + length b.inputs + input_term_count b + 3 * complement_count b + output_term_count b + sum_by (output_bound w) b.outputs + form_bound (form_of b)
 
--- REV or REVW takes a step an element, and WAV a step a term
-unfoldable pub step_bound : Width → Block → ℕ
-step_bound w b = instruction_bound w b - 1 - length b.outputs + element_count b + output_term_count b
+-- the steps of at most so many instructions: REV or REVW takes a step an element, and WAV a step a term
+unfoldable pub steps_by : Block → ℕ → ℕ
+steps_by b most = most - 1 - length b.outputs + element_count b + output_term_count b
+
+abbrev pub step_bound : Width → Block → ℕ
+step_bound w b = steps_by b (instruction_bound w b)

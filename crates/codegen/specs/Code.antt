@@ -11,7 +11,7 @@ use Rattle.rule_layout.specs.declared.flat.Form.TheVariants as form
 use Rattle.rule_layout.specs.Slots.{slots_of, term_count, singleton_count}
 use Rattle.rule_layout.specs.Layouts.{form_of}
 use Rattle.cpu12_isa.specs.declared.instr.Instr.{Instr}
-use Rattle.cpu12_isa.specs.declared.instr.Instr.TheVariants.{LdaaImmediate, LdaaExtended, LdabImmediate, LdxImmediate, LdyImmediate, LdsImmediate, StaaExtended, StabExtended, ClrExtended, Coma, CpxImmediate, Beq, Bra, JsrExtended, Rts, Andcc, Orcc, TransferXD, TransferYD, Ediv, Fdiv, Rti, Mem, Rev, Revw, Wav}
+use Rattle.cpu12_isa.specs.declared.instr.Instr.TheVariants.{LdaaImmediate, LdaaExtended, LdabImmediate, LdxImmediate, LdyImmediate, LdsImmediate, StaaExtended, StabExtended, ClrExtended, Coma, CpxImmediate, Beq, Bra, JsrExtended, Andcc, Orcc, TransferXD, TransferYD, Ediv, Fdiv, Rti, Mem, Rev, Revw, Wav}
 use Rattle.codegen.specs.declared.layout.Layout.{Layout}
 use Rattle.codegen.specs.declared.width.Width.{Width}
 use Rattle.codegen.specs.declared.width.Width.TheVariants.{Byte, Word}
@@ -88,6 +88,6 @@ eval_code_over l w inputs outputs slots f =
 abbrev pub eval_code : Layout → Block → Width → List Instr
 eval_code l b w = eval_code_over l w b.inputs b.outputs (slots_of b) (form_of b)
 
--- EVAL and its return behind the frame
-abbrev pub whole_code : Layout → Block → Width → List Instr
-whole_code l b w = frame_code l ++ (eval_code l b w ++ Rts ∷ [])
+-- EVAL with the code before and behind it
+abbrev pub block_code : Layout → Block → Width → List Instr → List Instr → List Instr
+block_code l b w before behind = before ++ (eval_code l b w ++ behind)

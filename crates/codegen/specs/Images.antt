@@ -1,12 +1,16 @@
 -- The image of a block's firmware, item by item.
-use Rattle.std.specs.Prelude.{ℕ, ◌+◌, ◌^◌, ◌<◌, ◌≤◌, List, ◌∷◌, ◌++◌, map}
+use Rattle.std.specs.Prelude.{◌≡◌, ℕ, ◌+◌, ◌^◌, ◌<◌, ◌≤◌, List, [], ◌∷◌, ◌++◌, map}
 use Rattle.fuzzy_meaning.specs.declared.block.Block.{Block}
 use Rattle.cpu12_isa.specs.declared.instr.Instr.{Instr}
+use Rattle.cpu12_isa.specs.declared.instr.Instr.TheVariants.{Rts}
 use Rattle.cpu12_asm.specs.declared.items.Item.{Item}
 use Rattle.cpu12_asm.specs.declared.items.Item.TheVariants.{Place, Byte, Op}
+use Rattle.cpu12_asm.specs.declared.image.Image.{Image}
+use Rattle.cpu12_asm.specs.Bytes.{start_of, Holds, IsAscending}
+use Rattle.cpu12_asm.specs.Items.{given_by}
 use Rattle.codegen.specs.declared.layout.Layout.{Layout}
 use Rattle.codegen.specs.declared.width.Width.{Width}
-use Rattle.codegen.specs.Code.{whole_code}
+use Rattle.codegen.specs.Code.{frame_code, block_code}
 use Rattle.codegen.specs.Data.{table_bytes, singleton_bytes, weight_bytes, rule_bytes, bytes_of_word}
 
 -- instructions or bytes that stand at a place
@@ -20,15 +24,24 @@ bytes_at at bytes = Place at ∷ map Byte bytes
 abbrev pub vector_items : Layout → List Item
 vector_items l = bytes_at 0xFFF2 (bytes_of_word l.interrupt) ++ bytes_at 0xFFFE (bytes_of_word l.code)
 
--- code, tables, singletons, weights, rule list and vectors, and nothing else
-unfoldable pub firmware_items : Layout → Block → Width → List Item
-firmware_items l b w =
-    code_at l.code (whole_code l b w)
+-- a block's EVAL with the code before and behind it, its tables, singletons, weights and rule list
+unfoldable pub block_items : Layout → Block → Width → List Instr → List Instr → List Item
+block_items l b w before behind =
+    code_at l.code (block_code l b w before behind)
     ++ (bytes_at l.tables (table_bytes b)
     ++ (bytes_at l.singletons (singleton_bytes b)
     ++ (bytes_at l.weights (weight_bytes b)
-    ++ (bytes_at l.rules (rule_bytes l.slots b)
-    ++ vector_items l))))
+    ++ bytes_at l.rules (rule_bytes l.slots b))))
+
+-- a firmware that stands alone: these, with the frame and the return, the vectors, and nothing else
+abbrev pub firmware_items : Layout → Block → Width → List Item
+firmware_items l b w = block_items l b w (frame_code l) (Rts ∷ []) ++ vector_items l
+
+-- an image has just the bytes of these items, the lowest first, and starts where its reset vector says
+pub record IsImageOf (items : List Item) (image : Image) : Type 0 where
+  pub bytes : Holds image.bytes (given_by items)
+  pub ascending : IsAscending image.bytes
+  pub start : image.start ≡ start_of image.bytes
 
 -- each address that the code needs stands in memory
 pub record HasRoom (l : Layout) : Type 0 where

@@ -1,4 +1,4 @@
--- What is known wherever an interrupt may come to a firmware that stands alone.
+-- What is known wherever an interrupt may come to a firmware, whose handler may change the open bytes.
 use Rattle.std.specs.Prelude.{◌≡◌, ◌≢◌, ℕ, ◌≤◌, ◌<◌, ◌⊎◌, min, ◌==◌, ◌&&◌, Bool, false, List, length, slice_index}
 use Rattle.cpu12_isa.specs.declared.instr.Instr.{Instr}
 use Rattle.cpu12_isa.specs.declared.instr.Instr.TheVariants.{Rev, Revw}
@@ -9,7 +9,7 @@ use Rattle.cpu12_isa.specs.Fits.{FitsRegs, AreBytes}
 use Rattle.cpu12_isa.specs.Flags.{has, interrupts_masked}
 use Rattle.cpu12_isa.specs.Meaning.{act_of, effect}
 use Rattle.cpu12_isa.specs.Memory.{plus}
-use Rattle.cpu12_isa.specs.Regions.{is_free, is_hidden as hidden_with}
+use Rattle.cpu12_isa.specs.Regions.{is_hidden}
 use Rattle.cpu12_parts.specs.declared.temps.Temps.TheVariants.{Free}
 use Rattle.cpu12_parts.specs.State.{State}
 use Rattle.cpu12_parts.specs.Rules.{Rule, Form, rev_form, revw_form, rules_read, rules_written, AreApart}
@@ -19,61 +19,61 @@ use Rattle.cpu12_parts.specs.Touching.{Each}
 use Rattle.cpu12_parts.specs.Whole.{IsPlainStep, IsRulesStep, IsAverageStep}
 use Rattle.codegen.specs.declared.layout.Layout.{Layout}
 
--- what an interrupt may change: the free bytes, and the stack's bytes below SP
-abbrev pub is_hidden : ℕ → ℕ → Bool
-is_hidden = hidden_with is_free
-
 -- PC is where the code waits, and READY is 0
 abbrev pub is_idle : Layout → State → Bool
 is_idle l s = (s.regs.pc == l.wait) && (slice_index s.mem l.ready == 0)
 
--- what each state keeps. Its memory is that of the image from $2000 on.
-pub record IsInterruptible (image : List ℕ) (s : State) : Type 0 where
+-- what each state keeps in which I is set or not. Its memory is that of the image from $2000 on.
+pub record IsSteady (open_to : ℕ → Bool) (masked : Bool) (image : List ℕ) (s : State) : Type 0 where
   pub temps : s.temps ≡ Free
   pub size : length s.mem ≡ 65536
   pub bytes : AreBytes s.mem
   pub fits : FitsRegs s.regs
   pub stack : (s.regs.sp ≡ 0x1FFE) ⊎ (s.regs.sp ≡ 0x2000)
-  pub unmasked : has s.regs.ccr interrupts_masked ≡ false
+  pub mask : has s.regs.ccr interrupts_masked ≡ masked
   pub same : (at : ℕ) → 0x2000 ≤ at → slice_index s.mem at ≡ slice_index image at
-  pub code : AllShown (is_hidden s.regs.sp) (six_from s.regs.pc)
+  pub code : AllShown (is_hidden open_to s.regs.sp) (six_from s.regs.pc)
+
+-- an interrupt may come where I is 0
+abbrev pub IsInterruptible : (ℕ → Bool) → List ℕ → State → Type 0
+IsInterruptible open_to = IsSteady open_to false
 
 -- A plain instruction: what it reads is shown, what it writes is shown before and after it, and what is hidden no
 -- more after it is written.
-pub record IsShownPlain (flags : ℕ) (i : Instr) (s t : State) : Type 0 where
+pub record IsShownPlain (open_to : ℕ → Bool) (flags : ℕ) (i : Instr) (s t : State) : Type 0 where
   pub step : IsPlainStep flags i s t
-  pub reads : AllShown (is_hidden s.regs.sp) (read_by (act_of flags i s.regs) s.mem)
-  pub writes : AllShown (is_hidden (min s.regs.sp t.regs.sp)) (addresses (effect flags i s.regs s.mem).writes)
-  pub uncovers : Uncovers (is_hidden s.regs.sp) (effect flags i s.regs s.mem).writes (is_hidden t.regs.sp)
+  pub reads : AllShown (is_hidden open_to s.regs.sp) (read_by (act_of flags i s.regs) s.mem)
+  pub writes : AllShown (is_hidden open_to (min s.regs.sp t.regs.sp)) (addresses (effect flags i s.regs s.mem).writes)
+  pub uncovers : Uncovers (is_hidden open_to s.regs.sp) (effect flags i s.regs s.mem).writes (is_hidden open_to t.regs.sp)
 
 -- REV or REVW: what it reads and writes is shown, it writes below the image alone, and not itself, and between its
 -- parts PC is not where the code waits
-pub record IsShownRules (l : Layout) (i : Instr) (f : Form) (flags d : ℕ) (p : Rule) (ps : List Rule)
+pub record IsShownRules (open_to : ℕ → Bool) (l : Layout) (i : Instr) (f : Form) (flags d : ℕ) (p : Rule) (ps : List Rule)
     (s t : State) : Type 0 where
   pub step : IsRulesStep i f flags d p ps s t
-  pub reads : AllShown (is_hidden s.regs.sp) (rules_read f s.regs p ps)
-  pub writes : AllShown (is_hidden s.regs.sp) (rules_written f p ps)
+  pub reads : AllShown (is_hidden open_to s.regs.sp) (rules_read f s.regs p ps)
+  pub writes : AllShown (is_hidden open_to s.regs.sp) (rules_written f p ps)
   pub below : Each (λ at. at < 0x2000) (rules_written f p ps)
   pub itself : AreApart (rules_written f p ps) (six_from s.regs.pc)
   pub away : s.regs.pc ≢ l.wait
 
 -- WAV: it has a pair at least, what it reads is shown, and where it goes on after an interrupt is not where the code
 -- waits
-pub record IsShownAverage (l : Layout) (flags d : ℕ) (s t : State) : Type 0 where
+pub record IsShownAverage (open_to : ℕ → Bool) (l : Layout) (flags d : ℕ) (s t : State) : Type 0 where
   pub step : IsAverageStep flags d s t
   pub some : 1 ≤ s.regs.b
-  pub reads : AllShown (is_hidden s.regs.sp) (wav_read s.regs)
+  pub reads : AllShown (is_hidden open_to s.regs.sp) (wav_read s.regs)
   pub away : plus s.regs.pc 1 ≢ l.wait
 
-abbrev pub IsShownInstruction : Layout → ℕ → ℕ → State → State → Type 0
-IsShownInstruction l flags d s t =
-    ((i : Instr) × (IsShownPlain flags i s t × (d ≡ 0)))
-    ⊎ (((p : Rule) × (ps : List Rule) × IsShownRules l Rev (rev_form s.regs.y) flags d p ps s t)
-    ⊎ (((p : Rule) × (ps : List Rule) × IsShownRules l Revw revw_form flags d p ps s t)
-    ⊎ IsShownAverage l flags d s t))
+abbrev pub IsShownInstruction : (ℕ → Bool) → Layout → ℕ → ℕ → State → State → Type 0
+IsShownInstruction open_to l flags d s t =
+    ((i : Instr) × (IsShownPlain open_to flags i s t × (d ≡ 0)))
+    ⊎ (((p : Rule) × (ps : List Rule) × IsShownRules open_to l Rev (rev_form s.regs.y) flags d p ps s t)
+    ⊎ (((p : Rule) × (ps : List Rule) × IsShownRules open_to l Revw revw_form flags d p ps s t)
+    ⊎ IsShownAverage open_to l flags d s t))
 
 -- a whole instruction on a sample, from a state that does not wait
-pub record IsInterruptibleStep (l : Layout) (image : List ℕ) (flags d : ℕ) (s t : State) : Type 0 where
+pub record IsInterruptibleStep (open_to : ℕ → Bool) (l : Layout) (image : List ℕ) (flags d : ℕ) (s t : State) : Type 0 where
   pub busy : is_idle l s ≡ false
-  pub interruptible : IsInterruptible image s
-  pub instruction : IsShownInstruction l flags d s t
+  pub interruptible : IsInterruptible open_to image s
+  pub instruction : IsShownInstruction open_to l flags d s t

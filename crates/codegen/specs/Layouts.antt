@@ -12,6 +12,7 @@ main_layout = record {
   weights = 0xD300;
   rules = 0xD800;
   ready = 0x1000;
+  samples = 0x1001;
   inputs = 0x1001;
   outputs = 0x1010;
   slots = 0x1100;

@@ -13,7 +13,6 @@ use Rattle.codegen.specs.declared.width.Width.{Width}
 use Rattle.codegen.specs.declared.width.Width.TheVariants.{Byte, Word}
 use Rattle.codegen.specs.declared.firmware.Firmware.{Firmware}
 use Rattle.codegen.specs.Widths.{width_of, places, answer}
-use Rattle.codegen.specs.Bounds.{instruction_bound}
 use Rattle.codegen.specs.Firing.{AreInputBytes}
 use Rattle.codegen.specs.Interruptible.{is_idle}
 use Rattle.codegen.specs.Answers.{given, IsArrived, AreAnswered}
@@ -65,37 +64,37 @@ pub record AreUninterrupted (f : Firmware) (flags : ℕ) (samples : List (List �
 abbrev pub UninterruptedAreOne : Type 0
 UninterruptedAreOne = (f : Firmware) (flags : ℕ) (samples : List (List ℕ)) (xs ys : List Answer) → AreUninterrupted f flags samples xs → AreUninterrupted f flags samples ys → xs ≡ ys
 
--- an answer has a block's answers over bytes after those before, by no more instructions than the bound
-pub record IsAnswerOf (w : Width) (b : Block) (before : ℕ → ℕ) (bytes : List ℕ) (a : Answer) : Type 0 where
+-- an answer has a block's answers over bytes after those before, by at most so many instructions
+pub record IsAnswerOf (w : Width) (b : Block) (most : ℕ) (before : ℕ → ℕ) (bytes : List ℕ) (a : Answer) : Type 0 where
   pub values : (o : ℕ) → 1 ≤ o → o ≤ length b.outputs → slice_index a.values (o - 1) ≡ answer w b o bytes (before o)
   pub count : length a.values ≡ length b.outputs
-  pub instructions : a.instructions ≤ instruction_bound w b
+  pub instructions : a.instructions ≤ most
 
 -- those to a list of samples, each after the one before
-abbrev pub AreAnswersOf : Width → Block → (ℕ → ℕ) → List (List ℕ) → List Answer → Type 0
-AreAnswersOf w b before [] [] = Unit {0}
-AreAnswersOf w b before [] (a ∷ answers) = ⊥
-AreAnswersOf w b before (bytes ∷ samples) [] = ⊥
-AreAnswersOf w b before (bytes ∷ samples) (a ∷ answers) = IsAnswerOf w b before bytes a × AreAnswersOf w b (λ o. answer w b o bytes (before o)) samples answers
+abbrev pub AreAnswersOf : Width → Block → ℕ → (ℕ → ℕ) → List (List ℕ) → List Answer → Type 0
+AreAnswersOf w b most before [] [] = Unit {0}
+AreAnswersOf w b most before [] (a ∷ answers) = ⊥
+AreAnswersOf w b most before (bytes ∷ samples) [] = ⊥
+AreAnswersOf w b most before (bytes ∷ samples) (a ∷ answers) = IsAnswerOf w b most before bytes a × AreAnswersOf w b most (λ o. answer w b o bytes (before o)) samples answers
 
 -- the answers of samples that whole instructions answer where interrupts may come
-abbrev pub answers_by : (b : Block) (f : Firmware) (image : List ℕ) (flags : ℕ) (before : ℕ → ℕ) (samples : List (List ℕ)) (s : State) → AreAnswered f.layout b (width_of f.wide) image flags before samples s → List Answer
+abbrev pub answers_by : (b : Block) (f : Firmware) (image : List ℕ) (flags : ℕ) (before : ℕ → ℕ) (samples : List (List ℕ)) (s : State) → AreAnswered f.layout b (width_of f.wide) f.instr_bound image flags before samples s → List Answer
 answers_by b f image flags before [] s h = []
 answers_by b f image flags before (bytes ∷ samples) s h =
     record { values = values_in f h.0; instructions = length h.1.0.ds }
     ∷ answers_by b f image flags (λ o. answer (width_of f.wide) b o bytes (before o)) samples h.0 h.1.1
 
--- They are the uninterrupted ones, and the block's.
+-- They are the uninterrupted ones, and the block's, within the firmware's bound.
 abbrev pub AnsweredAreUninterrupted : Type 0
 AnsweredAreUninterrupted = (b : Block) (f : Firmware) (flags : ℕ) (samples : List (List ℕ)) (s : State) → f.outputs ≡ length b.outputs
-    → IsArrived f.layout (image_memory f.image.bytes) flags s → (h : AreAnswered f.layout b (width_of f.wide) (image_memory f.image.bytes) flags (λ o. 0) samples s)
+    → IsArrived f.layout (image_memory f.image.bytes) flags s → (h : AreAnswered f.layout b (width_of f.wide) f.instr_bound (image_memory f.image.bytes) flags (λ o. 0) samples s)
     → AreUninterrupted f flags samples (answers_by b f (image_memory f.image.bytes) flags (λ o. 0) samples s h)
-    × AreAnswersOf (width_of f.wide) b (λ o. 0) samples (answers_by b f (image_memory f.image.bytes) flags (λ o. 0) samples s h)
+    × AreAnswersOf (width_of f.wide) b f.instr_bound (λ o. 0) samples (answers_by b f (image_memory f.image.bytes) flags (λ o. 0) samples s h)
 
--- the uninterrupted answers to every list of samples exist, and are a block's
+-- the uninterrupted answers to every list of samples exist, and are a block's, within the firmware's bound
 abbrev pub AnswersUninterrupted : Block → Firmware → Type 0
 AnswersUninterrupted b f = (flags : ℕ) (samples : List (List ℕ)) → flags < 2 ^ 8 → All (AreInputBytes b) samples
-    → (answers : List Answer) × (AreUninterrupted f flags samples answers × AreAnswersOf (width_of f.wide) b (λ o. 0) samples answers)
+    → (answers : List Answer) × (AreUninterrupted f flags samples answers × AreAnswersOf (width_of f.wide) b f.instr_bound (λ o. 0) samples answers)
 
 -- Those of the firmware of a block do, and are.
 abbrev pub FirmwareIsUninterrupted : Type 0

@@ -3,7 +3,7 @@ ghost use Rattle.std.specs.Prelude.{◌≡◌, ◌+◌, ◌≤◌, sum_by, lengt
 ghost use Rattle.fuzzy_meaning.specs.Blocks.{IsValid, IsValidInput, IsValidOutput};
 ghost use Rattle.rule_layout.specs.Slots.{term_count, singleton_count};
 ghost use Rattle.rule_layout.specs.Layouts.{flat_of, IsLaidOut};
-ghost use Rattle.codegen.specs.Bounds.{output_bound, entry_count, element_count, form_bound, instruction_bound, step_bound};
+ghost use Rattle.codegen.specs.Bounds.{output_bound, entry_count, element_count, form_bound, instruction_bound, steps_by};
 
 use crate::width::Width;
 use fuzzy_meaning::{Block, Input, Output};
@@ -110,14 +110,13 @@ pub(crate) fn instruction_bound(width: Width, block: &Block, flat: &Flat) -> u32
         + form_bound(flat.form)
 }
 
-/// The most steps that a sample takes.
-pub(crate) fn step_bound(width: Width, block: &Block, flat: &Flat, instructions: u32) -> u32
+/// The steps of at most so many instructions of a sample.
+pub(crate) fn steps_by(block: &Block, flat: &Flat, instructions: u32) -> u32
     requires valid { IsValid block.now }
     requires flat { flat.now ≡ flat_of block.now }
     requires short { element_count block.now ≤ 9984 }
-    requires instructions { instructions ≡ instruction_bound width block.now }
-    requires few { instructions ≤ 2000 }
-    ensures { result ≡ step_bound width block.now }
+    requires few { instructions ≤ 2020 }
+    ensures { result ≡ steps_by block.now instructions }
 {
     let singletons = u32::from(output_terms(block.outputs.as_slice()));
     let outputs = block.outputs.len() as u32;

@@ -35,24 +35,21 @@ fn push_copies(items: &mut Vec<Item>, instruction: Instr, count: usize) -> Resul
     Ok(())
 }
 
-/// The code around EVAL.
-pub(crate) fn push_frame(items: &mut Vec<Item>, layout: &Layout) -> Result<(), AllocError>
-    ensures { OnOk result (items.new.items ≡ items.old.items ++ map Op (frame_code layout.now)) }
+/// The code before EVAL of a firmware that stands alone.
+pub(crate) fn frame_code(layout: &Layout) -> [Instr; 9]
+    ensures { result ≡ frame_code layout.now }
 {
-    push_code(
-        items,
-        &[
-            Instr::LdsImmediate(0x2000),
-            Instr::ClrExtended(layout.ready),
-            Instr::Andcc(0xEF),
-            Instr::LdaaExtended(layout.ready),
-            Instr::Beq(0xFB),
-            Instr::JsrExtended(layout.eval),
-            Instr::ClrExtended(layout.ready),
-            Instr::Bra(0xF3),
-            Instr::Rti,
-        ],
-    )
+    [
+        Instr::LdsImmediate(0x2000),
+        Instr::ClrExtended(layout.ready),
+        Instr::Andcc(0xEF),
+        Instr::LdaaExtended(layout.ready),
+        Instr::Beq(0xFB),
+        Instr::JsrExtended(layout.eval),
+        Instr::ClrExtended(layout.ready),
+        Instr::Bra(0xF3),
+        Instr::Rti,
+    ]
 }
 
 /// The grades of the inputs, of which the first stands at `first`.

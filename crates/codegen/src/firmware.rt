@@ -7,7 +7,7 @@ ghost use Rattle.codegen.specs.Widths.{is_wide};
 ghost use Rattle.codegen.specs.Answers.{AnswersFrom};
 ghost use Rattle.codegen.specs.Uninterrupted.{AnswersUninterrupted};
 
-use crate::bounds::{instruction_bound, step_bound};
+use crate::bounds::{instruction_bound, steps_by};
 use crate::items::firmware_items;
 use crate::laws::{firmware_answers, firmware_is_uninterrupted};
 use crate::layout::Layout;
@@ -104,7 +104,7 @@ fn compile_at(alloc: Global, width: Width, block: &Block) -> Result<Firmware, La
         }
     };
     let instr_bound = instruction_bound(width, block, &flat);
-    let step_bound = step_bound(width, block, &flat, instr_bound);
+    let step_bound = steps_by(block, &flat, instr_bound);
     Ok(Firmware {
         image,
         layout: Layout::MAIN,

@@ -5,10 +5,10 @@ ghost use Rattle.cpu12_asm.specs.declared.items.Item.TheVariants.{Op};
 ghost use Rattle.rule_layout.specs.Layouts.{flat_of, IsLaidOut};
 ghost use Rattle.codegen.specs.Code.{eval_code_over};
 ghost use Rattle.codegen.specs.Data.{table_bytes, weight_bytes_by, rule_bytes_by};
-ghost use Rattle.codegen.specs.Images.{bytes_at, vector_items, firmware_items, HasRoom};
+ghost use Rattle.codegen.specs.Images.{bytes_at, vector_items, block_items, firmware_items, HasRoom};
 
 use crate::bounds::output_terms;
-use crate::code::{push_code, push_frame, push_fuzzify, push_outputs, push_rules, push_slots};
+use crate::code::{frame_code, push_code, push_fuzzify, push_outputs, push_rules, push_slots};
 use crate::data::{push_bytes, push_singletons, push_tables, push_word, push_words};
 use crate::layout::Layout;
 use crate::width::Width;
@@ -19,8 +19,8 @@ use point_slope::table;
 use rule_layout::{Flat, Form, Slot};
 use std::alloc::{AllocError, Global};
 
-/// The items of a block's firmware at a layout, with answers of a width. `flat` is the block's
-/// rules as `spread` lays them out.
+/// The items of a block's firmware that stands alone at a layout, with answers of a width. `flat` is
+/// the block's rules as `spread` lays them out.
 pub fn firmware_items(
     alloc: Global,
     layout: &Layout,
@@ -35,10 +35,35 @@ pub fn firmware_items(
     ensures { IfOk result (λ items. items.items ≡ firmware_items layout.now block.now width) }
 {
     let mut items = Vec::new(alloc);
+    let (before, behind) = (frame_code(layout), [Instr::Rts]);
+    push_block(
+        alloc, &mut items, layout, width, block, flat, &before, &behind,
+    )?;
+    push_vectors(&mut items, layout)?;
+    Ok(items)
+}
+
+/// A block's code, with what stands before and behind EVAL, its tables and its rule list.
+pub(crate) fn push_block(
+    alloc: Global,
+    items: &mut Vec<Item>,
+    layout: &Layout,
+    width: Width,
+    block: &Block,
+    flat: &Flat,
+    before: &[Instr],
+    behind: &[Instr],
+) -> Result<(), AllocError>
+    requires valid { IsValid block.now }
+    requires flat { flat.now ≡ flat_of block.now }
+    requires laid_out { IsLaidOut flat.now }
+    requires room { HasRoom layout.now }
+    ensures { OnOk result (items.new.items ≡ items.old.items ++ block_items layout.now block.now width before.now behind.now) }
+{
     items.push(Item::Place(layout.code))?;
-    push_frame(&mut items, layout)?;
+    push_code(items, before)?;
     push_eval(
-        &mut items,
+        items,
         layout,
         width,
         block.inputs.as_slice(),
@@ -46,13 +71,12 @@ pub fn firmware_items(
         flat.slots.as_slice(),
         flat.form,
     )?;
-    push_code(&mut items, &[Instr::Rts])?;
-    push_tables_at(alloc, &mut items, layout, block)?;
+    push_code(items, behind)?;
+    push_tables_at(alloc, items, layout, block)?;
     items.push(Item::Place(layout.singletons))?;
-    push_singletons(&mut items, block.outputs.as_slice())?;
-    push_rule_data(alloc, &mut items, layout, flat)?;
-    push_vectors(&mut items, layout)?;
-    Ok(items)
+    push_singletons(items, block.outputs.as_slice())?;
+    push_rule_data(alloc, items, layout, flat)?;
+    Ok(())
 }
 
 /// The code that answers a sample, to where it returns.
@@ -142,7 +166,7 @@ fn push_rule_data(
 }
 
 /// The interrupt's and the reset vector.
-fn push_vectors(items: &mut Vec<Item>, layout: &Layout) -> Result<(), AllocError>
+pub(crate) fn push_vectors(items: &mut Vec<Item>, layout: &Layout) -> Result<(), AllocError>
     ensures { OnOk result (items.new.items ≡ items.old.items ++ vector_items layout.now) }
 {
     items.push(Item::Place(0xFFF2))?;

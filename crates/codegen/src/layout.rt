@@ -21,6 +21,8 @@ pub struct Layout {
     pub rules: u16,
     /// READY, which is not 0 while a sample waits for its answer.
     pub ready: u16,
+    /// Where a sample's bytes are put from outside: the inputs' bytes, unless the code copies them there.
+    pub samples: u16,
     /// The inputs' bytes.
     pub inputs: u16,
     /// The outputs' bytes.
@@ -41,6 +43,7 @@ impl Layout {
         weights: 0xD300,
         rules: 0xD800,
         ready: 0x1000,
+        samples: 0x1001,
         inputs: 0x1001,
         outputs: 0x1010,
         slots: 0x1100,

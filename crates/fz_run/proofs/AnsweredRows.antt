@@ -20,7 +20,7 @@ use Rattle.codegen.specs.declared.layout.Layout.{Layout}
 use Rattle.codegen.specs.declared.width.Width.{Width}
 use Rattle.codegen.specs.Layouts.{main_layout}
 use Rattle.codegen.specs.Widths.{width_of, answer}
-use Rattle.codegen.specs.Bounds.{instruction_bound, step_bound}
+use Rattle.codegen.specs.Bounds.{instruction_bound, steps_by, step_bound}
 use Rattle.codegen.specs.Interruptible.{is_idle, IsInterruptible, IsShownInstruction, IsInterruptibleStep}
 use Rattle.codegen.specs.Answers as answers
 use Rattle.codegen.specs.Answers.{IsArrived, IsAnswered, AreAnswered}
@@ -73,7 +73,7 @@ at_instruction image s c = record {
   fits = c.fits;
   low = low c.stack;
   high = high c.stack;
-  unmasked = c.unmasked;
+  unmasked = c.mask;
   code = c.code;
 }
   where
@@ -85,7 +85,7 @@ at_instruction image s c = record {
     high (inl e) = omega arith
     high (inr e) = omega arith
 
-step_stretch : Laws → (image : List ℕ) (flags d : ℕ) (s t : State) → flags < 2 ^ 8 → IsInterruptibleStep main_layout image flags d s t
+step_stretch : Laws → (image : List ℕ) (flags d : ℕ) (s t : State) → flags < 2 ^ 8 → IsInterruptibleStep is_free main_layout image flags d s t
     → Stretch (Kept is_free flags (On image)) flags d s t
 unfolding On
 step_stretch laws image flags d s t hf h = by h.instruction
@@ -112,7 +112,7 @@ step_stretch laws image flags d s t hf h = by h.instruction
     second away v e g m =
         (off_loop v (λ z. away (sym e ∙ z)), subst IsStack (sym g) stack, λ at le. ap (λ (n : List ℕ). get_or n at 0) m ∙ same at le)
 
-    by : IsShownInstruction main_layout flags d s t → Stretch (Kept is_free flags (On image)) flags d s t
+    by : IsShownInstruction is_free main_layout flags d s t → Stretch (Kept is_free flags (On image)) flags d s t
     by (inl p) =
         subst (λ (k : ℕ). Stretch (Kept is_free flags (On image)) flags k s t) (sym p.1.1)
         (plain_step laws.steps.plain_is_step is_free flags (On image) p.0 s t c p.1.0.step p.1.0.reads p.1.0.writes p.1.0.uncovers here)
@@ -122,7 +122,7 @@ step_stretch laws image flags d s t hf h = by h.instruction
         revw_step laws.steps is_free flags (On image) d p.0 p.1 s t hf c p.2.step (record { reads = p.2.reads; writes = p.2.writes; below = p.2.below; itself = p.2.itself }) (within p.2.away)
     by (inr (inr (inr p))) = average_step laws.steps is_free flags (On image) d s t hf c p.step p.reads here (second p.away)
 
-stretches : Laws → (image : List ℕ) (flags : ℕ) (ds : List ℕ) (s t : State) → flags < 2 ^ 8 → Execution (IsInterruptibleStep main_layout image flags) ds s t
+stretches : Laws → (image : List ℕ) (flags : ℕ) (ds : List ℕ) (s t : State) → flags < 2 ^ 8 → Execution (IsInterruptibleStep is_free main_layout image flags) ds s t
     → Execution (Stretch (Kept is_free flags (On image)) flags) ds s t
 stretches laws image flags [] s t hf h = h
 stretches laws image flags (d ∷ ds) s t hf h = (h.0, (step_stretch laws image flags d s h.0 hf h.1.0, stretches laws image flags ds h.0 t hf h.1.1))
@@ -147,30 +147,30 @@ same_given bytes s l =
     by m = record { regs = s.regs; temps = s.temps; mem = m }
 
 -- the numbers of steps of the samples
-numbers : (b : Block) (w : Width) (image : List ℕ) (flags : ℕ) (before : ℕ → ℕ) (samples : List (List ℕ)) (s : State)
-    → AreAnswered main_layout b w image flags before samples s → List ℕ
-numbers b w image flags before [] s h = []
-numbers b w image flags before (bytes ∷ samples) s h = all_steps h.1.0.ds ∷ numbers b w image flags (λ o. answer w b o bytes (before o)) samples h.0 h.1.1
+numbers : (b : Block) (w : Width) (most : ℕ) (image : List ℕ) (flags : ℕ) (before : ℕ → ℕ) (samples : List (List ℕ)) (s : State)
+    → AreAnswered main_layout b w most image flags before samples s → List ℕ
+numbers b w most image flags before [] s h = []
+numbers b w most image flags before (bytes ∷ samples) s h = all_steps h.1.0.ds ∷ numbers b w most image flags (λ o. answer w b o bytes (before o)) samples h.0 h.1.1
 
-within : (b : Block) (w : Width) (image : List ℕ) (flags : ℕ) (before : ℕ → ℕ) (samples : List (List ℕ)) (s : State) (h : AreAnswered main_layout b w image flags before samples s) → AllWithin (step_bound w b) (numbers b w image flags before samples s h)
+within : (b : Block) (w : Width) (most : ℕ) (image : List ℕ) (flags : ℕ) (before : ℕ → ℕ) (samples : List (List ℕ)) (s : State) (h : AreAnswered main_layout b w most image flags before samples s) → AllWithin (steps_by b most) (numbers b w most image flags before samples s h)
 unfolding numbers
-within b w image flags before [] s h = tt
-within b w image flags before (bytes ∷ samples) s h = (h.1.0.steps, within b w image flags (λ o. answer w b o bytes (before o)) samples h.0 h.1.1)
+within b w most image flags before [] s h = tt
+within b w most image flags before (bytes ∷ samples) s h = (h.1.0.steps, within b w most image flags (λ o. answer w b o bytes (before o)) samples h.0 h.1.1)
 
-went : Laws → (b : Block) (w : Width) (image : List ℕ) (flags : ℕ) (before : ℕ → ℕ) (bytes : List ℕ) (s t : State) → flags < 2 ^ 8 → length bytes ≤ 8
-    → (a : IsAnswered main_layout b w image flags before bytes s t)
+went : Laws → (b : Block) (w : Width) (most : ℕ) (image : List ℕ) (flags : ℕ) (before : ℕ → ℕ) (bytes : List ℕ) (s t : State) → flags < 2 ^ 8 → length bytes ≤ 8
+    → (a : IsAnswered main_layout b w most image flags before bytes s t)
     → Stretches (Kept is_free flags (On image)) flags a.ds (given main_layout bytes s) t
-went laws b w image flags before bytes s t hf l a =
+went laws b w most image flags before bytes s t hf l a =
     let start = answers.given main_layout bytes s in
     subst (λ (u : State). Stretches (Kept is_free flags (On image)) flags a.ds u t) (sym (same_given bytes s l)) (all_stretches (Kept is_free flags (On image)) flags a.ds start t (stretches laws image flags a.ds start t hf a.execution))
 
-sampled : Laws → (f : Firmware) (n : ℕ) (b : Block) (w : Width) (flags : ℕ) (before : ℕ → ℕ) (bytes : List ℕ) (s t : State) → flags < 2 ^ 8 → length bytes ≤ 8
-    → (a : IsAnswered main_layout b w (image_memory f.image.bytes) flags before bytes s t)
+sampled : Laws → (f : Firmware) (n : ℕ) (b : Block) (w : Width) (most : ℕ) (flags : ℕ) (before : ℕ → ℕ) (bytes : List ℕ) (s t : State) → flags < 2 ^ 8 → length bytes ≤ 8
+    → (a : IsAnswered main_layout b w most (image_memory f.image.bytes) flags before bytes s t)
     → Completes (FactsAlone flags (alone f n)) (with_writes flags (alone f n)) 0 (all_steps a.ds) (all_steps a.ds) (given main_layout bytes s)
 unfolding On IsStack
-sampled laws f n b w flags before bytes s t hf l a =
+sampled laws f n b w most flags before bytes s t hf l a =
     let image = image_memory f.image.bytes in
-    let g = went laws b w image flags before bytes s t hf l a in
+    let g = went laws b w most image flags before bytes s t hf l a in
     let busy =
     before_weaker (Kept is_free flags (On image)) (λ u. is_idle main_layout u ≡ false) flags (λ u k. k.1.0) (all_steps a.ds) (given main_layout bytes s) g.each in
     record {
@@ -180,37 +180,37 @@ sampled laws f n b w flags before bytes s t hf l a =
       ended = ap (is_idle main_layout) g.goes ∙ a.idle;
     }
 
-all_sampled : Laws → (f : Firmware) (n : ℕ) (b : Block) (w : Width) (flags : ℕ) (before : ℕ → ℕ) (samples : List (List ℕ)) (s : State) → flags < 2 ^ 8
-    → AreShort samples → (h : AreAnswered main_layout b w (image_memory f.image.bytes) flags before samples s)
-    → AllComplete (FactsAlone flags (alone f n)) (with_writes flags (alone f n)) (numbers b w (image_memory f.image.bytes) flags before samples s h) samples s
+all_sampled : Laws → (f : Firmware) (n : ℕ) (b : Block) (w : Width) (most : ℕ) (flags : ℕ) (before : ℕ → ℕ) (samples : List (List ℕ)) (s : State) → flags < 2 ^ 8
+    → AreShort samples → (h : AreAnswered main_layout b w most (image_memory f.image.bytes) flags before samples s)
+    → AllComplete (FactsAlone flags (alone f n)) (with_writes flags (alone f n)) (numbers b w most (image_memory f.image.bytes) flags before samples s h) samples s
 unfolding numbers
-all_sampled laws f n b w flags before [] s hf l h = tt
-all_sampled laws f n b w flags before (bytes ∷ samples) s hf l h =
+all_sampled laws f n b w most flags before [] s hf l h = tt
+all_sampled laws f n b w most flags before (bytes ∷ samples) s hf l h =
     let image = image_memory f.image.bytes in
-    let g = went laws b w image flags before bytes s h.0 hf l.0 h.1.0 in
+    let g = went laws b w most image flags before bytes s h.0 hf l.0 h.1.0 in
     let later : ℕ → ℕ = λ o. answer w b o bytes (before o) in (
-      sampled laws f n b w flags before bytes s h.0 hf l.0 h.1.0,
-      subst (λ (u : State). AllComplete (FactsAlone flags (alone f n)) (with_writes flags (alone f n)) (numbers b w image flags later samples h.0 h.1.1) samples u) (sym g.goes) (all_sampled laws f n b w flags later samples h.0 hf l.1 h.1.1),
+      sampled laws f n b w most flags before bytes s h.0 hf l.0 h.1.0,
+      subst (λ (u : State). AllComplete (FactsAlone flags (alone f n)) (with_writes flags (alone f n)) (numbers b w most image flags later samples h.0 h.1.1) samples u) (sym g.goes) (all_sampled laws f n b w most flags later samples h.0 hf l.1 h.1.1),
     )
 
 -- where it waits
-waits_alone : (f : Firmware) (s : State) → IsInterruptible (image_memory f.image.bytes) s → WaitsAlone f s
+waits_alone : (f : Firmware) (s : State) → IsInterruptible is_free (image_memory f.image.bytes) s → WaitsAlone f s
 unfolding IsStack
-waits_alone f s c = record { image = c.same; stack = at_stack s.regs.sp c.stack; unmasked = c.unmasked; sums = c.temps }
+waits_alone f s c = record { image = c.same; stack = at_stack s.regs.sp c.stack; unmasked = c.mask; sums = c.temps }
 
-all_wait : Laws → (f : Firmware) (n : ℕ) (b : Block) (w : Width) (flags : ℕ) (before : ℕ → ℕ) (samples : List (List ℕ)) (s : State) → flags < 2 ^ 8
-    → AreShort samples → IsInterruptible (image_memory f.image.bytes) s → (h : AreAnswered main_layout b w (image_memory f.image.bytes) flags before samples s)
-    → AllWait flags (alone f n) (numbers b w (image_memory f.image.bytes) flags before samples s h) samples s
+all_wait : Laws → (f : Firmware) (n : ℕ) (b : Block) (w : Width) (most : ℕ) (flags : ℕ) (before : ℕ → ℕ) (samples : List (List ℕ)) (s : State) → flags < 2 ^ 8
+    → AreShort samples → IsInterruptible is_free (image_memory f.image.bytes) s → (h : AreAnswered main_layout b w most (image_memory f.image.bytes) flags before samples s)
+    → AllWait flags (alone f n) (numbers b w most (image_memory f.image.bytes) flags before samples s h) samples s
 unfolding numbers
-all_wait laws f n b w flags before [] s hf l c h = waits_alone (alone f n) s c
-all_wait laws f n b w flags before (bytes ∷ samples) s hf l c h =
+all_wait laws f n b w most flags before [] s hf l c h = waits_alone (alone f n) s c
+all_wait laws f n b w most flags before (bytes ∷ samples) s hf l c h =
     let image = image_memory f.image.bytes in
-    let g = went laws b w image flags before bytes s h.0 hf l.0 h.1.0 in
+    let g = went laws b w most image flags before bytes s h.0 hf l.0 h.1.0 in
     let later : ℕ → ℕ = λ o. answer w b o bytes (before o) in
     let one = h.1.0 in (
       waits_alone (alone f n) s c,
-      subst (λ (u : State). AllWait flags (alone f n) (numbers b w image flags later samples h.0 h.1.1) samples u) (sym g.goes)
-          (all_wait laws f n b w flags later samples h.0 hf l.1 one.interruptible h.1.1),
+      subst (λ (u : State). AllWait flags (alone f n) (numbers b w most image flags later samples h.0 h.1.1) samples u) (sym g.goes)
+          (all_wait laws f n b w most flags later samples h.0 hf l.1 one.interruptible h.1.1),
     )
 
 -- the answers where none stands past the end of memory
@@ -240,32 +240,32 @@ answer_is : (xs ys : List ℕ) (i j : ℕ) → xs ≡ ys → i ≡ j
 answer_is xs ys i j v n = ap₂ (λ (x : List ℕ) (k : ℕ). let r : Answer = record { values = x; instructions = k } in r) v n
 
 all_answers : Laws
-    → (f : Firmware) (n : ℕ) (b : Block) (image : List ℕ) (flags : ℕ) (before : ℕ → ℕ) (plan : List Request) (k : ℕ) (samples : List (List ℕ)) (s : State)
+    → (f : Firmware) (n : ℕ) (b : Block) (most : ℕ) (image : List ℕ) (flags : ℕ) (before : ℕ → ℕ) (plan : List Request) (k : ℕ) (samples : List (List ℕ)) (s : State)
     → flags < 2 ^ 8 → AreShort samples → n ≤ 4
-    → (h : AreAnswered main_layout b (width_of f.wide) image flags before samples s)
-    → map answer_of_row (rows_of_samples flags (alone f n) plan k (numbers b (width_of f.wide) image flags before samples s h) samples s) ≡ answers_by b (alone f n) image flags before samples s h
+    → (h : AreAnswered main_layout b (width_of f.wide) most image flags before samples s)
+    → map answer_of_row (rows_of_samples flags (alone f n) plan k (numbers b (width_of f.wide) most image flags before samples s h) samples s) ≡ answers_by b (alone f n) image flags before samples s h
 unfolding numbers
-all_answers laws f n b image flags before plan k [] s hf l few h = refl
-all_answers laws f n b image flags before plan k (bytes ∷ samples) s hf l few h =
+all_answers laws f n b most image flags before plan k [] s hf l few h = refl
+all_answers laws f n b most image flags before plan k (bytes ∷ samples) s hf l few h =
     let w = width_of f.wide in
     let start = given main_layout bytes s in
-    let g = went laws b w image flags before bytes s h.0 hf l.0 h.1.0 in
+    let g = went laws b w most image flags before bytes s h.0 hf l.0 h.1.0 in
     let later : ℕ → ℕ = λ o. answer w b o bytes (before o) in
     let end = uninterrupted flags (all_steps h.1.0.ds) start in
     let here =
     answer_is (answers_in (alone f n) end) (values_in (alone f n) h.0) (counted flags (all_steps h.1.0.ds) start) (length h.1.0.ds) (ap (answers_in (alone f n)) g.goes ∙ same_values f n h.0 few) g.counts in
-    let rest = all_answers laws f n b image flags later plan (suc k) samples h.0 hf l.1 few h.1.1 in
+    let rest = all_answers laws f n b most image flags later plan (suc k) samples h.0 hf l.1 few h.1.1 in
     let moved =
-    subst (λ (u : State). map answer_of_row (rows_of_samples flags (alone f n) plan (suc k) (numbers b w image flags later samples h.0 h.1.1) samples u) ≡ answers_by b (alone f n) image flags later samples h.0 h.1.1) (sym g.goes) rest in
+    subst (λ (u : State). map answer_of_row (rows_of_samples flags (alone f n) plan (suc k) (numbers b w most image flags later samples h.0 h.1.1) samples u) ≡ answers_by b (alone f n) image flags later samples h.0 h.1.1) (sym g.goes) rest in
     ap₂ (λ (x : Answer) (xs : List Answer). x ∷ xs) here moved
 
-all_samples : (f : Firmware) (b : Block) (w : Width) (image : List ℕ) (flags : ℕ) (before : ℕ → ℕ) (plan : List Request) (k : ℕ) (samples : List (List ℕ)) (s u : State) → (h : AreAnswered main_layout b w image flags before samples s)
-    → map (λ (r : RowSeen (List ℕ)). r.sample) (rows_of_samples flags f plan k (numbers b w image flags before samples s h) samples u) ≡ samples
+all_samples : (f : Firmware) (b : Block) (w : Width) (most : ℕ) (image : List ℕ) (flags : ℕ) (before : ℕ → ℕ) (plan : List Request) (k : ℕ) (samples : List (List ℕ)) (s u : State) → (h : AreAnswered main_layout b w most image flags before samples s)
+    → map (λ (r : RowSeen (List ℕ)). r.sample) (rows_of_samples flags f plan k (numbers b w most image flags before samples s h) samples u) ≡ samples
 unfolding numbers
-all_samples f b w image flags before plan k [] s u h = refl
-all_samples f b w image flags before plan k (bytes ∷ samples) s u h =
+all_samples f b w most image flags before plan k [] s u h = refl
+all_samples f b w most image flags before plan k (bytes ∷ samples) s u h =
     let start = given f.layout bytes u in
-    ap (λ (xs : List (List ℕ)). bytes ∷ xs) (all_samples f b w image flags (λ o. answer w b o bytes (before o)) plan (suc k) samples h.0 (uninterrupted flags (all_steps h.1.0.ds) start) h.1.1)
+    ap (λ (xs : List (List ℕ)). bytes ∷ xs) (all_samples f b w most image flags (λ o. answer w b o bytes (before o)) plan (suc k) samples h.0 (uninterrupted flags (all_steps h.1.0.ds) start) h.1.1)
 
 -- no row has more steps than the bound
 few_steps : (flags : ℕ) (f : Firmware) (plan : List Request) (most k : ℕ) (ns : List ℕ) (samples : List (List ℕ)) (s : State) → AllWithin most ns
@@ -280,7 +280,7 @@ few_steps flags f plan most k (n ∷ ns) (bytes ∷ rest) s h =
 
 -- a firmware waits first where it arrives first
 enough_steps : (w : Width) (b : Block) → length b.outputs ≤ 4 → 3 ≤ step_bound w b
-unfolding step_bound instruction_bound
+unfolding steps_by instruction_bound
 enough_steps w b few = omega arith
 
 first_is : ArrivesPlainly → (b : Block) (f : Firmware) (n flags : ℕ) (s : State) → length b.outputs ≤ 4 → IsFirmwareOf b (alone f n)
@@ -299,36 +299,39 @@ all_short b (bytes ∷ samples) few all =
 under : Laws → (b : Block) (f : Firmware) (n flags : ℕ) (samples : List (List ℕ)) (plan : List Request) (s : State) → flags < 2 ^ 8 → length b.outputs ≤ 4
     → n ≤ 4 → IsFirmwareOf b (alone f n) → AreShort samples → IsGood plan
     → IsArrived main_layout (image_memory f.image.bytes) flags s
-    → AreAnswered main_layout b (width_of f.wide) (image_memory f.image.bytes) flags (λ o. 0) samples s
+    → AreAnswered main_layout b (width_of f.wide) f.instr_bound (image_memory f.image.bytes) flags (λ o. 0) samples s
     → AnswersUnder b (alone f n) flags samples plan (firmware_rows (alone f n) samples plan flags).rows
 under laws b f n flags samples plan s hf few count h short good a answered =
     let g = alone f n in
     let w = width_of f.wide in
     let image = image_memory f.image.bytes in
-    let ns = numbers b w image flags (λ o. 0) samples s answered in
+    let most = f.instr_bound in
+    let ns = numbers b w most image flags (λ o. 0) samples s answered in
     let first : first_state g flags ≡ s = first_is laws.arrives_plainly b f n flags s few h a in
     let few_answers = few_bytes f.wide n count in
     let low : IsLow g = record { ready = omega arith; outputs = omega arith } in
-    let steps : AllWithin (step_bound w b) ns = within b w image flags (λ o. 0) samples s answered in
-    let bounded : AllWithin f.step_bound ns = subst (λ (m : ℕ). AllWithin m ns) (sym h.steps) steps in
-    let complete : AllComplete (FactsAlone flags g) (with_writes flags g) ns samples s = all_sampled laws f n b w flags (λ o. 0) samples s hf short answered in
+    let steps : AllWithin (steps_by b most) ns = within b w most image flags (λ o. 0) samples s answered in
+    let same_bound : steps_by b most ≡ step_bound w b = ap (steps_by b) h.instructions in
+    let enough : f.step_bound ≡ steps_by b most = h.steps ∙ sym same_bound in
+    let bounded : AllWithin f.step_bound ns = subst (λ (m : ℕ). AllWithin m ns) (sym enough) steps in
+    let complete : AllComplete (FactsAlone flags g) (with_writes flags g) ns samples s = all_sampled laws f n b w most flags (λ o. 0) samples s hf short answered in
     let runs : FollowsAlone flags g f.step_bound plan ns samples s = laws.runs_follow flags g f.step_bound plan ns samples s low good bounded complete in
     let rows = (firmware_rows g samples plan flags).rows in
     let expected = rows_of_samples flags g plan 1 ns samples s in
     let rows_are : rows ≡ expected =
     ap (λ (u : State). (rows_from (with_writes flags g) f.step_bound (λ k. requests_of k plan) 1 samples u).rows) first ∙ runs.rows_are in
-    let same = ap (map answer_of_row) rows_are ∙ all_answers laws f n b image flags (λ o. 0) plan 1 samples s hf short count answered in
+    let same = ap (map answer_of_row) rows_are ∙ all_answers laws f n b most image flags (λ o. 0) plan 1 samples s hf short count answered in
     let both = laws.answered_are_uninterrupted b g flags samples s h.outputs a answered in
     record {
       answers = record {
         samples_are = ap (map (λ (r : RowSeen (List ℕ)). r.sample)) rows_are ∙ all_samples g b w image flags (λ o. 0) plan 1 samples s s answered;
         uninterrupted = subst (λ (xs : List Answer). AreUninterrupted g flags samples xs) (sym same) both.0;
-        answers = subst (λ (xs : List Answer). AreAnswersOf w b (λ o. 0) samples xs) (sym same) both.1;
-        steps = subst (λ (rs : List (RowSeen (List ℕ))). All (λ (r : RowSeen (List ℕ)). r.steps ≤ step_bound w b) rs) (sym rows_are) (few_steps flags g plan (step_bound w b) 1 ns samples s steps);
+        answers = subst (λ (xs : List Answer). AreAnswersOf w b most (λ o. 0) samples xs) (sym same) both.1;
+        steps = subst (λ (rs : List (RowSeen (List ℕ))). All (λ (r : RowSeen (List ℕ)). r.steps ≤ step_bound w b) rs) (sym rows_are) (subst (λ (m : ℕ). All (λ (r : RowSeen (List ℕ)). r.steps ≤ m) expected) same_bound (few_steps flags g plan (steps_by b most) 1 ns samples s steps));
       };
       ns = ns;
       complete = subst (λ (u : State). AllComplete (FactsAlone flags g) (with_writes flags g) ns samples u) (sym first) complete;
-      waits = subst (λ (u : State). AllWait flags g ns samples u) (sym first) (all_wait laws f n b w flags (λ o. 0) samples s hf short a.interruptible answered);
+      waits = subst (λ (u : State). AllWait flags g ns samples u) (sym first) (all_wait laws f n b w most flags (λ o. 0) samples s hf short a.interruptible answered);
       rows_are = rows_are ∙ ap (λ (u : State). rows_of_samples flags g plan 1 ns samples u) (sym first);
       follows = subst (λ (u : State). FollowsAlone flags g f.step_bound plan ns samples u) (sym first) runs;
     }

@@ -29,7 +29,7 @@ pub record AnswerBlock (b : Block) (f : Firmware) (flags : ℕ) (samples : List 
     (List ℕ))) : Type 0 where
   pub samples_are : map (λ r. r.sample) rows ≡ samples
   pub uninterrupted : AreUninterrupted f flags samples (map answer_of_row rows)
-  pub answers : AreAnswersOf (width_of f.wide) b (λ o. 0) samples (map answer_of_row rows)
+  pub answers : AreAnswersOf (width_of f.wide) b f.instr_bound (λ o. 0) samples (map answer_of_row rows)
   pub steps : All (λ r. r.steps ≤ step_bound (width_of f.wide) b) rows
 
 -- What a block's firmware gives under a plan: rows that are the block's answers; the run without interrupts from the

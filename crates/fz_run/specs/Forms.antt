@@ -12,7 +12,7 @@ use Rattle.codegen.specs.Interruptible.{is_idle}
 
 -- the input bytes are written, and READY 1
 abbrev pub given : Layout → List ℕ → State → State
-given l bytes s = record s { mem = write_all (placed l.inputs bytes ++ (l.ready, 1) ∷ []) s.mem }
+given l bytes s = record s { mem = write_all (placed l.samples bytes ++ (l.ready, 1) ∷ []) s.mem }
 
 -- an answer has one byte, or two where answers are wide, and the high one is the first
 abbrev pub answer_size : Bool → ℕ

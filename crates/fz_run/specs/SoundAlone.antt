@@ -61,7 +61,7 @@ sound flags f low agree quiet = record {
   shown = λ s p. (let facts = p.facts in facts.shown);
   gives = λ x w s l.
       (let hidden = is_hidden is_free s.regs.sp in
-      let writes = placed f.layout.inputs x ++ (f.layout.ready, 1) ∷ [] in
+      let writes = placed f.layout.samples x ++ (f.layout.ready, 1) ∷ [] in
       record { regs = l.regs; temps = l.temps; mem = agree writes w.mem s.mem hidden hidden l.mem (λ at h. inl h) });
   leaves = λ x w s l. l;
   answers = λ w s l. same_answers f.wide f.outputs f.layout.outputs s.regs.sp w.mem s.mem low.outputs l.mem;

@@ -21,7 +21,7 @@ pub(crate) fn give<M: Mem>(layout: &Layout, m: &mut Machine<M>, bytes: &[u8])
     ensures state { m.new.state ≡ given layout.now bytes.now m.old.state }
     ensures flags { m.new.flags ≡ m.old.flags }
 {
-    let mut at = layout.inputs;
+    let mut at = layout.samples;
     for byte in bytes {
         m.poke(at, *byte);
         at = at.wrapping_add(1);

@@ -55,15 +55,15 @@ input_bytes_fit b (r ∷ rs) (s ∷ ss) h =
 
 -- ---- the answers of rows
 
-instructions_within : (w : Width) (b : Block) (before : ℕ → ℕ) (samples : List (List ℕ))
+instructions_within : (w : Width) (b : Block) (most : ℕ) (before : ℕ → ℕ) (samples : List (List ℕ))
     (rows : List (RowSeen (List ℕ)))
-    → AreAnswersOf w b before samples (map answer_of_row rows) → All (λ r. r.instrs ≤ instruction_bound w b) rows
-instructions_within w b before [] [] answers = none _
-instructions_within w b before [] (r ∷ rows) answers = absurd answers
-instructions_within w b before (bytes ∷ samples) [] answers = none _
-instructions_within w b before (bytes ∷ samples) (r ∷ rows) answers =
-    All-cons (λ q. q.instrs ≤ instruction_bound w b) r rows answers.0.instructions
-    (instructions_within w b (λ o. answer w b o bytes (before o)) samples rows answers.1)
+    → AreAnswersOf w b most before samples (map answer_of_row rows) → All (λ r. r.instrs ≤ most) rows
+instructions_within w b most before [] [] answers = none _
+instructions_within w b most before [] (r ∷ rows) answers = absurd answers
+instructions_within w b most before (bytes ∷ samples) [] answers = none _
+instructions_within w b most before (bytes ∷ samples) (r ∷ rows) answers =
+    All-cons (λ q. q.instrs ≤ most) r rows answers.0.instructions
+    (instructions_within w b most (λ o. answer w b o bytes (before o)) samples rows answers.1)
 
 width_again : (w : Width) → width_of (is_wide w) ≡ w
 width_again Byte = refl
@@ -113,8 +113,7 @@ module _ (near : AnswersAreWithinErrors) (run : Run) (files : Files) (block : Bl
     within = within;
     bound = bound_is;
     instructions =
-        subst (λ (n : ℕ). All (λ (r : RowSeen (List ℕ)). r.instrs ≤ n) rows) (sym a.compiled.compiled.instructions)
-        (instructions_within (width_of firmware.wide) block (λ o. 0) (map input_bytes samples) rows under.answers.answers);
+        instructions_within (width_of firmware.wide) block firmware.instr_bound (λ o. 0) (map input_bytes samples) rows under.answers.answers;
     steps = subst (λ (w : Width). All (λ (r : RowSeen (List ℕ)). r.steps ≤ step_bound w block) rows) width under.answers.steps;
     follows = under;
     left = subst (λ (ss : List Sample). left ≡ left_of (firmware_rows firmware (map input_bytes ss) plan run.flags).state.mem) same left_is;

@@ -9,7 +9,7 @@ use Rattle.rule_layout.specs.declared.flat.Conjunction.{Conjunction}
 use Rattle.rule_layout.specs.Slots.{slots_of, singleton_count}
 use Rattle.byte_scaling.specs.Cells.{NearestIsByte}
 use Rattle.rule_layout.specs.Layouts.{conjunctions_of, IsWithinLimits, LayoutLaw}
-use Rattle.codegen.specs.Bounds.{element_count, entry_count, output_bound, instruction_bound, step_bound}
+use Rattle.codegen.specs.Bounds.{element_count, entry_count, output_bound, instruction_bound, steps_by, step_bound}
 use Rattle.fz_num.specs.declared.dec.Dec.{Dec}
 use Rattle.codegen.specs.declared.width.Width.{Width}
 use Rattle.codegen.specs.declared.width.Width.TheVariants.{Byte, Word}
@@ -92,7 +92,7 @@ some_entries : (cs : List Conjunction) (ws : List ℕ) → HasRules cs ws → 2 
 some_entries cs ws h = subst (λ xs. 2 ≤ sum_by entry_count xs) (sym h.conjunctions_are) (omega (arith, sum_by-cons entry_count h.k h.ks))
 
 steps_fit : (w : Width) (b : Block) → IsValid b → BlockFacts b → (n : ℕ) → n ≤ 6 + eval_most w b + eval_parts b → n ≤ step_bound w b
-unfolding step_bound
+unfolding steps_by
 steps_fit w b v facts n h =
     let some : 2 ≤ element_count b = some_entries (conjunctions_of b) _ (has_rules b facts) in
     omega (arith, count_bound w b, parts_and_outputs b.outputs v.outputs, v.few_outputs)

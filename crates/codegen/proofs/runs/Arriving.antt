@@ -1,38 +1,39 @@
 -- From reset to where the code waits.
-use Rattle.std.proofs.Common.{◌≡◌, inr, ℕ, ◌+◌, ◌-◌, ◌*◌, ◌/◌, ◌%◌, ◌^◌, ◌<◌, ◌≤◌, Ok, List, [], ◌∷◌, ◌++◌, map, length, set, get_or, refl, sym, ap, ap₂, ◌∙◌}
+use Rattle.std.proofs.Common.{◌≡◌, inl, inr, ⊎_elim, ℕ, ◌+◌, ◌-◌, ◌*◌, ◌/◌, ◌%◌, ◌^◌, ◌<◌, ◌≤◌, Ok, List, [], ◌∷◌, ◌++◌, map, length, set, get_or, refl, sym, ap, ap₂, ◌∙◌}
 use Rattle.std.proofs.Common.{subst, arith, length-set, get_or-set_same}
 use Rattle.fuzzy_meaning.specs.declared.block.Block.{Block}
 use Rattle.cpu12_isa.specs.declared.instr.Instr.TheVariants.{LdsImmediate, ClrExtended, Andcc}
 use Rattle.cpu12_isa.specs.Code.{decode_at}
 use Rattle.cpu12_isa.specs.Fits.{FitsRegs, AreBytes}
-use Rattle.cpu12_asm.specs.declared.items.Item.TheVariants.{Op}
+use Rattle.cpu12_isa.specs.declared.instr.Instr.{Instr}
+use Rattle.cpu12_asm.specs.declared.items.Item.{Item}
 use Rattle.cpu12_asm.specs.Items.{given_by, IsRising}
 use Rattle.cpu12_parts.specs.State.{State}
-use Rattle.cpu12_parts.specs.Whole.{after_plain}
+use Rattle.cpu12_parts.specs.Whole.{after_plain, PlainWay}
 use Rattle.cpu12_emul.specs.Image.{byte_or_zero}
 use Rattle.cpu12_emul.specs.Step.{reset_with}
 use Rattle.codegen.specs.declared.layout.Layout.{Layout}
 use Rattle.codegen.specs.declared.width.Width.{Width}
 use Rattle.codegen.specs.declared.width.Width.TheVariants.{Byte, Word}
 use Rattle.codegen.specs.Widths.{places, bytes_of}
-use Rattle.codegen.specs.Code.{whole_code}
-use Rattle.codegen.specs.Data.{table_bytes, singleton_bytes, weight_bytes, rule_bytes}
-use Rattle.codegen.specs.Images.{bytes_at, vector_items, firmware_items, IsApart}
-use Rattle.codegen.specs.Answers.{IsArrived}
+use Rattle.codegen.specs.Code.{block_code}
+use Rattle.codegen.specs.Data.{table_bytes, singleton_bytes, weight_bytes, rule_bytes, bytes_of_word}
+use Rattle.codegen.specs.Images.{bytes_at, block_items, IsApart}
+use Rattle.cpu12_asm.specs.declared.items.Item.TheVariants.{Op}
 use Rattle.codegen.proofs.steps.Flags.{unmasked}
 use Rattle.codegen.proofs.steps.Memory.{HasBytes, SameHigh, high_set, bytes_set_out, bytes_after_set}
-use Rattle.codegen.proofs.runs.Stepping.{Ctx, Live, interruptible_of}
-use Rattle.codegen.proofs.steps.Decoding.{decode_same, decode_here}
-use Rattle.codegen.proofs.runs.Framing.{Home, answer_room, waits}
+use Rattle.codegen.proofs.runs.Stepping.{Ctx, Live}
+use Rattle.codegen.proofs.steps.Decoding.{code_bytes, decode_same, decode_here}
+use Rattle.codegen.proofs.runs.Framing.{Home, answer_room}
 use Rattle.codegen.proofs.runs.Standing.{Rises, HasGiven, none_below}
-use Rattle.codegen.proofs.runs.Founding.{IsFramed, Stood, FrameBytes}
+use Rattle.codegen.proofs.runs.Founding.{IsStarted, start_code}
 
 -- memory below the code is 0
-pub zero_below : Rises → (image : List ℕ) (l : Layout) (b : Block) (w : Width) → HasGiven image (given_by (firmware_items l b w))
-    → IsRising (firmware_items l b w) → (q : ℕ) → q < l.code → q < 65536 → get_or image q 0 ≡ 0
-unfolding firmware_items
-zero_below rises image l b w h rise q lt small =
-    h.bytes q small ∙ ap byte_or_zero (none_below rises l.code q (map Op (whole_code l b w) ++ (bytes_at l.tables (table_bytes b) ++ (bytes_at l.singletons (singleton_bytes b) ++ (bytes_at l.weights (weight_bytes b) ++ (bytes_at l.rules (rule_bytes l.slots b) ++ vector_items l))))) rise.1 lt)
+pub zero_below : Rises → (image : List ℕ) (l : Layout) (b : Block) (w : Width) (before behind : List Instr) (rest : List Item)
+    → HasGiven image (given_by (block_items l b w before behind ++ rest)) → IsRising (block_items l b w before behind ++ rest) → (q : ℕ) → q < l.code
+    → q < 65536 → get_or image q 0 ≡ 0
+unfolding block_items
+zero_below rises image l b w before behind rest h rise q lt small = h.bytes q small ∙ ap byte_or_zero (none_below rises l.code q ((map Op (block_code l b w before behind) ++ (bytes_at l.tables (table_bytes b) ++ (bytes_at l.singletons (singleton_bytes b) ++ (bytes_at l.weights (weight_bytes b) ++ bytes_at l.rules (rule_bytes l.slots b))))) ++ rest) rise.1 lt)
 
 -- answers that are 0, where memory is
 none_stand : (w : Width) (m : List ℕ) (p : ℕ) → ((q : ℕ) → p ≤ q → q < p + length (bytes_of w 0) → get_or m q 0 ≡ 0) → HasBytes m p (bytes_of w 0)
@@ -42,13 +43,13 @@ none_stand Word m p h = (h p (omega arith) (omega arith), (h (p + 1) (omega arit
 -- the first arrival
 pub record Arrived (c : Ctx) (b : Block) (w : Width) : Type 0 where
   pub t : State
-  pub arrived : IsArrived c.layout c.image c.flags t
+  pub way : PlainWay c.flags c.layout.wait 3 (reset_with c.image) t
   pub home : Home c b w (λ o. 0) t
 
-pub arrive : (c : Ctx) (b : Block) (w : Width) → IsFramed c.layout → IsApart c.layout → length b.outputs ≤ 4 → Stood c.image c.layout b w
-    → FrameBytes c.image c.layout b w → HasGiven c.image (given_by (firmware_items c.layout b w)) → AreBytes c.image
-    → ((q : ℕ) → q < c.layout.code → get_or c.image q 0 ≡ 0) → Arrived c b w
-arrive c b width f a few h fb g bytes zero_low =
+pub arrive : (c : Ctx) (b : Block) (w : Width) → IsStarted c.layout → IsApart c.layout → length b.outputs ≤ 4
+    → HasBytes c.image 0xFFFE (bytes_of_word c.layout.code) → HasBytes c.image c.layout.code (code_bytes (start_code c.layout)) → length c.image ≡ 65536
+    → AreBytes c.image → ((q : ℕ) → q < c.layout.code → get_or c.image q 0 ≡ 0) → Arrived c b w
+arrive c b width f a few vector start size bytes zero_low =
     let l = c.layout in
     let lo = f.low in
     let hi = f.high in
@@ -57,22 +58,21 @@ arrive c b width f a few h fb g bytes zero_low =
     let i = a.inputs in
     let o = a.outputs in
     let z = a.slots in
-    let size = g.size in
     let s0 = reset_with c.image in
     let s1 = after_plain c.flags (LdsImmediate 0x2000) s0 in
     let s2 = after_plain c.flags (ClrExtended l.ready) s1 in
     let s3 = after_plain c.flags (Andcc 0xEF) s2 in
-    let p0 : s0.regs.pc ≡ l.code = ap₂ (λ x y. x * 2 ^ 8 + y) h.start.0 h.start.1.0 ∙ omega arith in
+    let p0 : s0.regs.pc ≡ l.code = ap₂ (λ x y. x * 2 ^ 8 + y) vector.0 vector.1.0 ∙ omega arith in
     let p1 : s1.regs.pc ≡ l.code + 3 = omega arith in
     let p2 : s2.regs.pc ≡ l.code + 6 = omega arith in
     let p3 : s3.regs.pc ≡ l.code + 8 = omega arith in
     let m = set c.image l.ready 0 in
     let same : SameHigh c.image m = high_set c.image c.image l.ready 0 (omega arith) (λ at le. refl) in
     let d0 : decode_at c.image s0.regs.pc ≡ Ok (LdsImmediate 0x2000) =
-    ap (decode_at c.image) p0 ∙ decode_here c.image l.code (LdsImmediate 0x2000) tt (omega arith) (fb.start.0, (fb.start.1.0, (fb.start.1.1.0, tt))) in
+    ap (decode_at c.image) p0 ∙ decode_here c.image l.code (LdsImmediate 0x2000) tt (omega arith) (start.0, (start.1.0, (start.1.1.0, tt))) in
     let at1 : l.code + 1 + 1 + 1 ≡ l.code + 3 = omega arith in
     let b1 : HasBytes c.image (l.code + 3) (121 ∷ l.ready / 2 ^ 8 ∷ l.ready % 2 ^ 8 ∷ 16 ∷ 239 ∷ []) =
-    subst (λ p. HasBytes c.image p (121 ∷ l.ready / 2 ^ 8 ∷ l.ready % 2 ^ 8 ∷ 16 ∷ 239 ∷ [])) at1 fb.start.1.1.1 in
+    subst (λ p. HasBytes c.image p (121 ∷ l.ready / 2 ^ 8 ∷ l.ready % 2 ^ 8 ∷ 16 ∷ 239 ∷ [])) at1 start.1.1.1 in
     let d1 : decode_at c.image s1.regs.pc ≡ Ok (ClrExtended l.ready) =
     ap (decode_at c.image) p1 ∙ decode_here c.image (l.code + 3) (ClrExtended l.ready) tt (omega arith) (b1.0, (b1.1.0, (b1.1.1.0, tt))) in
     let at2 : l.code + 3 + 1 + 1 + 1 ≡ l.code + 6 = omega arith in
@@ -87,23 +87,18 @@ arrive c b width f a few h fb g bytes zero_low =
     let f3 = (c.stays_fit c.flags (Andcc 0xEF) s2.regs m c.fits (omega arith) f2 bm).0 in
     let live : Live c s3 = record {
       temps = refl;
-      size = length-set c.image l.ready 0 ∙ g.size;
+      size = length-set c.image l.ready 0 ∙ size;
       bytes = bm;
       fits = f3;
       stack = inr refl;
-      unmasked = unmasked s2.regs.ccr.0;
+      mask = unmasked s2.regs.ccr.0;
       same = same;
     } in
     let ready : get_or m l.ready 0 ≡ 0 = get_or-set_same c.image l.ready 0 0 (omega arith) in
     let home : s3.regs.pc ≡ l.wait = p3 ∙ sym w in
     record {
       t = s3;
-      arrived = record {
-        way = (s1, (omega arith, (LdsImmediate 0x2000, record { decoded = d0; plain = refl; after = refl }), (s2, (omega arith, (ClrExtended l.ready, record { decoded = d1; plain = refl; after = refl }), (s3, (omega arith, (Andcc 0xEF, record { decoded = d2; plain = refl; after = refl }), refl))))));
-        wait = home;
-        idle = waits l s3 home ready;
-        interruptible = interruptible_of c s3 live (omega arith) (omega arith);
-      };
+      way = (s1, (omega arith, (LdsImmediate 0x2000, record { decoded = d0; plain = refl; after = refl }), (s2, (omega arith, (ClrExtended l.ready, record { decoded = d1; plain = refl; after = refl }), (s3, (omega arith, (Andcc 0xEF, record { decoded = d2; plain = refl; after = refl }), refl))))));
       home = record {
         live = live;
         pc_is = home;
@@ -111,7 +106,7 @@ arrive c b width f a few h fb g bytes zero_low =
         outs = λ o from to.
             (let p = l.outputs + places width * (o - 1) in
             let room = answer_room width o 0 from (omega arith) in
-            bytes_set_out c.image l.ready 0 p (bytes_of width 0) (inr (omega arith)) (none_stand width c.image p (λ q lo hi. zero_low q (omega arith))));
+            bytes_set_out c.image l.ready 0 p (bytes_of width 0) (⊎_elim (λ before. inr (omega arith)) (λ behind. inl (omega arith)) f.apart) (none_stand width c.image p (λ q lo hi. zero_low q (omega arith))));
         ready_is = ready;
       };
     }

@@ -1,5 +1,5 @@
 -- EVAL called in a firmware that stands alone, from what it owns.
-use Rattle.std.proofs.Common.{◌≡◌, inl, inr, ℕ, ◌+◌, ◌*◌, ◌^◌, ◌<◌, ◌≤◌, max, min, nat_lt, nat_le, ◌&&◌, false, List, [], ◌∷◌, ◌++◌, length, get_or, set, refl}
+use Rattle.std.proofs.Common.{◌≡◌, ◌⊎◌, inl, inr, ⊎_elim, ℕ, ◌+◌, ◌*◌, ◌^◌, ◌<◌, ◌≤◌, max, min, nat_lt, nat_le, ◌&&◌, Bool, false, List, [], ◌∷◌, ◌++◌, length, get_or, set, refl}
 use Rattle.std.proofs.Common.{sym, ap, ap₂, ◌∙◌, subst, arith}
 use Rattle.std.proofs.lemmas.Bool.{or_parts}
 use Rattle.std.proofs.lemmas.Bool.Decides.{nat_tests}
@@ -28,13 +28,13 @@ use Rattle.codegen.specs.Data.{table_bytes, singleton_bytes, weight_bytes, rule_
 use Rattle.codegen.specs.Images.{IsApart}
 use Rattle.codegen.specs.Firing.{AreInputBytes}
 use Rattle.cpu12_parts.specs.Executions.{Execution, all_steps}
-use Rattle.cpu12_isa.specs.Regions.{is_free}
-use Rattle.codegen.specs.Interruptible.{IsInterruptible, is_hidden, IsShownRules, IsShownInstruction, IsInterruptibleStep}
+use Rattle.cpu12_isa.specs.Regions.{is_hidden}
+use Rattle.codegen.specs.Interruptible.{IsInterruptible, IsShownRules, IsShownInstruction, IsInterruptibleStep}
 use Rattle.cpu12_parts.specs.Touching.{IsIn, Each, IsRulesOver, IsInstructionOver}
 use Rattle.codegen.specs.Code.{eval_code}
 use Rattle.codegen.specs.Evaluation.{HasBytes, HasEval, HasAnswers, IsAtEval, IsEvaluated, EvalAnswers, eval_bytes, Reads, Writes, code_region, IsEvalStep}
 use Rattle.codegen.proofs.steps.Memory.{SameHigh, high_set, same_bytes, high_writes}
-use Rattle.codegen.proofs.runs.Stepping.{Ctx, Here, Live, Next, plain_next, low_shown, high_shown, not_at}
+use Rattle.codegen.proofs.runs.Stepping.{IsShut, Ctx, Here, Live, Next, plain_next, low_shown, high_shown, not_at}
 use Rattle.codegen.proofs.steps.Executions.{execution_on, steps_append, length_append}
 use Rattle.codegen.proofs.steps.Decoding.{code_bytes, decode_here}
 use Rattle.codegen.proofs.phases.RuleMemory.{Below, From, apart_by, below_front, below_back}
@@ -44,9 +44,9 @@ use Rattle.codegen.proofs.phases.Outputs.{places_few}
 use Rattle.codegen.proofs.phases.Law.{length-code}
 
 -- RTS with the return address on the stack
-less_hidden : (at : ℕ) → is_hidden 0x2000 at ≡ false → is_hidden 0x1FFE at ≡ false
-less_hidden at h =
-    let q = or_parts (is_free at) (nat_le 0x1FE0 at && nat_lt at 0x2000) h in
+less_hidden : (open_to : ℕ → Bool) (at : ℕ) → is_hidden open_to 0x2000 at ≡ false → is_hidden open_to 0x1FFE at ≡ false
+less_hidden open_to at h =
+    let q = or_parts (open_to at) (nat_le 0x1FE0 at && nat_lt at 0x2000) h in
     let t : (nat_le 0x1FE0 at && nat_lt at 0x1FFE) ≡ false = grind (arith, nat_tests, q.1) in
     rw (q.0, t)
 
@@ -55,27 +55,30 @@ pub rts_run : (c : Ctx) (s : State) (p ret : ℕ) → Live c s → s.regs.pc ≡
 rts_run c s p ret l ep h es er =
     let e1 : plus s.regs.sp 1 ≡ 0x1FFF = omega arith in
     let e2 : plus s.regs.sp 2 ≡ 0x2000 = omega arith in
-    let r0 : is_hidden s.regs.sp s.regs.sp ≡ false = high_shown s.regs.sp s.regs.sp (omega arith) (omega arith) in
-    let r1 : is_hidden s.regs.sp (plus s.regs.sp 1) ≡ false = high_shown s.regs.sp (plus s.regs.sp 1) (omega arith) (omega arith) in
-    plain_next c s p ret Rts l (not_at c.layout s p ep h.off) ep h.low h.high h.decoded refl tt (r0, (r1, tt)) tt (λ at g. inl (ap (λ k. is_hidden k at) es ∙ less_hidden at (ap (λ k. is_hidden k at) (sym e2) ∙ g))) tt (inr e2) refl (ap₂ (λ a b. get_or s.mem a 0 * 2 ^ 8 + get_or s.mem b 0) es e1 ∙ er)
+    let open_to = c.open_to in
+    let r0 : is_hidden open_to s.regs.sp s.regs.sp ≡ false = high_shown open_to s.regs.sp s.regs.sp (c.shut.high s.regs.sp (omega arith)) (omega arith) in
+    let r1 : is_hidden open_to s.regs.sp (plus s.regs.sp 1) ≡ false = high_shown open_to s.regs.sp (plus s.regs.sp 1) (c.shut.high (plus s.regs.sp 1) (omega arith)) (omega arith) in
+    plain_next c s p ret Rts l (not_at c.layout s p ep h.off) ep h.low h.high h.decoded refl tt (r0, (r1, tt)) tt (λ at g. inl (ap (λ k. is_hidden open_to k at) es ∙ less_hidden open_to at (ap (λ k. is_hidden open_to k at) (sym e2) ∙ g))) tt (inr e2) refl (ap₂ (λ a b. get_or s.mem a 0 * 2 ^ 8 + get_or s.mem b 0) es e1 ∙ er)
 
 -- What is owned is not hidden.
-read_shown : (l : Layout) (sp at : ℕ) → IsApart l → sp ≤ 0x2000 → Reads l at → is_hidden sp at ≡ false
-read_shown l sp at a h (inl o) = low_shown sp at (omega (arith, a.inputs, a.outputs, a.slots, o.1))
-read_shown l sp at a h (inr (inl o)) = low_shown sp at (omega (arith, a.slots, o.1))
-read_shown l sp at a h (inr (inr (inl o))) = high_shown sp at (omega (arith, a.tables, o.0)) (omega (arith, a.tables, o.0))
-read_shown l sp at a h (inr (inr (inr (inl o)))) = high_shown sp at (omega (arith, a.singletons, o.0)) (omega (arith, a.singletons, o.0))
-read_shown l sp at a h (inr (inr (inr (inr (inl o))))) = high_shown sp at (omega (arith, a.weights, o.0)) (omega (arith, a.weights, o.0))
-read_shown l sp at a h (inr (inr (inr (inr (inr (inl o)))))) = high_shown sp at (omega (arith, a.rules, o.0)) (omega (arith, a.rules, o.0))
-read_shown l sp at a h (inr (inr (inr (inr (inr (inr o)))))) = absurd o
+read_shown : (open_to : ℕ → Bool) (l : Layout) (sp at : ℕ) → IsShut open_to l → IsApart l → sp ≤ 0x2000 → Reads l at → is_hidden open_to sp at ≡ false
+read_shown open_to l sp at u a h (inl o) = let low : at < 0x1800 = omega (arith, a.inputs, a.outputs, a.slots, o.1) in low_shown open_to sp at (u.reads at low (inl o)) low
+read_shown open_to l sp at u a h (inr (inl o)) = let low : at < 0x1800 = omega (arith, a.slots, o.1) in low_shown open_to sp at (u.reads at low (inr (inl o))) low
+read_shown open_to l sp at u a h (inr (inr (inl o))) = high_shown open_to sp at (u.high at (omega (arith, a.tables, o.0))) (omega (arith, a.tables, o.0))
+read_shown open_to l sp at u a h (inr (inr (inr (inl o)))) = high_shown open_to sp at (u.high at (omega (arith, a.singletons, o.0))) (omega (arith, a.singletons, o.0))
+read_shown open_to l sp at u a h (inr (inr (inr (inr (inl o))))) = high_shown open_to sp at (u.high at (omega (arith, a.weights, o.0))) (omega (arith, a.weights, o.0))
+read_shown open_to l sp at u a h (inr (inr (inr (inr (inr (inl o)))))) = high_shown open_to sp at (u.high at (omega (arith, a.rules, o.0))) (omega (arith, a.rules, o.0))
+read_shown open_to l sp at u a h (inr (inr (inr (inr (inr (inr o)))))) = absurd o
 
-all_read : (l : Layout) (sp : ℕ) (ats : List ℕ) → IsApart l → sp ≤ 0x2000 → Each (Reads l) ats → AllShown (is_hidden sp) ats
-all_read l sp [] a h e = tt
-all_read l sp (at ∷ ats) a h e = (read_shown l sp at a h e.0, all_read l sp ats a h e.1)
+all_read : (open_to : ℕ → Bool) (l : Layout) (sp : ℕ) (ats : List ℕ) → IsShut open_to l → IsApart l → sp ≤ 0x2000 → Each (Reads l) ats → AllShown (is_hidden open_to sp) ats
+all_read open_to l sp [] u a h e = tt
+all_read open_to l sp (at ∷ ats) u a h e = (read_shown open_to l sp at u a h e.0, all_read open_to l sp ats u a h e.1)
 
-all_written : (l : Layout) (sp : ℕ) (ats : List ℕ) → IsApart l → Each (Writes l) ats → AllShown (is_hidden sp) ats
-all_written l sp [] a e = tt
-all_written l sp (at ∷ ats) a e = (low_shown sp at (written_low l at a e.0), all_written l sp ats a e.1)
+all_written : (open_to : ℕ → Bool) (l : Layout) (sp : ℕ) (ats : List ℕ) → IsShut open_to l → IsApart l → Each (Writes l) ats → AllShown (is_hidden open_to sp) ats
+all_written open_to l sp [] u a e = tt
+all_written open_to l sp (at ∷ ats) u a e =
+    let low = written_low l at a e.0 in
+    (low_shown open_to sp at (u.writes at low e.0) low, all_written open_to l sp ats u a e.1)
 
 written_below : (l : Layout) (ats : List ℕ) → IsApart l → Each (Writes l) ats → Below 0x1800 ats
 written_below l [] a e = tt
@@ -85,9 +88,11 @@ code_above : (l : Layout) (ats : List ℕ) → IsApart l → Each (IsIn (code_re
 code_above l [] r e = tt
 code_above l (at ∷ ats) r e = (omega (arith, r.eval, e.0.0), code_above l ats r e.1)
 
-code_seen : (l : Layout) (sp : ℕ) (ats : List ℕ) → IsApart l → sp ≤ 0x2000 → Each (IsIn (code_region l)) ats → AllShown (is_hidden sp) ats
-code_seen l sp [] r h e = tt
-code_seen l sp (at ∷ ats) r h e = (high_shown sp at (omega (arith, r.eval, e.0.0)) (omega (arith, r.eval, e.0.0)), code_seen l sp ats r h e.1)
+code_seen : (open_to : ℕ → Bool) (l : Layout) (sp : ℕ) (ats : List ℕ) → IsShut open_to l → IsApart l → sp ≤ 0x2000 → Each (IsIn (code_region l)) ats
+    → AllShown (is_hidden open_to sp) ats
+code_seen open_to l sp [] u r h e = tt
+code_seen open_to l sp (at ∷ ats) u r h e =
+    (high_shown open_to sp at (u.high at (omega (arith, r.eval, e.0.0))) (omega (arith, r.eval, e.0.0)), code_seen open_to l sp ats u r h e.1)
 
 -- rules whose conclusions are low keep what stands high
 record High (m mem : List ℕ) : Type 0 where
@@ -112,8 +117,8 @@ record Alone (image : List ℕ) (s : State) : Type 0 where
   unmasked : has s.regs.ccr 4 ≡ false
   same : SameHigh image s.mem
 
-record Carried (l : Layout) (image : List ℕ) (flags d : ℕ) (s t : State) : Type 0 where
-  instruction : IsShownInstruction l flags d s t
+record Carried (open_to : ℕ → Bool) (l : Layout) (image : List ℕ) (flags d : ℕ) (s t : State) : Type 0 where
+  instruction : IsShownInstruction open_to l flags d s t
   temps : t.temps ≡ Free
   same : SameHigh image t.mem
 
@@ -121,12 +126,12 @@ below_image : (ats : List ℕ) → Below 0x1800 ats → Each (λ at. at < 0x2000
 below_image [] b = tt
 below_image (at ∷ ats) b = ((let l = b.0 in omega arith), below_image ats b.1)
 
-over_rules : (l : Layout) (i : Instr) (f : Form) (flags d : ℕ) (p : Rule) (ps : List Rule) (s t : State) → IsApart l → l.wait < l.eval → s.regs.sp ≤ 0x2000
-    → Each (IsIn (code_region l)) (six_from s.regs.pc) → IsRulesOver (Reads l) (Writes l) i f flags d p ps s t → IsShownRules l i f flags d p ps s t
-over_rules l i f flags d p ps s t a w sp code h = record {
+over_rules : (open_to : ℕ → Bool) (l : Layout) (i : Instr) (f : Form) (flags d : ℕ) (p : Rule) (ps : List Rule) (s t : State) → IsShut open_to l → IsApart l → l.wait < l.eval → s.regs.sp ≤ 0x2000
+    → Each (IsIn (code_region l)) (six_from s.regs.pc) → IsRulesOver (Reads l) (Writes l) i f flags d p ps s t → IsShownRules open_to l i f flags d p ps s t
+over_rules open_to l i f flags d p ps s t u a w sp code h = record {
   step = h.step;
-  reads = all_read l s.regs.sp _ a sp h.reads;
-  writes = all_written l s.regs.sp _ a h.writes;
+  reads = all_read open_to l s.regs.sp _ u a sp h.reads;
+  writes = all_written open_to l s.regs.sp _ u a h.writes;
   below = below_image (rules_written f p ps) (written_below l (rules_written f p ps) a h.writes);
   itself = apart_by (rules_written f p ps) (six_from s.regs.pc) (written_below l (rules_written f p ps) a h.writes) (code_above l (six_from s.regs.pc) a code);
   away = (let from = code.0.0 in λ e. omega arith);
@@ -137,9 +142,9 @@ rules_same : (l : Layout) (image : List ℕ) (i : Instr) (f : Form) (flags d : �
 rules_same l image i f flags d p ps s t a h same =
     subst (λ (u : State). SameHigh image u.mem) (sym h.step.after) (all_high f image s.mem p ps (written_below l (rules_written f p ps) a h.writes) (record { same = same })).same
 
-over : (l : Layout) (image : List ℕ) (flags d : ℕ) (s t : State) → IsApart l → l.wait < l.eval → Alone image s → t.regs.sp ≡ s.regs.sp
-    → Each (IsIn (code_region l)) (six_from s.regs.pc) → IsInstructionOver (Reads l) (Writes l) flags d s t → Carried l image flags d s t
-over l image flags d s t a w h sp code (inl p) =
+over : (open_to : ℕ → Bool) (l : Layout) (image : List ℕ) (flags d : ℕ) (s t : State) → IsShut open_to l → IsApart l → l.wait < l.eval → Alone image s → t.regs.sp ≡ s.regs.sp
+    → Each (IsIn (code_region l)) (six_from s.regs.pc) → IsInstructionOver (Reads l) (Writes l) flags d s t → Carried open_to l image flags d s t
+over open_to l image flags d s t u a w h sp code (inl p) =
     let i = p.0 in
     let o = p.1.0 in
     let e = effect flags i s.regs s.mem in
@@ -150,9 +155,9 @@ over l image flags d s t a w h sp code (inl p) =
         (
           record {
             step = o.step;
-            reads = all_read l s.regs.sp (read_by (act_of flags i s.regs) s.mem) a low o.reads;
-            writes = all_written l (min s.regs.sp t.regs.sp) (addresses e.writes) a o.writes;
-            uncovers = λ at g. inl (ap (λ k. is_hidden k at) (sym sp) ∙ g);
+            reads = all_read open_to l s.regs.sp (read_by (act_of flags i s.regs) s.mem) u a low o.reads;
+            writes = all_written open_to l (min s.regs.sp t.regs.sp) (addresses e.writes) u a o.writes;
+            uncovers = λ at g. inl (ap (λ k. is_hidden open_to k at) (sym sp) ∙ g);
           },
           p.1.1,
         ),
@@ -160,40 +165,40 @@ over l image flags d s t a w h sp code (inl p) =
       temps = ap (λ (u : State). u.temps) o.step.after ∙ h.temps;
       same = subst (λ (u : State). SameHigh image u.mem) (sym o.step.after) (high_writes image s.mem e.writes (writes_low l e.writes a o.writes) h.same);
     }
-over l image flags d s t a w h sp code (inr (inl q)) =
+over open_to l image flags d s t u a w h sp code (inr (inl q)) =
     let low : s.regs.sp ≤ 0x2000 = omega (arith, h.stack) in
-    record { instruction = inr (inl (q.0, q.1, over_rules l Rev _ flags d q.0 q.1 s t a w low code q.2)); temps = ap (λ (u : State). u.temps) q.2.step.after ∙ h.temps; same = rules_same l image Rev _ flags d q.0 q.1 s t a q.2 h.same }
-over l image flags d s t a w h sp code (inr (inr (inl q))) =
+    record { instruction = inr (inl (q.0, q.1, over_rules open_to l Rev _ flags d q.0 q.1 s t u a w low code q.2)); temps = ap (λ (u : State). u.temps) q.2.step.after ∙ h.temps; same = rules_same l image Rev _ flags d q.0 q.1 s t a q.2 h.same }
+over open_to l image flags d s t u a w h sp code (inr (inr (inl q))) =
     let low : s.regs.sp ≤ 0x2000 = omega (arith, h.stack) in
-    record { instruction = inr (inr (inl (q.0, q.1, over_rules l Revw _ flags d q.0 q.1 s t a w low code q.2))); temps = ap (λ (u : State). u.temps) q.2.step.after ∙ h.temps; same = rules_same l image Revw _ flags d q.0 q.1 s t a q.2 h.same }
-over l image flags d s t a w h sp code (inr (inr (inr o))) =
+    record { instruction = inr (inr (inl (q.0, q.1, over_rules open_to l Revw _ flags d q.0 q.1 s t u a w low code q.2))); temps = ap (λ (u : State). u.temps) q.2.step.after ∙ h.temps; same = rules_same l image Revw _ flags d q.0 q.1 s t a q.2 h.same }
+over open_to l image flags d s t u a w h sp code (inr (inr (inr o))) =
     let low : s.regs.sp ≤ 0x2000 = omega (arith, h.stack) in
     record {
-      instruction = inr (inr (inr (record { step = o.step; some = o.some; reads = all_read l s.regs.sp _ a low o.reads; away = (let next = code.1.0.0 in λ e. omega arith) })));
+      instruction = inr (inr (inr (record { step = o.step; some = o.some; reads = all_read open_to l s.regs.sp _ u a low o.reads; away = (let next = code.1.0.0 in λ e. omega arith) })));
       temps = ap (λ (u : State). u.temps) o.step.after;
       same = subst (λ (u : State). SameHigh image u.mem) (sym o.step.after) h.same;
     }
 
-interruptible_step : (l : Layout) (image : List ℕ) (flags d : ℕ) (s t : State) → IsApart l → l.wait < l.eval → Alone image s → IsEvalStep l flags d s t
-    → IsInterruptibleStep l image flags d s t × Alone image t
-interruptible_step l image flags d s t a w h e =
-    let k = over l image flags d s t a w h e.stack e.code e.instruction in
+interruptible_step : (open_to : ℕ → Bool) (l : Layout) (image : List ℕ) (flags d : ℕ) (s t : State) → IsShut open_to l → IsApart l → l.wait < l.eval → Alone image s → IsEvalStep l flags d s t
+    → IsInterruptibleStep open_to l image flags d s t × Alone image t
+interruptible_step open_to l image flags d s t u a w h e =
+    let k = over open_to l image flags d s t u a w h e.stack e.code e.instruction in
     let from = e.code.0.0 in
     let low : s.regs.sp ≤ 0x2000 = omega (arith, h.stack) in (
       record {
         busy = not_at l s s.regs.pc refl (λ q. omega arith);
-        interruptible = record { temps = h.temps; size = e.between.size; bytes = e.between.bytes; fits = e.between.fits; stack = inl h.stack; unmasked = h.unmasked; same = h.same; code = code_seen l s.regs.sp (six_from s.regs.pc) a low e.code };
+        interruptible = record { temps = h.temps; size = e.between.size; bytes = e.between.bytes; fits = e.between.fits; stack = inl h.stack; mask = h.unmasked; same = h.same; code = code_seen open_to l s.regs.sp (six_from s.regs.pc) u a low e.code };
         instruction = k.instruction;
       },
       record { temps = k.temps; stack = e.stack ∙ h.stack; unmasked = e.mask ∙ h.unmasked; same = k.same },
     )
 
-interruptible_execution : (l : Layout) (image : List ℕ) (flags : ℕ) (ds : List ℕ) (s t : State) → IsApart l → l.wait < l.eval → Alone image s
-    → Execution (IsEvalStep l flags) ds s t → Execution (IsInterruptibleStep l image flags) ds s t × Alone image t
-interruptible_execution l image flags [] s t a w h e = (e, subst (Alone image) e h)
-interruptible_execution l image flags (d ∷ ds) s t a w h e =
-    let one = interruptible_step l image flags d s e.0 a w h e.1.0 in
-    let rest = interruptible_execution l image flags ds e.0 t a w one.1 e.1.1 in
+interruptible_execution : (open_to : ℕ → Bool) (l : Layout) (image : List ℕ) (flags : ℕ) (ds : List ℕ) (s t : State) → IsShut open_to l → IsApart l → l.wait < l.eval → Alone image s
+    → Execution (IsEvalStep l flags) ds s t → Execution (IsInterruptibleStep open_to l image flags) ds s t × Alone image t
+interruptible_execution open_to l image flags [] s t u a w h e = (e, subst (Alone image) e h)
+interruptible_execution open_to l image flags (d ∷ ds) s t u a w h e =
+    let one = interruptible_step open_to l image flags d s e.0 u a w h e.1.0 in
+    let rest = interruptible_execution open_to l image flags ds e.0 t u a w one.1 e.1.1 in
     ((e.0, (one.0, rest.0)), rest.1)
 
 -- EVAL and its return stand in the image, above where the code waits
@@ -216,8 +221,8 @@ found l b w image mem a h same =
     }
 
 -- EVAL was called from an address with these bytes of inputs and these answers before
-pub record IsCalled (l : Layout) (b : Block) (w : Width) (image : List ℕ) (back : ℕ) (bytes : List ℕ) (before : ℕ → ℕ) (s : State) : Type 0 where
-  pub interruptible : IsInterruptible image s
+pub record IsCalled (open_to : ℕ → Bool) (l : Layout) (b : Block) (w : Width) (image : List ℕ) (back : ℕ) (bytes : List ℕ) (before : ℕ → ℕ) (s : State) : Type 0 where
+  pub interruptible : IsInterruptible open_to image s
   pub pc : s.regs.pc ≡ l.eval
   pub sp : s.regs.sp ≡ 0x1FFE
   pub back_is : get_or s.mem 0x1FFE 0 * 2 ^ 8 + get_or s.mem 0x1FFF 0 ≡ back
@@ -228,17 +233,18 @@ pub record IsCalled (l : Layout) (b : Block) (w : Width) (image : List ℕ) (bac
 pub record Back (c : Ctx) (b : Block) (w : Width) (back : ℕ) (bytes : List ℕ) (before : ℕ → ℕ) (s : State) : Type 0 where
   pub t : State
   pub ds : List ℕ
-  pub execution : Execution (IsInterruptibleStep c.layout c.image c.flags) ds s t
+  pub execution : Execution (IsInterruptibleStep c.open_to c.layout c.image c.flags) ds s t
   pub live : Live c t
   pub pc_is : t.regs.pc ≡ back
   pub sp_is : t.regs.sp ≡ 0x2000
   pub answers : HasAnswers c.layout b w (λ o. answer w b o bytes (before o)) t.mem
+  pub elsewhere : (at : ℕ) → (at < c.layout.outputs) ⊎ (c.layout.outputs + 8 ≤ at) → (at < c.layout.slots) ⊎ (c.layout.slots + 300 ≤ at) → get_or t.mem at 0 ≡ get_or s.mem at 0
   pub instructions : length ds + 5 ≤ instruction_bound w b
   pub steps : all_steps ds + 5 ≤ step_bound w b
 
 returned : (c : Ctx) (b : Block) (w : Width) (back : ℕ) (bytes : List ℕ) (before : ℕ → ℕ) (s : State) → IsApart c.layout → IsValid b → BlockFacts b
-    → HasRoutine c.layout b w c.image → IsCalled c.layout b w c.image back bytes before s
-    → (t : State) → (g : IsEvaluated c.layout b w c.flags bytes before s t) → Execution (IsInterruptibleStep c.layout c.image c.flags) g.ds s t
+    → HasRoutine c.layout b w c.image → IsCalled c.open_to c.layout b w c.image back bytes before s
+    → (t : State) → (g : IsEvaluated c.layout b w c.flags bytes before s t) → Execution (IsInterruptibleStep c.open_to c.layout c.image c.flags) g.ds s t
     → Alone c.image t → Back c b w back bytes before s
 returned c b w back bytes before s a v facts h k t g e alone =
     let l = c.layout in
@@ -252,14 +258,14 @@ returned c b w back bytes before s a v facts h k t g e alone =
     let slots = facts.few_slots in
     let apart1 = a.slots in
     let apart2 = a.outputs in
-    let live : Live c t = record { temps = alone.temps; size = g.between.size; bytes = g.between.bytes; fits = g.between.fits; stack = inl alone.stack; unmasked = alone.unmasked; same = alone.same } in
+    let live : Live c t = record { temps = alone.temps; size = g.between.size; bytes = g.between.bytes; fits = g.between.fits; stack = inl alone.stack; mask = alone.unmasked; same = alone.same } in
     let here : Here c p Rts = record { low = omega arith; high = omega arith; off = λ e. omega arith; fits = tt; decoded = decode_here c.image p Rts tt (omega arith) h.back } in
     let far : (at : ℕ) → 0x1800 ≤ at → get_or t.mem at 0 ≡ get_or s.mem at 0 = λ at le. g.elsewhere at (inr (omega arith)) (inr (omega arith)) in
     let er : get_or t.mem 0x1FFE 0 * 2 ^ 8 + get_or t.mem 0x1FFF 0 ≡ back =
     ap₂ (λ x y. x * 2 ^ 8 + y) (far 0x1FFE (omega arith)) (far 0x1FFF (omega arith)) ∙ k.back_is in
     let n = rts_run c t p back live g.pc here alone.stack er in
     let u = after_plain c.flags Rts t in
-    let W = IsInterruptibleStep l c.image c.flags in
+    let W = IsInterruptibleStep c.open_to l c.image c.flags in
     let es : t.regs.sp ≡ 0x1FFE = alone.stack in
     record {
       t = u;
@@ -269,18 +275,19 @@ returned c b w back bytes before s a v facts h k t g e alone =
       pc_is = n.pc_is;
       sp_is = (let q : plus t.regs.sp 2 ≡ 0x2000 = omega arith in q);
       answers = g.answers;
+      elsewhere = λ at o z. g.elsewhere at (⊎_elim (λ x. inl x) (λ x. inr (omega arith)) o) (⊎_elim (λ x. inl x) (λ x. inr (omega arith)) z);
       instructions = omega (arith, g.instructions, length_append g.ds (0 ∷ []));
       steps = omega (arith, g.steps, steps_append g.ds (0 ∷ []));
     }
 
 pub called : EvalAnswers → (c : Ctx) (b : Block) (w : Width) (back : ℕ) (bytes : List ℕ) (before : ℕ → ℕ) (s : State) → IsApart c.layout → IsValid b
-    → BlockFacts b → IsWithinLimits b → HasRoutine c.layout b w c.image → AreInputBytes b bytes → IsCalled c.layout b w c.image back bytes before s
+    → BlockFacts b → IsWithinLimits b → HasRoutine c.layout b w c.image → AreInputBytes b bytes → IsCalled c.open_to c.layout b w c.image back bytes before s
     → Back c b w back bytes before s
 called go c b w back bytes before s a v facts limits h i k =
     let l = c.layout in
     let state = k.interruptible in
     let at : IsAtEval l b w bytes before s = record { between = record { off = inl state.temps; size = state.size; bytes = state.bytes; fits = state.fits }; pc = k.pc; eval = found l b w c.image s.mem a h.eval state.same; inputs = k.inputs; outputs = k.outputs } in
-    let alone : Alone c.image s = record { temps = state.temps; stack = k.sp; unmasked = state.unmasked; same = state.same } in
+    let alone : Alone c.image s = record { temps = state.temps; stack = k.sp; unmasked = state.mask; same = state.same } in
     let r = go l b w c.flags bytes before s a v limits c.fits i at in
-    let e = interruptible_execution l c.image c.flags r.1.ds s r.0 a h.above alone r.1.execution in
+    let e = interruptible_execution c.open_to l c.image c.flags r.1.ds s r.0 c.shut a h.above alone r.1.execution in
     returned c b w back bytes before s a v facts h k r.0 r.1 e.0 e.1

@@ -24,8 +24,8 @@ use Rattle.codegen.specs.Bounds.{instruction_bound, step_bound}
 use Rattle.codegen.specs.Evaluation.{HasAnswers, EvalAnswers}
 use Rattle.codegen.specs.Answers.{put, given}
 use Rattle.cpu12_parts.specs.Executions.{Execution, all_steps}
-use Rattle.cpu12_isa.specs.Regions.{is_free}
-use Rattle.codegen.specs.Interruptible.{is_hidden, is_idle, IsInterruptibleStep}
+use Rattle.cpu12_isa.specs.Regions.{is_hidden}
+use Rattle.codegen.specs.Interruptible.{is_idle, IsInterruptibleStep}
 use Rattle.codegen.proofs.steps.Flags.{masked_tested, zero_tested}
 use Rattle.codegen.proofs.steps.Memory.{HasBytes, length-put, has_put, bytes_put_out, bytes_set_out, bytes_after_set, bytes_after_put, high_set, high_put}
 use Rattle.codegen.proofs.runs.Stepping.{Ctx, Here, Live, Stands, Next, next, plain_next, Goes, goes_one, goes_on, interruptible_of, low_shown, high_shown}
@@ -37,6 +37,8 @@ use Rattle.codegen.proofs.runs.Calling.{HasRoutine, IsCalled, Back, called}
 -- the code around EVAL
 pub record HasFrame (c : Ctx) : Type 0 where
   pub ready : c.layout.ready < c.layout.inputs
+  pub samples : c.layout.samples ≡ c.layout.inputs
+  pub shown : c.open_to c.layout.ready ≡ false
   pub low : 0x2000 ≤ c.layout.wait
   pub high : c.layout.wait + 40 < 65536
   pub load : decode_at c.image c.layout.wait ≡ Ok (LdaaExtended c.layout.ready)
@@ -59,7 +61,7 @@ and_false : (x : Bool) → (x && false) ≡ false
 and_false true = refl
 and_false false = refl
 
-not_ready : (l : Layout) (s : State) → get_or s.mem l.ready 0 ≡ 1 → is_idle l s ≡ false
+pub not_ready : (l : Layout) (s : State) → get_or s.mem l.ready 0 ≡ 1 → is_idle l s ≡ false
 not_ready l s h = let a : (get_or s.mem l.ready 0 == 0) ≡ false = grind (arith, nat_tests) in rw a (and_false (s.regs.pc == l.wait))
 
 pub waits : (l : Layout) (s : State) → s.regs.pc ≡ l.wait → get_or s.mem l.ready 0 ≡ 0 → is_idle l s ≡ true
@@ -69,32 +71,33 @@ waits l s e h =
     rw (a, b)
 
 -- JSR from an empty stack
-jsr_uncovers : (sp a b at : ℕ) → sp ≡ 0x2000 → is_hidden (plus sp 65534) at ≡ false
-    → (is_hidden sp at ≡ false) ⊎ IsWritten ((plus sp 65534, a) ∷ (plus sp 65535, b) ∷ []) at
-jsr_uncovers sp a b at e h =
+jsr_uncovers : (open_to : ℕ → Bool) (sp a b at : ℕ) → sp ≡ 0x2000 → is_hidden open_to (plus sp 65534) at ≡ false
+    → (is_hidden open_to sp at ≡ false) ⊎ IsWritten ((plus sp 65534, a) ∷ (plus sp 65535, b) ∷ []) at
+jsr_uncovers open_to sp a b at e h =
     let low : plus sp 65534 ≡ 0x1FFE = omega arith in
     let next : plus sp 65535 ≡ 0x1FFF = omega arith in
     elim (cases_eq at 0x1FFE) [
       | inl e0 ↦ inr (inl (e0 ∙ sym low))
       | inr n0 ↦ elim (cases_eq at 0x1FFF) [
         | inl e1 ↦ inr (inr (inl (e1 ∙ sym next)))
-        | inr n1 ↦ inl (let q = or_parts (is_free at) (nat_le 0x1FE0 at && nat_lt at (plus sp 65534)) h in
+        | inr n1 ↦ inl (let q = or_parts (open_to at) (nat_le 0x1FE0 at && nat_lt at (plus sp 65534)) h in
             let t : (nat_le 0x1FE0 at && nat_lt at sp) ≡ false = grind (arith, nat_tests, q.1, low) in rw (q.0, t))
       ]
     ]
 
-jsr_run : (c : Ctx) (s : State) (p to : ℕ) → Live c s → s.regs.pc ≡ p → Here c p (JsrExtended to) → s.regs.sp ≡ 0x2000
+pub jsr_run : (c : Ctx) (s : State) (p to : ℕ) → Live c s → s.regs.pc ≡ p → Here c p (JsrExtended to) → s.regs.sp ≡ 0x2000
     → Next c s (after_plain c.flags (JsrExtended to) s) to
 jsr_run c s p to l ep h es =
     let low : plus s.regs.sp 65534 ≡ 0x1FFE = omega arith in
     let over : plus s.regs.sp 65535 ≡ 0x1FFF = omega arith in
     let m = min s.regs.sp (plus s.regs.sp 65534) in
-    let r0 : is_hidden m (plus s.regs.sp 65534) ≡ false = high_shown m (plus s.regs.sp 65534) (omega arith) (omega arith) in
-    let r1 : is_hidden m (plus s.regs.sp 65535) ≡ false = high_shown m (plus s.regs.sp 65535) (omega arith) (omega arith) in
-    plain_next c s p to (JsrExtended to) l (not_at c.layout s p ep h.off) ep h.low h.high h.decoded refl h.fits tt (r0, (r1, tt)) (λ at g. jsr_uncovers s.regs.sp (plus s.regs.pc 3 / 2 ^ 8) (plus s.regs.pc 3 % 2 ^ 8) at es g) (omega arith, (omega arith, tt)) (inl low) refl refl
+    let open_to = c.open_to in
+    let r0 : is_hidden open_to m (plus s.regs.sp 65534) ≡ false = high_shown open_to m (plus s.regs.sp 65534) (c.shut.high (plus s.regs.sp 65534) (omega arith)) (omega arith) in
+    let r1 : is_hidden open_to m (plus s.regs.sp 65535) ≡ false = high_shown open_to m (plus s.regs.sp 65535) (c.shut.high (plus s.regs.sp 65535) (omega arith)) (omega arith) in
+    plain_next c s p to (JsrExtended to) l (not_at c.layout s p ep h.off) ep h.low h.high h.decoded refl h.fits tt (r0, (r1, tt)) (λ at g. jsr_uncovers open_to s.regs.sp (plus s.regs.pc 3 / 2 ^ 8) (plus s.regs.pc 3 % 2 ^ 8) at es g) (omega arith, (omega arith, tt)) (inl low) refl refl
 
 bra_back : (c : Ctx) (s : State) (p : ℕ) → Live c s → s.regs.pc ≡ p → Here c p (Bra 0xF3) → 11 ≤ p → Next c s (after_plain c.flags (Bra 0xF3) s) (p - 11)
-bra_back c s p l ep h le = next c s p (p - 11) (Bra 0xF3) l ep h refl (omega arith) tt tt refl refl (omega (arith, h.high))
+bra_back c s p l ep h le = next c s p (p - 11) (Bra 0xF3) l ep h refl (omega arith) tt tt tt refl refl (omega (arith, h.high))
 
 -- up to EVAL
 record Called (c : Ctx) (s : State) : Type 0 where
@@ -114,7 +117,7 @@ call_run c s f low l ep es er =
     let s2 = after_plain c.flags (Beq 0xFB) s1 in
     let s3 = after_plain c.flags (JsrExtended c.layout.eval) s2 in
     let n1 =
-    plain_next c s p (p + 3) (LdaaExtended c.layout.ready) l (not_ready c.layout s er) ep f.low (omega arith) f.load refl (omega arith) (low_shown s.regs.sp c.layout.ready low, tt) tt (λ at g. inl g) tt l.stack (masked_tested s.regs.ccr _ _) (omega arith) in
+    plain_next c s p (p + 3) (LdaaExtended c.layout.ready) l (not_ready c.layout s er) ep f.low (omega arith) f.load refl (omega arith) (low_shown c.open_to s.regs.sp c.layout.ready f.shown low, tt) tt (λ at g. inl g) tt l.stack (masked_tested s.regs.ccr _ _) (omega arith) in
     let nz : (get_or s.mem c.layout.ready 0 == 0) ≡ false = grind (arith, nat_tests) in
     let z : has s1.regs.ccr 2 ≡ false = zero_tested s.regs.ccr _ (get_or s.mem c.layout.ready 0 == 0) ∙ nz in
     let n2 = beq_on c s1 (p + 3) 0xFB n1.live n1.pc_is f.rest.0 (omega arith) z in
@@ -146,32 +149,32 @@ leave_run c s f low l ep =
     let p = c.layout.wait in
     let s1 = after_plain c.flags (ClrExtended c.layout.ready) s in
     let s2 = after_plain c.flags (Bra 0xF3) s1 in
-    let n1 = clr c s (p + 3 + 2 + 3) c.layout.ready l (ep ∙ omega arith) f.rest.1.1.0 low in
+    let n1 = clr c s (p + 3 + 2 + 3) c.layout.ready l (ep ∙ omega arith) f.rest.1.1.0 low f.shown in
     let n2 = bra_back c s1 (p + 3 + 2 + 3 + 3) n1.live n1.pc_is f.rest.1.1.1.0 (omega arith) in
     record { t = s2; goes = goes_on c 1 0 1 0 s s1 s2 (goes_one c s s1 _ n1) (goes_one c s1 s2 _ n2); live = n2.live; pc_is = n2.pc_is ∙ omega arith; sp_is = refl; mem_is = refl }
 
 -- the state with a sample's bytes and READY
-pub given_live : (c : Ctx) (bytes : List ℕ) (s : State) → Live c s → All (λ v. v < 2 ^ 8) bytes → c.layout.inputs + length bytes ≤ 0x1800
+pub given_live : (c : Ctx) (bytes : List ℕ) (s : State) → Live c s → All (λ v. v < 2 ^ 8) bytes → c.layout.samples + length bytes ≤ 0x1800
     → c.layout.ready < 0x1800 → Live c (given c.layout bytes s)
 given_live c bytes s l fit le low =
-    let m = put s.mem c.layout.inputs bytes in
-    let lm : length m ≡ 65536 = length-put s.mem c.layout.inputs bytes ∙ l.size in
+    let m = put s.mem c.layout.samples bytes in
+    let lm : length m ≡ 65536 = length-put s.mem c.layout.samples bytes ∙ l.size in
     let ls = l.size in
     record {
       temps = l.temps;
       size = length-set m c.layout.ready 1 ∙ lm;
-      bytes = bytes_after_set m c.layout.ready 1 (bytes_after_put s.mem c.layout.inputs bytes l.bytes fit (omega arith)) (omega arith) (omega arith);
+      bytes = bytes_after_set m c.layout.ready 1 (bytes_after_put s.mem c.layout.samples bytes l.bytes fit (omega arith)) (omega arith) (omega arith);
       fits = l.fits;
       stack = l.stack;
-      unmasked = l.unmasked;
-      same = high_set c.image m c.layout.ready 1 (omega arith) (high_put c.image s.mem c.layout.inputs bytes (omega arith) l.same);
+      mask = l.mask;
+      same = high_set c.image m c.layout.ready 1 (omega arith) (high_put c.image s.mem c.layout.samples bytes (omega arith) l.same);
     }
 
 -- one sample
 pub record Sampled (c : Ctx) (b : Block) (w : Width) (bytes : List ℕ) (before : ℕ → ℕ) (s : State) : Type 0 where
   pub t : State
   pub ds : List ℕ
-  pub execution : Execution (IsInterruptibleStep c.layout c.image c.flags) ds s t
+  pub execution : Execution (IsInterruptibleStep c.open_to c.layout c.image c.flags) ds s t
   pub instructions : length ds ≤ instruction_bound w b
   pub steps : all_steps ds ≤ step_bound w b
   pub home : Home c b w (λ o. answer w b o bytes (before o)) t
@@ -186,7 +189,7 @@ pub record Samples (c : Ctx) (b : Block) (w : Width) : Type 0 where
   pub routine : HasRoutine c.layout b w c.image
   pub frame : HasFrame c
 
-pushed_word : (m : List ℕ) (r : ℕ) → length m ≡ 65536
+pub pushed_word : (m : List ℕ) (r : ℕ) → length m ≡ 65536
     → get_or (set (set m 0x1FFE (r / 2 ^ 8)) 0x1FFF (r % 2 ^ 8)) 0x1FFE 0 * 2 ^ 8 + get_or (set (set m 0x1FFE (r / 2 ^ 8)) 0x1FFF (r % 2 ^ 8)) 0x1FFF 0 ≡ r
 pushed_word m r lm =
     let hi = r / 2 ^ 8 in
@@ -201,7 +204,7 @@ pushed_word m r lm =
 left : (c : Ctx) (b : Block) (w : Width) (bytes : List ℕ) (before : ℕ → ℕ) (s0 : State) → Samples c b w
     → (r : Called c s0) (e : Back c b w (c.layout.wait + 8) bytes before r.t) → Left c e.t → Sampled c b w bytes before s0
 left c b w bytes before s0 h r e f =
-    let W = IsInterruptibleStep c.layout c.image c.flags in
+    let W = IsInterruptibleStep c.open_to c.layout c.image c.flags in
     let u = e.t in
     let lu = e.live.size in
     let a1 = h.frame.ready in
@@ -250,7 +253,7 @@ evaluated c b w bytes before s0 h i l0 hi ho r =
     subst (λ (m : List ℕ). HasBytes m at vs) (sym r.mem_is) (bytes_set_out m1 0x1FFF (ret % 2 ^ 8) at vs (inl (omega arith)) (bytes_set_out s0.mem 0x1FFE (ret / 2 ^ 8) at vs (inl (omega arith)) (ho o lo le)))) in
     let pushed : get_or r.t.mem 0x1FFE 0 * 2 ^ 8 + get_or r.t.mem 0x1FFF 0 ≡ ret =
     ap (λ (x : List ℕ). get_or x 0x1FFE 0 * 2 ^ 8 + get_or x 0x1FFF 0) r.mem_is ∙ pushed_word s0.mem ret l0.size in
-    let k : IsCalled c.layout b w c.image ret bytes before r.t = record { interruptible = interruptible_of c r.t r.live (omega (arith, r.pc_is)) (omega (arith, r.pc_is)); pc = r.pc_is; sp = r.sp_is; back_is = pushed; inputs = keep; outputs = kept } in
+    let k : IsCalled c.open_to c.layout b w c.image ret bytes before r.t = record { interruptible = interruptible_of c r.t r.live (omega (arith, r.pc_is)) (omega (arith, r.pc_is)); pc = r.pc_is; sp = r.sp_is; back_is = pushed; inputs = keep; outputs = kept } in
     let e = called h.eval_answers c b w ret bytes before r.t h.apart h.valid h.facts h.limits h.routine i k in
     left c b w bytes before s0 h r e (leave_run c e.t h.frame (omega arith) e.live e.pc_is)
 
@@ -266,14 +269,16 @@ sample_run c b w bytes before s h i home =
     let a4 = h.apart.slots in
     let s0 = given c.layout bytes s in
     let l0 = given_live c bytes s home.live i.fit (omega arith) (omega arith) in
-    let m = put s.mem c.layout.inputs bytes in
+    let at = h.frame.samples in
+    let m = put s.mem c.layout.samples bytes in
     let ls = home.live.size in
-    let lm : length m ≡ 65536 = length-put s.mem c.layout.inputs bytes ∙ home.live.size in
+    let lm : length m ≡ 65536 = length-put s.mem c.layout.samples bytes ∙ home.live.size in
     let er : get_or s0.mem c.layout.ready 0 ≡ 1 = get_or-set_same m c.layout.ready 1 0 (omega arith) in
     let hi : HasBytes s0.mem c.layout.inputs bytes =
-    bytes_set_out m c.layout.ready 1 c.layout.inputs bytes (inr (omega arith)) (has_put s.mem c.layout.inputs bytes (omega arith)) in
+    bytes_set_out m c.layout.ready 1 c.layout.inputs bytes (inr (omega arith)) (subst (λ (p : ℕ). HasBytes m p bytes) at (has_put s.mem c.layout.samples bytes (omega arith))) in
     let ho : HasAnswers c.layout b w before s0.mem = λ o lo le.
-    (let at = c.layout.outputs + places w * (o - 1) in
+    (let where_from = h.frame.samples in
+    let at = c.layout.outputs + places w * (o - 1) in
     let vs = bytes_of w (before o) in
-    bytes_set_out m c.layout.ready 1 at vs (inr (omega arith)) (bytes_put_out s.mem c.layout.inputs bytes at vs (inr (omega arith)) (home.outs o lo le))) in
+    bytes_set_out m c.layout.ready 1 at vs (inr (omega arith)) (bytes_put_out s.mem c.layout.samples bytes at vs (inr (omega arith)) (home.outs o lo le))) in
     evaluated c b w bytes before s0 h i l0 hi ho (call_run c s0 h.frame (omega arith) l0 home.pc_is home.sp_is er)

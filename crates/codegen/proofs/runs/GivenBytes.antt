@@ -22,7 +22,7 @@ use Rattle.rule_layout.specs.Layouts.{conjunctions_of, weights_of, form_of, IsBe
 use Rattle.cpu12_isa.specs.declared.instr.Instr.{Instr}
 use Rattle.cpu12_isa.specs.declared.instr.Instr.TheVariants.{LdaaImmediate, LdaaExtended, LdabImmediate, LdxImmediate, LdyImmediate, LdsImmediate, StaaExtended}
 use Rattle.cpu12_isa.specs.declared.instr.Instr.TheVariants.{StabExtended, ClrExtended, Coma, CpxImmediate, Beq, Bra, JsrExtended, Rts, Andcc, Orcc, TransferXD}
-use Rattle.cpu12_isa.specs.declared.instr.Instr.TheVariants.{TransferYD, Ediv, Fdiv, Mem, Rev, Revw, Wav}
+use Rattle.cpu12_isa.specs.declared.instr.Instr.TheVariants.{TransferYD, Ediv, Fdiv, Rti, MovbExtended, Mem, Rev, Revw, Wav}
 use Rattle.cpu12_isa.specs.Code.{encode_of, FitsOperands}
 use Rattle.cpu12_isa.specs.Fits.{AreBytes}
 use Rattle.cpu12_asm.specs.declared.items.Item.{Item}
@@ -31,10 +31,11 @@ use Rattle.cpu12_asm.specs.Bytes.{byte_at, placed}
 use Rattle.cpu12_asm.specs.Items.{item_bytes, place_after, given_from, given_by}
 use Rattle.cpu12_emul.specs.Image.{byte_or_zero}
 use Rattle.codegen.specs.declared.width.Width.{Width}
-use Rattle.codegen.specs.Code.{frame_code, eval_code, whole_code}
+use Rattle.codegen.specs.Code.{eval_code, block_code}
 use Rattle.codegen.specs.Data.{table_bytes, singleton_bytes, singleton_bytes_of, weight_bytes, weight_bytes_by, rule_bytes, rule_bytes_by, bytes_of_word}
-use Rattle.codegen.specs.Images.{firmware_items, IsApart}
-use Rattle.codegen.specs.Layouts.{main_layout}
+use Rattle.codegen.specs.Images.{vector_items, block_items, IsApart}
+use Rattle.codegen.specs.declared.layout.Layout.{Layout}
+use Rattle.codegen.proofs.Joins.{block_then, block_items-then}
 use Rattle.codegen.proofs.phases.RuleMemory.{Below, below_all, below_append}
 use Rattle.codegen.proofs.phases.RuleFacts.{BlockFacts, weights_below, rev_is_plain}
 use Rattle.codegen.proofs.steps.Decoding.{IsUsed, UsedCode, used_append}
@@ -42,7 +43,7 @@ use Rattle.codegen.proofs.phases.Used.{used_answer}
 use Rattle.rule_layout.specs.declared.flat.Form.TheVariants as form
 
 -- items that give bytes
-abbrev ItemsFit : List Item → Type 0
+abbrev pub ItemsFit : List Item → Type 0
 ItemsFit [] = Unit {0}
 ItemsFit (x ∷ xs) = Below 256 (item_bytes x) × ItemsFit xs
 
@@ -76,6 +77,8 @@ encoded_fits TransferXD u h = (omega arith, (omega arith, tt))
 encoded_fits TransferYD u h = (omega arith, (omega arith, tt))
 encoded_fits Ediv u h = (omega arith, tt)
 encoded_fits Fdiv u h = (omega arith, (omega arith, tt))
+encoded_fits Rti u h = (omega arith, tt)
+encoded_fits (MovbExtended v w) u h = let a = h.0 in let b = h.1 in (omega arith, (omega arith, (omega arith, (omega arith, (omega arith, (omega arith, tt))))))
 encoded_fits Mem u h = (omega arith, tt)
 encoded_fits Rev u h = (omega arith, (omega arith, tt))
 encoded_fits Revw u h = (omega arith, (omega arith, tt))
@@ -176,33 +179,34 @@ rules_fit : (base n : ℕ) (f : Form) (cs : List Conjunction) → (f ≡ form.Re
 rules_fit base n form.Rev cs small le h = list_bytes_fit n cs (let q = small refl in q) h
 rules_fit base n form.Revw cs small le h = words_fit (list_words base cs) (list_words_fit base n cs le h)
 
--- a firmware's items give bytes
-items_fit : NearestIsByte → (b : Block) (w : Width) → IsValid b → BlockFacts b → IsApart main_layout → ItemsFit (firmware_items main_layout b w)
-unfolding firmware_items
-items_fit near b w v facts a =
-    let frame : ItemsFit (map Op (frame_code main_layout)) =
-    ((omega arith, (omega arith, (omega arith, tt))), ((omega arith, (omega arith, (omega arith, tt))), ((omega arith, (omega arith, tt)), ((omega arith, (omega arith, (omega arith, tt))), ((omega arith, (omega arith, tt)), ((omega arith, (omega arith, (omega arith, tt))), ((omega arith, (omega arith, (omega arith, tt))), ((omega arith, (omega arith, tt)), ((omega arith, tt), tt))))))))) in
+-- a block's items give bytes, with code before and behind whose operands fit
+pub block_fits : NearestIsByte → (l : Layout) (b : Block) (w : Width) (before behind : List Instr) (rest : List Item) → IsValid b → BlockFacts b → IsApart l
+    → UsedCode before → UsedCode behind → ItemsFit rest → ItemsFit (block_items l b w before behind ++ rest)
+block_fits near l b w before behind rest v facts a front back others =
     let few = facts.few_slots in
+    let top = a.slots in
     let small : form_of b ≡ form.Rev → length (slots_of b) ≤ 254 = λ e. (rev_is_plain b facts e).0 in
-    let used : UsedCode (eval_code main_layout b w ++ Rts ∷ []) =
-    used_append (eval_code main_layout b w) (Rts ∷ []) (used_answer near main_layout b w a v facts) (tt, tt, tt) in
-    let code : ItemsFit (map Op (whole_code main_layout b w)) = fit_append (map Op (frame_code main_layout)) (map Op (eval_code main_layout b w ++ Rts ∷ [])) frame (fit_code (eval_code main_layout b w ++ Rts ∷ []) used) in (
+    let used : UsedCode (block_code l b w before behind) =
+    used_append before (eval_code l b w ++ behind) front (used_append (eval_code l b w) behind (used_answer near l b w a v facts) back) in
+    let rules : Below 256 (rule_bytes l.slots b) = rules_fit l.slots (length (slots_of b)) (form_of b) (conjunctions_of b) small (omega arith) facts.in_range in
+    let all : ItemsFit (block_then l b w before behind rest) = (
       tt,
-      fit_append (map Op (whole_code main_layout b w)) _ code (
+      fit_append (map Op (block_code l b w before behind)) _ (fit_code (block_code l b w before behind) used) (
         tt,
         fit_append (map Byte (table_bytes b)) _ (fit_bytes (table_bytes b) (tables_fit b.inputs)) (
           tt,
           fit_append (map Byte (singleton_bytes b)) _ (fit_bytes (singleton_bytes b) (singletons_fit near b.outputs v.outputs)) (
             tt,
-            fit_append (map Byte (weight_bytes b)) _ (fit_bytes (weight_bytes b) (weights_fit (form_of b) (weights_of b) (weights_below b facts))) (
-              tt,
-              fit_append (map Byte (rule_bytes main_layout.slots b)) _ (fit_bytes (rule_bytes main_layout.slots b) (rules_fit main_layout.slots (length (slots_of b)) (form_of b) (conjunctions_of b) small (omega arith) (facts.in_range)))
-                  (tt, ((omega arith, tt), ((omega arith, tt), (tt, ((omega arith, tt), ((omega arith, tt), tt)))))),
-            ),
+            fit_append (map Byte (weight_bytes b)) _ (fit_bytes (weight_bytes b) (weights_fit (form_of b) (weights_of b) (weights_below b facts)))
+                (tt, fit_append (map Byte (rule_bytes l.slots b)) rest (fit_bytes (rule_bytes l.slots b) rules) others),
           ),
         ),
       ),
-    )
+    ) in
+    subst ItemsFit (sym (block_items-then l b w before behind rest)) all
+
+pub vectors_fit : (l : Layout) → l.interrupt < 65536 → l.code < 65536 → ItemsFit (vector_items l)
+vectors_fit l i c = (tt, ((omega arith, tt), ((omega arith, tt), (tt, ((omega arith, tt), ((omega arith, tt), tt))))))
 
 -- pairs whose second is a byte
 abbrev PairsFit : List (ℕ × ℕ) → Type 0
@@ -225,10 +229,10 @@ found_fits (p ∷ ps) q h = chosen (is_at (nat_cmp q) p.0) (found_fits ps q h.1)
     chosen true k = h.0
     chosen false k = k
 
--- a memory that has what a firmware gives is one of bytes
-pub memory_fits : NearestIsByte → (b : Block) (w : Width) (mem : List ℕ) → IsValid b → BlockFacts b → IsApart main_layout → length mem ≡ 65536
-    → ((at : ℕ) → at < 65536 → get_or mem at 0 ≡ byte_or_zero (byte_at (given_by (firmware_items main_layout b w)) at)) → AreBytes mem
-memory_fits near b w mem v facts a size h at = elim (cases_lt at 65536) [
-  | inl lt ↦ (let e = h at lt in let f = found_fits (given_by (firmware_items main_layout b w)) at (given_fit 0 (firmware_items main_layout b w) (items_fit near b w v facts a)) in omega arith)
+-- a memory that has what such items give is one of bytes
+pub memory_fits : (items : List Item) (mem : List ℕ) → ItemsFit items → length mem ≡ 65536
+    → ((at : ℕ) → at < 65536 → get_or mem at 0 ≡ byte_or_zero (byte_at (given_by items) at)) → AreBytes mem
+memory_fits items mem fit size h at = elim (cases_lt at 65536) [
+  | inl lt ↦ (let e = h at lt in let f = found_fits (given_by items) at (given_fit 0 items fit) in omega arith)
   | inr le ↦ (let e : get_or mem at 0 ≡ 0 = get_or_past mem at 0 (omega arith) in omega arith)
 ]

@@ -1,5 +1,5 @@
 -- One instruction of the code around EVAL, and where it leads.
-use Rattle.std.proofs.Common.{◌≡◌, ◌≢◌, ◌⊎◌, inl, inr, ⊎_elim, ℕ, ◌+◌, ◌^◌, ◌<◌, ◌≤◌, min, nat_lt, nat_le, ◌&&◌, true, false, Ok, List, [], ◌∷◌, length}
+use Rattle.std.proofs.Common.{◌≡◌, ◌≢◌, ◌⊎◌, inl, inr, ⊎_elim, ℕ, ◌+◌, ◌^◌, ◌<◌, ◌≤◌, min, nat_lt, nat_le, ◌&&◌, Bool, true, false, Ok, List, [], ◌∷◌, length}
 use Rattle.std.proofs.Common.{refl, sym, ap, ◌∙◌, arith}
 use Rattle.std.specs.Prelude.{◌==◌, if◌then◌else◌}
 use Rattle.std.proofs.lemmas.Bool.Decides.{nat_tests}
@@ -17,18 +17,27 @@ use Rattle.cpu12_parts.specs.State.{State}
 use Rattle.cpu12_parts.specs.Laws.{addresses}
 use Rattle.cpu12_parts.specs.Whole.{after_plain}
 use Rattle.codegen.specs.declared.layout.Layout.{Layout}
-use Rattle.cpu12_isa.specs.Regions.{is_free}
-use Rattle.codegen.specs.Interruptible.{is_hidden, is_idle, IsInterruptible, IsInterruptibleStep}
+use Rattle.cpu12_isa.specs.Regions.{is_hidden}
+use Rattle.codegen.specs.Evaluation.{Reads, Writes}
+use Rattle.codegen.specs.Interruptible.{is_idle, IsSteady, IsInterruptible, IsShownPlain, IsInterruptibleStep}
 use Rattle.codegen.proofs.steps.Memory.{SameHigh, WriteBelow, below_more, high_writes, bytes_writes, HasBytes, bytes_front, bytes_back}
 use Rattle.codegen.proofs.steps.Decoding.{sizes, decode_same, UsedCode, code_bytes, decode_here}
 use Rattle.cpu12_isa.specs.declared.instr.Instr.TheVariants.{ClrExtended, Beq}
 use Rattle.codegen.proofs.steps.Flags.{masked_four}
 use Rattle.codegen.proofs.steps.Executions.{Bounded, bounded_one, bounded_on}
 
--- what a run is under: the layout, the image's memory and the open flags
+-- what is open to handlers is neither owned by EVAL nor the stack, nor above it
+pub record IsShut (open_to : ℕ → Bool) (l : Layout) : Type 0 where
+  pub reads : (at : ℕ) → at < 0x1800 → Reads l at → open_to at ≡ false
+  pub writes : (at : ℕ) → at < 0x1800 → Writes l at → open_to at ≡ false
+  pub high : (at : ℕ) → 0x1FE0 ≤ at → open_to at ≡ false
+
+-- what a run is under: the bytes that are open to handlers, the layout, the image's memory and the open flags
 pub record Ctx : Type 0 where
   pub stays_fit : StaysFit
+  pub open_to : ℕ → Bool
   pub layout : Layout
+  pub shut : IsShut open_to layout
   pub image : List ℕ
   pub flags : ℕ
   pub fits : flags < 2 ^ 8
@@ -46,90 +55,117 @@ abbrev pub Stands : Ctx → ℕ → List Instr → Type 0
 Stands c p [] = Unit {0}
 Stands c p (i ∷ is) = Here c p i × Stands c (p + length (encode_of i)) is
 
--- what each state of the run keeps
-pub record Live (c : Ctx) (s : State) : Type 0 where
+-- what each state of the run keeps, with I set or not
+pub record Lives (image : List ℕ) (masked : Bool) (s : State) : Type 0 where
   pub temps : s.temps ≡ Free
   pub size : length s.mem ≡ 65536
   pub bytes : AreBytes s.mem
   pub fits : FitsRegs s.regs
   pub stack : (s.regs.sp ≡ 0x1FFE) ⊎ (s.regs.sp ≡ 0x2000)
-  pub unmasked : has s.regs.ccr 4 ≡ false
-  pub same : SameHigh c.image s.mem
+  pub mask : has s.regs.ccr 4 ≡ masked
+  pub same : SameHigh image s.mem
+
+abbrev pub Live : Ctx → State → Type 0
+Live c = Lives c.image false
 
 pub sp_high : (s : State) → (s.regs.sp ≡ 0x1FFE) ⊎ (s.regs.sp ≡ 0x2000) → s.regs.sp ≤ 0x2000
 sp_high s h = ⊎_elim (λ l. omega arith) (λ r. omega arith) h
 
--- below FREE a byte is shown, and from $2000 on
-pub low_shown : (sp at : ℕ) → at < 0x1800 → is_hidden sp at ≡ false
-low_shown sp at h =
-    let a : is_free at ≡ false = grind (arith, nat_tests) in
+-- a byte that is not open is shown below the stack, and from SP on
+pub low_shown : (open_to : ℕ → Bool) (sp at : ℕ) → open_to at ≡ false → at < 0x1800 → is_hidden open_to sp at ≡ false
+low_shown open_to sp at a h =
     let b : (nat_le 0x1FE0 at && nat_lt at sp) ≡ false = grind (arith, nat_tests) in
     rw (a, b)
 
-pub high_shown : (sp at : ℕ) → sp ≤ at → 0x1FE0 ≤ at → is_hidden sp at ≡ false
-high_shown sp at h g =
-    let a : is_free at ≡ false = grind (arith, nat_tests) in
+pub high_shown : (open_to : ℕ → Bool) (sp at : ℕ) → open_to at ≡ false → sp ≤ at → is_hidden open_to sp at ≡ false
+high_shown open_to sp at a h =
     let b : (nat_le 0x1FE0 at && nat_lt at sp) ≡ false = grind (arith, nat_tests) in
     rw (a, b)
 
 -- so are the bytes of code
-pub code_shown : (sp pc : ℕ) → sp ≤ 0x2000 → 0x2000 ≤ pc → pc + 6 < 65536 → AllShown (is_hidden sp) (six_from pc)
-code_shown sp pc a b c =
-    let at : (k : ℕ) → k ≤ 5 → is_hidden sp (plus pc k) ≡ false = λ k l. high_shown sp (plus pc k) (omega arith) (omega arith) in
-    (high_shown sp pc (omega arith) (omega arith), (at 1 (omega arith), (at 2 (omega arith), (at 3 (omega arith), (at 4 (omega arith), (at 5 (omega arith), tt))))))
+pub code_shown : (open_to : ℕ → Bool) (sp pc : ℕ) → ((at : ℕ) → 0x1FE0 ≤ at → open_to at ≡ false) → sp ≤ 0x2000 → 0x2000 ≤ pc → pc + 6 < 65536
+    → AllShown (is_hidden open_to sp) (six_from pc)
+code_shown open_to sp pc shut a b c =
+    let at : (k : ℕ) → k ≤ 5 → is_hidden open_to sp (plus pc k) ≡ false = λ k l. high_shown open_to sp (plus pc k) (shut (plus pc k) (omega arith)) (omega arith) in
+    (high_shown open_to sp pc (shut pc (omega arith)) (omega arith), (at 1 (omega arith), (at 2 (omega arith), (at 3 (omega arith), (at 4 (omega arith), (at 5 (omega arith), tt))))))
 
-pub interruptible_of : (c : Ctx) (s : State) → Live c s → 0x2000 ≤ s.regs.pc → s.regs.pc + 6 < 65536 → IsInterruptible c.image s
-interruptible_of c s l lo hi = record {
+pub steady_of : (c : Ctx) (masked : Bool) (s : State) → Lives c.image masked s → 0x2000 ≤ s.regs.pc → s.regs.pc + 6 < 65536 → IsSteady c.open_to masked c.image s
+steady_of c masked s l lo hi = record {
   temps = l.temps;
   size = l.size;
   bytes = l.bytes;
   fits = l.fits;
   stack = l.stack;
-  unmasked = l.unmasked;
+  mask = l.mask;
   same = l.same;
-  code = code_shown s.regs.sp s.regs.pc (sp_high s l.stack) lo hi;
+  code = code_shown c.open_to s.regs.sp s.regs.pc c.shut.high (sp_high s l.stack) lo hi;
 }
 
-writes_shown : (sp : ℕ) (ws : List (ℕ × ℕ)) → WriteBelow 0x1800 ws → AllShown (is_hidden sp) (addresses ws)
-writes_shown sp [] h = tt
-writes_shown sp (w ∷ ws) h = (low_shown sp w.0 h.0, writes_shown sp ws h.1)
+pub interruptible_of : (c : Ctx) (s : State) → Live c s → 0x2000 ≤ s.regs.pc → s.regs.pc + 6 < 65536 → IsInterruptible c.open_to c.image s
+interruptible_of c = steady_of c false
+
+writes_shown : (open_to : ℕ → Bool) (sp : ℕ) (ws : List (ℕ × ℕ)) → WriteBelow 0x1800 ws → AllShown open_to (addresses ws)
+    → AllShown (is_hidden open_to sp) (addresses ws)
+writes_shown open_to sp [] h shut = tt
+writes_shown open_to sp (w ∷ ws) h shut = (low_shown open_to sp w.0 shut.0 h.0, writes_shown open_to sp ws h.1 shut.1)
+
+-- a plain instruction leads to an address, with I set or not
+pub record Went (c : Ctx) (later : Bool) (i : Instr) (s t : State) (q : ℕ) : Type 0 where
+  pub shown : IsShownPlain c.open_to c.flags i s t
+  pub lives : Lives c.image later t
+  pub pc_is : t.regs.pc ≡ q
+
+-- one that stands in the image and leaves the stack as the code has it
+pub plain_went : (c : Ctx) (masked later : Bool) (s : State) (p q : ℕ) (i : Instr) → Lives c.image masked s → s.regs.pc ≡ p → 0x2000 ≤ p → p + 6 < 65536
+    → decode_at c.image p ≡ Ok i → is_plain i ≡ true → FitsOperands i
+    → AllShown (is_hidden c.open_to s.regs.sp) (read_by (act_of c.flags i s.regs) s.mem)
+    → AllShown (is_hidden c.open_to (min s.regs.sp (effect c.flags i s.regs s.mem).regs.sp)) (addresses (effect c.flags i s.regs s.mem).writes)
+    → Uncovers (is_hidden c.open_to s.regs.sp) (effect c.flags i s.regs s.mem).writes (is_hidden c.open_to (effect c.flags i s.regs s.mem).regs.sp)
+    → WriteBelow 0x2000 (effect c.flags i s.regs s.mem).writes
+    → ((effect c.flags i s.regs s.mem).regs.sp ≡ 0x1FFE) ⊎ ((effect c.flags i s.regs s.mem).regs.sp ≡ 0x2000)
+    → has (effect c.flags i s.regs s.mem).regs.ccr 4 ≡ later
+    → (effect c.flags i s.regs s.mem).regs.pc ≡ q
+    → Went c later i s (after_plain c.flags i s) q
+plain_went c masked later s p q i l ep lo hi de pl fo reads writes uncovers below stack mask pc =
+    let e = effect c.flags i s.regs s.mem in
+    let fit = c.stays_fit c.flags i s.regs s.mem c.fits fo l.fits l.bytes in
+    let d : decode_at s.mem s.regs.pc ≡ Ok i = ap (decode_at s.mem) ep ∙ decode_same c.image s.mem p lo hi l.same ∙ de in
+    record {
+      shown = record { step = record { decoded = d; plain = pl; after = refl }; reads = reads; writes = writes; uncovers = uncovers };
+      lives = record {
+        temps = l.temps;
+        size = length_writes e.writes s.mem ∙ l.size;
+        bytes = bytes_writes s.mem e.writes l.size fit.1 l.bytes;
+        fits = fit.0;
+        stack = stack;
+        mask = mask;
+        same = high_writes c.image s.mem e.writes below l.same;
+      };
+      pc_is = pc;
+    }
 
 -- one instruction on
 pub record Next (c : Ctx) (s t : State) (q : ℕ) : Type 0 where
-  pub step : IsInterruptibleStep c.layout c.image c.flags 0 s t
+  pub step : IsInterruptibleStep c.open_to c.layout c.image c.flags 0 s t
   pub live : Live c t
   pub pc_is : t.regs.pc ≡ q
 
--- a plain instruction that stands in the image and leaves the stack as the code has it
+-- the same where I stays 0, and the code does not wait
 pub plain_next : (c : Ctx) (s : State) (p q : ℕ) (i : Instr) → Live c s → is_idle c.layout s ≡ false → s.regs.pc ≡ p → 0x2000 ≤ p → p + 6 < 65536
     → decode_at c.image p ≡ Ok i → is_plain i ≡ true → FitsOperands i
-    → AllShown (is_hidden s.regs.sp) (read_by (act_of c.flags i s.regs) s.mem)
-    → AllShown (is_hidden (min s.regs.sp (effect c.flags i s.regs s.mem).regs.sp)) (addresses (effect c.flags i s.regs s.mem).writes)
-    → Uncovers (is_hidden s.regs.sp) (effect c.flags i s.regs s.mem).writes (is_hidden (effect c.flags i s.regs s.mem).regs.sp)
+    → AllShown (is_hidden c.open_to s.regs.sp) (read_by (act_of c.flags i s.regs) s.mem)
+    → AllShown (is_hidden c.open_to (min s.regs.sp (effect c.flags i s.regs s.mem).regs.sp)) (addresses (effect c.flags i s.regs s.mem).writes)
+    → Uncovers (is_hidden c.open_to s.regs.sp) (effect c.flags i s.regs s.mem).writes (is_hidden c.open_to (effect c.flags i s.regs s.mem).regs.sp)
     → WriteBelow 0x2000 (effect c.flags i s.regs s.mem).writes
     → ((effect c.flags i s.regs s.mem).regs.sp ≡ 0x1FFE) ⊎ ((effect c.flags i s.regs s.mem).regs.sp ≡ 0x2000)
     → has (effect c.flags i s.regs s.mem).regs.ccr 4 ≡ has s.regs.ccr 4
     → (effect c.flags i s.regs s.mem).regs.pc ≡ q
     → Next c s (after_plain c.flags i s) q
 plain_next c s p q i l busy ep lo hi de pl fo reads writes uncovers below stack mask pc =
-    let e = effect c.flags i s.regs s.mem in
-    let fit = c.stays_fit c.flags i s.regs s.mem c.fits fo l.fits l.bytes in
-    let d : decode_at s.mem s.regs.pc ≡ Ok i = ap (decode_at s.mem) ep ∙ decode_same c.image s.mem p lo hi l.same ∙ de in
+    let w = plain_went c false false s p q i l ep lo hi de pl fo reads writes uncovers below stack (mask ∙ l.mask) pc in
     record {
-      step = record {
-        busy = busy;
-        interruptible = interruptible_of c s l (omega arith) (omega arith);
-        instruction = inl (i, (record { step = record { decoded = d; plain = pl; after = refl }; reads = reads; writes = writes; uncovers = uncovers }, refl));
-      };
-      live = record {
-        temps = l.temps;
-        size = length_writes e.writes s.mem ∙ l.size;
-        bytes = bytes_writes s.mem e.writes l.size fit.1 l.bytes;
-        fits = fit.0;
-        stack = stack;
-        unmasked = mask ∙ l.unmasked;
-        same = high_writes c.image s.mem e.writes below l.same;
-      };
+      step = record { busy = busy; interruptible = interruptible_of c s l (omega arith) (omega arith); instruction = inl (i, (w.shown, refl)) };
+      live = w.lives;
       pc_is = pc;
     }
 
@@ -138,35 +174,36 @@ not_at l s p e h = let a : (s.regs.pc == l.wait) ≡ false = grind (arith, nat_t
 
 -- one that leaves SP, and writes below FREE alone
 pub next : (c : Ctx) (s : State) (p q : ℕ) (i : Instr) → Live c s → s.regs.pc ≡ p → Here c p i → is_plain i ≡ true → FitsOperands i
-    → AllShown (is_hidden s.regs.sp) (read_by (act_of c.flags i s.regs) s.mem)
+    → AllShown (is_hidden c.open_to s.regs.sp) (read_by (act_of c.flags i s.regs) s.mem)
     → WriteBelow 0x1800 (effect c.flags i s.regs s.mem).writes
+    → AllShown c.open_to (addresses (effect c.flags i s.regs s.mem).writes)
     → (effect c.flags i s.regs s.mem).regs.sp ≡ s.regs.sp
     → has (effect c.flags i s.regs s.mem).regs.ccr 4 ≡ has s.regs.ccr 4
     → (effect c.flags i s.regs s.mem).regs.pc ≡ q
     → Next c s (after_plain c.flags i s) q
-next c s p q i l ep h pl fo reads below esp mask pc =
+next c s p q i l ep h pl fo reads below shut esp mask pc =
     let e = effect c.flags i s.regs s.mem in
-    plain_next c s p q i l (not_at c.layout s p ep h.off) ep h.low h.high h.decoded pl fo reads (writes_shown (min s.regs.sp e.regs.sp) e.writes below) (λ at g. inl (ap (λ k. is_hidden k at) (sym esp) ∙ g)) (below_more 0x1800 0x2000 e.writes (omega arith) below) (⊎_elim (λ a. inl (esp ∙ a)) (λ b. inr (esp ∙ b)) l.stack) mask pc
+    plain_next c s p q i l (not_at c.layout s p ep h.off) ep h.low h.high h.decoded pl fo reads (writes_shown c.open_to (min s.regs.sp e.regs.sp) e.writes below shut) (λ at g. inl (ap (λ k. is_hidden c.open_to k at) (sym esp) ∙ g)) (below_more 0x1800 0x2000 e.writes (omega arith) below) (⊎_elim (λ a. inl (esp ∙ a)) (λ b. inr (esp ∙ b)) l.stack) mask pc
 
 -- executions of at most n instructions, with at most k parts beyond their first
 abbrev pub Goes : Ctx → ℕ → ℕ → State → State → Type 0
-Goes c = Bounded (IsInterruptibleStep c.layout c.image c.flags)
+Goes c = Bounded (IsInterruptibleStep c.open_to c.layout c.image c.flags)
 
 pub goes_on : (c : Ctx) (n k m j : ℕ) (s t u : State) → Goes c n k s t → Goes c m j t u → Goes c (n + m) (k + j) s u
-goes_on c = bounded_on (IsInterruptibleStep c.layout c.image c.flags)
+goes_on c = bounded_on (IsInterruptibleStep c.open_to c.layout c.image c.flags)
 
 pub goes_one : (c : Ctx) (s t : State) (q : ℕ) → Next c s t q → Goes c 1 0 s t
-goes_one c s t q h = bounded_one (IsInterruptibleStep c.layout c.image c.flags) 0 s t h.step
+goes_one c s t q h = bounded_one (IsInterruptibleStep c.open_to c.layout c.image c.flags) 0 s t h.step
 
-pub clr : (c : Ctx) (s : State) (p at : ℕ) → Live c s → s.regs.pc ≡ p → Here c p (ClrExtended at) → at < 0x1800
+pub clr : (c : Ctx) (s : State) (p at : ℕ) → Live c s → s.regs.pc ≡ p → Here c p (ClrExtended at) → at < 0x1800 → c.open_to at ≡ false
     → Next c s (after_plain c.flags (ClrExtended at) s) (p + 3)
-clr c s p at l ep h lt =
-    next c s p (p + 3) (ClrExtended at) l ep h refl (omega arith) tt (lt, tt) refl (masked_four s.regs.ccr false true false false) (omega (arith, h.high))
+clr c s p at l ep h lt shut =
+    next c s p (p + 3) (ClrExtended at) l ep h refl (omega arith) tt (lt, tt) (shut, tt) refl (masked_four s.regs.ccr false true false false) (omega (arith, h.high))
 
 pub beq_on : (c : Ctx) (s : State) (p to : ℕ) → Live c s → s.regs.pc ≡ p → Here c p (Beq to) → to < 2 ^ 8 → has s.regs.ccr 2 ≡ false
     → Next c s (after_plain c.flags (Beq to) s) (p + 2)
 beq_on c s p to l ep h lt z =
-    next c s p (p + 2) (Beq to) l ep h refl lt tt tt refl refl (ap (λ b. if b then plus (plus s.regs.pc 2) (if nat_lt to 128 then to else to + 65280) else plus s.regs.pc 2) z ∙ omega (arith, h.high))
+    next c s p (p + 2) (Beq to) l ep h refl lt tt tt tt refl refl (ap (λ b. if b then plus (plus s.regs.pc 2) (if nat_lt to 128 then to else to + 65280) else plus s.regs.pc 2) z ∙ omega (arith, h.high))
 
 -- code that stands in the image above where it waits
 pub stands_of : (c : Ctx) (p : ℕ) (is : List Instr) → UsedCode is → HasBytes c.image p (code_bytes is) → 0x2000 ≤ p → c.layout.wait < p

@@ -1,9 +1,10 @@
 -- The uninterrupted answers of a firmware.
-use Rattle.std.proofs.Common.{◌≡◌, ◌≢◌, inl, inr, ℕ, zero, suc, ◌+◌, ◌-◌, ◌*◌, ◌<◌, false, true, List, [], ◌∷◌, length, get_or, refl, sym, ap, ap₂, ◌∙◌, subst}
+use Rattle.std.proofs.Common.{◌≡◌, ◌≢◌, inl, inr, ℕ, zero, suc, ◌+◌, ◌-◌, ◌*◌, ◌<◌, false, true, Bool, List, [], ◌∷◌, length, get_or, refl, sym, ap, ap₂, ◌∙◌, subst}
 use Rattle.std.proofs.Common.{arith}
 use Rattle.std.proofs.lemmas.Bool.Decides.{nat_tests}
 use Rattle.fuzzy_meaning.specs.declared.block.Block.{Block}
 use Rattle.cpu12_isa.specs.Memory.{word_of}
+use Rattle.cpu12_isa.specs.Regions.{is_free}
 use Rattle.cpu12_parts.specs.State.{State}
 use Rattle.cpu12_parts.specs.Whole.{PlainWay, IsWholeStep}
 use Rattle.cpu12_parts.specs.Executions.{Execution, IsStepBefore, IsUntil, ExecutionsAreOne}
@@ -45,30 +46,30 @@ uninterrupted_are_one one f flags samples xs ys a b =
     answers_are_one one f flags samples xs ys a.first a.each (subst (AreAnswersTo f flags samples ys) (sym same.1) b.each)
 
 -- a step on which an interrupt may come is a whole instruction
-whole : (l : Layout) (flags d : ℕ) (s t : State) → IsShownInstruction l flags d s t → IsWholeStep flags d s t
-whole l flags d s t (inl p) = inl (p.0, (p.1.0.step, p.1.1))
-whole l flags d s t (inr (inl p)) = inr (inl (p.0, p.1, p.2.step))
-whole l flags d s t (inr (inr (inl p))) = inr (inr (inl (p.0, p.1, p.2.step)))
-whole l flags d s t (inr (inr (inr p))) = inr (inr (inr p.step))
+whole : (open_to : ℕ → Bool) (l : Layout) (flags d : ℕ) (s t : State) → IsShownInstruction open_to l flags d s t → IsWholeStep flags d s t
+whole open_to l flags d s t (inl p) = inl (p.0, (p.1.0.step, p.1.1))
+whole open_to l flags d s t (inr (inl p)) = inr (inl (p.0, p.1, p.2.step))
+whole open_to l flags d s t (inr (inr (inl p))) = inr (inr (inl (p.0, p.1, p.2.step)))
+whole open_to l flags d s t (inr (inr (inr p))) = inr (inr (inr p.step))
 
-uninterrupted : (l : Layout) (image : List ℕ) (flags : ℕ) (ds : List ℕ) (s t : State) → Execution (IsInterruptibleStep l image flags) ds s t
+pub uninterrupted : (open_to : ℕ → Bool) (l : Layout) (image : List ℕ) (flags : ℕ) (ds : List ℕ) (s t : State) → Execution (IsInterruptibleStep open_to l image flags) ds s t
     → Execution (IsStepBefore (is_idle l) flags) ds s t
-uninterrupted l image flags [] s t e = e
-uninterrupted l image flags (d ∷ ds) s t e =
-    (e.0, (record { on = e.1.0.busy; step = whole l flags d s e.0 e.1.0.instruction }, uninterrupted l image flags ds e.0 t e.1.1))
+uninterrupted open_to l image flags [] s t e = e
+uninterrupted open_to l image flags (d ∷ ds) s t e =
+    (e.0, (record { on = e.1.0.busy; step = whole open_to l flags d s e.0 e.1.0.instruction }, uninterrupted open_to l image flags ds e.0 t e.1.1))
 
 -- so is the way to the first arrival
-waits : (l : Layout) (s : State) → s.regs.pc ≡ l.wait → is_waiting l s ≡ true
+pub waits : (l : Layout) (s : State) → s.regs.pc ≡ l.wait → is_waiting l s ≡ true
 waits l s h = grind (arith, nat_tests)
 
 off : (l : Layout) (s : State) → s.regs.pc ≢ l.wait → is_waiting l s ≡ false
 off l s h = grind (arith, nat_tests)
 
-abbrev plain_parts : ℕ → List ℕ
+abbrev pub plain_parts : ℕ → List ℕ
 plain_parts zero = []
 plain_parts (suc n) = 0 ∷ plain_parts n
 
-arrival : (l : Layout) (flags n : ℕ) (s t : State) → PlainWay flags l.wait n s t → Execution (IsStepBefore (is_waiting l) flags) (plain_parts n) s t
+pub arrival : (l : Layout) (flags n : ℕ) (s t : State) → PlainWay flags l.wait n s t → Execution (IsStepBefore (is_waiting l) flags) (plain_parts n) s t
 arrival l flags zero s t h = h
 arrival l flags (suc n) s t h = (h.0, (record { on = off l s h.1.0; step = inl (h.1.1.0, (h.1.1.1, refl)) }, arrival l flags n h.0 t h.1.2))
 
@@ -77,11 +78,11 @@ value_is : (w : Width) (m : List ℕ) (at v : ℕ) → HasBytes m at (bytes_of w
 value_is Byte m at v h = h.0
 value_is Word m at v h = ap₂ (λ (a b : ℕ). word_of a b) h.0 h.1.0 ∙ omega arith
 
-count_from : (w : Width) (m : List ℕ) (at n : ℕ) → length (values_from w m at n) ≡ n
+pub count_from : (w : Width) (m : List ℕ) (at n : ℕ) → length (values_from w m at n) ≡ n
 count_from w m at zero = refl
 count_from w m at (suc n) = ap suc (count_from w m (at + places w) n)
 
-value_from : (w : Width) (m : List ℕ) (at n k v : ℕ) → k < n → HasBytes m (at + places w * k) (bytes_of w v) → get_or (values_from w m at n) k 0 ≡ v
+pub value_from : (w : Width) (m : List ℕ) (at n k v : ℕ) → k < n → HasBytes m (at + places w * k) (bytes_of w v) → get_or (values_from w m at n) k 0 ≡ v
 value_from w m at zero k v lt h = absurd (omega arith)
 value_from w m at (suc n) zero v lt h = let e : at + places w * 0 ≡ at = omega arith in value_is w m at v (subst (λ p. HasBytes m p (bytes_of w v)) e h)
 value_from w m at (suc n) (suc k) v lt h =
@@ -91,14 +92,14 @@ value_from w m at (suc n) (suc k) v lt h =
 
 -- the answers of samples that are answered
 seen : (b : Block) (f : Firmware) (image : List ℕ) (flags : ℕ) (before : ℕ → ℕ) (samples : List (List ℕ)) (s : State) → f.outputs ≡ length b.outputs
-    → (h : AreAnswered f.layout b (width_of f.wide) image flags before samples s)
-    → AreAnswersTo f flags samples (answers_by b f image flags before samples s h) s × AreAnswersOf (width_of f.wide) b before samples (answers_by b f image flags before samples s h)
+    → (h : AreAnswered f.layout b (width_of f.wide) f.instr_bound image flags before samples s)
+    → AreAnswersTo f flags samples (answers_by b f image flags before samples s h) s × AreAnswersOf (width_of f.wide) b f.instr_bound before samples (answers_by b f image flags before samples s h)
 seen b f image flags before [] s e h = (tt, tt)
 seen b f image flags before (bytes ∷ samples) s e h =
     let w = width_of f.wide in
     let one = h.1.0 in
     let rest = seen b f image flags (λ o. answer w b o bytes (before o)) samples h.0 e h.1.1 in
-    let until : IsUntil (is_idle f.layout) flags one.ds (given f.layout bytes s) h.0 = record { execution = uninterrupted f.layout image flags one.ds (given f.layout bytes s) h.0 one.execution; stopped = one.idle } in (
+    let until : IsUntil (is_idle f.layout) flags one.ds (given f.layout bytes s) h.0 = record { execution = uninterrupted is_free f.layout image flags one.ds (given f.layout bytes s) h.0 one.execution; stopped = one.idle } in (
       (h.0, (record { ds = one.ds; until = until; values = refl; instructions = refl }, rest.0)),
       (
         record {

@@ -1,7 +1,7 @@
 -- The instructions of the code, from their bytes.
-use Rattle.std.proofs.Common.{◌≡◌, ℕ, ◌+◌, ◌*◌, ◌/◌, ◌%◌, ◌^◌, ◌<◌, ◌≤◌, Ok, List, [], ◌∷◌, ◌++◌, flat_map, length, get_or, ap, ◌∙◌, arith}
+use Rattle.std.proofs.Common.{◌≡◌, ℕ, ◌+◌, ◌*◌, ◌/◌, ◌%◌, ◌^◌, ◌<◌, ◌≤◌, Ok, List, [], ◌∷◌, ◌++◌, flat_map, length, get_or, ap, ap₂, ◌∙◌, arith}
 use Rattle.cpu12_isa.specs.declared.instr.Instr.{Instr}
-use Rattle.cpu12_isa.specs.declared.instr.Instr.TheVariants.{LdaaImmediate, LdaaExtended, LdabImmediate, LdxImmediate, LdyImmediate, LdsImmediate, StaaExtended, StabExtended, ClrExtended, Coma, CpxImmediate, Beq, Bra, JsrExtended, Rts, Andcc, Orcc, TransferXD, TransferYD, Ediv, Fdiv, Mem, Rev, Revw, Wav}
+use Rattle.cpu12_isa.specs.declared.instr.Instr.TheVariants.{LdaaImmediate, LdaaExtended, LdabImmediate, LdxImmediate, LdyImmediate, LdsImmediate, StaaExtended, StabExtended, ClrExtended, Coma, CpxImmediate, Beq, Bra, JsrExtended, Rts, Andcc, Orcc, TransferXD, TransferYD, Ediv, Fdiv, Rti, MovbExtended, Mem, Rev, Revw, Wav}
 use Rattle.cpu12_isa.specs.Code.{encode_of, decode_of, decode_at, FitsOperands, six_from}
 use Rattle.cpu12_isa.specs.Memory.{plus, bytes_at}
 use Rattle.codegen.proofs.steps.Memory.{HasBytes, SameHigh}
@@ -29,6 +29,8 @@ IsUsed TransferXD = Unit {0}
 IsUsed TransferYD = Unit {0}
 IsUsed Ediv = Unit {0}
 IsUsed Fdiv = Unit {0}
+IsUsed Rti = Unit {0}
+IsUsed (MovbExtended source at) = Unit {0}
 IsUsed Mem = Unit {0}
 IsUsed Rev = Unit {0}
 IsUsed Revw = Unit {0}
@@ -47,6 +49,17 @@ three : (m : List ℕ) (p a b d : ℕ) → p + 6 < 65536 → get_or m p 0 ≡ a 
 three m p a b d le h0 h1 h2 =
     let e : plus p 2 ≡ p + 1 + 1 = omega arith in
     two m p a b le h0 h1 ∙ ap (λ v. decode_of (a ∷ b ∷ v ∷ get_or m (plus p 3) 0 ∷ get_or m (plus p 4) 0 ∷ get_or m (plus p 5) 0 ∷ [])) (ap (λ k. get_or m k 0) e ∙ h2)
+
+whole : (m : List ℕ) (p a b d e f g : ℕ) → p + 6 < 65536 → get_or m p 0 ≡ a → get_or m (p + 1) 0 ≡ b → get_or m (p + 1 + 1) 0 ≡ d → get_or m (p + 1 + 1 + 1) 0 ≡ e → get_or m (p + 1 + 1 + 1 + 1) 0 ≡ f
+    → get_or m (p + 1 + 1 + 1 + 1 + 1) 0 ≡ g → decode_at m p ≡ decode_of (a ∷ b ∷ d ∷ e ∷ f ∷ g ∷ [])
+whole m p a b d e f g le h0 h1 h2 h3 h4 h5 =
+    let e3 : plus p 3 ≡ p + 1 + 1 + 1 = omega arith in
+    let e4 : plus p 4 ≡ p + 1 + 1 + 1 + 1 = omega arith in
+    let e5 : plus p 5 ≡ p + 1 + 1 + 1 + 1 + 1 = omega arith in
+    three m p a b d le h0 h1 h2
+    ∙ ap (λ (x : ℕ). decode_of (a ∷ b ∷ d ∷ x ∷ get_or m (plus p 4) 0 ∷ get_or m (plus p 5) 0 ∷ [])) (ap (λ k. get_or m k 0) e3 ∙ h3)
+    ∙ ap (λ (x : ℕ). decode_of (a ∷ b ∷ d ∷ e ∷ x ∷ get_or m (plus p 5) 0 ∷ [])) (ap (λ k. get_or m k 0) e4 ∙ h4)
+    ∙ ap (λ (x : ℕ). decode_of (a ∷ b ∷ d ∷ e ∷ f ∷ x ∷ [])) (ap (λ k. get_or m k 0) e5 ∙ h5)
 
 whole_word : (w : ℕ) → w / 2 ^ 8 * 2 ^ 8 + w % 2 ^ 8 ≡ w
 whole_word w = omega arith
@@ -74,6 +87,10 @@ decode_here m p TransferXD u le h = two m p 183 84 le h.0 h.1.0
 decode_here m p TransferYD u le h = two m p 183 100 le h.0 h.1.0
 decode_here m p Ediv u le h = one m p 17 h.0
 decode_here m p Fdiv u le h = two m p 24 17 le h.0 h.1.0
+decode_here m p Rti u le h = one m p 11 h.0
+decode_here m p (MovbExtended v w) u le h =
+    whole m p 24 12 (v / 2 ^ 8) (v % 2 ^ 8) (w / 2 ^ 8) (w % 2 ^ 8) le h.0 h.1.0 h.1.1.0 h.1.1.1.0 h.1.1.1.1.0 h.1.1.1.1.1.0
+    ∙ ap₂ (λ (x y : ℕ). Ok (MovbExtended x y)) (whole_word v) (whole_word w)
 decode_here m p Mem u le h = one m p 1 h.0
 decode_here m p Rev u le h = two m p 24 58 le h.0 h.1.0
 decode_here m p Revw u le h = two m p 24 59 le h.0 h.1.0

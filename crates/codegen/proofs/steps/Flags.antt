@@ -65,6 +65,10 @@ carry_or n = bit_or_is n 1 0
 pub unmasked : (n : ℕ) → has (let c : Ccr = record { 0 = bit_and n 239 } in c) 4 ≡ false
 unmasked n = bit_and_is n 239 4
 
+-- ORCC #$10 sets I
+pub masked_on : (n : ℕ) → has (let c : Ccr = record { 0 = bit_or n 16 } in c) 4 ≡ true
+masked_on n = bit_or_is n 16 4
+
 -- four flags put one after another
 pub masked_four : (c : Ccr) (n z v k : Bool) → has (put (put (put (put c 3 n) 2 z) 1 v) 0 k) 4 ≡ has c 4
 masked_four c n z v k =

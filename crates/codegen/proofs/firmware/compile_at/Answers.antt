@@ -7,7 +7,7 @@ use Rattle.codegen.specs.declared.width.Width.TheVariants.{Byte, Word}
 use Rattle.codegen.specs.Widths.{width_of, is_wide}
 use Rattle.codegen.specs.Layouts.{main_layout}
 use Rattle.codegen.specs.Images.{firmware_items}
-use Rattle.codegen.specs.Bounds.{instruction_bound, step_bound}
+use Rattle.codegen.specs.Bounds.{instruction_bound, steps_by}
 use Rattle.codegen.proofs.Placement.{sizes_by, main_rises, length-main_items, element_count-le}
 use Rattle.codegen.proofs.firmware.compile_at.Goals as goal
 use Rattle.codegen.proofs.firmware.compile_at.Goals.{in-Memory, in_default-matches}
@@ -32,8 +32,8 @@ prove-unreachable-requires c =
       | in_default-matches w ↦ absurd (w.in_default-matches.not-Memory memory)
     ]
 
-pub step_bound-step_bound-requires-clause-short : goal.step_bound-step_bound-requires-clause-short
-step_bound-step_bound-requires-clause-short c = omega (arith, element_count-le c.args.block.now, c.in-Ok.ensures.limits.short_list)
+pub steps_by-step_bound-requires-clause-short : goal.steps_by-step_bound-requires-clause-short
+steps_by-step_bound-requires-clause-short c = omega (arith, element_count-le c.args.block.now, c.in-Ok.ensures.limits.short_list)
 
 pub returns-clause-firmware : goal.returns-clause-firmware
 returns-clause-firmware c =
@@ -44,14 +44,16 @@ returns-clause-firmware c =
     let e = c.as_slice.ensures.value ∙ c.in-Ok-firmware_items.ensures in
     let h : Holds c.in-Ok-assemble_items.image.bytes (given_by (firmware_items main_layout b w)) = subst (λ (xs : List Item). Holds c.in-Ok-assemble_items.image.bytes (given_by xs)) e made.bytes in
     record {
-      image = subst (λ (k : Width). Holds c.in-Ok-assemble_items.image.bytes (given_by (firmware_items main_layout b k))) same h;
-      ascending = made.ascending;
-      start = made.start;
+      image = record {
+        bytes = subst (λ (k : Width). Holds c.in-Ok-assemble_items.image.bytes (given_by (firmware_items main_layout b k))) same h;
+        ascending = made.ascending;
+        start = made.start;
+      };
       layout = refl;
       inputs = search rules;
       outputs = search rules;
       instructions = c.instruction_bound-instr_bound.ensures.value ∙ ap (λ (k : Width). instruction_bound k b) same;
-      steps = c.step_bound-step_bound.ensures ∙ ap (λ (k : Width). step_bound k b) same;
+      steps = c.steps_by-step_bound.ensures ∙ ap (steps_by b) (c.instruction_bound-instr_bound.ensures.value ∙ ap (λ (k : Width). instruction_bound k b) same);
     }
 
 pub returns-clause-answers : goal.returns-clause-answers

@@ -1,8 +1,8 @@
 use Rattle.std.proofs.Common.{◌≡◌, sum_by, ap, ◌∙◌, arith}
 use Rattle.rule_layout.specs.Slots.{singleton_count}
-use Rattle.codegen.specs.Bounds.{output_term_count, entry_count, element_count, step_bound}
+use Rattle.codegen.specs.Bounds.{output_term_count, entry_count, element_count, steps_by}
 use Rattle.codegen.proofs.Joins.{conjunctions-flat_of}
-use Rattle.codegen.proofs.bounds.step_bound.Goals as goal
+use Rattle.codegen.proofs.bounds.steps_by.Goals as goal
 
 pub elements-requires : goal.elements-requires
 elements-requires c =
@@ -11,7 +11,7 @@ elements-requires c =
     omega (arith, c.requires.short, same)
 
 pub returns : goal.returns
-unfolding step_bound
+unfolding steps_by
 returns c =
     let b = c.args.block.now in
     let singletons : c.output_terms.result ≡ output_term_count b = c.output_terms.ensures.value ∙ ap (λ xs. sum_by singleton_count xs) c.as_slice.ensures in
