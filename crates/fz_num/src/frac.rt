@@ -122,12 +122,12 @@ impl Frac {
         (apart * BILLION + (whole - 1)) / whole
     }
 
-    /// The numerator over the other's denominator and its own.
+    /// The numerator over the other's denominator and its own. The two have 64 bits, so it is one product.
     fn cross(self, other: Frac) -> u128
         requires left { IsTruth 10000000000000000 self }
         requires right { IsTruth 10000000000000000 other }
         ensures { result ≡ unsigned_abs self.num * unsigned_abs other.den }
     {
-        self.num as u128 * other.den as u128
+        u128::from(self.num as u64) * u128::from(other.den as u64)
     }
 }
