@@ -1,15 +1,12 @@
 //! The reaches of all rules over a box.
-ghost use Rattle.std.specs.Prelude.{◌≡◌, ◌≤◌, ◌+◌, ◌*◌, ◌/◌, ◌≤ℤ◌, pos, unsigned_abs, if◌then◌else◌, ◌==◌, IfSome, Some, slice_get};
+ghost use Rattle.std.specs.Prelude.{◌≡◌, ◌≤◌, ◌+◌, ◌*◌, ◌/◌, ◌≤ℤ◌, pos, unsigned_abs, if◌then◌else◌, ◌==◌, IfSome};
 ghost use Rattle.fz_num.specs.Fractions.{up_div};
 ghost use Rattle.fuzzy_meaning.specs.Blocks.{IsValid, IsValidRule};
-ghost use Rattle.fuzzy_meaning.specs.declared.block.Cond.{Cond as TheCond};
 ghost use Rattle.fuzzy_meaning.specs.Conditions.{condition_of};
-ghost use Rattle.error_bound.specs.Boxes.{IsBoxOf, literal_span, literal_byte_span};
-ghost use Rattle.error_bound.specs.CellErrors.{term_errors};
+ghost use Rattle.error_bound.specs.Boxes.{IsBoxOf};
 ghost use Rattle.error_bound.specs.Errors.{apart};
-ghost use Rattle.error_bound.specs.Reaches.{span_of, byte_span_of, IsSmall, IsBlockTable, AreBoxTerms, IsReachOfRule, IsTable};
+ghost use Rattle.error_bound.specs.Reaches.{HasAlike, IsBlockTable, AreBoxTerms, IsReachOfCondition, IsReachOfRule, IsTable};
 ghost use Rattle.error_bound.specs.Shortening.{ReachesAlike};
-ghost use Rattle.error_bound.specs.Spans.{span, byte_span, greatest_literal};
 
 use crate::boxes::ByteBox;
 use crate::degrees::Degrees;
@@ -77,7 +74,7 @@ fn reach_of_rule(
     block: &Block,
     terms: &BoxTerms,
 ) -> Reach
-    requires kept { IfSome kept (λ table. (c : TheCond) × (slice_get table.now.conditions.items place ≡ Some c) × ReachesAlike block.now (condition_of rule.now.cond) (condition_of c)) }
+    requires kept { IfSome kept (λ table. HasAlike block.now rule.now place table.now.conditions.items) }
     requires rule { IsValidRule block.now rule.now }
     requires block { IsValid block.now }
     requires terms { AreBoxTerms block.now terms.now }
@@ -105,14 +102,11 @@ fn truth_in(
     block: &Block,
     terms: &BoxTerms,
 ) -> Reach
-    requires kept { IfSome kept (λ table. (c : TheCond) × (slice_get table.now.conditions.items place ≡ Some c) × ReachesAlike block.now (condition_of rule.now.cond) (condition_of c)) }
+    requires kept { IfSome kept (λ table. HasAlike block.now rule.now place table.now.conditions.items) }
     requires rule { IsValidRule block.now rule.now }
     requires block { IsValid block.now }
     requires terms { AreBoxTerms block.now terms.now }
-    ensures value { span_of result.degrees ≡ span (literal_span block.now terms.now.bytes.0.items) (condition_of rule.now.cond) }
-    ensures bytes { byte_span_of result ≡ byte_span (literal_byte_span block.now terms.now.bytes.0.items) (condition_of rule.now.cond) }
-    ensures error { result.error ≡ greatest_literal (term_errors block.now terms.now.bytes.0.items) (condition_of rule.now.cond) }
-    ensures small { IsSmall result }
+    ensures { IsReachOfCondition block.now terms.now.bytes.0.items (condition_of rule.now.cond) result }
 {
     match kept {
         Some(table) => reach_by(&table.conditions[place], rule, block, terms),
@@ -126,10 +120,7 @@ fn reach_by(cond: &Cond, rule: &Rule, block: &Block, terms: &BoxTerms) -> Reach
     requires rule { IsValidRule block.now rule.now }
     requires block { IsValid block.now }
     requires terms { AreBoxTerms block.now terms.now }
-    ensures value { span_of result.degrees ≡ span (literal_span block.now terms.now.bytes.0.items) (condition_of rule.now.cond) }
-    ensures bytes { byte_span_of result ≡ byte_span (literal_byte_span block.now terms.now.bytes.0.items) (condition_of rule.now.cond) }
-    ensures error { result.error ≡ greatest_literal (term_errors block.now terms.now.bytes.0.items) (condition_of rule.now.cond) }
-    ensures small { IsSmall result }
+    ensures { IsReachOfCondition block.now terms.now.bytes.0.items (condition_of rule.now.cond) result }
 {
     reach_of(cond, block, terms)
 }
