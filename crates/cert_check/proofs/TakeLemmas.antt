@@ -118,7 +118,7 @@ pub passed_by : (w : Walk) (nodes : List Node) (node : Node) (f : CheckFault) �
 passed_by w nodes node f some taken = record {
   valid = taken.valid;
   claims = taken.claims;
-  cells = taken.cells;
+  table = taken.table;
   parts_from = taken.parts_from;
   parts_to = taken.parts_to;
   so_far = subst (λ g. MatchOption g (IsBehind (nodes ++ node ∷ []) w) (λ fault. (rest : List Node) → HasCheckFault w.block.now w.parts (cert_over w ((nodes ++ node ∷ []) ++ rest)) fault)) (sym some)

@@ -7,7 +7,7 @@ use Rattle.fuzzy_meaning.specs.Blocks.{IsValid}
 use Rattle.error_bound.specs.declared.boxes.Interval.{Interval}
 use Rattle.error_bound.specs.declared.boxes.ByteBox.{ByteBox}
 use Rattle.error_bound.specs.Boxes.{IsBoxOf}
-use Rattle.error_bound.specs.Reaches.{AreBlockCells}
+use Rattle.error_bound.specs.Reaches.{IsBlockTable}
 use Rattle.box_tree.specs.declared.cert.Node.{Node}
 use Rattle.box_tree.specs.declared.cert.Cert.{Cert}
 use Rattle.box_tree.specs.Certificates.{AreClaims, IsNode}
@@ -84,7 +84,7 @@ pub record IsBehind (nodes : List Node) (w : Walk) : Type 0 where
 pub record HasTaken (nodes : List Node) (w : Walk) : Type 0 where
   pub valid : IsValid w.block.now
   pub claims : AreClaims w.claims.now
-  pub cells : AreBlockCells w.block.now w.cells
+  pub table : IsBlockTable w.block.now w.table
   pub parts_from : 1 ≤ w.parts
   pub parts_to : w.parts ≤ 256
   pub so_far : MatchOption w.fault (IsBehind nodes w)
@@ -101,4 +101,4 @@ pub record IsSameTask (w v : Walk) : Type 0 where
   pub block : w.block ≡ v.block
   pub claims : w.claims ≡ v.claims
   pub parts : w.parts ≡ v.parts
-  pub cells : w.cells ≡ v.cells
+  pub table : w.table ≡ v.table

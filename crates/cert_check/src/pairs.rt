@@ -4,13 +4,13 @@ ghost use Rattle.fuzzy_meaning.specs.Blocks.{IsValid, output_at};
 ghost use Rattle.error_bound.specs.Boxes.{IsBoxOf};
 ghost use Rattle.error_bound.specs.Leaves.{Holds};
 ghost use Rattle.error_bound.specs.Bounds.{IsBound};
-ghost use Rattle.error_bound.specs.Reaches.{AreBlockCells, IsTable};
+ghost use Rattle.error_bound.specs.Reaches.{IsBlockTable, IsTable};
 ghost use Rattle.cert_check.specs.Trees.{part_of};
 ghost use Rattle.cert_check.specs.Faults.{AllHold, IsPairFault, HasPartFault};
 ghost use Rattle.cert_check.specs.Walks.{Raises};
 
 use crate::checker::CheckFault;
-use error_bound::{BlockCells, BoxTable, ByteBox, Leaf, is_pair_for};
+use error_bound::{BlockTable, BoxTable, ByteBox, Leaf, is_pair_for};
 use fuzzy_meaning::Block;
 
 /// Raises the error of each output to the Bound of its pair on a box, or tells the first pair that
@@ -18,14 +18,14 @@ use fuzzy_meaning::Block;
 pub(crate) fn raise_errors(
     errors: &mut [u32],
     block: &Block,
-    cells: &BlockCells,
+    kept: &BlockTable,
     bytes: ByteBox,
     pairs: &[(u16, u8)],
     parts: u16,
     line: u32,
 ) -> Result<(), CheckFault>
     requires block { IsValid block.now }
-    requires cells { AreBlockCells block.now cells.now }
+    requires kept { IsBlockTable block.now kept.now }
     requires bytes { IsBoxOf block.now bytes.0.items }
     requires pairs { length pairs.now ≡ length block.now.outputs }
     requires errors { length errors.old ≡ length block.now.outputs }
@@ -35,7 +35,7 @@ pub(crate) fn raise_errors(
     ensures raised { OnOk result (Raises block.now parts (part_of bytes.0.items pairs.now) errors.old errors.new) }
     ensures fault { IfErr result (HasPartFault block.now (part_of bytes.0.items pairs.now) line) }
 {
-    let table = BoxTable::over(block, cells, bytes);
+    let table = BoxTable::over(block, kept, bytes);
     for o in 0..pairs.len() {
         let (rule, k) = pairs[o];
         let bound = pair_bound(block, &table, Leaf { rule, k }, o as u8 + 1, parts, line)?;

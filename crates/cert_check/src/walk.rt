@@ -9,7 +9,7 @@ use crate::boxes::{push, push_halves, whole_box};
 use crate::checker::CheckFault;
 use crate::pairs::raise_errors;
 use box_tree::{Node, open_boxes_go_on};
-use error_bound::{BlockCells, ByteBox};
+use error_bound::{BlockTable, ByteBox};
 use fuzzy_meaning::Block;
 use std::alloc::{AllocError, Global};
 
@@ -23,8 +23,8 @@ pub(crate) struct Walk<'a> {
     claims: &'a [u32],
     /// How many parts an answer has to a byte.
     parts: u16,
-    /// The cells of the block's terms, for the leaves.
-    cells: BlockCells,
+    /// What the leaves' boxes need of the block.
+    table: BlockTable,
     /// The open boxes, the next one last.
     boxes: Vec<ByteBox>,
     /// The error of each output over the leaves that were taken.
@@ -56,7 +56,7 @@ impl<'a> Walk<'a> {
         ensures claims { IfOk result (λ walk. walk.claims.now ≡ claims.now) }
         ensures parts { IfOk result (λ walk. walk.parts ≡ parts) }
     {
-        let cells = BlockCells::new(alloc, block)?;
+        let table = BlockTable::new(alloc, block)?;
         let outputs = block.outputs.len();
         let mut boxes = Vec::with_capacity(alloc, MOST_BOXES)?;
         push(&mut boxes, whole_box(block));
@@ -70,7 +70,7 @@ impl<'a> Walk<'a> {
             block,
             claims,
             parts,
-            cells,
+            table,
             boxes,
             errors,
             line: 3,
@@ -116,7 +116,7 @@ impl<'a> Walk<'a> {
             Node::Leaf(pairs) => raise_errors(
                 &mut self.errors,
                 self.block,
-                &self.cells,
+                &self.table,
                 bytes,
                 pairs.as_slice(),
                 self.parts,

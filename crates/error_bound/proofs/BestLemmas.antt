@@ -1,19 +1,18 @@
 -- The best leaf of a box, and the leaves that hold there.
-use Rattle.std.proofs.Common.{◌≡◌, ⊎_elim, ℕ, zero, suc, ◌+◌, ◌-◌, ◌*◌, ◌/◌, ◌<◌, ◌≤◌, min, max, Bool, true, false, List, length, get_or, Option, Some, None, refl, sym, ap, ◌∙◌, subst, arith, mul-le-mul_right, mul-le-mul_left, mul-pos}
-use Rattle.std.specs.Prelude.{All, IsTrue, slice_get, ◌==◌, ◌⊎◌, if◌then◌else◌, nat_le, ◌<ℤ◌}
+use Rattle.std.proofs.Common.{◌≡◌, ⊎_elim, ℕ, zero, suc, ◌+◌, ◌-◌, ◌*◌, ◌/◌, ◌<◌, ◌≤◌, Bool, true, false, List, length, Option, Some, None, refl, sym, ◌∙◌, subst, arith, mul-le-mul_right, mul-pos}
+use Rattle.std.specs.Prelude.{IsTrue, slice_get, ◌==◌, ◌⊎◌, if◌then◌else◌, nat_le, ◌<ℤ◌}
 use Rattle.std.proofs.lemmas.Int.{ints}
 use Rattle.std.proofs.lemmas.Bool.{cases_lt}
 use Rattle.fz_list.proofs.Algebra.{All-slice_get}
-use Rattle.fz_num.specs.Fractions.{Fraction, over, IsProper, AtMost, lesser, greater, times}
+use Rattle.fz_num.specs.Fractions.{Fraction, over, IsProper, AtMost, lesser, greater}
 use Rattle.fz_num.specs.Decimals.{distance}
 use Rattle.fuzzy_meaning.specs.declared.block.Block.{Block}
 use Rattle.fuzzy_meaning.specs.declared.block.Input.{Input}
 use Rattle.fuzzy_meaning.specs.declared.block.Output.{Output}
 use Rattle.fuzzy_meaning.specs.declared.block.Rule.{Rule}
 use Rattle.fuzzy_meaning.specs.declared.block.Trapezoid.{Trapezoid}
-use Rattle.fuzzy_meaning.specs.Blocks.{IsValid, IsValidOutput, input_at, output_at}
+use Rattle.fuzzy_meaning.specs.Blocks.{IsValid, IsValidOutput, input_at}
 use Rattle.fuzzy_meaning.specs.Conditions.{Condition, is, negation, all, any, Conditions, end, also, condition_of}
-use Rattle.fuzzy_meaning.specs.Meaning.{weight_of}
 use Rattle.fuzzy_meaning.specs.Places.{points_of}
 use Rattle.fuzzy_meaning.specs.Rules.{concludes}
 use Rattle.byte_scaling.specs.Cells.{cell_start, cell_end}
@@ -21,13 +20,12 @@ use Rattle.byte_scaling.specs.Weights.{weight_byte_of}
 use Rattle.point_slope.specs.Tables.{row_of, grade_of}
 use Rattle.error_bound.specs.declared.boxes.Interval.{Interval}
 use Rattle.error_bound.specs.declared.boxes.Leaf.{Leaf}
-use Rattle.error_bound.specs.Boxes.{IsBox, least_from, greatest_from, literal_span, literal_byte_span, rule_span, rule_byte_span}
+use Rattle.error_bound.specs.Boxes.{least_from, greatest_from, literal_span, literal_byte_span, rule_span, rule_byte_span}
 use Rattle.error_bound.specs.Spans.{Span, ByteSpan, span, least_span, greatest_span, byte_span, least_byte_span, greatest_byte_span}
-use Rattle.error_bound.specs.Leaves.{Holds, strong, silent, IsStrong, IsStill, IsPairFor, rule_at, concludes_some}
-use Rattle.error_bound.specs.Best.{IsBest, silent as best_silent, strong as best_strong, nothing, IsCandidate, IsFirstGreatest, silent_leaf}
+use Rattle.error_bound.specs.Leaves.{Holds, strong, silent, IsStrong, IsStill, rule_at}
+use Rattle.error_bound.specs.Best.{IsBest, silent as best_silent, strong as best_strong, nothing, IsCandidate, silent_leaf}
 use Rattle.error_bound.specs.Errors.{billion}
-use Rattle.error_bound.specs.Bounds.{plus, bound, IsBound, greatest_offset, silent_bound, strong_bound, errors_from}
-use Rattle.error_bound.specs.Laws.{IsInside}
+use Rattle.error_bound.specs.Bounds.{plus, bound, IsBound, greatest_offset, strong_bound, errors_from}
 use Rattle.error_bound.specs.BestLeaves.{IsBestBound, of_leaf, of_none, BestLeavesAreOne, BestLeavesHold, BestBoundsAreLeast}
 use Rattle.error_bound.proofs.AnswerLemmas.{bound_strong, bound_silent}
 use Rattle.error_bound.proofs.CellErrors.{low_proper, high_proper}

@@ -23,3 +23,4 @@ pub mod ConclusionLemmas
 pub mod PairLemmas
 pub mod FaultLemmas
 pub mod BestLemmas
+pub mod ShorteningLemmas

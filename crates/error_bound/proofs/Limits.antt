@@ -117,7 +117,7 @@ pub rise_all : (a : Option ℕ) (b : ℕ) (x : Fraction) → AtMost (rise_at a b
 rise_all None b x = AtMost-refl one
 rise_all (Some a) b x = rise_one a b x
 
-fall_all : (c : ℕ) (d : Option ℕ) (x : Fraction) → AtMost (fall_at c d x) one
+pub fall_all : (c : ℕ) (d : Option ℕ) (x : Fraction) → AtMost (fall_at c d x) one
 fall_all c None x = AtMost-refl one
 fall_all c (Some d) x = fall_one c d x
 
@@ -132,7 +132,7 @@ fall_top c (Some d) x h = by_fall (AtMost one) c d x (λ _. AtMost-refl one) (λ
 one_proper : IsProper one
 one_proper = record { pos = omega arith }
 
-end_all : (k : Bool) (a : Option ℕ) (b : ℕ) (x : Fraction) → AtMost (rise_end k a b x) one
+pub end_all : (k : Bool) (a : Option ℕ) (b : ℕ) (x : Fraction) → AtMost (rise_end k a b x) one
 end_all true a b x = rise_all a b x
 end_all false None b x = AtMost-refl one
 end_all false (Some a) b x = rise_to_one a b x

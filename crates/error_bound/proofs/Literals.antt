@@ -76,7 +76,7 @@ either_small false n h = h
 capped : (n : ℕ) → min 255 n ≤ 255
 capped n = omega arith
 
-grade-le : (row : List ℕ) (v : ℕ) → grade_of row v ≤ 255
+pub grade-le : (row : List ℕ) (v : ℕ) → grade_of row v ≤ 255
 grade-le row v = either_small _ _ (capped _)
 
 -- a term at a byte of the interval and a place of its cell

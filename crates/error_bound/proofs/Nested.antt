@@ -1,8 +1,6 @@
 -- On a smaller box spans are narrower, errors no greater, leaves that hold hold, and Bounds do not rise.
-use Rattle.std.proofs.Common.{◌≡◌, ⊎_elim, ℕ, zero, suc, ◌+◌, ◌-◌, ◌*◌, ◌/◌, ◌<◌, ◌≤◌, List, length, get_or, Option, Some, None, refl, arith, mul-le-mul_right, mul-pos}
+use Rattle.std.proofs.Common.{◌≡◌, ℕ, zero, suc, ◌+◌, ◌-◌, ◌*◌, ◌/◌, ◌<◌, ◌≤◌, List, length, get_or, Option, Some, None, refl, arith, mul-le-mul_right, mul-pos}
 use Rattle.std.specs.Prelude.{slice_get, ◌==◌}
-use Rattle.std.proofs.lemmas.Bool.{cases_lt}
-use Rattle.std.proofs.lemmas.Bool.Decides.{nat_tests}
 use Rattle.std.proofs.lemmas.Option.{slice_get_within}
 use Rattle.fz_num.specs.Fractions.{Fraction, over, IsProper, AtMost, one_minus, times, one, none}
 use Rattle.fz_num.specs.Decimals.{distance}
@@ -15,7 +13,7 @@ use Rattle.fuzzy_meaning.specs.Blocks.{IsValid, IsValidInput, IsValidTerm, input
 use Rattle.fuzzy_meaning.specs.Conditions.{Condition, is, negation, all, any, Conditions, end, also, condition_of}
 use Rattle.fuzzy_meaning.specs.Meaning.{weight_of}
 use Rattle.fz_list.proofs.Algebra.{All-slice_get, some_at}
-use Rattle.byte_scaling.specs.Cells.{IsFromTo, inside, at_end, cell_start, cell_end}
+use Rattle.byte_scaling.specs.Cells.{cell_start, cell_end}
 use Rattle.byte_scaling.specs.Weights.{weight_byte_of}
 use Rattle.point_slope.specs.Tables.{row_of, grade_of}
 use Rattle.error_bound.specs.declared.boxes.Interval.{Interval}

@@ -1,5 +1,5 @@
 -- Which pairs stand for an output.
-use Rattle.std.proofs.Common.{◌≡◌, ℕ, ◌-◌, ◌≤◌, List, length, Bool, Some, sym, subst, arith}
+use Rattle.std.proofs.Common.{◌≡◌, ℕ, ◌-◌, ◌≤◌, length, Bool, Some, sym, subst, arith}
 use Rattle.std.specs.Prelude.{◌≢◌, IsTrue}
 use Rattle.fz_list.proofs.Algebra.{IsSomeAnd-at, IsSomeAnd-some, IsSomeAnd-within}
 use Rattle.fuzzy_meaning.specs.declared.block.Block.{Block}

@@ -9,5 +9,6 @@ pub mod Bounds
 pub mod Answers
 pub mod Laws
 pub mod CellErrors
+pub mod Shortening
 pub mod Reaches
 pub mod BestLeaves

@@ -6,6 +6,8 @@ use Rattle.fuzzy_meaning.specs.declared.block.Block.{Block}
 use Rattle.fuzzy_meaning.specs.declared.block.Input.{Input}
 use Rattle.fuzzy_meaning.specs.declared.block.Rule.{Rule}
 use Rattle.fuzzy_meaning.specs.declared.block.Trapezoid.{Trapezoid}
+use Rattle.fuzzy_meaning.specs.declared.block.Cond.{Cond}
+use Rattle.fuzzy_meaning.specs.Conditions.{Condition, condition_of}
 use Rattle.fuzzy_meaning.specs.Places.{points_of}
 use Rattle.point_slope.specs.Tables.{row_of, grade_of}
 use Rattle.error_bound.specs.declared.boxes.Interval.{Interval}
@@ -13,13 +15,14 @@ use Rattle.error_bound.specs.declared.cells.TermCells.{TermCells}
 use Rattle.error_bound.specs.declared.degrees.Degrees.{Degrees}
 use Rattle.error_bound.specs.declared.reaches.Reach.{Reach}
 use Rattle.error_bound.specs.declared.tables.InputCells.{InputCells}
-use Rattle.error_bound.specs.declared.tables.BlockCells.{BlockCells}
+use Rattle.error_bound.specs.declared.tables.BlockTable.{BlockTable}
 use Rattle.error_bound.specs.declared.tables.Row.{Row}
 use Rattle.error_bound.specs.declared.tables.BoxTerms.{BoxTerms}
 use Rattle.error_bound.specs.declared.rules.BoxTable.{BoxTable}
-use Rattle.error_bound.specs.Spans.{Span, ByteSpan}
+use Rattle.error_bound.specs.Spans.{Span, ByteSpan, span, byte_span, greatest_literal}
 use Rattle.error_bound.specs.Boxes.{IsBoxOf, degrees_over, grades_over, literal_span, literal_byte_span, rule_span, rule_byte_span}
 use Rattle.error_bound.specs.Errors.{billion, rule_error}
+use Rattle.error_bound.specs.Shortening.{ReachesAlike}
 use Rattle.error_bound.specs.CellErrors.{cell_error, term_error, term_errors}
 
 abbrev pub span_of : Degrees → Span
@@ -39,12 +42,25 @@ pub record AreTermCells (x : Input) (term : Trapezoid) (v : Interval) (c : TermC
 abbrev pub AreInputCells : Input → Interval → InputCells → Type 0
 AreInputCells x v cells = (t : ℕ) (term : Trapezoid) → slice_get x.terms t ≡ Some term → (c : TermCells) × (slice_get cells.terms t ≡ Some c) × AreTermCells x term v c
 
--- and of each input, at all bytes
 abbrev pub all_bytes : Interval
 all_bytes = record { from = 0; to = 255 }
 
-abbrev pub AreBlockCells : Block → BlockCells → Type 0
-AreBlockCells b cells = (i : ℕ) (x : Input) → slice_get b.inputs i ≡ Some x → (c : InputCells) × (slice_get cells.inputs.items i ≡ Some c) × AreInputCells x all_bytes c
+-- of each input, at all bytes
+abbrev pub AreAllCells : Block → List InputCells → Type 0
+AreAllCells b cells = (i : ℕ) (x : Input) → slice_get b.inputs i ≡ Some x → (c : InputCells) × (slice_get cells i ≡ Some c) × AreInputCells x all_bytes c
+
+-- at a place a condition that reaches as far as a rule's
+abbrev pub HasAlike : Block → Rule → ℕ → List Cond → Type 0
+HasAlike b r k conds = (c : Cond) × (slice_get conds k ≡ Some c) × ReachesAlike b (condition_of r.cond) (condition_of c)
+
+-- one for each rule
+abbrev pub AreRuleConditions : Block → List Cond → Type 0
+AreRuleConditions b conds = (k : ℕ) (r : Rule) → slice_get b.rules k ≡ Some r → HasAlike b r k conds
+
+-- what boxes need of a block
+pub record IsBlockTable (b : Block) (table : BlockTable) : Type 0 where
+  pub inputs : AreAllCells b table.inputs.items
+  pub conditions : AreRuleConditions b table.conditions.items
 
 -- fractions of small denominators
 pub record AreTruths (d : Degrees) : Type 0 where
@@ -76,6 +92,13 @@ pub record IsReachOfLiteral (b : Block) (box : List Interval) (i t : ℕ) (r : R
   pub value : span_of r.degrees ≡ literal_span b box i t
   pub bytes : byte_span_of r ≡ literal_byte_span b box i t
   pub error : r.error ≡ term_errors b box i t
+  pub small : IsSmall r
+
+-- of a condition
+pub record IsReachOfCondition (b : Block) (box : List Interval) (c : Condition) (r : Reach) : Type 0 where
+  pub value : span_of r.degrees ≡ span (literal_span b box) c
+  pub bytes : byte_span_of r ≡ byte_span (literal_byte_span b box) c
+  pub error : r.error ≡ greatest_literal (term_errors b box) c
   pub small : IsSmall r
 
 pub record HasSmallTruths (q : Reach) : Type 0 where

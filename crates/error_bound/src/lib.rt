@@ -4,7 +4,7 @@
 //! [`leaf_bound`] gives the Bound of a leaf that holds, or exactly its first fault, and a Bound is at
 //! least the distance of each answer from the exact one, in millionths of the output's range
 //! ([`answers_are_near`]). For many leaves of one box a [`BoxTable`] is made once, and for
-//! many boxes the [`BlockCells`]; only these take memory.
+//! many boxes a [`BlockTable`]; only this takes memory.
 #![tactic(auto)]
 
 mod best_leaves;
@@ -17,6 +17,7 @@ mod laws;
 mod leaves;
 mod reaches;
 mod rules;
+mod shortening;
 mod tables;
 
 pub use best_leaves::{best_bounds_are_least, best_leaves_are_one, best_leaves_hold};
@@ -30,4 +31,4 @@ pub use laws::{
 };
 pub use leaves::{is_pair_for, leaf_bound, leaf_bound16};
 pub use rules::BoxTable;
-pub use tables::BlockCells;
+pub use tables::BlockTable;

@@ -1,17 +1,19 @@
 //! The reaches of all rules over a box.
-ghost use Rattle.std.specs.Prelude.{◌≡◌, ◌≤◌, ◌+◌, ◌*◌, ◌/◌, ◌≤ℤ◌, pos, unsigned_abs, if◌then◌else◌, ◌==◌};
+ghost use Rattle.std.specs.Prelude.{◌≡◌, ◌≤◌, ◌+◌, ◌*◌, ◌/◌, ◌≤ℤ◌, pos, unsigned_abs, if◌then◌else◌, ◌==◌, IfSome};
 ghost use Rattle.fz_num.specs.Fractions.{up_div};
 ghost use Rattle.fuzzy_meaning.specs.Blocks.{IsValid, IsValidRule};
+ghost use Rattle.fuzzy_meaning.specs.Conditions.{condition_of};
 ghost use Rattle.error_bound.specs.Boxes.{IsBoxOf};
 ghost use Rattle.error_bound.specs.Errors.{apart};
-ghost use Rattle.error_bound.specs.Reaches.{AreBlockCells, AreBoxTerms, IsReachOfRule, IsTable};
+ghost use Rattle.error_bound.specs.Reaches.{HasAlike, IsBlockTable, AreBoxTerms, IsReachOfCondition, IsReachOfRule, IsTable};
+ghost use Rattle.error_bound.specs.Shortening.{ReachesAlike};
 
 use crate::boxes::ByteBox;
 use crate::degrees::Degrees;
 use crate::reaches::{NOTHING, Reach, reach_of};
-use crate::tables::{BlockCells, BoxTerms};
+use crate::tables::{BlockTable, BoxTerms};
 use byte_scaling::weight_byte;
-use fuzzy_meaning::{Block, Rule};
+use fuzzy_meaning::{Block, Cond, Rule};
 use fz_num::Dec;
 
 /// What leaves need of a box, made once for all of them: how far the strength of each rule reaches.
@@ -31,45 +33,54 @@ impl BoxTable {
         ensures same { result.bytes ≡ bytes }
         ensures table { IsTable block.now result }
     {
-        BoxTable::of_terms(block, BoxTerms::new(block, bytes, None))
+        BoxTable::of_terms(block, BoxTerms::new(block, bytes, None), None)
     }
 
-    /// The same where the block's cells are kept, in a few steps for each term.
-    pub fn over(block: &Block, cells: &BlockCells, bytes: ByteBox) -> BoxTable
+    /// The same where the block's table is kept, in a few steps for each byte of each term, and then for
+    /// each literal.
+    pub fn over(block: &Block, table: &BlockTable, bytes: ByteBox) -> BoxTable
         requires block { IsValid block.now }
-        requires cells { AreBlockCells block.now cells.now }
+        requires table { IsBlockTable block.now table.now }
         requires bytes { IsBoxOf block.now bytes.0.items }
         ensures same { result.bytes ≡ bytes }
         ensures table { IsTable block.now result }
     {
-        BoxTable::of_terms(block, BoxTerms::new(block, bytes, Some(cells)))
+        BoxTable::of_terms(block, BoxTerms::new(block, bytes, Some(table)), Some(table))
     }
 
-    fn of_terms(block: &Block, terms: BoxTerms) -> BoxTable
+    fn of_terms(block: &Block, terms: BoxTerms, kept: Option<&BlockTable>) -> BoxTable
         requires block { IsValid block.now }
         requires bytes { IsBoxOf block.now terms.bytes.0.items }
         requires terms { AreBoxTerms block.now terms }
+        requires kept { IfSome kept (λ table. IsBlockTable block.now table.now) }
         ensures same { result.bytes ≡ terms.bytes }
         ensures table { IsTable block.now result }
     {
         let mut rules = [NOTHING; 256];
         let all = block.rules.as_slice();
         for n in 0..all.len() {
-            rules[n] = reach_of_rule(&all[n], block, &terms);
+            rules[n] = reach_of_rule(kept, n, &all[n], block, &terms);
         }
         let BoxTerms { bytes, .. } = terms;
         BoxTable { bytes, rules }
     }
 }
 
-/// The reach of a rule's strength.
-fn reach_of_rule(rule: &Rule, block: &Block, terms: &BoxTerms) -> Reach
+/// The reach of the strength of the rule at a place.
+fn reach_of_rule(
+    kept: Option<&BlockTable>,
+    place: usize,
+    rule: &Rule,
+    block: &Block,
+    terms: &BoxTerms,
+) -> Reach
+    requires kept { IfSome kept (λ table. HasAlike block.now rule.now place table.now.conditions.items) }
     requires rule { IsValidRule block.now rule.now }
     requires block { IsValid block.now }
     requires terms { AreBoxTerms block.now terms.now }
     ensures { IsReachOfRule block.now terms.now.bytes.0.items rule.now result }
 {
-    let truth = reach_of(&rule.cond, block, terms);
+    let truth = truth_in(kept, place, rule, block, terms);
     let weight = rule.weight.unwrap_or(Dec(10_000));
     let byte = weight_byte(rule.weight);
     Reach {
@@ -81,6 +92,37 @@ fn reach_of_rule(rule: &Rule, block: &Block, terms: &BoxTerms) -> Reach
         greatest: scaled(truth.greatest, byte),
         error: truth.error + weight_error(weight, byte) + floor_error(byte),
     }
+}
+
+/// The reach of the condition of the rule at a place, by a shorter one where that is kept.
+fn truth_in(
+    kept: Option<&BlockTable>,
+    place: usize,
+    rule: &Rule,
+    block: &Block,
+    terms: &BoxTerms,
+) -> Reach
+    requires kept { IfSome kept (λ table. HasAlike block.now rule.now place table.now.conditions.items) }
+    requires rule { IsValidRule block.now rule.now }
+    requires block { IsValid block.now }
+    requires terms { AreBoxTerms block.now terms.now }
+    ensures { IsReachOfCondition block.now terms.now.bytes.0.items (condition_of rule.now.cond) result }
+{
+    match kept {
+        Some(table) => reach_by(&table.conditions[place], rule, block, terms),
+        None => reach_of(&rule.cond, block, terms),
+    }
+}
+
+/// The reach of a rule's condition, by one that reaches alike.
+fn reach_by(cond: &Cond, rule: &Rule, block: &Block, terms: &BoxTerms) -> Reach
+    requires cond { ReachesAlike block.now (condition_of rule.now.cond) (condition_of cond.now) }
+    requires rule { IsValidRule block.now rule.now }
+    requires block { IsValid block.now }
+    requires terms { AreBoxTerms block.now terms.now }
+    ensures { IsReachOfCondition block.now terms.now.bytes.0.items (condition_of rule.now.cond) result }
+{
+    reach_of(cond, block, terms)
 }
 
 /// A truth over bytes, scaled by a weight byte.

@@ -1,15 +1,16 @@
-//! The reaches of all terms over a box.
+//! What boxes need of a block, and the reaches of all terms over a box.
 ghost use Rattle.std.specs.Prelude.{◌≡◌, ◌≤◌, ◌-◌, ℕ, length, IfOk, IfSome, Some, slice_get};
 ghost use Rattle.fuzzy_meaning.specs.Blocks.{IsValid, IsValidInput, IsValidTerm};
 ghost use Rattle.error_bound.specs.declared.tables.InputCells.{InputCells as TheCells};
 ghost use Rattle.error_bound.specs.Boxes.{IsBoxOf};
-ghost use Rattle.error_bound.specs.Reaches.{AreTermCells, AreInputCells, AreBlockCells, all_bytes, IsReachOfTerm, AreInputReaches, AreBoxTerms};
+ghost use Rattle.error_bound.specs.Reaches.{AreTermCells, AreInputCells, AreAllCells, AreRuleConditions, IsBlockTable, all_bytes, IsReachOfTerm, AreInputReaches, AreBoxTerms};
 
 use crate::boxes::{ByteBox, Interval};
 use crate::cells::TermCells;
 use crate::degrees::degrees_of;
 use crate::reaches::{NOTHING, Reach};
-use fuzzy_meaning::{Block, Input, Trapezoid};
+use crate::shortening::{shortened, shortening_keeps_reaches};
+use fuzzy_meaning::{Block, Cond, Input, Trapezoid};
 use std::alloc::{AllocError, Global};
 
 /// The cells of an input's terms.
@@ -32,25 +33,52 @@ impl InputCells {
     }
 }
 
-/// The cells of all terms of a block, made once for all of its boxes.
+/// What boxes need of a block, made once for all of them.
 #[derive(Drop)]
-pub struct BlockCells {
+pub struct BlockTable {
+    /// The cells of the inputs' terms.
     pub(crate) inputs: Vec<InputCells>,
+    /// The rules' conditions, without chains of NOT.
+    pub(crate) conditions: Vec<Cond>,
 }
 
-impl BlockCells {
-    /// Takes some 20 KB for each input, and a division or two for each byte of each term.
-    pub fn new(alloc: Global, block: &Block) -> Result<BlockCells, AllocError>
+impl BlockTable {
+    /// Takes some 20 KB for each input and a copy of each condition, and a division or two for each
+    /// byte of each term.
+    pub fn new(alloc: Global, block: &Block) -> Result<BlockTable, AllocError>
         requires { IsValid block.now }
-        ensures { IfOk result (AreBlockCells block.now) }
+        ensures { IfOk result (IsBlockTable block.now) }
     {
-        let all = Interval { from: 0, to: 255 };
-        let mut inputs = Vec::new(alloc);
-        for input in block.inputs.as_slice() {
-            inputs.push(InputCells::new(input, all))?;
-        }
-        Ok(BlockCells { inputs })
+        let inputs = all_cells(alloc, block)?;
+        let conditions = short_conditions(alloc, block)?;
+        Ok(BlockTable { inputs, conditions })
     }
+}
+
+/// The cells of all terms of a block.
+fn all_cells(alloc: Global, block: &Block) -> Result<Vec<InputCells>, AllocError>
+    requires { IsValid block.now }
+    ensures { IfOk result (λ v. AreAllCells block.now v.items) }
+{
+    let all = Interval { from: 0, to: 255 };
+    let mut inputs = Vec::new(alloc);
+    for input in block.inputs.as_slice() {
+        inputs.push(InputCells::new(input, all))?;
+    }
+    Ok(inputs)
+}
+
+/// The conditions of a block's rules, without chains of NOT.
+fn short_conditions(alloc: Global, block: &Block) -> Result<Vec<Cond>, AllocError>
+    ensures { IfOk result (λ v. AreRuleConditions block.now v.items) }
+{
+    shortening_keeps_reaches();
+    let mut conditions = Vec::new(alloc);
+    for rule in block.rules.as_slice() {
+        let cond = shortened(alloc, &rule.cond, false)?;
+        conditions.push(cond)?;
+    }
+    Ok(conditions)
 }
 
 /// The reaches of an input's terms.
@@ -71,11 +99,11 @@ const NO_TERMS: Row = Row {
 };
 
 impl BoxTerms {
-    /// Of a box, from the block's cells where they are kept.
-    pub(crate) fn new(block: &Block, bytes: ByteBox, kept: Option<&BlockCells>) -> BoxTerms
+    /// Of a box, from the block's table where that is kept.
+    pub(crate) fn new(block: &Block, bytes: ByteBox, kept: Option<&BlockTable>) -> BoxTerms
         requires block { IsValid block.now }
         requires bytes { IsBoxOf block.now bytes.0.items }
-        requires kept { IfSome kept (λ cells. AreBlockCells block.now cells.now) }
+        requires kept { IfSome kept (λ table. IsBlockTable block.now table.now) }
         ensures same { result.bytes ≡ bytes }
         ensures terms { AreBoxTerms block.now result }
     {
@@ -89,14 +117,14 @@ impl BoxTerms {
 }
 
 /// The row of the input at a place, from its cells where they are kept.
-fn row_in(kept: Option<&BlockCells>, place: usize, input: &Input, bytes: Interval) -> Row
+fn row_in(kept: Option<&BlockTable>, place: usize, input: &Input, bytes: Interval) -> Row
     requires input { IsValidInput input.now }
     requires order { bytes.from ≤ bytes.to }
-    requires kept { IfSome kept (λ cells. (c : TheCells) × (slice_get cells.now.inputs.items place ≡ Some c) × AreInputCells input.now all_bytes c) }
+    requires kept { IfSome kept (λ table. (c : TheCells) × (slice_get table.now.inputs.items place ≡ Some c) × AreInputCells input.now all_bytes c) }
     ensures { AreInputReaches input.now bytes result.reaches }
 {
     match kept {
-        Some(cells) => row_of(input, &cells.inputs[place], bytes),
+        Some(table) => row_of(input, &table.inputs[place], bytes),
         None => row_of(input, &InputCells::new(input, bytes), bytes),
     }
 }

@@ -5,7 +5,7 @@ use Rattle.fuzzy_meaning.specs.declared.block.Block.{Block}
 use Rattle.fuzzy_meaning.specs.declared.block.Output.{Output}
 use Rattle.fuzzy_meaning.specs.Blocks.{IsValid}
 use Rattle.error_bound.specs.declared.boxes.Interval.{Interval}
-use Rattle.error_bound.specs.Reaches.{AreBlockCells}
+use Rattle.error_bound.specs.Reaches.{IsBlockTable}
 use Rattle.box_tree.specs.declared.cert.Node.{Node}
 use Rattle.box_tree.specs.Certificates.{IsPair, IsNode}
 use Rattle.cert_check.specs.Trees.{Part, IsTree}
@@ -33,7 +33,7 @@ pub record AreBestLeaves (b : Block) (h target : ℕ) (box : List Interval) (lea
 
 pub record IsTask (task : Task) : Type 0 where
   pub valid : IsValid task.block.now
-  pub cells : AreBlockCells task.block.now task.cells
+  pub table : IsBlockTable task.block.now task.table
   pub target : task.target ≤ 1000000
   pub parts_from : 1 ≤ task.parts
   pub parts_to : task.parts ≤ 256

@@ -24,7 +24,7 @@ pub enum NotReached {
     /// More than 4096 leaves would be needed. Another certificate may have fewer.
     #[error("more than 4096 leaves")]
     LeafLimit,
-    /// There was no memory for the certificate, or for the cells of the block's terms.
+    /// There was no memory for the certificate, or for what boxes need of the block.
     #[error("no memory")]
     Memory,
 }

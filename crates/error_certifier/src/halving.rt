@@ -11,7 +11,7 @@ use crate::certifier::NotReached;
 use crate::leaves::{Above, BestLeaves};
 use box_tree::{Cert, Node};
 use cert_check::cuts_have_halves;
-use error_bound::{BlockCells, BoxTable, ByteBox, best_leaves_hold};
+use error_bound::{BlockTable, BoxTable, ByteBox, best_leaves_hold};
 use fuzzy_meaning::Block;
 use fz_list::List;
 use std::alloc::{AllocError, Global};
@@ -23,8 +23,8 @@ const MOST_LEAVES: u16 = 4096;
 #[derive(Drop)]
 pub(crate) struct Task<'a> {
     block: &'a Block,
-    /// The cells of the block's terms, for all boxes.
-    cells: BlockCells,
+    /// What all boxes need of the block.
+    table: BlockTable,
     target: u32,
     /// How many parts an answer has to a byte.
     parts: u16,
@@ -55,10 +55,10 @@ impl<'a> Task<'a> {
         ensures target { IfOk result (λ task. task.target ≡ target) }
         ensures parts { IfOk result (λ task. task.parts ≡ parts) }
     {
-        let cells = BlockCells::new(alloc, block)?;
+        let table = BlockTable::new(alloc, block)?;
         Ok(Task {
             block,
-            cells,
+            table,
             target,
             parts,
         })
@@ -103,7 +103,7 @@ impl<'a> Task<'a> {
         ensures above { IfErr result (λ a.
             IsFirstAbove self.now.block.now self.now.parts self.now.target bytes.now.0.items a.place a.bound) }
     {
-        let table = BoxTable::over(self.block, &self.cells, bytes.copied());
+        let table = BoxTable::over(self.block, &self.table, bytes.copied());
         BestLeaves::new(self.block, &table, self.target, self.parts)
     }
 }

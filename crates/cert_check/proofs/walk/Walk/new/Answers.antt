@@ -12,7 +12,7 @@ use Rattle.cert_check.proofs.walk.Walk.new.Goals as goal
 
 pub returns-clause-begun : goal.returns-clause-begun
 returns-clause-begun c =
-    let w : Walk = record { block = c.args.block; claims = c.args.claims; parts = c.args.parts; cells = c.in_ok-cells.cells; boxes = c.push.new.boxes; errors = c.in_ok-errors.errors; line = 3; fault = c.if-claims-outputs.fault } in
+    let w : Walk = record { block = c.args.block; claims = c.args.claims; parts = c.args.parts; table = c.in_ok-table.table; boxes = c.push.new.boxes; errors = c.in_ok-errors.errors; line = 3; fault = c.if-claims-outputs.fault } in
     let stack = c.push.ensures.boxes ∙ ap₂ (λ (x : List Interval) (xs : List ByteBox). x ∷ stack_of xs) c.whole_box.ensures c.in_ok-boxes.ensures.items in
     let zeros = c.in_ok-errors.ensures ∙ ap (λ n. replicate n 0) c.len-outputs.ensures in
     let room = c.push.ensures.room in
@@ -20,7 +20,7 @@ returns-clause-begun c =
     record {
       valid = c.requires.block;
       claims = c.requires.claims;
-      cells = c.in_ok-cells.ensures;
+      table = c.in_ok-table.ensures;
       parts_from = c.requires.parts_from;
       parts_to = c.requires.parts_to;
       so_far = elim c.if-claims-outputs.branch [
