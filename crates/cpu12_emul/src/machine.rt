@@ -160,6 +160,7 @@ impl<M: Mem> Machine<M> {
     /// One step: where WAV's sums run its next part, else a plain instruction or one part by the bytes
     /// at PC. A `Trap` comes exactly where `decode` answers it; it leaves the machine as it was, and
     /// never comes while sums run.
+    #[inline(always)]
     #[tactic(auto, using(cpu12_isa::proofs::Algebra::outcome_bind))]
     pub fn step(&mut self) -> Result<Stepped, Trap>
         ensures next { MatchResult result
