@@ -8,6 +8,7 @@
 #![tactic(auto)]
 
 pub mod ends;
+mod fetch;
 pub mod interrupt;
 pub mod laws;
 pub mod load;

@@ -6,6 +6,7 @@ ghost use Rattle.cpu12_parts.specs.Laws.{IsOff};
 ghost use Rattle.cpu12_emul.specs.Step.{Whole, kind_of, instruction_act, next_of, applied, reset_with};
 
 use crate::ends::Stepped;
+use crate::fetch::{is_rev, is_revw};
 use cpu12_isa::decode::decode;
 use cpu12_isa::exec::exec;
 use cpu12_isa::instr::{Ccr, Instr, Regs, Trap};
@@ -137,9 +138,29 @@ impl<M: Mem> Machine<M> {
         }
     }
 
+    /// The step of what is decoded at PC, where no sums run. A `Trap` leaves the machine as it was.
+    ///
+    /// It stands apart so that `step` is small: nearly all steps are elements of REV and REVW.
+    #[inline(never)]
+    #[tactic(auto, using(cpu12_isa::proofs::Algebra::outcome_bind))]
+    fn decoded_step(&mut self) -> Result<Stepped, Trap>
+        requires { IsOff self.old.state.temps }
+        ensures next { MatchResult result
+            (λ kind. next_of self.old.flags self.old.state ≡ Ok (record { state = self.new.state; kind = kind }))
+            (λ t. (next_of self.old.flags self.old.state ≡ Err t.byte) × (t.pc ≡ self.old.state.regs.pc) × (self.new ≡ self.old)) }
+        ensures trap { IfErr result (λ t. decode_at self.old.state.mem self.old.state.regs.pc ≡ Err t.byte) }
+        ensures flags { self.new.flags ≡ self.old.flags }
+    {
+        match decode(&self.mem, self.regs.pc) {
+            Ok((i, _)) => Ok(self.instruction(&i)),
+            Err(trap) => Err(trap),
+        }
+    }
+
     /// One step: where WAV's sums run its next part, else a plain instruction or one part by the bytes
     /// at PC. A `Trap` comes exactly where `decode` answers it; it leaves the machine as it was, and
     /// never comes while sums run.
+    #[inline(always)]
     #[tactic(auto, using(cpu12_isa::proofs::Algebra::outcome_bind))]
     pub fn step(&mut self) -> Result<Stepped, Trap>
         ensures next { MatchResult result
@@ -149,12 +170,16 @@ impl<M: Mem> Machine<M> {
         ensures running { IfErr result (λ _. IsOff self.old.state.temps) }
         ensures flags { self.new.flags ≡ self.old.flags }
     {
-        match self.temps {
-            Temps::Running(_, _) => Ok(self.part(&Wav)),
-            _ => match decode(&self.mem, self.regs.pc) {
-                Ok((i, _)) => Ok(self.instruction(&i)),
-                Err(trap) => Err(trap),
-            },
+        if let Temps::Running(_, _) = self.temps {
+            return Ok(self.part(&Wav));
         }
+        // Looked for before anything is decoded, since these two stay at PC for a whole list.
+        if is_rev(&self.mem, self.regs.pc) {
+            return Ok(self.part(&Rev));
+        }
+        if is_revw(&self.mem, self.regs.pc) {
+            return Ok(self.part(&Revw));
+        }
+        self.decoded_step()
     }
 }

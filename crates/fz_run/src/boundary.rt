@@ -1,4 +1,5 @@
-// A boundary of a sample: what is taken there, and the step after it.
+// A boundary of a sample: what is taken there, and the step after it. What is done at each is inlined into the loop
+// over all of them, what is seldom done is not.
 ghost use Rattle.std.specs.Prelude.{ℕ, ◌≡◌, ◌≤◌, ◌<◌, ◌+◌, ◌-◌, ◌^◌, true, false, length, vec_len, vec_capacity, List};
 ghost use Rattle.interrupt_plan.specs.declared.Request.{Request as Asked};
 ghost use Rattle.fz_run.specs.Forms.{stand_alone};
@@ -25,6 +26,7 @@ pub struct Stand {
 
 /// Comes to a boundary: the sample is over where the firmware waits or no step is left, else what is
 /// due is taken.
+#[inline(always)]
 pub(crate) fn come<M: Mem, H: Handler<Request>>(
     m: &mut Machine<M>,
     h: &H,
@@ -61,6 +63,7 @@ pub(crate) fn come<M: Mem, H: Handler<Request>>(
 }
 
 /// Does a step from a boundary. Answers whether one was defined.
+#[inline(always)]
 pub(crate) fn step_on<M: Mem>(m: &mut Machine<M>, st: &mut Stand) -> bool
     requires on { st.old.over ≡ false }
     requires counts { (st.old.tally.instrs ≤ st.old.tally.moment) × (st.old.tally.moment + 1 < 2 ^ 32) }
@@ -83,6 +86,7 @@ pub(crate) fn step_on<M: Mem>(m: &mut Machine<M>, st: &mut Stand) -> bool
 }
 
 /// Goes on to the next boundary of the sample. Answers whether there is one.
+#[inline(always)]
 pub(crate) fn pass<M: Mem, H: Handler<Request>>(
     m: &mut Machine<M>,
     h: &H,

@@ -99,6 +99,7 @@ fn put_row<M: Mem>(
 }
 
 /// Gives the next sample, and comes to its first boundary.
+#[inline(never)]
 fn give_next<M: Mem>(
     m: &mut Machine<M>,
     firmware: &Firmware,
@@ -133,6 +134,7 @@ fn give_next<M: Mem>(
 }
 
 /// Goes on to the next position of the run. Answers whether there is one.
+#[inline(always)]
 pub(crate) fn advance<M: Mem>(
     m: &mut Machine<M>,
     firmware: &Firmware,

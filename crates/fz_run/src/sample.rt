@@ -66,6 +66,7 @@ pub(crate) fn count(frames: &Vec<(u32, Frame)>) -> usize
 }
 
 /// Whether the next request is due, and may be taken.
+#[inline(always)]
 fn is_due<M: Mem, R, H: Handler<R>>(m: &Machine<M>, h: &H, requests: &[R], t: &Tally) -> bool
     ensures { result ≡ is_due (H.moment h.now) t.now.moment (drop t.now.next requests.now) m.now.state }
 {
@@ -81,6 +82,7 @@ fn is_due<M: Mem, R, H: Handler<R>>(m: &Machine<M>, h: &H, requests: &[R], t: &T
 }
 
 /// Takes the next request.
+#[inline(never)]
 fn take_next<M: Mem, R, H: Handler<R>>(
     m: &mut Machine<M>,
     h: &H,
@@ -104,6 +106,7 @@ fn take_next<M: Mem, R, H: Handler<R>>(
 }
 
 /// Takes all requests that are due.
+#[inline(always)]
 pub(crate) fn take_due<M: Mem, R, H: Handler<R>>(
     m: &mut Machine<M>,
     h: &H,

@@ -3,7 +3,7 @@ use Rattle.std.proofs.Common.{◌≡◌, rules, Ok, subst}
 use Rattle.cpu12_isa.specs.Code.{decode_at}
 use Rattle.cpu12_emul.specs.Step.{Whole}
 use Rattle.cpu12_emul.proofs.Stepping.{next_of-decoded}
-use Rattle.cpu12_emul.proofs.machine.Machine.step.Goals as goal
+use Rattle.cpu12_emul.proofs.machine.Machine.decoded_step.Goals as goal
 
 pub returns-in-Ok-clause-next : goal.returns-in-Ok-clause-next
 returns-in-Ok-clause-next g c =
