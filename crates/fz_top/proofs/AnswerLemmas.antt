@@ -5,6 +5,7 @@ use Rattle.std.proofs.lemmas.List.Elements.{All-cons}
 use Rattle.fz_num.specs.declared.dec.Dec.{Dec}
 use Rattle.fuzzy_meaning.specs.declared.block.Block.{Block}
 use Rattle.fuzzy_meaning.specs.declared.block.Input.{Input}
+use Rattle.box_tree.specs.declared.cert.Cert.{Cert}
 use Rattle.byte_scaling.specs.Cells.{byte_of, bytes_of}
 use Rattle.cert_check.specs.Acceptance.{IsAccepted}
 use Rattle.codegen.specs.Bounds.{instruction_bound, step_bound}
@@ -15,14 +16,15 @@ use Rattle.codegen.specs.declared.firmware.Firmware.{Firmware}
 use Rattle.codegen.specs.declared.width.Width.{Width}
 use Rattle.codegen.specs.declared.width.Width.TheVariants.{Byte, Word}
 use Rattle.interrupt_plan.specs.declared.Request.{Request}
-use Rattle.trace_io.specs.Traces.{AreWithin, Fields, SpellSamples}
+use Rattle.trace_io.specs.Traces.{AreWithin, Fields, SpellSamples, Spells}
 use Rattle.trace_io.specs.declared.sample.Sample.{Sample}
 use Rattle.run_law.specs.Forms.{RowSeen}
 use Rattle.fz_run.specs.Answering.{AnswersItsBlock, AnswersUnder, answer_of_row}
 use Rattle.fz_run.specs.Rows.{firmware_rows, input_bytes}
 use Rattle.certified_run.specs.Nearness.{AnswersAreWithinErrors, AreWithinErrors}
 use Rattle.fz_top.specs.Accepted.{Accepts}
-use Rattle.fz_top.specs.CertifiedRun.{CertifiedRun, Files, left_of}
+use Rattle.fz_top.specs.CertifiedRun.{CertifiedRun, Files, IsReportOf, left_of}
+use Rattle.fz_top.specs.Firmwares.{GivesFirmware}
 use Rattle.fz_top.specs.Run.{report_of}
 use Rattle.fz_top.specs.declared.run.Run.{Run}
 
@@ -69,52 +71,64 @@ width_again : (w : Width) → width_of (is_wide w) ≡ w
 width_again Byte = refl
 width_again Word = refl
 
--- what run_on answers of accepted files is a certified run
-module _ (near : AnswersAreWithinErrors) (run : Run) (files : Files) (block : Block) (firmware : Firmware)
-    (errors : List ℕ)
-    (samples slice : List Sample) (plan : List Request) (rows : List (RowSeen (List ℕ))) (left : ℕ)
-    (a : Accepts run.width files block firmware errors samples plan) (same : slice ≡ samples)
-    (ran : rows ≡ (firmware_rows firmware (map input_bytes slice) plan run.flags).rows)
-    (answers : AnswersItsBlock firmware run.flags (map input_bytes slice) plan rows)
-    (left_is : left ≡ left_of (firmware_rows firmware (map input_bytes slice) plan run.flags).state.mem) where
-  width : width_of firmware.wide ≡ run.width
-  width = ap width_of a.compiled.wide ∙ width_again run.width
+-- what a run answers of a block's samples is its report
+module _ (near : AnswersAreWithinErrors) (w : Width) (flags : ℕ) (text : List ℕ) (block : Block) (firmware : Firmware)
+    (gives : GivesFirmware w text block firmware) (cert : Cert) (errors : List ℕ)
+    (accepted : IsAccepted block (parts w) cert errors) (trace : List ℕ) (samples slice : List Sample)
+    (in_range : Spells block.inputs trace samples) (same : slice ≡ samples)
+    (plan : List Request) (rows : List (RowSeen (List ℕ))) (left : ℕ)
+    (ran : rows ≡ (firmware_rows firmware (map input_bytes slice) plan flags).rows)
+    (answers : AnswersItsBlock firmware flags (map input_bytes slice) plan rows)
+    (left_is : left ≡ left_of (firmware_rows firmware (map input_bytes slice) plan flags).state.mem) where
+  width : width_of firmware.wide ≡ w
+  width = ap width_of gives.wide ∙ width_again w
 
-  under : AnswersUnder block firmware run.flags (map input_bytes samples) plan rows
+  under : AnswersUnder block firmware flags (map input_bytes samples) plan rows
   under =
-      let all : AnswersItsBlock firmware run.flags (map input_bytes samples) plan rows =
-      subst (λ (ss : List Sample). AnswersItsBlock firmware run.flags (map input_bytes ss) plan rows) same answers in
-      all block a.compiled.spelled.valid a.compiled.limits a.compiled.compiled
-      (input_bytes_fit block a.in_range.rows samples a.in_range.spelled)
+      let all : AnswersItsBlock firmware flags (map input_bytes samples) plan rows =
+      subst (λ (ss : List Sample). AnswersItsBlock firmware flags (map input_bytes ss) plan rows) same answers in
+      all block gives.spelled.valid gives.limits gives.compiled
+      (input_bytes_fit block in_range.rows samples in_range.spelled)
 
-  within : AreWithinErrors (parts run.width) block errors samples rows
+  within : AreWithinErrors (parts w) block errors samples rows
   within =
-      let accepted = subst (λ (w : Width). IsAccepted block (parts w) a.accepted.cert errors) (sym width) a.accepted.accepted in
-      subst (λ (w : Width). AreWithinErrors (parts w) block errors samples rows) width
-      (near block firmware run.flags a.accepted.cert errors files.trace samples rows a.compiled.spelled.valid a.in_range under.answers accepted)
+      let accepted_there = subst (λ (v : Width). IsAccepted block (parts v) cert errors) (sym width) accepted in
+      subst (λ (v : Width). AreWithinErrors (parts v) block errors samples rows) width
+      (near block firmware flags cert errors trace samples rows gives.spelled.valid in_range under.answers accepted_there)
 
-  bound_is : firmware.instr_bound ≡ instruction_bound run.width block
-  bound_is = a.compiled.compiled.instructions ∙ ap (λ (w : Width). instruction_bound w block) width
-
-  pub certifies : CertifiedRun run.width run.flags files (report_of errors firmware.instr_bound rows left)
-  certifies = record {
-    block = block;
-    firmware = firmware;
-    compiled = a.compiled;
-    image = a.image;
-    accepted = a.accepted;
-    samples = samples;
-    in_range = a.in_range;
-    plan = plan;
-    good_plan = a.good_plan;
+  pub reports : IsReportOf w flags block firmware samples plan (report_of errors firmware.instr_bound rows left)
+  reports = record {
     ran =
-        subst (λ (ss : List Sample). rows ≡ (firmware_rows firmware (map input_bytes ss) plan run.flags).rows) same ran;
+        subst (λ (ss : List Sample). rows ≡ (firmware_rows firmware (map input_bytes ss) plan flags).rows) same ran;
     uninterrupted = under.answers.uninterrupted;
     within = within;
-    bound = bound_is;
+    bound = gives.compiled.instructions ∙ ap (λ (v : Width). instruction_bound v block) width;
     instructions =
-        instructions_within (width_of firmware.wide) block firmware.instr_bound (λ o. 0) (map input_bytes samples) rows under.answers.answers;
-    steps = subst (λ (w : Width). All (λ (r : RowSeen (List ℕ)). r.steps ≤ step_bound w block) rows) width under.answers.steps;
+        instructions_within (width_of firmware.wide) block firmware.instr_bound (λ o. 0) (map input_bytes samples) rows
+        under.answers.answers;
+    steps = subst (λ (v : Width). All (λ (r : RowSeen (List ℕ)). r.steps ≤ step_bound v block) rows) width under.answers.steps;
     follows = under;
-    left = subst (λ (ss : List Sample). left ≡ left_of (firmware_rows firmware (map input_bytes ss) plan run.flags).state.mem) same left_is;
+    left = subst (λ (ss : List Sample). left ≡ left_of (firmware_rows firmware (map input_bytes ss) plan flags).state.mem) same left_is;
   }
+
+-- what it answers of accepted files is a certified run
+pub certifies : (near : AnswersAreWithinErrors) (run : Run) (files : Files) (block : Block) (firmware : Firmware)
+    (errors : List ℕ) (samples slice : List Sample) (plan : List Request) (rows : List (RowSeen (List ℕ))) (left : ℕ)
+    → Accepts run.width files block firmware errors samples plan → slice ≡ samples
+    → rows ≡ (firmware_rows firmware (map input_bytes slice) plan run.flags).rows
+    → AnswersItsBlock firmware run.flags (map input_bytes slice) plan rows
+    → left ≡ left_of (firmware_rows firmware (map input_bytes slice) plan run.flags).state.mem
+    → CertifiedRun run.width run.flags files (report_of errors firmware.instr_bound rows left)
+certifies near run files block firmware errors samples slice plan rows left a same ran answers left_is = record {
+  block = block;
+  firmware = firmware;
+  compiled = a.compiled;
+  image = a.image;
+  accepted = a.accepted;
+  samples = samples;
+  in_range = a.in_range;
+  plan = plan;
+  good_plan = a.good_plan;
+  reported = reports near run.width run.flags files.fcl block firmware a.compiled a.accepted.cert errors
+      a.accepted.accepted files.trace samples slice a.in_range same plan rows left ran answers left_is;
+}

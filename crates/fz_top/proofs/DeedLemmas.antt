@@ -3,6 +3,10 @@ use Rattle.std.proofs.Common.{◌≡◌, ℕ, List, sym, ◌∙◌, subst, ap}
 use Rattle.std.specs.Prelude.{Result, Ok, Err}
 use Rattle.fuzzy_meaning.specs.declared.block.Block.{Block}
 use Rattle.fuzzy_meaning.specs.declared.block.Input.{Input}
+use Rattle.fuzzy_meaning.specs.Blocks.{IsValid}
+use Rattle.fuzzy_meaning.specs.SameBlocks.{IsSameBlock}
+use Rattle.workload.specs.Draws.{draw}
+use Rattle.workload.specs.Laws.{DrawnBlocksAreOne}
 use Rattle.fcl_syntax.specs.Readings.{FirstFaultsAreOne}
 use Rattle.fcl_syntax.specs.View.{view}
 use Rattle.fcl_check.specs.OneBlock.{SpelledBlocksAreOne}
@@ -29,15 +33,18 @@ use Rattle.codegen.specs.declared.firmware.Firmware.{Firmware}
 use Rattle.interrupt_plan.specs.OneReading.{SpelledPlansHaveNoFault}
 use Rattle.fz_top.specs.Images.{RefusesImage, RefusesRecords}
 use Rattle.codegen.specs.declared.width.Width.{Width}
+use Rattle.codegen.specs.declared.width.Width.TheVariants.{Byte}
 use Rattle.cert_check.specs.Laws.{TextAnswersAreOne}
 use Rattle.cert_check.specs.SameBlocks.{SameBlocksAnswerAlike}
 use Rattle.box_tree.specs.declared.cert.Cert.{Cert}
 use Rattle.codegen.specs.Widths.{parts}
+use Rattle.error_certifier.specs.Halving.{IsHalving}
 use Rattle.error_certifier.specs.Laws.{AnswersAreOne, SameBlocksStopAlike}
 use Rattle.error_certifier.specs.declared.certifier.NotReached.{NotReached}
 use Rattle.fz_top.specs.Asm.{AsmGives, source_refusals}
-use Rattle.fz_top.specs.Certify.{CertifyGives, certify_refusals}
+use Rattle.fz_top.specs.Certify.{CertifyGives, StopsHalving, certify_refusals}
 use Rattle.fz_top.specs.declared.certify.Certify.{Certify}
+use Rattle.fz_top.specs.Generate.{GenerateGives, generate_refusals, generated_target}
 use Rattle.fz_top.specs.Certs.{AcceptsCert}
 use Rattle.fz_top.specs.Check.{check_in, check_refusals}
 use Rattle.fz_top.proofs.CertLemmas.{cert_apart}
@@ -70,7 +77,7 @@ module _ (first : FirstFaultsAreOne) (load : LoadFaultsAreOne) (alike : SpelledB
     (images : ImagesAreOne) (good : ImagesHaveNoFault) (loads : ImagesLoadAlike) (ends : RunsEndOnce)
     (certs : TextAnswersAreOne) (blocks : SameBlocksAnswerAlike)
     (firmwares : FirmwaresAreOne) (plans : SpelledPlansHaveNoFault)
-    (halvings : AnswersAreOne) (stop_alike : SameBlocksStopAlike) where
+    (halvings : AnswersAreOne) (stop_alike : SameBlocksStopAlike) (drawn_alike : DrawnBlocksAreOne) where
   -- a text that gives firmware is not refused
   text_apart : (text : List ℕ) (block : Block) → SpellsBlock text block → IsWithinLimits block
       → (f : FclFault) → CarriesNoMemory (status.Fcl f) → RefusesText text f → ⊥
@@ -132,18 +139,31 @@ module _ (first : FirstFaultsAreOne) (load : LoadFaultsAreOne) (alike : SpelledB
       cert_apart certs blocks width cert errors block other spelled.valid same accepts f refuses
   check_stands width text cert errors block spelled within accepts s is = is.1
 
+  -- halving does not stop at a block that it has a certificate of
+  halved_apart : (width : Width) (target : ℕ) (block other : Block) (cert : Cert) (stop : NotReached) → IsValid block
+      → IsSameBlock other block → IsHalving block (parts width) target cert → StopsHalving width target other stop → ⊥
+  halved_apart width target block other cert stop valid same halving stops =
+      let h = parts width in
+      let here = stop_alike other block h target stop same stops.stops in
+      let halved : Result Cert NotReached = Ok cert in
+      let stopped : Result Cert NotReached = Err stop in
+      let one : halved ≡ stopped = halvings block h target halved stopped valid halving here in
+      cc
+
   certify_stands : (certify : Certify) (text : List ℕ) (deed : Deed) → CertifyGives certify text deed
       → NoneRefuses (certify_refusals certify text)
   certify_stands certify text deed gives (status.Fcl f) is =
       text_apart text gives.block gives.gives.spelled gives.gives.limits f is.0 is.1
   certify_stands certify text deed gives (status.NotReached stop) (carries, (other, others, gives_other, stops)) =
-      let h = parts certify.width in
-      let here = stop_alike other gives.block h certify.target stop (alike text other gives.block gives_other.spelled gives.gives.spelled) stops.stops in
-      let halved : Result Cert NotReached = Ok gives.cert in
-      let stopped : Result Cert NotReached = Err stop in
-      let same : halved ≡ stopped = halvings gives.block h certify.target halved stopped gives.gives.spelled.valid gives.halving here in
-      cc
+      let same = alike text other gives.block gives_other.spelled gives.gives.spelled in
+      halved_apart certify.width certify.target gives.block other gives.cert stop gives.gives.spelled.valid same gives.halving stops
   certify_stands certify text deed gives s is = is.1
+
+  generate_stands : (number : ℕ) (deed : Deed) → GenerateGives number deed → NoneRefuses (generate_refusals number)
+  generate_stands number deed gives (status.NotReached stop) (carries, (other, drawn_other, stops)) =
+      let same = drawn_alike (draw number 0 5) other gives.block drawn_other gives.workload.drawn_block in
+      halved_apart Byte generated_target gives.block other gives.cert stop gives.gives.spelled.valid same gives.halving stops
+  generate_stands number deed gives s is = is.1
 
   source_stands : (source : List ℕ) (deed : Deed) → AsmGives source deed → NoneRefuses (source_refusals source)
   source_stands source deed gives (status.Asm f) is =
@@ -186,6 +206,7 @@ module _ (first : FirstFaultsAreOne) (load : LoadFaultsAreOne) (alike : SpelledB
   apart (command.Compile compile) contents deed s makes fault =
       text_stands _ makes.block makes.gives.spelled makes.gives.limits s fault
   apart (command.Exec exec) contents deed s makes fault = exec_stands exec _ deed makes s fault
+  apart (command.Generate generate) contents deed s makes fault = generate_stands generate.number deed makes s fault
   apart (command.Run run) contents deed s makes fault = run_stands run _ makes.report makes.certified s fault
 
 -- ---- a fault that is made is no want of memory
@@ -198,6 +219,7 @@ faults_carry (command.Certify certify) contents s makes = makes.0
 faults_carry (command.Check check) contents s makes = makes.0
 faults_carry (command.Compile compile) contents s makes = makes.0
 faults_carry (command.Exec exec) contents s makes = makes.0
+faults_carry (command.Generate generate) contents s makes = makes.0
 faults_carry (command.Run run) contents s makes = makes.0
 
 pub carries : (words : List Text) (old new : World) (s : Status) → Runs words old new s → CarriesNoMemory s

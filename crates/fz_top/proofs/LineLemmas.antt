@@ -9,6 +9,8 @@ use Rattle.fz_shelf.specs.Lines.{text_of}
 use Rattle.fz_run.specs.Rows.{boundary_seen, frames_seen, row_seen}
 use Rattle.fz_run.specs.declared.rows.Row.{Row}
 use Rattle.fz_status.specs.FaultLines.{newline}
+use Rattle.run_law.specs.Forms.{RowSeen}
+use Rattle.fz_top.specs.Generate.{answers_of, frames_of, generate_lines, resumed_of}
 use Rattle.fz_top.specs.Lines.{counted, error_line, line}
 use Rattle.fz_top.specs.Run.{frame_line, numbers, report_of, row_lines, run_lines, sample_line}
 
@@ -152,3 +154,42 @@ run_written none errors bounded rows lines bound_line left_line es bound left rs
     ap text_of e3 ∙ text_of-snoc rows left_line ∙ ap₂ (λ (x y : List ℕ). x ++ y) d2 l
     ∙ append_assoc (counted error_line 1 es ++ line (codes "instructions ") bound) (counted row_lines 1 (map row_seen rs)) (line (codes "left ") left)
     ∙ append_assoc (counted error_line 1 es) (line (codes "instructions ") bound) (counted row_lines 1 (map row_seen rs) ++ line (codes "left ") left)
+
+-- ---- the lines of a workload
+
+-- a text so far, whose last line is told
+pushed : (before now : List (String Global)) (last : String Global) (last_text rest text : List ℕ)
+    → now ≡ before ++ last ∷ [] → string_bytes last ≡ last_text → text ≡ text_of now ++ rest
+    → text ≡ text_of before ++ (last_text ++ rest)
+pushed before now last last_text rest text added is so_far =
+    so_far
+    ∙ ap (λ (l : List ℕ). l ++ rest) (ap text_of added ∙ text_of-snoc before last ∙ ap (λ (l : List ℕ). text_of before ++ l) is)
+    ∙ append_assoc (text_of before) last_text rest
+
+pub generate_written : (number bound : ℕ) (es : List ℕ) (rows : List (RowSeen (List ℕ)))
+    (l0 l1 l2 l3 l4 l5 l6 l7 : List (String Global)) (s1 s3 s4 s5 s6 s7 : String Global)
+    → l0 ≡ [] → l1 ≡ l0 ++ s1 ∷ [] → string_bytes s1 ≡ line (codes "gen ") number
+    → text_of l2 ≡ text_of l1 ++ counted error_line 1 es
+    → l3 ≡ l2 ++ s3 ∷ [] → string_bytes s3 ≡ line (codes "instructions ") bound
+    → l4 ≡ l3 ++ s4 ∷ [] → string_bytes s4 ≡ line (codes "samples ") (length rows)
+    → l5 ≡ l4 ++ s5 ∷ [] → string_bytes s5 ≡ line (codes "frames ") (frames_of rows)
+    → l6 ≡ l5 ++ s6 ∷ [] → string_bytes s6 ≡ line (codes "resumed ") (resumed_of rows)
+    → l7 ≡ l6 ++ s7 ∷ [] → string_bytes s7 ≡ line (codes "sum ") (answers_of rows)
+    → text_of l7 ≡ generate_lines number es bound rows
+generate_written number bound es rows l0 l1 l2 l3 l4 l5 l6 l7 s1 s3 s4 s5 s6 s7 start a1 is1 errors a3 is3 a4 is4 a5 is5 a6 is6 a7 is7 =
+    let r7 = line (codes "sum ") (answers_of rows) in
+    let r6 = line (codes "resumed ") (resumed_of rows) ++ r7 in
+    let r5 = line (codes "frames ") (frames_of rows) ++ r6 in
+    let r4 = line (codes "samples ") (length rows) ++ r5 in
+    let r3 = line (codes "instructions ") bound ++ r4 in
+    let r2 = counted error_line 1 es ++ r3 in
+    let x6 : text_of l7 ≡ text_of l6 ++ r7 =
+    ap text_of a7 ∙ text_of-snoc l6 s7 ∙ ap (λ (l : List ℕ). text_of l6 ++ l) is7 in
+    let x5 = pushed l5 l6 s6 (line (codes "resumed ") (resumed_of rows)) r7 (text_of l7) a6 is6 x6 in
+    let x4 = pushed l4 l5 s5 (line (codes "frames ") (frames_of rows)) r6 (text_of l7) a5 is5 x5 in
+    let x3 = pushed l3 l4 s4 (line (codes "samples ") (length rows)) r5 (text_of l7) a4 is4 x4 in
+    let x2 = pushed l2 l3 s3 (line (codes "instructions ") bound) r4 (text_of l7) a3 is3 x3 in
+    let x1 : text_of l7 ≡ text_of l1 ++ r2 =
+    x2 ∙ ap (λ (l : List ℕ). l ++ r3) errors ∙ append_assoc (text_of l1) (counted error_line 1 es) r3 in
+    let x0 = pushed l0 l1 s1 (line (codes "gen ") number) r2 (text_of l7) a1 is1 x1 in
+    x0 ∙ ap (λ (x : List (String Global)). text_of x ++ (line (codes "gen ") number ++ r2)) start

@@ -1,9 +1,9 @@
--- A sum over addresses, one more.
-use Rattle.std.proofs.Common.{◌≡◌, ◌<◌, ◌≤◌, ◌+◌, ◌-◌, ℕ, List, drop, get_or, length, take, sym, ◌∙◌, ap, arith}
+-- Sums, one more.
+use Rattle.std.proofs.Common.{◌≡◌, ◌<◌, ◌≤◌, ◌+◌, ◌-◌, ℕ, List, [], ◌∷◌, drop, get_or, length, map, take, refl, sym, ◌∙◌, ap, arith}
 use Rattle.std.proofs.Common.{length-drop}
-use Rattle.std.specs.Prelude.{sum}
+use Rattle.std.specs.Prelude.{sum, sum_by}
 use Rattle.std.proofs.lemmas.List.{get_or-drop}
-use Rattle.std.proofs.lemmas.List.Sums.{sum_by_more}
+use Rattle.std.proofs.lemmas.List.Sums.{sum-map, sum_by_more}
 
 -- the sum of n elements from a place on, with the next
 sum_more : (xs : List ℕ) (from n : ℕ) → from + n < length xs
@@ -23,3 +23,25 @@ next_sum mem from at total byte low high is so_far =
     ∙ ap (λ (n : ℕ). sum (take (at - from) (drop from mem)) + n) (is ∙ ap (λ (p : ℕ). get_or mem p 0) (omega (arith, here)))
     ∙ sym more
     ∙ ap (λ (n : ℕ). sum (take n (drop from mem))) next
+
+-- ---- over items as they are seen
+
+map_seen : {R S : Type 0} (seen : R → S) (f : S → ℕ) (rows : List R) → map f (map seen rows) ≡ map (λ r. f (seen r)) rows
+map_seen seen f [] = refl
+map_seen seen f (x ∷ xs) = ap (λ (ns : List ℕ). f (seen x) ∷ ns) (map_seen seen f xs)
+
+sum_seen : {R S : Type 0} (seen : R → S) (f : S → ℕ) (rows : List R)
+    → sum_by f (map seen rows) ≡ sum_by (λ r. f (seen r)) rows
+sum_seen seen f rows =
+    sym (sum-map f (map seen rows)) ∙ ap sum (map_seen seen f rows) ∙ sum-map (λ r. f (seen r)) rows
+
+-- a sum over the first n items, with the next
+pub seen_more : {R S : Type 0} (seen : R → S) (f : S → ℕ) (rows : List R) (n : ℕ) (row : R) → n < length rows
+    → row ≡ get_or rows n row
+    → sum_by f (map seen (take (n + 1) rows)) ≡ sum_by f (map seen (take n rows)) + f (seen row)
+seen_more {R} seen f rows n row inside is =
+    let before = sum_seen seen f (take n rows) in
+    let after = sum_seen seen f (take (n + 1) rows) in
+    let more = sum_by_more (λ r. f (seen r)) rows n row inside in
+    let same = ap (λ (r : R). f (seen r)) is in
+    omega (arith, before, after, more, same)

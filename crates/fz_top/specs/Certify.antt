@@ -53,19 +53,20 @@ pub record CertifyGives (certify : Certify) (text : List ℕ) (deed : Deed) : Ty
   pub deed_is : deed ≡ record { text = certify_lines cert.claims (leaf_count cert.nodes); file = Some (4, out) }
 
 -- halving stops so, and for a cell no certificate that is accepted has a smaller error
-pub record StopsHalving (certify : Certify) (block : Block) (stop : NotReached) : Type 0 where
-  pub stops : StopsAt block (parts certify.width) certify.target stop
-  pub out_of_reach : SaysOutOfReach block (parts certify.width) certify.target stop
+pub record StopsHalving (width : Width) (target : ℕ) (block : Block) (stop : NotReached) : Type 0 where
+  pub stops : StopsAt block (parts width) target stop
+  pub out_of_reach : SaysOutOfReach block (parts width) target stop
 
 -- why its file is refused: the text first
-abbrev pub target_refusals : Certify → Block → Refusals
-target_refusals certify block (status.NotReached stop) = StopsHalving certify block stop
-target_refusals certify block s = ⊥
+abbrev pub target_refusals : Width → ℕ → Block → Refusals
+target_refusals width target block (status.NotReached stop) = StopsHalving width target block stop
+target_refusals width target block s = ⊥
 
 abbrev pub certify_refusals : Certify → List ℕ → Refusals
 certify_refusals certify text (status.Fcl f) = RefusesText text f
 certify_refusals certify text (status.NotReached stop) =
-    (block : Block) × (firmware : Firmware) × GivesFirmware certify.width text block firmware × StopsHalving certify block stop
+    (block : Block) × (firmware : Firmware) × GivesFirmware certify.width text block firmware
+    × StopsHalving certify.width certify.target block stop
 certify_refusals certify text s = ⊥
 
 abbrev pub CertifyMakes : Certify → List ℕ → Result Deed Status → Type 0

@@ -14,9 +14,13 @@ only_byte (Err e) = None
 abbrev pub flags_of : Text → Option ℕ
 flags_of text = only_byte (decode_sized text 1)
 
--- one or more decimal digits, of a number up to 1000000
-abbrev pub number_of : Text → Option ℕ
-number_of text =
-    if nat_lt 0 (length text) && (list_all is_ascii_digit text && nat_le (digits_value 10 text) 1000000)
+-- one or more decimal digits, of a number up to the greatest
+abbrev pub number_up_to : ℕ → Text → Option ℕ
+number_up_to greatest text =
+    if nat_lt 0 (length text) && (list_all is_ascii_digit text && nat_le (digits_value 10 text) greatest)
     then Some (digits_value 10 text)
     else None
+
+-- STEPS and TARGET
+abbrev pub number_of : Text → Option ℕ
+number_of text = number_up_to 1000000 text

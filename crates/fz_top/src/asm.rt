@@ -46,6 +46,6 @@ fn lines(alloc: Global, image: &Image) -> Result<Vec<String>, AllocError>
     ensures { IfOk result (λ lines. text_of lines.items ≡ line (codes "bytes ") (length image.now.bytes)) }
 {
     let mut lines = Vec::new(alloc);
-    lines.push(labelled(alloc, "bytes ", image.bytes.len() as u64)?)?;
+    lines.push(labelled(alloc, "bytes ", image.bytes.len() as u128)?)?;
     Ok(lines)
 }

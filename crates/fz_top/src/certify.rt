@@ -60,7 +60,7 @@ impl Certify {
             Ok(compiled) => compiled,
             Err(status) => return Err(status),
         };
-        let cert = match self.halved(alloc, &compiled.block) {
+        let cert = match halved(alloc, width, self.target.get(), &compiled.block) {
             Ok(cert) => cert,
             Err(status) => return Err(status),
         };
@@ -76,24 +76,30 @@ impl Certify {
             Err(_) => Err(Status::Memory),
         }
     }
+}
 
-    /// The certificate of the block's halving.
-    fn halved(self, alloc: Global, block: &Block) -> Result<Cert, Status>
-        requires { IsValid block.now }
-        ensures halving { IfOk result (IsHalving block.now (parts self.width) self.target) }
-        ensures within { IfOk result (λ cert. All (λ error. error ≤ self.target) cert.claims) }
-        ensures cert { IfOk result IsCert }
-        ensures stops { IfErr result (IsRefusal (target_refusals self block.now)) }
-    {
-        let answer = match self.width {
-            Width::Byte => error_certifier::certify(alloc, block, self.target.get()),
-            Width::Word => error_certifier::certify16(alloc, block, self.target.get()),
-        };
-        match answer {
-            Ok(cert) => Ok(cert),
-            Err(NotReached::Memory) => Err(Status::Memory),
-            Err(stop) => Err(Status::NotReached(stop)),
-        }
+/// The certificate of a block's halving, for answers of this width.
+pub(crate) fn halved(
+    alloc: Global,
+    width: Width,
+    target: u32,
+    block: &Block,
+) -> Result<Cert, Status>
+    requires block { IsValid block.now }
+    requires target { target ≤ 1000000 }
+    ensures halving { IfOk result (IsHalving block.now (parts width) target) }
+    ensures within { IfOk result (λ cert. All (λ error. error ≤ target) cert.claims) }
+    ensures cert { IfOk result IsCert }
+    ensures stops { IfErr result (IsRefusal (target_refusals width target block.now)) }
+{
+    let answer = match width {
+        Width::Byte => error_certifier::certify(alloc, block, target),
+        Width::Word => error_certifier::certify16(alloc, block, target),
+    };
+    match answer {
+        Ok(cert) => Ok(cert),
+        Err(NotReached::Memory) => Err(Status::Memory),
+        Err(stop) => Err(Status::NotReached(stop)),
     }
 }
 
@@ -136,6 +142,6 @@ fn lines(alloc: Global, cert: &Cert) -> Result<Vec<String>, AllocError>
     let nodes = cert.nodes.as_slice();
     let mut lines = Vec::new(alloc);
     push_errors(alloc, &mut lines, errors)?;
-    lines.push(labelled(alloc, "leaves ", count_of_leaves(nodes))?)?;
+    lines.push(labelled(alloc, "leaves ", u128::from(count_of_leaves(nodes)))?)?;
     Ok(lines)
 }

@@ -51,6 +51,6 @@ fn lines(alloc: Global, errors: &[u32], instructions: u32) -> Result<Vec<String>
 {
     let mut lines = Vec::new(alloc);
     push_errors(alloc, &mut lines, errors)?;
-    lines.push(labelled(alloc, "instructions ", u64::from(instructions))?)?;
+    lines.push(labelled(alloc, "instructions ", u128::from(instructions))?)?;
     Ok(lines)
 }

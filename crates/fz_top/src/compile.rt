@@ -55,8 +55,8 @@ fn lines(alloc: Global, firmware: &Firmware) -> Result<Vec<String>, AllocError>
         compile_lines firmware.now.instr_bound firmware.now.step_bound (length firmware.now.image.bytes)) }
 {
     let mut lines = Vec::new(alloc);
-    lines.push(labelled(alloc, "instructions ", u64::from(firmware.instr_bound))?)?;
-    lines.push(labelled(alloc, "steps ", u64::from(firmware.step_bound))?)?;
-    lines.push(labelled(alloc, "bytes ", firmware.image.bytes.len() as u64)?)?;
+    lines.push(labelled(alloc, "instructions ", u128::from(firmware.instr_bound))?)?;
+    lines.push(labelled(alloc, "steps ", u128::from(firmware.step_bound))?)?;
+    lines.push(labelled(alloc, "bytes ", firmware.image.bytes.len() as u128)?)?;
     Ok(lines)
 }

@@ -11,6 +11,7 @@ use interrupt_plan::spelled_plans_have_no_fault;
 use rule_layout::{layouts_are_one, limits_have_no_fault};
 use srecord::images_are_one;
 use trace_io::spelled_traces_have_no_fault;
+use workload::drawn_blocks_are_one;
 
 /// Contents that make a deed make no fault.
 pub(crate) fn deeds_have_no_fault()
@@ -29,6 +30,7 @@ pub(crate) fn deeds_have_no_fault()
     firmwares_are_one();
     answers_are_one();
     same_blocks_stop_alike();
+    drawn_blocks_are_one();
     spelled_plans_have_no_fault();
     spelled_traces_have_no_fault()
 }

@@ -8,7 +8,7 @@ use std::alloc::{AllocError, Global};
 use std::fmt::Write;
 
 /// A label, a number and the end of the line.
-pub(crate) fn labelled(alloc: Global, label: &str, n: u64) -> Result<String, AllocError>
+pub(crate) fn labelled(alloc: Global, label: &str, n: u128) -> Result<String, AllocError>
     ensures { IfOk result (λ s. string_bytes s ≡ line label.now n) }
 {
     let mut text = String::from_str(alloc, label)?;

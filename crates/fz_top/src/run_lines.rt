@@ -25,9 +25,9 @@ pub(crate) fn lines(
 {
     let mut lines = Vec::new(alloc);
     push_errors(alloc, &mut lines, errors)?;
-    lines.push(labelled(alloc, "instructions ", u64::from(bound))?)?;
+    lines.push(labelled(alloc, "instructions ", u128::from(bound))?)?;
     push_rows(alloc, &mut lines, rows)?;
-    lines.push(labelled(alloc, "left ", u64::from(left))?)?;
+    lines.push(labelled(alloc, "left ", u128::from(left))?)?;
     Ok(lines)
 }
 

@@ -2,7 +2,7 @@
 ghost use Rattle.std.specs.Prelude.{◌≡◌, ◌≤◌};
 ghost use Rattle.std.specs.Char.{is_ascii_digit};
 ghost use Rattle.std.specs.List.{list_all};
-ghost use Rattle.fz_top.specs.Words.{flags_of, number_of};
+ghost use Rattle.fz_top.specs.Words.{flags_of, number_of, number_up_to};
 
 use std::marker::Model;
 
@@ -53,19 +53,25 @@ fn are_digits(text: &str) -> bool
     text.as_bytes().iter().all(|b| b.is_ascii_digit())
 }
 
-/// The number of one or more decimal digits, up to 1000000.
-pub(crate) fn number_in(text: &str) -> Option<Number>
-    ensures { result ≡ number_of text.now }
+/// The number of one or more decimal digits, up to 4294967295.
+pub(crate) fn number32_in(text: &str) -> Option<u32>
+    ensures { result ≡ number_up_to 4294967295 text.now }
 {
     if !are_digits(text) {
         return None;
     }
-    let Ok(number) = text.parse::<u32>() else {
-        return None;
-    };
-    if number <= MOST {
-        Some(Number { number })
-    } else {
-        None
+    match text.parse::<u32>() {
+        Ok(number) => Some(number),
+        Err(_) => None,
+    }
+}
+
+/// The number of one or more decimal digits, up to 1000000.
+pub(crate) fn number_in(text: &str) -> Option<Number>
+    ensures { result ≡ number_of text.now }
+{
+    match number32_in(text) {
+        Some(number) if number <= MOST => Some(Number { number }),
+        _ => None,
     }
 }

@@ -1,3 +1,4 @@
 pub mod Draws
 pub mod Blocks
 pub mod Workloads
+pub mod Laws

@@ -35,13 +35,12 @@ pub record AreDrawnRequests (number : ℕ) (plan : List Request) : Type 0 where
   pub count : length plan ≡ 1000
   pub requests : (k : ℕ) (r : Request) → slice_get plan k ≡ Some r → r ≡ drawn_request number k
 
-pub record IsWorkload (number : ℕ) (text trace plan : List ℕ) : Type 0 where
-  pub block : Block
+-- the texts spell what the number draws: a block, samples of it, and requests
+pub record IsWorkload (number : ℕ) (text trace plan : List ℕ) (block : Block) (samples : List Sample)
+    (requests : List Request) : Type 0 where
   pub spelled : SpellsBlock text block
   pub drawn_block : IsDrawnBlock (draw number 0 5) block
-  pub samples : List Sample
   pub in_trace : SpellsTrace block.inputs trace samples
   pub drawn_samples : AreDrawnSamples number samples
-  pub requests : List Request
   pub in_plan : SpellsPlan plan requests
   pub drawn_requests : AreDrawnRequests number requests

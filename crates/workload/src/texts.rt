@@ -1,5 +1,5 @@
 //! The texts of a workload. What they spell is read back behind them.
-ghost use Rattle.std.specs.Prelude.{◌≤◌, ◌<◌};
+ghost use Rattle.std.specs.Prelude.{◌≤◌, ◌<◌, ◌+◌, length, IfOk, OnOk};
 
 use crate::draws::Draws;
 use itoa::Buffer;
@@ -34,6 +34,7 @@ RULEBLOCK rules
 /// The FCL text with this shift, 0 to 4.
 pub(crate) fn text_of(alloc: Global, shift: u32) -> Result<Vec<u8>, AllocError>
     requires { shift < 5 }
+    ensures { IfOk result (λ text. length text.items ≤ 1048576) }
 {
     let mut text = Vec::new(alloc);
     text.extend_from_slice(VARIABLES.as_bytes())?;
@@ -47,6 +48,7 @@ pub(crate) fn text_of(alloc: Global, shift: u32) -> Result<Vec<u8>, AllocError>
 fn push_rule(text: &mut Vec<u8>, n: u32, shift: u32) -> Result<(), AllocError>
     requires number { n < 81 }
     requires shift { shift < 5 }
+    ensures { OnOk result (length text.new.items ≤ length text.old.items + 100) }
 {
     let (i, j) = (n / 9, n % 9);
     text.extend_from_slice(b"RULE ")?;
@@ -61,9 +63,11 @@ fn push_rule(text: &mut Vec<u8>, n: u32, shift: u32) -> Result<(), AllocError>
 }
 
 /// Two draws a sample, each a number from 0 to 256 with four places.
-pub(crate) fn trace_of(alloc: Global, draws: &mut Draws) -> Result<Vec<u8>, AllocError> {
+pub(crate) fn trace_of(alloc: Global, draws: &mut Draws) -> Result<Vec<u8>, AllocError>
+    ensures { IfOk result (λ trace. length trace.items ≤ 1048576) }
+{
     let mut trace = Vec::new(alloc);
-    for _ in 0..1000u32 {
+    for _row in 0..1000u32 {
         let (x, y) = draws.sample();
         push_decimal(&mut trace, x)?;
         trace.push(b',')?;
@@ -74,7 +78,9 @@ pub(crate) fn trace_of(alloc: Global, draws: &mut Draws) -> Result<Vec<u8>, Allo
 }
 
 /// Three draws a request: its moment, the byte that it writes, and the value.
-pub(crate) fn plan_of(alloc: Global, draws: &mut Draws) -> Result<Vec<u8>, AllocError> {
+pub(crate) fn plan_of(alloc: Global, draws: &mut Draws) -> Result<Vec<u8>, AllocError>
+    ensures { IfOk result (λ plan. length plan.items ≤ 1048576) }
+{
     let mut plan = Vec::new(alloc);
     for k in 1..1001u32 {
         let (moment, at, value) = draws.request();
@@ -90,13 +96,17 @@ pub(crate) fn plan_of(alloc: Global, draws: &mut Draws) -> Result<Vec<u8>, Alloc
     Ok(plan)
 }
 
-fn push_number(text: &mut Vec<u8>, n: u32) -> Result<(), AllocError> {
+fn push_number(text: &mut Vec<u8>, n: u32) -> Result<(), AllocError>
+    ensures { OnOk result (length text.new.items ≤ length text.old.items + 10) }
+{
     let mut buffer = Buffer::new();
     text.extend_from_slice(buffer.format(n).as_bytes())
 }
 
 /// A number in 1/10000.
-fn push_decimal(text: &mut Vec<u8>, n: u32) -> Result<(), AllocError> {
+fn push_decimal(text: &mut Vec<u8>, n: u32) -> Result<(), AllocError>
+    ensures { OnOk result (length text.new.items ≤ length text.old.items + 15) }
+{
     push_number(text, n / 10_000)?;
     text.push(b'.')?;
     for unit in [1000, 100, 10, 1] {
@@ -108,6 +118,7 @@ fn push_decimal(text: &mut Vec<u8>, n: u32) -> Result<(), AllocError> {
 /// The last digits of a number, as many as said.
 fn push_hex(text: &mut Vec<u8>, n: u32, digits: u32) -> Result<(), AllocError>
     requires { digits ≤ 4 }
+    ensures { OnOk result (length text.new.items ≤ length text.old.items + digits) }
 {
     for k in 0..digits {
         let digit = (n >> (4 * (digits - 1 - k))) & 0xF;

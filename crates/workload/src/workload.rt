@@ -23,43 +23,71 @@ use interrupt_plan::{Plan, Request, read_plan};
 use std::alloc::Global;
 use trace_io::{Sample, read_trace};
 
-/// The most bytes of a text that the readers take.
-const MOST_BYTES: usize = 1_048_576;
-
 /// An FCL text with 81 rules over two inputs, 1000 samples of it, and a request in each sample.
 #[derive(Drop)]
 pub struct Workload {
     pub text: Vec<u8>,
     pub trace: Vec<u8>,
     pub plan: Vec<u8>,
+    /// The block that the text spells.
+    pub block: Block,
+    /// The samples of the trace.
+    pub samples: Vec<Sample>,
+    /// The requests of the plan.
+    pub requests: Plan,
+}
+
+/// The text, the trace and the plan.
+#[derive(Drop)]
+struct Texts {
+    text: Vec<u8>,
+    trace: Vec<u8>,
+    plan: Vec<u8>,
 }
 
 /// The workload of a number. What is written is read back and compared with what was drawn, so
 /// that nothing else is answered.
 pub fn generate(alloc: Global, number: u32) -> Result<Workload, Memory>
-    ensures { IfOk result (λ w. IsWorkload number w.text.items w.trace.items w.plan.items) }
+    ensures workload { IfOk result (λ w.
+        IsWorkload number w.text.items w.trace.items w.plan.items w.block w.samples.items w.requests) }
+
+    // no text is longer than a file may be
+    ensures short_text { IfOk result (λ w. length w.text.items ≤ 1048576) }
+    ensures short_trace { IfOk result (λ w. length w.trace.items ≤ 1048576) }
+    ensures short_plan { IfOk result (λ w. length w.plan.items ≤ 1048576) }
 {
-    let workload = write(alloc, number)?;
+    let Texts { text, trace, plan } = write(alloc, number)?;
     let mut draws = Draws::of(number);
     let shift = draws.shift();
-    let block = block_of(alloc, &workload.text, shift)?;
-    let samples = samples_of(alloc, &workload.trace, &block)?;
-    let requests = requests_of(alloc, &workload.plan)?;
+    let block = block_of(alloc, &text, shift)?;
+    let samples = samples_of(alloc, &trace, &block)?;
+    let requests = requests_of(alloc, &plan)?;
     if are_drawn_samples(&samples, &mut draws)
         && are_drawn_requests(requests.as_slice(), &mut draws)
     {
-        Ok(workload)
+        Ok(Workload {
+            text,
+            trace,
+            plan,
+            block,
+            samples,
+            requests,
+        })
     } else {
         Err(Memory)
     }
 }
 
-fn write(alloc: Global, number: u32) -> Result<Workload, Memory> {
+fn write(alloc: Global, number: u32) -> Result<Texts, Memory>
+    ensures text { IfOk result (λ w. length w.text.items ≤ 1048576) }
+    ensures trace { IfOk result (λ w. length w.trace.items ≤ 1048576) }
+    ensures plan { IfOk result (λ w. length w.plan.items ≤ 1048576) }
+{
     let mut draws = Draws::of(number);
     let text = text_of(alloc, u32::from(draws.shift())).map_err(|_| Memory)?;
     let trace = trace_of(alloc, &mut draws).map_err(|_| Memory)?;
     let plan = plan_of(alloc, &mut draws).map_err(|_| Memory)?;
-    Ok(Workload { text, trace, plan })
+    Ok(Texts { text, trace, plan })
 }
 
 /// The block that the text spells.
@@ -79,13 +107,11 @@ fn spelled_block(alloc: Global, text: &[u8]) -> Result<Block, Memory>
 
 /// The block that the text spells, where it is the one that is drawn.
 fn block_of(alloc: Global, text: &[u8], shift: u8) -> Result<Block, Memory>
-    requires { shift < 5 }
+    requires shift { shift < 5 }
+    requires text { length text.now ≤ 1048576 }
     ensures spelled { IfOk result (SpellsBlock text.now) }
     ensures drawn { IfOk result (IsDrawnBlock shift) }
 {
-    if text.len() > MOST_BYTES {
-        return Err(Memory);
-    }
     let block = spelled_block(alloc, text)?;
     if is_drawn_block(&block, shift) {
         Ok(block)
@@ -95,21 +121,17 @@ fn block_of(alloc: Global, text: &[u8], shift: u8) -> Result<Block, Memory>
 }
 
 fn samples_of(alloc: Global, trace: &[u8], block: &Block) -> Result<Vec<Sample>, Memory>
-    requires { IsValid block.now }
+    requires trace { length trace.now ≤ 1048576 }
+    requires block { IsValid block.now }
     ensures { IfOk result (λ v. SpellsTrace block.now.inputs trace.now v.items) }
 {
-    if trace.len() > MOST_BYTES {
-        return Err(Memory);
-    }
     read_trace(alloc, trace, block).map_err(|_| Memory)
 }
 
 fn requests_of(alloc: Global, plan: &[u8]) -> Result<Plan, Memory>
+    requires { length plan.now ≤ 1048576 }
     ensures { IfOk result (SpellsPlan plan.now) }
 {
-    if plan.len() > MOST_BYTES {
-        return Err(Memory);
-    }
     read_plan(alloc, plan).map_err(|_| Memory)
 }
 

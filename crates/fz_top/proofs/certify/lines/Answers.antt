@@ -9,7 +9,7 @@ use Rattle.fz_top.proofs.certify.lines.Goals as goal
 pub returns : goal.returns
 returns c =
     let cert = c.args.cert.now in
-    let leaves = c.count_of_leaves.ensures ∙ ap leaf_count c.as_slice-nodes.ensures in
+    let leaves = c.from.ensures ∙ c.count_of_leaves.ensures ∙ ap leaf_count c.as_slice-nodes.ensures in
     errors_written _ _ _ c.in_ok-labelled.field-0 cert.claims (codes "leaves ") (leaf_count cert.nodes)
     c.new-lines.ensures.items
     (c.in_ok-push_errors.ensures

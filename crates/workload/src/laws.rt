@@ -1,0 +1,12 @@
+//! Laws of the blocks that are drawn, each the contract of a function that does nothing.
+ghost use Rattle.workload.specs.Laws.{DrawnBlocksAreOne, DrawnBlocksAreWithinLimits};
+
+/// A number draws one block, wherever its conditions lie in memory.
+pub fn drawn_blocks_are_one()
+    ensures { DrawnBlocksAreOne }
+{}
+
+/// The rules of a block that is drawn can be laid out.
+pub fn drawn_blocks_are_within_limits()
+    ensures { DrawnBlocksAreWithinLimits }
+{}
