@@ -11,3 +11,5 @@ pub mod Interruptible
 pub mod Alike
 pub mod Answers
 pub mod Uninterrupted
+pub mod Mailboxes
+pub mod Turns

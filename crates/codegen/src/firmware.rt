@@ -1,7 +1,9 @@
 //! Firmware.
-ghost use Rattle.std.specs.Prelude.{◌≡◌, true, false, IfOk, IfErr, OnOk};
+ghost use Rattle.std.specs.Prelude.{◌≡◌, ◌<◌, ◌^◌, length, true, false, IfOk, IfErr, OnOk};
 ghost use Rattle.fuzzy_meaning.specs.Blocks.{IsValid};
 ghost use Rattle.rule_layout.specs.Layouts.{IsWithinLimits, IsFaultOf};
+ghost use Rattle.cpu12_asm.specs.Items.{IsRising};
+ghost use Rattle.codegen.specs.Images.{IsImageOf};
 ghost use Rattle.codegen.specs.Firmwares.{IsFirmwareOf};
 ghost use Rattle.codegen.specs.Widths.{is_wide};
 ghost use Rattle.codegen.specs.Answers.{AnswersFrom};
@@ -12,10 +14,10 @@ use crate::items::firmware_items;
 use crate::laws::{firmware_answers, firmware_is_uninterrupted};
 use crate::layout::Layout;
 use crate::width::Width;
-use cpu12_asm::{AsmFault, Image, assemble_items};
+use cpu12_asm::{AsmFault, Image, Item, assemble_items};
 use fuzzy_meaning::Block;
 use rule_layout::{LayoutFault, spread};
-use std::alloc::Global;
+use std::alloc::{AllocError, Global};
 
 /// A block's firmware.
 #[derive(Drop)]
@@ -75,6 +77,22 @@ pub fn compile16(alloc: Global, block: &Block) -> Result<Firmware, LayoutFault>
     compile_at(alloc, Width::Word, block)
 }
 
+/// The image of items that stand one above the other.
+pub(crate) fn image_of(alloc: Global, items: &[Item]) -> Result<Image, AllocError>
+    requires few { length items.now < 2 ^ 32 }
+    requires rising { IsRising items.now }
+    ensures { IfOk result (IsImageOf items.now) }
+{
+    match assemble_items(alloc, items) {
+        Ok(image) => Ok(image),
+        Err(fault) => {
+            let is_memory = matches!(&fault, AsmFault::Memory);
+            prove!(is_memory);
+            Err(AllocError)
+        }
+    }
+}
+
 /// The firmware of a block with answers of a width.
 fn compile_at(alloc: Global, width: Width, block: &Block) -> Result<Firmware, LayoutFault>
     requires { IsValid block.now }
@@ -94,14 +112,8 @@ fn compile_at(alloc: Global, width: Width, block: &Block) -> Result<Firmware, La
     let Ok(items) = firmware_items(alloc, &Layout::MAIN, width, block, &flat) else {
         return Err(LayoutFault::Memory);
     };
-    let image = match assemble_items(alloc, items.as_slice()) {
-        Ok(image) => image,
-        Err(fault) => {
-            // The parts of a firmware stand one above the other, each with room.
-            let is_memory = matches!(&fault, AsmFault::Memory);
-            prove!(is_memory);
-            return Err(LayoutFault::Memory);
-        }
+    let Ok(image) = image_of(alloc, items.as_slice()) else {
+        return Err(LayoutFault::Memory);
     };
     let instr_bound = instruction_bound(width, block, &flat);
     let step_bound = steps_by(block, &flat, instr_bound);

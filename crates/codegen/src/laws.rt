@@ -3,6 +3,7 @@ ghost use Rattle.codegen.specs.Alike.{FirmwaresAreOne};
 ghost use Rattle.codegen.specs.Answers.{FirmwareAnswers};
 ghost use Rattle.codegen.specs.Evaluation.{EvalAnswers};
 ghost use Rattle.codegen.specs.Firing.{RulesGiveMasses};
+ghost use Rattle.codegen.specs.Turns.{MailboxTakesPosts, MailboxIsUninterrupted};
 ghost use Rattle.codegen.specs.Uninterrupted.{AnsweredAreUninterrupted, FirmwareIsUninterrupted, UninterruptedAreOne};
 
 use byte_scaling::nearest_is_byte;
@@ -50,6 +51,27 @@ pub fn firmware_is_uninterrupted()
     ensures { FirmwareIsUninterrupted }
 {
     firmware_answers();
+}
+
+/// The mailbox firmware of a block takes its turns: it looks at POSTED, copies MAIL while I is 1, and
+/// answers the copy within its bounds, touching the mailbox no more.
+pub fn mailbox_takes_posts()
+    ensures { MailboxTakesPosts }
+{
+    layout_law();
+    nearest_is_byte();
+    stays_fit();
+    rising_items();
+    holds_image();
+    eval_answers();
+}
+
+/// The uninterrupted answers of the mailbox firmware of a block exist, and are the block's over bytes.
+pub fn mailbox_is_uninterrupted()
+    ensures { MailboxIsUninterrupted }
+{
+    stays_fit();
+    mailbox_takes_posts();
 }
 
 /// The answers of samples that whole instructions answer, on which interrupts may come, are the

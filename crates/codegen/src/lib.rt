@@ -4,8 +4,8 @@
 //! that answers 16 bits: an image of memory with its code, its tables and its rule list, and bounds
 //! on the instructions and steps that a sample takes. The image is a function of the block, of the
 //! [`Width`] of the answers and of a [`Layout`], which says where each part stands; it holds exactly
-//! the bytes that this function names. Both refuse exactly the blocks that `rule_layout::spread`
-//! refuses, and take memory.
+//! the bytes that this function names. [`compile_post`] makes the mailbox form, whose samples come by
+//! an interrupt. All refuse exactly the blocks that `rule_layout::spread` refuses, and take memory.
 #![tactic(auto)]
 
 mod bounds;
@@ -15,13 +15,15 @@ mod firmware;
 mod items;
 pub mod laws;
 mod layout;
+mod mailbox;
 mod width;
 
 pub use firmware::{Firmware, compile, compile16};
 pub use items::firmware_items;
 pub use laws::{
     eval_answers, firmware_answers, firmware_is_uninterrupted, firmwares_are_one,
-    rules_give_masses, uninterrupted_are_one,
+    mailbox_is_uninterrupted, mailbox_takes_posts, rules_give_masses, uninterrupted_are_one,
 };
 pub use layout::Layout;
+pub use mailbox::compile_post;
 pub use width::Width;

@@ -32,6 +32,8 @@ mod layouts;
 #[cfg(test)]
 mod machines;
 #[cfg(test)]
+mod mailboxes;
+#[cfg(test)]
 mod parts;
 #[cfg(test)]
 mod plans;

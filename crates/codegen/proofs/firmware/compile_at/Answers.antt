@@ -1,36 +1,29 @@
-use Rattle.std.proofs.Common.{◌≡◌, true, false, Bool, List, refl, sym, ap, ◌∙◌, subst, arith, rules}
+use Rattle.std.proofs.Common.{◌≡◌, Bool, List, refl, sym, ap, ◌∙◌, subst, arith, rules}
 use Rattle.cpu12_asm.specs.declared.items.Item.{Item}
-use Rattle.cpu12_asm.specs.Bytes.{Holds}
-use Rattle.cpu12_asm.specs.Items.{given_by}
 use Rattle.codegen.specs.declared.width.Width.{Width}
 use Rattle.codegen.specs.declared.width.Width.TheVariants.{Byte, Word}
 use Rattle.codegen.specs.Widths.{width_of, is_wide}
 use Rattle.codegen.specs.Layouts.{main_layout}
-use Rattle.codegen.specs.Images.{firmware_items}
+use Rattle.codegen.specs.Images.{firmware_items, IsImageOf}
 use Rattle.codegen.specs.Bounds.{instruction_bound, steps_by}
 use Rattle.codegen.proofs.Placement.{sizes_by, main_rises, length-main_items, element_count-le}
 use Rattle.codegen.proofs.firmware.compile_at.Goals as goal
-use Rattle.codegen.proofs.firmware.compile_at.Goals.{in-Memory, in_default-matches}
 
 width_back : (w : Width) (wide : Bool) → wide ≡ is_wide w → w ≡ width_of wide
 width_back Byte wide e = ap width_of (sym e)
 width_back Word wide e = ap width_of (sym e)
 
-pub assemble_items-requires : goal.assemble_items-requires
-assemble_items-requires c =
+pub image_of-requires-clause-few : goal.image_of-requires-clause-few
+image_of-requires-clause-few c =
     let b = c.args.block.now in
     let sizes = sizes_by b c.in-Ok.flat c.in-Ok.ensures.value c.in-Ok.ensures.laid_out c.in-Ok.ensures.limits in
     length-main_items b c.args.width _ c.requires sizes (c.as_slice.ensures.value ∙ c.in-Ok-firmware_items.ensures)
 
-pub prove-unreachable-requires : goal.prove-unreachable-requires
-prove-unreachable-requires c =
+pub image_of-requires-clause-rising : goal.image_of-requires-clause-rising
+image_of-requires-clause-rising c =
     let b = c.args.block.now in
     let sizes = sizes_by b c.in-Ok.flat c.in-Ok.ensures.value c.in-Ok.ensures.laid_out c.in-Ok.ensures.limits in
-    let memory = c.in-Err-assemble_items.ensures.rising (main_rises b c.args.width _ c.requires sizes (c.as_slice.ensures.value ∙ c.in-Ok-firmware_items.ensures)) in
-    elim c.match-matches.branch [
-      | in-Memory w ↦ absurd (let yes : true ≡ false = sym w.matches-is ∙ c.if-prove.true in cc)
-      | in_default-matches w ↦ absurd (w.in_default-matches.not-Memory memory)
-    ]
+    main_rises b c.args.width _ c.requires sizes (c.as_slice.ensures.value ∙ c.in-Ok-firmware_items.ensures)
 
 pub steps_by-step_bound-requires-clause-short : goal.steps_by-step_bound-requires-clause-short
 steps_by-step_bound-requires-clause-short c = omega (arith, element_count-le c.args.block.now, c.in-Ok.ensures.limits.short_list)
@@ -40,15 +33,11 @@ returns-clause-firmware c =
     let b = c.args.block.now in
     let w = c.args.width in
     let same = width_back w c.is_wide.result c.is_wide.ensures in
-    let made = c.in-Ok-assemble_items.ensures in
     let e = c.as_slice.ensures.value ∙ c.in-Ok-firmware_items.ensures in
-    let h : Holds c.in-Ok-assemble_items.image.bytes (given_by (firmware_items main_layout b w)) = subst (λ (xs : List Item). Holds c.in-Ok-assemble_items.image.bytes (given_by xs)) e made.bytes in
     record {
-      image = record {
-        bytes = subst (λ (k : Width). Holds c.in-Ok-assemble_items.image.bytes (given_by (firmware_items main_layout b k))) same h;
-        ascending = made.ascending;
-        start = made.start;
-      };
+      image =
+          subst (λ (k : Width). IsImageOf (firmware_items main_layout b k) c.in-Ok-image_of.image) same
+          (subst (λ (xs : List Item). IsImageOf xs c.in-Ok-image_of.image) e c.in-Ok-image_of.ensures);
       layout = refl;
       inputs = search rules;
       outputs = search rules;

@@ -1,0 +1,43 @@
+use Rattle.std.proofs.Common.{◌≡◌, ◌<◌, ◌^◌, List, length, sym, ap, ◌∙◌, subst, arith, refl, rules}
+use Rattle.fuzzy_meaning.specs.declared.block.Block.{Block}
+use Rattle.cpu12_asm.specs.declared.items.Item.{Item}
+use Rattle.cpu12_asm.specs.Items.{IsRising}
+use Rattle.codegen.specs.declared.layout.Layout.{Layout}
+use Rattle.codegen.specs.declared.width.Width.TheVariants.{Byte}
+use Rattle.codegen.specs.Mailboxes.{mailbox_layout, mailbox_items}
+use Rattle.codegen.proofs.Placement.{sizes_by, element_count-le}
+use Rattle.codegen.proofs.turns.Founding.{length-mailbox_items, mailbox_rises}
+use Rattle.codegen.proofs.mailbox.compile_post.Goals as goal
+
+-- the items at the layout of the block's inputs
+same_items : (b : Block) (xs items : List Item) (l : Layout) → xs ≡ items → items ≡ mailbox_items l b Byte → l ≡ mailbox_layout (length b.inputs)
+    → mailbox_items (mailbox_layout (length b.inputs)) b Byte ≡ xs
+same_items b xs items l e f g = sym (e ∙ f ∙ ap (λ (k : Layout). mailbox_items k b Byte) g)
+
+pub image_of-requires-clause-few : goal.image_of-requires-clause-few
+image_of-requires-clause-few c =
+    let b = c.args.block.now in
+    let sizes = sizes_by b c.in-Ok.flat c.in-Ok.ensures.value c.in-Ok.ensures.laid_out c.in-Ok.ensures.limits in
+    let layout : c.mailbox_layout-layout.result ≡ mailbox_layout (length b.inputs) = search rules in
+    subst (λ (xs : List Item). length xs < 2 ^ 32) (same_items b _ _ _ c.as_slice.ensures.value c.in-Ok-mailbox_items.ensures layout)
+    (length-mailbox_items b Byte (length b.inputs) refl c.requires.few_inputs c.requires sizes)
+
+pub image_of-requires-clause-rising : goal.image_of-requires-clause-rising
+image_of-requires-clause-rising c =
+    let b = c.args.block.now in
+    let sizes = sizes_by b c.in-Ok.flat c.in-Ok.ensures.value c.in-Ok.ensures.laid_out c.in-Ok.ensures.limits in
+    let layout : c.mailbox_layout-layout.result ≡ mailbox_layout (length b.inputs) = search rules in
+    subst (λ (xs : List Item). IsRising xs) (same_items b _ _ _ c.as_slice.ensures.value c.in-Ok-mailbox_items.ensures layout)
+    (mailbox_rises b Byte (length b.inputs) refl c.requires.few_inputs c.requires sizes)
+
+pub steps_by-step_bound-requires-clause-short : goal.steps_by-step_bound-requires-clause-short
+steps_by-step_bound-requires-clause-short c = omega (arith, element_count-le c.args.block.now, c.in-Ok.ensures.limits.short_list)
+
+pub returns-clause-firmware : goal.returns-clause-firmware
+returns-clause-firmware c = search rules
+
+pub returns-clause-turns : goal.returns-clause-turns
+returns-clause-turns c = c.mailbox_takes_posts.ensures c.args.block.now _ c.requires c.in-Ok.ensures.limits (returns-clause-firmware c)
+
+pub returns-clause-uninterrupted : goal.returns-clause-uninterrupted
+returns-clause-uninterrupted c = c.mailbox_is_uninterrupted.ensures c.args.block.now _ c.requires c.in-Ok.ensures.limits (returns-clause-firmware c)

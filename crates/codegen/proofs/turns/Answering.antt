@@ -1,0 +1,209 @@
+-- The uninterrupted answers of the mailbox form.
+use Rattle.std.proofs.Common.{◌≡◌, ◌≢◌, ◌⊎◌, inl, inr, ℕ, zero, suc, ◌+◌, ◌-◌, ◌*◌, ◌^◌, ◌<◌, ◌≤◌, Bool, true, false, List, [], ◌∷◌, ◌++◌, length, get_or, set, All, refl, sym, ap}
+use Rattle.std.proofs.Common.{◌∙◌, subst, arith, length-set, get_or-set_same, get_or-set_other}
+use Rattle.std.specs.Prelude.{◌==◌, if◌then◌else◌}
+use Rattle.std.proofs.lemmas.Bool.Decides.{nat_tests}
+use Rattle.fuzzy_meaning.specs.declared.block.Block.{Block}
+use Rattle.fuzzy_meaning.specs.Blocks.{IsValid}
+use Rattle.cpu12_isa.specs.declared.instr.Instr.TheVariants.{LdaaExtended, Beq, Orcc}
+use Rattle.cpu12_isa.specs.Fits.{StaysFit}
+use Rattle.cpu12_isa.specs.Flags.{has}
+use Rattle.cpu12_parts.specs.State.{State}
+use Rattle.cpu12_parts.specs.Executions.{Execution, IsStepBefore, IsUntil}
+use Rattle.cpu12_emul.specs.Image.{image_memory}
+use Rattle.cpu12_emul.specs.Step.{reset_with}
+use Rattle.codegen.specs.declared.firmware.Firmware.{Firmware}
+use Rattle.codegen.specs.declared.layout.Layout.{Layout}
+use Rattle.codegen.specs.declared.width.Width.{Width}
+use Rattle.codegen.specs.Widths.{width_of, places, bytes_of, answer}
+use Rattle.codegen.specs.Firing.{AreInputBytes}
+use Rattle.codegen.specs.Evaluation.{HasBytes, HasAnswers}
+use Rattle.codegen.specs.Interruptible.{is_idle}
+use Rattle.codegen.specs.Answers.{put, given}
+use Rattle.codegen.specs.Uninterrupted.{Answer, values_in, is_waiting, AreAnswersTo, AreAnswersOf, AreUninterrupted, AnswersUninterrupted}
+use Rattle.codegen.specs.Mailboxes.{is_postable, mailbox_layout}
+use Rattle.codegen.specs.Turns.{IsAt, IsMaskedStep, IsCopied, IsLook, IsChoice, IsTurned, TakesTurns, MailboxTakesPosts, MailboxIsUninterrupted, call_of}
+use Rattle.codegen.proofs.steps.Executions.{execution_on, length_append}
+use Rattle.codegen.proofs.steps.Memory.{length-put, at_put_in, has_put, bytes_by, bytes_put_out, bytes_set_out, same_bytes}
+use Rattle.codegen.proofs.runs.Stepping.{not_at}
+use Rattle.codegen.proofs.runs.Framing.{answer_room, not_ready, given_live, waits as idle}
+use Rattle.codegen.proofs.runs.Uninterrupted.{uninterrupted, waits, arrival, plain_parts, count_from, value_from}
+use Rattle.codegen.proofs.turns.Posting.{Post, post_ctx, lives_of, at_of}
+
+abbrev Before : Post → ℕ → State → State → Type 0
+Before p = IsStepBefore (is_idle (mailbox_layout p.n)) p.flags
+
+-- masked steps are whole instructions of a code that does not wait
+masked : (p : Post) (ds : List ℕ) (s t : State) → Execution (IsMaskedStep (mailbox_layout p.n) p.image p.flags) ds s t → Execution (Before p) ds s t
+masked p [] s t e = e
+masked p (d ∷ ds) s t e = (e.0, (record { on = e.1.0.busy; step = inl (e.1.0.instruction, (e.1.0.shown.step, e.1.0.single)) }, masked p ds e.0 t e.1.1))
+
+-- one sample, from where the code waits back to there
+record Answered (p : Post) (b : Block) (w : Width) (most : ℕ) (bytes : List ℕ) (before : ℕ → ℕ) (s : State) : Type 0 where
+  t : State
+  ds : List ℕ
+  until : IsUntil (is_idle (mailbox_layout p.n)) p.flags ds (given (mailbox_layout p.n) bytes s) t
+  at : IsAt p.image 0xC008 t
+  answers : HasAnswers (mailbox_layout p.n) b w (λ o. answer w b o bytes (before o)) t.mem
+  instructions : length ds ≤ most
+
+-- the state in which a sample is posted
+record Posted (p : Post) (b : Block) (w : Width) (bytes : List ℕ) (before : ℕ → ℕ) (g : State) : Type 0 where
+  at : IsAt p.image 0xC008 g
+  posted : get_or g.mem 0x1028 0 ≡ 1
+  mail : HasBytes g.mem 0x1020 bytes
+  outputs : HasAnswers (mailbox_layout p.n) b w before g.mem
+
+posted_in : (p : Post) (b : Block) (w : Width) (bytes : List ℕ) (before : ℕ → ℕ) (s : State) → length bytes ≤ 8 → All (λ v. v < 2 ^ 8) bytes → length b.outputs ≤ 4
+    → IsAt p.image 0xC008 s → HasAnswers (mailbox_layout p.n) b w before s.mem → Posted p b w bytes before (given (mailbox_layout p.n) bytes s)
+posted_in p b w bytes before s few fit outs at answers =
+    let g = given (mailbox_layout p.n) bytes s in
+    let m = put s.mem 0x1020 bytes in
+    let size = at.steady.size in
+    let lm : length m ≡ 65536 = length-put s.mem 0x1020 bytes ∙ size in
+    let l = given_live (post_ctx p) bytes s (lives_of is_postable false p.image s at.steady) fit (omega arith) (omega arith) in
+    record {
+      at = at_of p 0xC008 g l at.pc (omega arith) (omega arith) at.sp;
+      posted = get_or-set_same m 0x1028 1 0 (omega arith);
+      mail = bytes_set_out m 0x1028 1 0x1020 bytes (inl (omega arith)) (has_put s.mem 0x1020 bytes (omega arith));
+      outputs = λ o lo hi.
+          (let q = 0x1010 + places w * (o - 1) in
+          let vs = bytes_of w (before o) in
+          let room = answer_room w o (before o) lo (omega arith) in
+          bytes_set_out m 0x1028 1 q vs (inl (omega arith)) (bytes_put_out s.mem 0x1020 bytes q vs (inl (omega arith)) (answers o lo hi)));
+    }
+
+-- bytes copied one by one
+copied_bytes : (m n : List ℕ) (from to : ℕ) (bytes : List ℕ) → HasBytes m from bytes → ((k : ℕ) → k < length bytes → get_or n (to + k) 0 ≡ get_or m (from + k) 0) → HasBytes n to bytes
+copied_bytes m n from to bytes h e = bytes_by n to bytes (λ k lt. e k lt ∙ at_byte m from bytes k lt h)
+  where
+    at_byte : (m : List ℕ) (p : ℕ) (bs : List ℕ) (k : ℕ) → k < length bs → HasBytes m p bs → get_or m (p + k) 0 ≡ get_or bs k 0
+    at_byte m p [] k lt h = absurd (omega arith)
+    at_byte m p (b ∷ bs) zero lt h = let e : p + 0 ≡ p = omega arith in ap (λ (q : ℕ). get_or m q 0) e ∙ h.0
+    at_byte m p (b ∷ bs) (suc k) lt h = let e : p + suc k ≡ p + 1 + k = omega arith in ap (λ (q : ℕ). get_or m q 0) e ∙ at_byte m (p + 1) bs k (omega arith) h.1
+
+-- to the copy's end
+record Fetched (p : Post) (b : Block) (w : Width) (bytes : List ℕ) (before : ℕ → ℕ) (g : State) : Type 0 where
+  t : State
+  ds : List ℕ
+  execution : Execution (Before p) ds g t
+  count : length ds ≡ length b.inputs + 5
+  at : IsAt p.image (call_of (mailbox_layout p.n) (length b.inputs)) t
+  cleared : get_or t.mem 0x1028 0 ≡ 0
+  inputs : HasBytes t.mem 0x1001 bytes
+  outputs : HasAnswers (mailbox_layout p.n) b w before t.mem
+
+abbrev chosen : Bool → ℕ
+chosen z = if z then 0xC008 else 0xC00D
+
+fetched : (p : Post) (b : Block) (w : Width) (bytes : List ℕ) (before : ℕ → ℕ) (g s1 s2 s4 : State) → length b.inputs ≤ 8 → length b.outputs ≤ 4 → length bytes ≡ length b.inputs → Posted p b w bytes before g
+    → IsLook (mailbox_layout p.n) p.image p.flags g s1 → IsChoice (mailbox_layout p.n) p.image p.flags s1 s2 → s2.regs.pc ≡ 0xC00D
+    → IsCopied (mailbox_layout p.n) (length b.inputs) p.image p.flags s2 s4 → Fetched p b w bytes before g
+fetched p b w bytes before g s1 s2 s4 few outs count h look choice at2 copy =
+    let l = mailbox_layout p.n in
+    let s3 = copy.masked in
+    let mem2 : s2.mem ≡ g.mem = choice.mem ∙ look.mem in
+    let on1 : Before p 0 g s1 = record { on = not_ready l g h.posted; step = inl (LdaaExtended 0x1028, (look.step.step, refl)) } in
+    let on2 : Before p 0 s1 s2 = record { on = not_at l s1 0xC00B look.at.pc (λ e. omega arith); step = inl (Beq 0xFB, (choice.step.step, refl)) } in
+    let on3 : Before p 0 s2 s3 = record { on = not_at l s2 0xC00D at2 (λ e. omega arith); step = inl (Orcc 0x10, (copy.sets.step, refl)) } in
+    record {
+      t = s4;
+      ds = 0 ∷ 0 ∷ 0 ∷ copy.ds;
+      execution = (s1, (on1, (s2, (on2, (s3, (on3, masked p copy.ds s3 s4 copy.copies))))));
+      count = omega (arith, copy.count);
+      at = copy.at;
+      cleared = copy.cleared;
+      inputs = copied_bytes g.mem s4.mem 0x1020 0x1001 bytes h.mail (λ k lt. copy.inputs k (omega arith) ∙ ap (λ (m : List ℕ). get_or m (0x1020 + k) 0) mem2);
+      outputs = λ o lo hi.
+          (let q = 0x1010 + places w * (o - 1) in
+          let vs = bytes_of w (before o) in
+          let room = answer_room w o (before o) lo (omega arith) in
+          same_bytes g.mem s4.mem q vs (λ k from to. copy.elsewhere k (inr (omega arith)) (λ e. omega arith) ∙ ap (λ (m : List ℕ). get_or m k 0) mem2) (h.outputs o lo hi));
+    }
+
+answered : (p : Post) (b : Block) (w : Width) (most : ℕ) (bytes : List ℕ) (before : ℕ → ℕ) (s : State) → TakesTurns (mailbox_layout p.n) b w most p.image p.flags
+    → length b.inputs ≤ 8 → length b.outputs ≤ 4 → AreInputBytes b bytes → IsAt p.image 0xC008 s → HasAnswers (mailbox_layout p.n) b w before s.mem
+    → Answered p b w most bytes before s
+answered p b w most bytes before s turns few outs i at answers =
+    let l = mailbox_layout p.n in
+    let g = given l bytes s in
+    let count = i.count in
+    let h = posted_in p b w bytes before s (omega arith) i.fit outs at answers in
+    let look = turns.looks g h.at in
+    let choice = turns.chooses look.0 look.1.at in
+    let some : (get_or g.mem 0x1028 0 == 0) ≡ false = (let e = h.posted in grind (arith, nat_tests)) in
+    let z : has look.0.regs.ccr 2 ≡ false = look.1.found ∙ some in
+    let at2 : IsAt p.image 0xC00D choice.0 = subst (λ (y : Bool). IsAt p.image (chosen y) choice.0) z choice.1.at in
+    let copy = turns.copies choice.0 at2 in
+    let f = fetched p b w bytes before g look.0 choice.0 copy.0 few outs count h look.1 choice.1 at2.pc copy.1 in
+    let turn = turns.evaluates bytes before f.t i f.at f.inputs f.outputs in
+    let back : get_or turn.0.mem 0x1028 0 ≡ 0 = turn.1.mail 0x1028 refl ∙ f.cleared in
+    record {
+      t = turn.0;
+      ds = f.ds ++ turn.1.ds;
+      until = record {
+        execution = execution_on (Before p) f.ds turn.1.ds g f.t turn.0 f.execution (uninterrupted is_postable l p.image p.flags turn.1.ds f.t turn.0 turn.1.execution);
+        stopped = idle l turn.0 turn.1.at.pc back;
+      };
+      at = turn.1.at;
+      answers = turn.1.answers;
+      instructions = omega (arith, length_append f.ds turn.1.ds, f.count, turn.1.instructions);
+    }
+
+-- a list of samples
+abbrev Both : Firmware → Block → Post → (ℕ → ℕ) → List (List ℕ) → State → List Answer → Type 0
+Both f b p before samples s answers = AreAnswersTo f p.flags samples answers s × AreAnswersOf (width_of f.wide) b f.instr_bound before samples answers
+
+more : (f : Firmware) (b : Block) (p : Post) (before : ℕ → ℕ) (bytes : List ℕ) (samples : List (List ℕ)) (s : State) → f.layout ≡ mailbox_layout p.n → f.outputs ≡ length b.outputs
+    → (one : Answered p b (width_of f.wide) f.instr_bound bytes before s)
+    → (rest : List Answer) → Both f b p (λ o. answer (width_of f.wide) b o bytes (before o)) samples one.t rest
+    → Both f b p before (bytes ∷ samples) s (record { values = values_in f one.t; instructions = length one.ds } ∷ rest)
+more f b p before bytes samples s l e one rest both =
+    let w = width_of f.wide in
+    let until : IsUntil (is_idle f.layout) p.flags one.ds (given f.layout bytes s) one.t =
+    subst (λ (k : Layout). IsUntil (is_idle k) p.flags one.ds (given k bytes s) one.t) (sym l) one.until in
+    let stand : HasAnswers f.layout b w (λ o. answer w b o bytes (before o)) one.t.mem =
+    subst (λ (k : Layout). HasAnswers k b w (λ o. answer w b o bytes (before o)) one.t.mem) (sym l) one.answers in (
+      (one.t, (record { ds = one.ds; until = until; values = refl; instructions = refl }, both.0)),
+      (
+        record {
+          values = λ o lo hi. value_from w one.t.mem f.layout.outputs f.outputs (o - 1) (answer w b o bytes (before o)) (omega arith) (stand o lo hi);
+          count = count_from w one.t.mem f.layout.outputs f.outputs ∙ e;
+          instructions = one.instructions;
+        },
+        both.1,
+      ),
+    )
+
+all_answered : (f : Firmware) (b : Block) (p : Post) (before : ℕ → ℕ) (samples : List (List ℕ)) (s : State) → f.layout ≡ mailbox_layout p.n → f.outputs ≡ length b.outputs
+    → TakesTurns (mailbox_layout p.n) b (width_of f.wide) f.instr_bound p.image p.flags → IsValid b → All (AreInputBytes b) samples → IsAt p.image 0xC008 s
+    → HasAnswers (mailbox_layout p.n) b (width_of f.wide) before s.mem → (answers : List Answer) × Both f b p before samples s answers
+all_answered f b p before [] s l e turns v all at outs = ([], (tt, tt))
+all_answered f b p before (bytes ∷ samples) s l e turns v all at outs =
+    let w = width_of f.wide in
+    let one = answered p b w f.instr_bound bytes before s turns v.few_inputs v.few_outputs (all 0 bytes (omega arith)) at outs in
+    let rest = all_answered f b p (λ o. answer w b o bytes (before o)) samples one.t l e turns v (λ k d lt. all (suc k) d (omega arith)) one.at one.answers in
+    (record { values = values_in f one.t; instructions = length one.ds } ∷ rest.0, more f b p before bytes samples s l e one rest.0 rest.1)
+
+-- from reset
+pub from_reset : (f : Firmware) (b : Block) (p : Post) (samples : List (List ℕ)) → f.layout ≡ mailbox_layout p.n → f.outputs ≡ length b.outputs → image_memory f.image.bytes ≡ p.image
+    → TakesTurns (mailbox_layout p.n) b (width_of f.wide) f.instr_bound p.image p.flags → IsValid b → All (AreInputBytes b) samples
+    → (answers : List Answer) × (AreUninterrupted f p.flags samples answers × AreAnswersOf (width_of f.wide) b f.instr_bound (λ o. 0) samples answers)
+from_reset f b p samples l e same turns v all =
+    let r = turns.arrives in
+    let w = width_of f.wide in
+    let rest = all_answered f b p (λ o. 0) samples r.0 l e turns v all r.1.at r.1.outputs in
+    let arrived : IsUntil (is_waiting (mailbox_layout p.n)) p.flags (plain_parts 3) (reset_with p.image) r.0 =
+    record { execution = arrival (mailbox_layout p.n) p.flags 3 (reset_with p.image) r.0 r.1.way; stopped = waits (mailbox_layout p.n) r.0 r.1.at.pc } in
+    let there : IsUntil (is_waiting f.layout) p.flags (plain_parts 3) (reset_with (image_memory f.image.bytes)) r.0 =
+    subst (λ (k : Layout). IsUntil (is_waiting k) p.flags (plain_parts 3) (reset_with (image_memory f.image.bytes)) r.0) (sym l)
+    (subst (λ (m : List ℕ). IsUntil (is_waiting (mailbox_layout p.n)) p.flags (plain_parts 3) (reset_with m) r.0) (sym same) arrived) in
+    (rest.0, (record { first = r.0; ds = plain_parts 3; arrived = there; each = rest.1.0 }, rest.1.1))
+
+pub mailbox_is_uninterrupted : StaysFit → MailboxTakesPosts → MailboxIsUninterrupted
+mailbox_is_uninterrupted stays_fit law b f v limits h flags samples fits all =
+    let image = image_memory f.image.bytes in
+    let p : Post = record { stays_fit = stays_fit; n = length b.inputs; few = v.few_inputs; image = image; flags = flags; fits = fits } in
+    let turns : TakesTurns (mailbox_layout (length b.inputs)) b (width_of f.wide) f.instr_bound image flags =
+    subst (λ (k : Layout). TakesTurns k b (width_of f.wide) f.instr_bound image flags) h.layout (law b f v limits h flags fits) in
+    from_reset f b p samples h.layout h.outputs refl turns v all

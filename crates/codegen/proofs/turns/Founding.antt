@@ -1,0 +1,144 @@
+-- The mailbox form's code stands in its memory.
+use Rattle.std.proofs.Common.{◌≡◌, inr, ℕ, zero, suc, ◌+◌, ◌-◌, ◌*◌, ◌^◌, ◌<◌, ◌≤◌, Ok, List, [], ◌∷◌, ◌++◌, length, refl, sym, ap, ap₂, ◌∙◌, subst, arith, length-append}
+use Rattle.fuzzy_meaning.specs.declared.block.Block.{Block}
+use Rattle.fuzzy_meaning.specs.Blocks.{IsValid}
+use Rattle.cpu12_isa.specs.declared.instr.Instr.{Instr}
+use Rattle.cpu12_isa.specs.declared.instr.Instr.TheVariants.{LdaaExtended, Beq, Bra, JsrExtended, MovbExtended, Orcc, Rts}
+use Rattle.cpu12_isa.specs.Code.{encode_of, decode_at}
+use Rattle.cpu12_asm.specs.Items.{IsRising}
+use Rattle.codegen.specs.declared.layout.Layout.{Layout}
+use Rattle.codegen.specs.declared.width.Width.{Width}
+use Rattle.codegen.specs.Images.{vector_items, block_items, IsApart}
+use Rattle.codegen.specs.Evaluation.{HasBytes}
+use Rattle.codegen.specs.Mailboxes.{mailbox_layout, copy_code, call_code, mailbox_code, mailbox_items}
+use Rattle.codegen.proofs.Sizes.{code_size, code_size-append}
+use Rattle.codegen.proofs.Placement.{IsSpaced, HasSizes, part_sizes, length-block_items, with_vectors_rise}
+use Rattle.codegen.proofs.steps.Decoding.{sizes, sizes_append, UsedCode, used_append, code_bytes, decode_here}
+use Rattle.codegen.proofs.steps.Memory.{bytes_front, bytes_back}
+use Rattle.codegen.proofs.phases.Used.{sizes_is}
+use Rattle.codegen.proofs.runs.Stepping.{Ctx, Here, Stands, stands_of}
+use Rattle.codegen.proofs.runs.Founding.{IsStarted, start_code}
+use Rattle.codegen.proofs.turns.Posting.{Post, HasTurn, free_ctx, post_ctx}
+
+-- one copy more
+pub copy_more : (from to n : ℕ) → copy_code from to (suc n) ≡ copy_code from to n ++ MovbExtended (from + n) (to + n) ∷ []
+copy_more from to zero =
+    let a : from ≡ from + 0 = omega arith in
+    let b : to ≡ to + 0 = omega arith in
+    ap₂ (λ (x y : ℕ). MovbExtended x y ∷ []) a b
+copy_more from to (suc n) =
+    let a : from + 1 + n ≡ from + suc n = omega arith in
+    let b : to + 1 + n ≡ to + suc n = omega arith in
+    ap (λ (is : List Instr). MovbExtended from to ∷ is) (copy_more (from + 1) (to + 1) n ∙ ap₂ (λ (x y : ℕ). copy_code (from + 1) (to + 1) n ++ MovbExtended x y ∷ []) a b)
+
+-- six bytes a copy
+code_size-copy : (from to n : ℕ) → code_size (copy_code from to n) ≡ 6 * n
+code_size-copy from to zero = refl
+code_size-copy from to (suc n) = omega (arith, code_size-copy (from + 1) (to + 1) n)
+
+pub code_size-mailbox : (n : ℕ) → code_size (mailbox_code (mailbox_layout n) n) ≡ 26 + 6 * n
+code_size-mailbox n =
+    omega (arith, code_size-append (copy_code 0x1020 0x1001 n) (call_code (mailbox_layout n) n), code_size-copy 0x1020 0x1001 n)
+
+pub sizes-mailbox : (n : ℕ) → sizes (mailbox_code (mailbox_layout n) n) ≡ 26 + 6 * n
+sizes-mailbox n = sizes_is (mailbox_code (mailbox_layout n) n) ∙ code_size-mailbox n
+
+-- the layout
+pub mailbox_apart : (n : ℕ) → n ≤ 8 → IsApart (mailbox_layout n)
+mailbox_apart n few = record {
+  inputs = omega arith;
+  outputs = omega arith;
+  slots = omega arith;
+  eval = omega arith;
+  eval_end = omega arith;
+  tables = omega arith;
+  tables_end = omega arith;
+  singletons = omega arith;
+  singletons_end = omega arith;
+  weights = omega arith;
+  weights_end = omega arith;
+  rules = omega arith;
+  rules_end = omega arith;
+}
+
+pub mailbox_started : (n : ℕ) → IsStarted (mailbox_layout n)
+mailbox_started n = record { low = omega arith; high = omega arith; wait = refl; ready = omega arith; apart = inr (omega arith) }
+
+mailbox_spaced : (n : ℕ) → IsSpaced (mailbox_layout n)
+mailbox_spaced n = record { tables = omega arith; singletons = omega arith; weights = omega arith }
+
+-- its items can be placed
+pub mailbox_rises : (b : Block) (w : Width) (n : ℕ) → length b.inputs ≡ n → n ≤ 8 → IsValid b → HasSizes b → IsRising (mailbox_items (mailbox_layout n) b w)
+mailbox_rises b w n e few v h =
+    let l = mailbox_layout n in
+    let before = mailbox_code l (length b.inputs) in
+    let size : code_size before ≡ 26 + 6 * n = subst (λ (k : ℕ). code_size (mailbox_code l k) ≡ 26 + 6 * n) (sym e) (code_size-mailbox n) in
+    let room : l.code + (code_size before + 2416 + code_size (Rts ∷ [])) ≤ l.tables = omega arith in
+    with_vectors_rise l b w before (Rts ∷ []) (mailbox_spaced n) (part_sizes l b w before (Rts ∷ []) v h) room (omega arith)
+
+pub length-mailbox_items : (b : Block) (w : Width) (n : ℕ) → length b.inputs ≡ n → n ≤ 8 → IsValid b → HasSizes b
+    → length (mailbox_items (mailbox_layout n) b w) < 2 ^ 32
+length-mailbox_items b w n e few v h =
+    let l = mailbox_layout n in
+    let before = mailbox_code l (length b.inputs) in
+    let size : code_size before ≡ 26 + 6 * n = subst (λ (k : ℕ). code_size (mailbox_code l k) ≡ 26 + 6 * n) (sym e) (code_size-mailbox n) in
+    omega (arith, length-append (block_items l b w before (Rts ∷ [])) (vector_items l), length-block_items l b w before (Rts ∷ []) (part_sizes l b w before (Rts ∷ []) v h))
+
+-- the operands fit
+used_copy : (from to n : ℕ) → from + n < 2 ^ 16 → to + n < 2 ^ 16 → UsedCode (copy_code from to n)
+used_copy from to zero f t = tt
+used_copy from to (suc n) f t = (tt, (omega arith, omega arith), used_copy (from + 1) (to + 1) n (omega arith) (omega arith))
+
+used_call : (n : ℕ) → n ≤ 8 → UsedCode (call_code (mailbox_layout n) n)
+used_call n few = (tt, omega arith, (tt, omega arith, (tt, omega arith, (tt, omega arith, (tt, tt, tt)))))
+
+abbrev turn_code : ℕ → List Instr
+turn_code n = Beq 0xFB ∷ Orcc 0x10 ∷ (copy_code 0x1020 0x1001 n ++ call_code (mailbox_layout n) n)
+
+used_turn : (n : ℕ) → n ≤ 8 → UsedCode (turn_code n)
+used_turn n few =
+    (tt, omega arith, (tt, omega arith, used_append (copy_code 0x1020 0x1001 n) (call_code (mailbox_layout n) n) (used_copy 0x1020 0x1001 n (omega arith) (omega arith)) (used_call n few)))
+
+pub used_mailbox : (n : ℕ) → n ≤ 8 → UsedCode (mailbox_code (mailbox_layout n) n)
+used_mailbox n few = (tt, omega arith, (tt, omega arith, (tt, omega arith, (tt, omega arith, used_turn n few))))
+
+-- the code of a turn
+pub start_bytes : (p : Post) → HasBytes p.image 0xC000 (code_bytes (mailbox_code (mailbox_layout p.n) p.n)) → HasBytes p.image 0xC000 (code_bytes (start_code (mailbox_layout p.n)))
+start_bytes p h = bytes_front p.image 0xC000 (code_bytes (start_code (mailbox_layout p.n))) (code_bytes (LdaaExtended 0x1028 ∷ turn_code p.n)) h
+
+pub has_turn : (p : Post) → HasBytes p.image 0xC000 (code_bytes (mailbox_code (mailbox_layout p.n) p.n)) → HasTurn p
+has_turn p h =
+    let few = p.few in
+    let h1 : HasBytes p.image 0xC008 (code_bytes (LdaaExtended 0x1028 ∷ turn_code p.n)) =
+    bytes_back p.image 0xC000 (code_bytes (start_code (mailbox_layout p.n))) (code_bytes (LdaaExtended 0x1028 ∷ turn_code p.n)) h in
+    let h2 : HasBytes p.image 0xC00B (code_bytes (turn_code p.n)) = bytes_back p.image 0xC008 (encode_of (LdaaExtended 0x1028)) (code_bytes (turn_code p.n)) h1 in
+    let size : sizes (turn_code p.n) ≡ 15 + 6 * p.n =
+    omega (arith, sizes_append (copy_code 0x1020 0x1001 p.n) (call_code (mailbox_layout p.n) p.n), sizes_is (copy_code 0x1020 0x1001 p.n), code_size-copy 0x1020 0x1001 p.n) in
+    record {
+      look = decode_here p.image 0xC008 (LdaaExtended 0x1028) tt (omega arith) (bytes_front p.image 0xC008 (encode_of (LdaaExtended 0x1028)) (code_bytes (turn_code p.n)) h1);
+      rest = stands_of (free_ctx p) 0xC00B (turn_code p.n) (used_turn p.n p.few) h2 (omega arith) (omega arith) (omega arith);
+    }
+
+-- the call and the way back
+stands_back : (c : Ctx) (p : ℕ) (xs ys : List Instr) → Stands c p (xs ++ ys) → Stands c (p + sizes xs) ys
+stands_back c p [] ys h = subst (λ (q : ℕ). Stands c q ys) (omega arith) h
+stands_back c p (x ∷ xs) ys h =
+    subst (λ (q : ℕ). Stands c q ys) (omega arith) (stands_back c (p + length (encode_of x)) xs ys h.1)
+
+here_too : (p : Post) (at q : ℕ) (i : Instr) → at ≡ q → Here (free_ctx p) at i → Here (post_ctx p) q i
+here_too p at q i e h =
+    let again : Here (post_ctx p) at i = record { low = h.low; high = h.high; off = h.off; fits = h.fits; decoded = h.decoded } in
+    subst (λ (k : ℕ). Here (post_ctx p) k i) e again
+
+pub record HasCall (p : Post) : Type 0 where
+  pub call : Here (post_ctx p) (0xC014 + 6 * p.n) (JsrExtended (0xC01A + 6 * p.n))
+  pub back : Here (post_ctx p) (0xC017 + 6 * p.n) (Bra (239 - 6 * p.n))
+
+pub has_call : (p : Post) → HasTurn p → HasCall p
+has_call p h =
+    let size : sizes (copy_code 0x1020 0x1001 p.n) ≡ 6 * p.n = sizes_is (copy_code 0x1020 0x1001 p.n) ∙ code_size-copy 0x1020 0x1001 p.n in
+    let k = stands_back (free_ctx p) 0xC00F (copy_code 0x1020 0x1001 p.n) (call_code (mailbox_layout p.n) p.n) h.rest.1.1 in
+    record {
+      call = here_too p (0xC00F + sizes (copy_code 0x1020 0x1001 p.n) + 3 + 2) (0xC014 + 6 * p.n) (JsrExtended (0xC01A + 6 * p.n)) (omega arith) k.1.1.0;
+      back = here_too p (0xC00F + sizes (copy_code 0x1020 0x1001 p.n) + 3 + 2 + 3) (0xC017 + 6 * p.n) (Bra (239 - 6 * p.n)) (omega arith) k.1.1.1.0;
+    }

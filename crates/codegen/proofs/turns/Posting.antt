@@ -1,0 +1,70 @@
+-- What the turns of the mailbox form are under.
+use Rattle.std.proofs.Common.{◌≡◌, ◌⊎◌, inl, inr, ℕ, ◌+◌, ◌*◌, ◌^◌, ◌<◌, ◌≤◌, Bool, false, Ok, List, ◌∷◌, ◌++◌, arith}
+use Rattle.std.proofs.lemmas.Bool.Decides.{nat_tests}
+use Rattle.cpu12_isa.specs.declared.instr.Instr.TheVariants.{LdaaExtended, Beq, Orcc}
+use Rattle.cpu12_isa.specs.Code.{decode_at}
+use Rattle.cpu12_isa.specs.Fits.{StaysFit}
+use Rattle.cpu12_isa.specs.Regions.{is_free}
+use Rattle.cpu12_parts.specs.State.{State}
+use Rattle.codegen.specs.Evaluation.{Reads, Writes}
+use Rattle.codegen.specs.Interruptible.{IsSteady}
+use Rattle.codegen.specs.Mailboxes.{is_postable, mailbox_layout, copy_code, call_code}
+use Rattle.codegen.specs.Turns.{IsAt}
+use Rattle.codegen.proofs.runs.Stepping.{IsShut, Ctx, Lives, Stands, steady_of}
+
+-- the number of inputs, the image's memory and the open flags
+pub record Post : Type 0 where
+  pub stays_fit : StaysFit
+  pub n : ℕ
+  pub few : n ≤ 8
+  pub image : List ℕ
+  pub flags : ℕ
+  pub fits : flags < 2 ^ 8
+
+pub free_shut : (n : ℕ) → IsShut is_free (mailbox_layout n)
+free_shut n = record {
+  reads = λ at low r. grind (arith, nat_tests);
+  writes = λ at low w. grind (arith, nat_tests);
+  high = λ at h. grind (arith, nat_tests);
+}
+
+-- what EVAL owns below FREE is not the mailbox
+below_mail : (at : ℕ) → at < 0x1800 → (at < 0x1020) ⊎ (0x1029 ≤ at) → is_postable at ≡ false
+below_mail at low (inl h) = grind (arith, nat_tests)
+below_mail at low (inr h) = grind (arith, nat_tests)
+
+read_below : (n at : ℕ) → at < 0x1800 → Reads (mailbox_layout n) at → is_postable at ≡ false
+read_below n at low (inl o) = below_mail at low (inl (omega (arith, o.1)))
+read_below n at low (inr (inl o)) = below_mail at low (inr (omega (arith, o.0)))
+read_below n at low (inr (inr (inl o))) = absurd (omega (arith, o.0))
+read_below n at low (inr (inr (inr (inl o)))) = absurd (omega (arith, o.0))
+read_below n at low (inr (inr (inr (inr (inl o))))) = absurd (omega (arith, o.0))
+read_below n at low (inr (inr (inr (inr (inr (inl o)))))) = absurd (omega (arith, o.0))
+read_below n at low (inr (inr (inr (inr (inr (inr o)))))) = absurd o
+
+written_below : (n at : ℕ) → at < 0x1800 → Writes (mailbox_layout n) at → is_postable at ≡ false
+written_below n at low (inl o) = below_mail at low (inl (omega (arith, o.1)))
+written_below n at low (inr (inl o)) = below_mail at low (inr (omega (arith, o.0)))
+written_below n at low (inr (inr o)) = absurd o
+
+pub postable_shut : (n : ℕ) → IsShut is_postable (mailbox_layout n)
+postable_shut n = record { reads = read_below n; writes = written_below n; high = λ at h. grind (arith, nat_tests) }
+
+-- up to the copy's end the free bytes are open, from there on the mailbox too
+abbrev pub free_ctx : Post → Ctx
+free_ctx p = record { stays_fit = p.stays_fit; open_to = is_free; layout = mailbox_layout p.n; shut = free_shut p.n; image = p.image; flags = p.flags; fits = p.fits }
+
+abbrev pub post_ctx : Post → Ctx
+post_ctx p = record { stays_fit = p.stays_fit; open_to = is_postable; layout = mailbox_layout p.n; shut = postable_shut p.n; image = p.image; flags = p.flags; fits = p.fits }
+
+-- the code of a turn stands
+pub record HasTurn (p : Post) : Type 0 where
+  pub look : decode_at p.image 0xC008 ≡ Ok (LdaaExtended 0x1028)
+  pub rest : Stands (free_ctx p) 0xC00B (Beq 0xFB ∷ Orcc 0x10 ∷ (copy_code 0x1020 0x1001 p.n ++ call_code (mailbox_layout p.n) p.n))
+
+-- what a state keeps
+pub lives_of : (open_to : ℕ → Bool) (masked : Bool) (image : List ℕ) (s : State) → IsSteady open_to masked image s → Lives image masked s
+lives_of open_to masked image s h = record { temps = h.temps; size = h.size; bytes = h.bytes; fits = h.fits; stack = h.stack; mask = h.mask; same = h.same }
+
+pub at_of : (p : Post) (pc : ℕ) (s : State) → Lives p.image false s → s.regs.pc ≡ pc → 0x2000 ≤ pc → pc + 6 < 65536 → s.regs.sp ≡ 0x2000 → IsAt p.image pc s
+at_of p pc s l e lo hi sp = record { steady = steady_of (post_ctx p) false s l (omega arith) (omega arith); pc = e; sp = sp }

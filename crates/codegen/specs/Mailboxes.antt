@@ -1,0 +1,60 @@
+-- The mailbox form of a firmware: an interrupt posts a sample whenever it comes, and the code copies it while I is 1.
+use Rattle.std.specs.Prelude.{◌≡◌, ℕ, zero, suc, ◌+◌, ◌-◌, ◌*◌, nat_le, nat_lt, ◌&&◌, ◌||◌, Bool, List, [], ◌∷◌, ◌++◌, length}
+use Rattle.fuzzy_meaning.specs.declared.block.Block.{Block}
+use Rattle.cpu12_isa.specs.declared.instr.Instr.{Instr}
+use Rattle.cpu12_isa.specs.declared.instr.Instr.TheVariants.{LdaaExtended, LdsImmediate, ClrExtended, Beq, Bra, JsrExtended, Rts, Andcc, Orcc, Rti, MovbExtended}
+use Rattle.cpu12_isa.specs.Regions.{is_free}
+use Rattle.cpu12_asm.specs.declared.items.Item.{Item}
+use Rattle.codegen.specs.declared.firmware.Firmware.{Firmware}
+use Rattle.codegen.specs.declared.layout.Layout.{Layout}
+use Rattle.codegen.specs.declared.width.Width.{Width}
+use Rattle.codegen.specs.Layouts.{main_layout}
+use Rattle.codegen.specs.Widths.{width_of}
+use Rattle.codegen.specs.Images.{vector_items, block_items, IsImageOf}
+use Rattle.codegen.specs.Bounds.{instruction_bound, steps_by}
+
+-- the mailbox: MAIL, $1020 to $1027, where a handler puts a sample's bytes, and POSTED, $1028, which it sets
+abbrev pub is_mail : ℕ → Bool
+is_mail at = nat_le 0x1020 at && nat_lt at 0x1029
+
+-- what is open to a handler that posts samples
+abbrev pub is_postable : ℕ → Bool
+is_postable at = is_free at || is_mail at
+
+-- the layout of a block with n inputs: its code has a copy of six bytes for each
+abbrev pub mailbox_layout : ℕ → Layout
+mailbox_layout n = record main_layout { interrupt = 0xC019 + 6 * n; eval = 0xC01A + 6 * n; ready = 0x1028; samples = 0x1020 }
+
+-- the copy of n bytes, from the one address on to the other
+abbrev pub copy_code : ℕ → ℕ → ℕ → List Instr
+copy_code from to zero = []
+copy_code from to (suc n) = MovbExtended from to ∷ copy_code (from + 1) (to + 1) n
+
+-- POSTED is cleared, interrupts are let in, EVAL is called, and the code waits again; an interrupt returns at once
+abbrev pub call_code : Layout → ℕ → List Instr
+call_code l n = ClrExtended l.ready ∷ Andcc 0xEF ∷ JsrExtended l.eval ∷ Bra (239 - 6 * n) ∷ Rti ∷ []
+
+-- the code before EVAL: the stack is set up, POSTED cleared and interrupts let in; then, wherever POSTED is not 0, interrupts are
+-- kept out, and MAIL is copied to the inputs
+abbrev pub mailbox_code : Layout → ℕ → List Instr
+mailbox_code l n =
+    LdsImmediate 0x2000 ∷ ClrExtended l.ready ∷ Andcc 0xEF
+    ∷ LdaaExtended l.ready ∷ Beq 0xFB ∷ Orcc 0x10
+    ∷ (copy_code l.samples l.inputs n ++ call_code l n)
+
+-- code, tables, singletons, weights, rule list and vectors, and nothing else
+abbrev pub mailbox_items : Layout → Block → Width → List Item
+mailbox_items l b w = block_items l b w (mailbox_code l (length b.inputs)) (Rts ∷ []) ++ vector_items l
+
+-- ORCC and the copies take these instructions more than the frame of a firmware that stands alone
+abbrev pub mailbox_bound : Width → Block → ℕ
+mailbox_bound w b = instruction_bound w b + length b.inputs + 2
+
+-- a firmware is a block's in the mailbox form
+pub record IsMailboxOf (b : Block) (f : Firmware) : Type 0 where
+  pub image : IsImageOf (mailbox_items (mailbox_layout (length b.inputs)) b (width_of f.wide)) f.image
+  pub layout : f.layout ≡ mailbox_layout (length b.inputs)
+  pub inputs : f.inputs ≡ length b.inputs
+  pub outputs : f.outputs ≡ length b.outputs
+  pub instructions : f.instr_bound ≡ mailbox_bound (width_of f.wide) b
+  pub steps : f.step_bound ≡ steps_by b (mailbox_bound (width_of f.wide) b)
