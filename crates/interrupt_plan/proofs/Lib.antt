@@ -2,3 +2,4 @@ pub mod Instances
 pub mod PlanLemmas
 pub mod PairLemmas
 pub mod ApartLemmas
+pub mod UpsetLemmas

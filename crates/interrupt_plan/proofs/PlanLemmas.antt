@@ -135,13 +135,13 @@ good_request fields r spelled free = record {
   free = free;
 }
 
-last_at : (rs : List Request) (n : ℕ) (r : Request) → length rs ≡ suc n → Some r ≡ slice_get rs n → rs ≡ take n rs ++ r ∷ []
+last_at : {X : Type 0} (rs : List X) (n : ℕ) (r : X) → length rs ≡ suc n → Some r ≡ slice_get rs n → rs ≡ take n rs ++ r ∷ []
 last_at [] n r count is = absurd (omega arith)
-last_at (x ∷ []) zero r count is = let e : x ≡ r = cc in ap (λ (y : Request). y ∷ []) e
+last_at {X} (x ∷ []) zero r count is = let e : x ≡ r = cc in ap (λ (y : X). y ∷ []) e
 last_at (x ∷ y ∷ rs) zero r count is = absurd (omega arith)
-last_at (x ∷ rs) (suc n) r count is = ap (λ (l : List Request). x ∷ l) (last_at rs n r (omega arith) is)
+last_at {X} (x ∷ rs) (suc n) r count is = ap (λ (l : List X). x ∷ l) (last_at rs n r (omega arith) is)
 
-pub last_is : (rs : List Request) (r : Request) → Some r ≡ slice_get rs (length rs - 1) → rs ≡ take (length rs - 1) rs ++ r ∷ []
+pub last_is : {X : Type 0} (rs : List X) (r : X) → Some r ≡ slice_get rs (length rs - 1) → rs ≡ take (length rs - 1) rs ++ r ∷ []
 last_is [] r is = cc
 last_is (x ∷ rs) r is = last_at (x ∷ rs) (length (x ∷ rs) - 1) r (omega arith) is
 
@@ -165,21 +165,29 @@ spell-snoc [] (x ∷ rs) row r so_far here = absurd so_far
 spell-snoc (x ∷ rows) [] row r so_far here = absurd so_far
 spell-snoc (x ∷ rows) (y ∷ rs) row r so_far here = (so_far.0, spell-snoc rows rs row r so_far.1 here)
 
-module _ (rows : List Row) (i : ℕ) (row : Row) (lt : i < length rows) (is : row ≡ get_or rows i row) (rs : List Request)
-    (so_far : SpellRequests (map fields_of (take i rows)) rs) (good : IsGood rs) where
-  fields_more : map fields_of (take (i + 1) rows) ≡ map fields_of (take i rows) ++ fields_of row ∷ []
+-- ---- the fields of the rows so far, of one row more, and of those behind
+
+module _ (rows : List Row) (i : ℕ) (row : Row) (lt : i < length rows) (is : row ≡ get_or rows i row) where
+  pub fields_more : map fields_of (take (i + 1) rows) ≡ map fields_of (take i rows) ++ fields_of row ∷ []
   fields_more = ap (map fields_of) (take_more rows i row lt ∙ ap (λ (r : Row). take i rows ++ r ∷ []) (sym is)) ∙ map-append fields_of (take i rows) (row ∷ [])
 
-  fields_split : map fields_of rows ≡ map fields_of (take i rows) ++ fields_of row ∷ map fields_of (drop (suc i) rows)
+  pub fields_split : map fields_of rows ≡ map fields_of (take i rows) ++ fields_of row ∷ map fields_of (drop (suc i) rows)
   fields_split = ap (map fields_of) (split_at rows i row lt ∙ ap (λ (r : Row). take i rows ++ r ∷ drop (suc i) rows) (sym is))
       ∙ map-append fields_of (take i rows) (row ∷ drop (suc i) rows)
 
+  pub length-fields : length (map fields_of (take i rows)) ≡ i
+  length-fields = rw length-map (length-take-le i rows (omega arith))
+
+-- ---- one request more
+
+module _ (rows : List Row) (i : ℕ) (row : Row) (lt : i < length rows) (is : row ≡ get_or rows i row) (rs : List Request)
+    (so_far : SpellRequests (map fields_of (take i rows)) rs) (good : IsGood rs) where
   size : length (map fields_of (take i rows)) ≡ i
-  size = rw length-map (length-take-le i rows (omega arith))
+  size = length-fields rows i row lt is
 
   pub requests_more : (r : Request) (rs' : List Request) → SpellsRequest (fields_of row) r → rs' ≡ rs ++ r ∷ []
       → SpellRequests (map fields_of (take (i + 1) rows)) rs'
-  requests_more r rs' here added = rw (fields_more, added) (spell-snoc (map fields_of (take i rows)) rs (fields_of row) r so_far here)
+  requests_more r rs' here added = rw (fields_more rows i row lt is, added) (spell-snoc (map fields_of (take i rows)) rs (fields_of row) r so_far here)
 
   pub good_more : (r : Request) (rs' : List Request) → IsGoodRequest r
       → ((front : List Request) (last : Request) → rs ≡ front ++ last ∷ [] → NotAfter last r) → i < 10000 → rs' ≡ rs ++ r ∷ [] → IsGood rs'
@@ -194,8 +202,8 @@ module _ (rows : List Row) (i : ℕ) (row : Row) (lt : i < length rows) (is : ro
   pub fault_at : (fault : PlanFault) (n : ℕ) → n ≡ i + 1 → i < 10000 → RowFails rs n (fields_of row) fault → FirstFault (map fields_of rows) fault
   fault_at fault n number few fails =
       let at : n ≡ length (map fields_of (take i rows)) + 1 = omega (arith, number, size) in
-      at_row (map fields_of (take i rows)) (fields_of row) (map fields_of (drop (suc i) rows)) rs fault fields_split (omega (arith, size)) so_far good
+      at_row (map fields_of (take i rows)) (fields_of row) (map fields_of (drop (suc i) rows)) rs fault (fields_split rows i row lt is) (omega (arith, size)) so_far good
       (subst (λ (k : ℕ). RowFails rs k (fields_of row) fault) at fails)
 
   pub too_many : i ≡ 10000 → FirstFault (map fields_of rows) TooMany
-  too_many many = more (map fields_of (take i rows)) (fields_of row) (map fields_of (drop (suc i) rows)) rs fields_split (size ∙ many) so_far good
+  too_many many = more (map fields_of (take i rows)) (fields_of row) (map fields_of (drop (suc i) rows)) rs (fields_split rows i row lt is) (size ∙ many) so_far good

@@ -1,3 +1,5 @@
 pub mod Plans
 pub mod PlanTexts
 pub mod OneReading
+pub mod Upsets
+pub mod UpsetTexts

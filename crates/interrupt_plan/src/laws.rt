@@ -1,9 +1,17 @@
 //! Laws of plans, each the contract of a function that does nothing.
 ghost use Rattle.interrupt_plan.specs.OneReading.{SpelledPlansHaveNoFault};
+ghost use Rattle.interrupt_plan.specs.UpsetTexts.{SpelledUpsetsHaveNoFault};
 
 /// A text that spells a plan has no fault.
 pub fn spelled_plans_have_no_fault()
     ensures { SpelledPlansHaveNoFault }
+{
+    fz_rows::first_rows_are_one();
+}
+
+/// A text that spells upsets of an image has no fault for it.
+pub fn spelled_upsets_have_no_fault()
+    ensures { SpelledUpsetsHaveNoFault }
 {
     fz_rows::first_rows_are_one();
 }

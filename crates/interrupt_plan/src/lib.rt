@@ -5,6 +5,9 @@
 //! its moment where interrupts are allowed. A good plan writes only bytes that the firmware
 //! leaves free, and its requests ascend. [`read_plan`] answers exactly the plan that the rows of a
 //! text spell, which is good, or the fault of the first row that fails.
+//!
+//! [`read_upsets`] reads in the same way which byte of a firmware's tables holds another value while
+//! a sample is answered: a list of [`Upset`]s, one at most for each sample.
 #![tactic(auto)]
 
 ghost use Rattle.std.specs.Prelude.{◌≡◌, []};
@@ -18,9 +21,11 @@ use thiserror::Error;
 mod laws;
 mod reader;
 mod row;
+mod upsets;
 
-pub use laws::spelled_plans_have_no_fault;
+pub use laws::{spelled_plans_have_no_fault, spelled_upsets_have_no_fault};
 pub use reader::read_plan;
+pub use upsets::{Upset, UpsetFault, Upsets, read_upsets};
 
 /// An interrupt that is asked for.
 #[derive(Drop)]

@@ -48,7 +48,7 @@ fn value_of(digits: &[u8]) -> u32
 }
 
 /// The number of a field of one to nine digits.
-fn count_in(field: &[u8]) -> Option<u32>
+pub(crate) fn count_in(field: &[u8]) -> Option<u32>
     ensures { result ≡ count_of field.now }
 {
     if field.len() <= MOST_DIGITS && !field.is_empty() && has_digits_only(field) {
@@ -79,7 +79,7 @@ fn byte_in(field: &[u8]) -> Option<u8>
 }
 
 /// The write of an address and a value.
-fn write_in(address: &[u8], value: &[u8]) -> Option<Write>
+pub(crate) fn write_in(address: &[u8], value: &[u8]) -> Option<Write>
     ensures { result ≡ write_of address.now value.now }
 {
     let at = word_in(address)?;
@@ -88,7 +88,7 @@ fn write_in(address: &[u8], value: &[u8]) -> Option<Write>
 }
 
 /// A row's field.
-fn field_at(row: &ByteRecord, at: usize) -> &[u8]
+pub(crate) fn field_at(row: &ByteRecord, at: usize) -> &[u8]
     requires { at < length (fields_of row.now) }
     ensures { slice_index_or (fields_of row.now) at [] ≡ result.now }
 {

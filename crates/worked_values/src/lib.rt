@@ -43,3 +43,5 @@ mod records;
 mod runs;
 #[cfg(test)]
 mod sources;
+#[cfg(test)]
+mod upsets;
