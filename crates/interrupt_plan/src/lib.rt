@@ -21,6 +21,7 @@ mod row;
 
 pub use laws::spelled_plans_have_no_fault;
 pub use reader::read_plan;
+pub use row::{count_in, word_in};
 
 /// An interrupt that is asked for.
 #[derive(Drop)]
