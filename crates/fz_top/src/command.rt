@@ -15,6 +15,7 @@ use crate::asm;
 use crate::certify::{self, Certify};
 use crate::check::{self, Check};
 use crate::compile::{self, Compile};
+use crate::debug::{self, DebugRun};
 use crate::exec::{self, Exec};
 use crate::reading::content;
 use crate::run::{self, Run};
@@ -34,13 +35,14 @@ pub(crate) enum Name {
     Check16,
     Compile,
     Compile16,
+    Debug,
     Exec,
     Run,
     Run16,
 }
 
 /// The commands by their names on the command line, each with the number of words that follow.
-static COMMANDS: [(&str, usize, Name); 10] = [
+static COMMANDS: [(&str, usize, Name); 11] = [
     ("asm", 2, Name::Asm),
     ("certify", 3, Name::Certify),
     ("certify16", 3, Name::Certify16),
@@ -48,6 +50,7 @@ static COMMANDS: [(&str, usize, Name); 10] = [
     ("check16", 2, Name::Check16),
     ("compile", 2, Name::Compile),
     ("compile16", 2, Name::Compile16),
+    ("debug", 6, Name::Debug),
     ("exec", 3, Name::Exec),
     ("run", 6, Name::Run),
     ("run16", 6, Name::Run16),
@@ -64,6 +67,8 @@ pub enum Command {
     Check(Check),
     /// `compile FCL OUT`, and `compile16 FCL OUT`
     Compile(Compile),
+    /// `debug FCL IMAGE TRACE PLAN FLAGS SCRIPT`
+    Debug(DebugRun),
     /// `exec IMAGE STEPS FLAGS`
     Exec(Exec),
     /// `run FCL IMAGE CERT TRACE PLAN FLAGS`, and `run16 ..`
@@ -83,6 +88,7 @@ fn formed(name: Name, words: &[String]) -> Option<Command>
         Name::Check16 => Some(Command::Check(Check { width: Width::Word })),
         Name::Compile => Some(Command::Compile(Compile { width: Width::Byte })),
         Name::Compile16 => Some(Command::Compile(Compile { width: Width::Word })),
+        Name::Debug => DebugRun::of(words).map(Command::Debug),
         Name::Exec => Exec::of(words).map(Command::Exec),
         Name::Run => Run::of(Width::Byte, words).map(Command::Run),
         Name::Run16 => Run::of(Width::Word, words).map(Command::Run),
@@ -100,6 +106,7 @@ impl Command {
             Command::Certify(_) => certify::INPUTS.as_slice(),
             Command::Check(_) => check::INPUTS.as_slice(),
             Command::Compile(_) => compile::INPUTS.as_slice(),
+            Command::Debug(_) => debug::INPUTS.as_slice(),
             Command::Exec(_) => exec::INPUTS.as_slice(),
             Command::Run(_) => run::INPUTS.as_slice(),
         }
@@ -116,6 +123,7 @@ impl Command {
             Command::Certify(certify) => certify.work(alloc, content(contents, 0)),
             Command::Check(check) => check.work(alloc, content(contents, 0), content(contents, 1)),
             Command::Compile(compile) => compile.work(alloc, content(contents, 0)),
+            Command::Debug(debug) => debug.work(alloc, contents),
             Command::Exec(exec) => exec.work(alloc, content(contents, 0)),
             Command::Run(run) => run.work(alloc, contents),
         }
