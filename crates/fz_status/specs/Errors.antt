@@ -25,6 +25,7 @@ error_line_of words (status.TooLong p) = with_name (codes "too long: ") (word_at
 error_line_of words (status.Asm f) = asm_line f
 error_line_of words (status.Trap pc byte) = trap_line pc byte
 error_line_of words (status.Budget steps) = with_number (codes "budget: ") steps []
+error_line_of words (status.Script line) = with_number (codes "script: line ") line []
 
 -- a text is put: from what the sink told, its faults and its soundness before to those after
 pub record Puts {E : Type 0} (text : List ℕ) (told told' : Option Taken) (faults faults' : ℕ) (sound sound' : Type 0)

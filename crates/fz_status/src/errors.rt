@@ -60,6 +60,7 @@ fn put_line<F: Sink>(err: &mut F, words: &[String], status: &Status) -> Result<(
             ],
         ),
         Status::Budget(steps) => put_number(err, b"budget: ", *steps, b""),
+        Status::Script(line) => put_number(err, b"script: line ", *line, b""),
     }
 }
 

@@ -45,6 +45,8 @@ pub enum Status {
     Trap(u16, u8),
     /// So many steps were taken without arriving.
     Budget(u32),
+    /// That line of the script is of no form.
+    Script(u32),
 }
 
 /// Why a text gives no firmware. It never carries want of memory.
@@ -101,6 +103,7 @@ impl Status {
             Status::Asm(_) => 11,
             Status::Trap(_, _) => 12,
             Status::Budget(_) => 13,
+            Status::Script(_) => 15,
         }
     }
 }

@@ -34,6 +34,7 @@ use Rattle.interrupt_plan.specs.OneReading.{SpelledPlansHaveNoFault}
 use Rattle.fz_top.specs.Images.{RefusesImage, RefusesRecords}
 use Rattle.codegen.specs.declared.width.Width.{Width}
 use Rattle.codegen.specs.declared.width.Width.TheVariants.{Byte}
+use Rattle.debug_script.specs.Scripts.{script_of}
 use Rattle.cert_check.specs.Laws.{TextAnswersAreOne}
 use Rattle.cert_check.specs.SameBlocks.{SameBlocksAnswerAlike}
 use Rattle.box_tree.specs.declared.cert.Cert.{Cert}
@@ -52,6 +53,8 @@ use Rattle.fz_top.specs.Firmwares.{GivesFirmware, RefusesText, text_refusals}
 use Rattle.fz_top.specs.CertifiedRun.{CertifiedRun, Files, Report}
 use Rattle.fz_top.specs.Run.{run_refusals}
 use Rattle.fz_top.specs.declared.run.Run.{Run}
+use Rattle.fz_top.specs.Debug.{DebugFiles, DebugGives, debug_refusals}
+use Rattle.fz_top.specs.declared.debug.DebugRun.{DebugRun}
 use Rattle.fz_top.specs.Deeds.{Deed}
 use Rattle.fz_status.specs.Refusals.{CarriesNoMemory, Refusals, Refuses}
 use Rattle.fz_top.specs.Runs.{DeedsHaveNoFault, Runs, World}
@@ -129,6 +132,24 @@ module _ (first : FirstFaultsAreOne) (load : LoadFaultsAreOne) (alike : SpelledB
       plans files.plan c.plan f c.good_plan refuses.5
   run_stands run files report c s is = is.1
 
+  debug_stands : (debug : DebugRun) (files : DebugFiles) (deed : Deed) → DebugGives debug files deed
+      → NoneRefuses (debug_refusals debug files)
+  debug_stands debug files deed g (status.Fcl f) is =
+      text_apart files.fcl g.block g.accepts.compiled.spelled g.accepts.compiled.limits f is.0 is.1
+  debug_stands debug files deed g (status.Image f) (carries, (other, others, gives, refuses)) =
+      image_apart Byte files.fcl files.image g.block g.firmware g.accepts.compiled g.accepts.image f carries other others gives refuses
+  debug_stands debug files deed g (status.Trace f) (carries, (other, others, gives, refuses)) =
+      let same = alike files.fcl other g.block gives.spelled g.accepts.compiled.spelled in
+      traces other.inputs files.trace g.samples f
+      (subst (λ (is : List Input). Spells is files.trace g.samples) (sym same.inputs) g.accepts.in_range) refuses.1
+  debug_stands debug files deed g (status.Plan f) (carries, (other, others, gives, refuses)) =
+      plans files.plan g.plan f g.accepts.good_plan refuses.3
+  debug_stands debug files deed g (status.Script n) (carries, (other, others, gives, refuses)) =
+      let yes = g.accepts.spelled in
+      let no : script_of files.script ≡ Err n = refuses.5 in
+      cc
+  debug_stands debug files deed g s is = is.1
+
   check_stands : (width : Width) (text cert errors : List ℕ) (block : Block) → SpellsBlock text block
       → IsWithinLimits block
       → AcceptsCert width block cert errors → NoneRefuses (check_refusals (check_in width) text cert)
@@ -205,6 +226,7 @@ module _ (first : FirstFaultsAreOne) (load : LoadFaultsAreOne) (alike : SpelledB
       check_stands check.width _ _ makes.errors makes.block makes.gives.spelled makes.gives.limits makes.accepts s fault
   apart (command.Compile compile) contents deed s makes fault =
       text_stands _ makes.block makes.gives.spelled makes.gives.limits s fault
+  apart (command.Debug debug) contents deed s makes fault = debug_stands debug _ deed makes s fault
   apart (command.Exec exec) contents deed s makes fault = exec_stands exec _ deed makes s fault
   apart (command.Generate generate) contents deed s makes fault = generate_stands generate.number deed makes s fault
   apart (command.Run run) contents deed s makes fault = run_stands run _ makes.report makes.certified s fault
@@ -218,6 +240,7 @@ faults_carry command.Asm contents s makes = makes.0
 faults_carry (command.Certify certify) contents s makes = makes.0
 faults_carry (command.Check check) contents s makes = makes.0
 faults_carry (command.Compile compile) contents s makes = makes.0
+faults_carry (command.Debug debug) contents s makes = makes.0
 faults_carry (command.Exec exec) contents s makes = makes.0
 faults_carry (command.Generate generate) contents s makes = makes.0
 faults_carry (command.Run run) contents s makes = makes.0

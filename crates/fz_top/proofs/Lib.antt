@@ -8,3 +8,4 @@ pub mod StatusLemmas
 pub mod NumberLemmas
 pub mod CertLemmas
 pub mod SumLemmas
+pub mod DebugLemmas

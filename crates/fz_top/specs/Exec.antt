@@ -1,5 +1,5 @@
 -- The command `exec IMAGE STEPS FLAGS`.
-use Rattle.std.specs.Prelude.{◌≡◌, ℕ, List, [], ◌∷◌, ◌++◌, codes}
+use Rattle.std.specs.Prelude.{◌≡◌, ℕ, List, [], ◌∷◌, codes}
 use Rattle.std.specs.Prelude.{Option, Some, None, option_and_then, option_map, Result, Ok, Err}
 use Rattle.cpu12_asm.specs.declared.image.Image.{Image}
 use Rattle.cpu12_isa.specs.declared.instr.Regs.{Regs}
@@ -10,10 +10,9 @@ use Rattle.cpu12_emul.specs.Step.{reset_with}
 use Rattle.cpu12_emul.specs.declared.ends.RunEnd.{RunEnd}
 use Rattle.cpu12_emul.specs.declared.ends.RunEnd.TheVariants as end
 use Rattle.srecord.specs.Texts.{GivesImage}
-use Rattle.fz_shelf.specs.Parts.{address_digits, byte_digits}
 use Rattle.fz_top.specs.Deeds.{Deed}
 use Rattle.fz_top.specs.Images.{records_refusals}
-use Rattle.fz_top.specs.Lines.{line}
+use Rattle.fz_top.specs.Lines.{line, with_registers}
 use Rattle.fz_status.specs.Refusals.{Refusals, Refuses}
 use Rattle.fz_status.specs.Words.{Text, word_at}
 use Rattle.fz_top.specs.Words.{flags_of, number_of}
@@ -36,11 +35,7 @@ exec_inputs = 2 ∷ []
 -- ---- its line: the registers, and how many steps led to them
 
 abbrev pub exec_line : Regs → ℕ → List ℕ
-exec_line r steps =
-    codes "pc " ++ (address_digits r.pc ++ (codes " a " ++ (byte_digits r.a ++ (codes " b " ++ (byte_digits r.b
-    ++ (codes " x " ++ (address_digits r.x ++ (codes " y " ++ (address_digits r.y
-    ++ (codes " sp " ++ (address_digits r.sp ++ (codes " ccr " ++ (byte_digits r.ccr.0
-    ++ line (codes " steps ") steps)))))))))))))
+exec_line r steps = with_registers r (line (codes " steps ") steps)
 
 -- ---- what it makes of its file
 

@@ -7,6 +7,7 @@ pub mod Check
 pub mod Commands
 pub mod Compile
 pub mod Contents
+pub mod Debug
 pub mod Deeds
 pub mod Exec
 pub mod Firmwares

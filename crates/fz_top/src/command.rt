@@ -15,6 +15,7 @@ use crate::asm;
 use crate::certify::{self, Certify};
 use crate::check::{self, Check};
 use crate::compile::{self, Compile};
+use crate::debug::{self, DebugRun};
 use crate::exec::{self, Exec};
 use crate::generate::{self, Generate};
 use crate::reading::content;
@@ -35,6 +36,7 @@ pub(crate) enum Name {
     Check16,
     Compile,
     Compile16,
+    Debug,
     Exec,
     Generate,
     Run,
@@ -42,7 +44,7 @@ pub(crate) enum Name {
 }
 
 /// The commands by their names on the command line, each with the number of words that follow.
-static COMMANDS: [(&str, usize, Name); 11] = [
+static COMMANDS: [(&str, usize, Name); 12] = [
     ("asm", 2, Name::Asm),
     ("certify", 3, Name::Certify),
     ("certify16", 3, Name::Certify16),
@@ -50,6 +52,7 @@ static COMMANDS: [(&str, usize, Name); 11] = [
     ("check16", 2, Name::Check16),
     ("compile", 2, Name::Compile),
     ("compile16", 2, Name::Compile16),
+    ("debug", 6, Name::Debug),
     ("exec", 3, Name::Exec),
     ("gen", 1, Name::Generate),
     ("run", 6, Name::Run),
@@ -67,6 +70,8 @@ pub enum Command {
     Check(Check),
     /// `compile FCL OUT`, and `compile16 FCL OUT`
     Compile(Compile),
+    /// `debug FCL IMAGE TRACE PLAN FLAGS SCRIPT`
+    Debug(DebugRun),
     /// `exec IMAGE STEPS FLAGS`
     Exec(Exec),
     /// `gen NUMBER`
@@ -88,6 +93,7 @@ fn formed(name: Name, words: &[String]) -> Option<Command>
         Name::Check16 => Some(Command::Check(Check { width: Width::Word })),
         Name::Compile => Some(Command::Compile(Compile { width: Width::Byte })),
         Name::Compile16 => Some(Command::Compile(Compile { width: Width::Word })),
+        Name::Debug => DebugRun::of(words).map(Command::Debug),
         Name::Exec => Exec::of(words).map(Command::Exec),
         Name::Generate => Generate::of(words).map(Command::Generate),
         Name::Run => Run::of(Width::Byte, words).map(Command::Run),
@@ -106,6 +112,7 @@ impl Command {
             Command::Certify(_) => certify::INPUTS.as_slice(),
             Command::Check(_) => check::INPUTS.as_slice(),
             Command::Compile(_) => compile::INPUTS.as_slice(),
+            Command::Debug(_) => debug::INPUTS.as_slice(),
             Command::Exec(_) => exec::INPUTS.as_slice(),
             Command::Generate(_) => generate::INPUTS.as_slice(),
             Command::Run(_) => run::INPUTS.as_slice(),
@@ -123,6 +130,7 @@ impl Command {
             Command::Certify(certify) => certify.work(alloc, content(contents, 0)),
             Command::Check(check) => check.work(alloc, content(contents, 0), content(contents, 1)),
             Command::Compile(compile) => compile.work(alloc, content(contents, 0)),
+            Command::Debug(debug) => debug.work(alloc, contents),
             Command::Exec(exec) => exec.work(alloc, content(contents, 0)),
             Command::Generate(generate) => generate.work(alloc),
             Command::Run(run) => run.work(alloc, contents),

@@ -1,13 +1,12 @@
 //! The command `exec IMAGE STEPS FLAGS`.
-ghost use Rattle.std.specs.Prelude.{◌≡◌, ◌≤◌, ◌++◌, length, string_bytes, IfOk, OnOk};
+ghost use Rattle.std.specs.Prelude.{◌≡◌, ◌≤◌, length, string_bytes, IfOk};
 ghost use Rattle.fz_shelf.specs.Lines.{text_of};
-ghost use Rattle.fz_shelf.specs.Parts.{byte_digits};
 ghost use Rattle.fz_top.specs.Deeds.{IsResultOf};
 ghost use Rattle.fz_top.specs.Exec.{ExecMakes, exec_in, exec_line};
 ghost use Rattle.fz_status.specs.Words.{texts_of};
 
 use crate::images::image_of;
-use crate::lines::push_address;
+use crate::lines::{labelled, line_of_registers};
 use crate::words::{flags, number_in};
 use crate::work::Work;
 use cpu12_asm::Image;
@@ -17,7 +16,6 @@ use cpu12_isa::instr::Regs;
 use cpu12_isa::pages::PageMem;
 use fz_status::{Status, word};
 use std::alloc::{AllocError, Global};
-use std::fmt::Write;
 
 /// `exec IMAGE STEPS FLAGS`
 #[derive(Clone, Copy, Debug, PartialEq, Eq)]
@@ -72,28 +70,12 @@ impl Exec {
     }
 }
 
-fn push_byte(alloc: Global, text: &mut String, label: &str, byte: u8) -> Result<(), AllocError>
-    ensures { OnOk result (string_bytes text.new ≡ string_bytes text.old ++ (label.now ++ byte_digits byte)) }
-{
-    let digits = hex::encode_upper(alloc, &[byte])?;
-    text.push_str(label)?;
-    text.push_str(digits.as_str())
-}
-
 /// The line of registers, and of how many steps led to them.
 fn line_of(alloc: Global, regs: &Regs, steps: u32) -> Result<String, AllocError>
     ensures { IfOk result (λ s. string_bytes s ≡ exec_line regs.now steps) }
 {
-    let mut text = String::new(alloc);
-    push_address(alloc, &mut text, "pc ", regs.pc)?;
-    push_byte(alloc, &mut text, " a ", regs.a)?;
-    push_byte(alloc, &mut text, " b ", regs.b)?;
-    push_address(alloc, &mut text, " x ", regs.x)?;
-    push_address(alloc, &mut text, " y ", regs.y)?;
-    push_address(alloc, &mut text, " sp ", regs.sp)?;
-    push_byte(alloc, &mut text, " ccr ", regs.ccr.0)?;
-    write!(&mut text, " steps {steps}\n")?;
-    Ok(text)
+    let end = labelled(alloc, " steps ", u64::from(steps))?;
+    line_of_registers(alloc, regs, end.as_str())
 }
 
 fn lines(alloc: Global, regs: &Regs, steps: u32) -> Result<Vec<String>, AllocError>

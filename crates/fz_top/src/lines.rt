@@ -1,9 +1,10 @@
 //! Lines on out.
 ghost use Rattle.std.specs.Prelude.{◌≡◌, ◌++◌, IfOk, OnOk, string_bytes};
 ghost use Rattle.fz_shelf.specs.Lines.{text_of};
-ghost use Rattle.fz_shelf.specs.Parts.{address_digits};
-ghost use Rattle.fz_top.specs.Lines.{counted, error_line, line};
+ghost use Rattle.fz_shelf.specs.Parts.{address_digits, byte_digits};
+ghost use Rattle.fz_top.specs.Lines.{counted, error_line, line, with_registers};
 
+use cpu12_isa::instr::Regs;
 use std::alloc::{AllocError, Global};
 use std::fmt::Write;
 
@@ -50,4 +51,34 @@ pub(crate) fn push_address(
     let digits = hex::encode_upper(alloc, &[(address / 256) as u8, (address % 256) as u8])?;
     text.push_str(label)?;
     text.push_str(digits.as_str())
+}
+
+/// A label, and a byte as two hexadecimal digits.
+pub(crate) fn push_byte(
+    alloc: Global,
+    text: &mut String,
+    label: &str,
+    byte: u8,
+) -> Result<(), AllocError>
+    ensures { OnOk result (string_bytes text.new ≡ string_bytes text.old ++ (label.now ++ byte_digits byte)) }
+{
+    let digits = hex::encode_upper(alloc, &[byte])?;
+    text.push_str(label)?;
+    text.push_str(digits.as_str())
+}
+
+/// The line of registers, which ends like this.
+pub(crate) fn line_of_registers(alloc: Global, regs: &Regs, end: &str) -> Result<String, AllocError>
+    ensures { IfOk result (λ s. string_bytes s ≡ with_registers regs.now end.now) }
+{
+    let mut text = String::new(alloc);
+    push_address(alloc, &mut text, "pc ", regs.pc)?;
+    push_byte(alloc, &mut text, " a ", regs.a)?;
+    push_byte(alloc, &mut text, " b ", regs.b)?;
+    push_address(alloc, &mut text, " x ", regs.x)?;
+    push_address(alloc, &mut text, " y ", regs.y)?;
+    push_address(alloc, &mut text, " sp ", regs.sp)?;
+    push_byte(alloc, &mut text, " ccr ", regs.ccr.0)?;
+    text.push_str(end)?;
+    Ok(text)
 }

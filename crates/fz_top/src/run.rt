@@ -127,7 +127,7 @@ impl Run {
 }
 
 /// The samples that a trace spells for a block.
-fn samples_of(alloc: Global, block: &Block, text: &[u8]) -> Result<Vec<Sample>, Status>
+pub(crate) fn samples_of(alloc: Global, block: &Block, text: &[u8]) -> Result<Vec<Sample>, Status>
     requires block { IsValid block.now }
     requires text { length text.now ≤ 1048576 }
     ensures samples { IfOk result (λ samples. Spells block.now.inputs text.now samples.items) }
@@ -141,7 +141,7 @@ fn samples_of(alloc: Global, block: &Block, text: &[u8]) -> Result<Vec<Sample>, 
 }
 
 /// The plan that a text spells.
-fn plan_of(alloc: Global, text: &[u8]) -> Result<Plan, Status>
+pub(crate) fn plan_of(alloc: Global, text: &[u8]) -> Result<Plan, Status>
     requires { length text.now ≤ 1048576 }
     ensures plan { IfOk result (SpellsPlan text.now) }
     ensures fault { IfErr result (IsRefusal (plan_refusals text.now)) }

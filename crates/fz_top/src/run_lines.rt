@@ -32,7 +32,11 @@ pub(crate) fn lines(
 }
 
 /// Each sample with its frames.
-fn push_rows(alloc: Global, lines: &mut Vec<String>, rows: &[Row]) -> Result<(), AllocError>
+pub(crate) fn push_rows(
+    alloc: Global,
+    lines: &mut Vec<String>,
+    rows: &[Row],
+) -> Result<(), AllocError>
     ensures { OnOk result (text_of lines.new.items ≡ text_of lines.old.items
         ++ counted (λ k r. row_lines k (row_seen r)) 1 rows.now) }
 {

@@ -25,6 +25,7 @@ mod upsets;
 
 pub use laws::{spelled_plans_have_no_fault, spelled_upsets_have_no_fault};
 pub use reader::read_plan;
+pub use row::{count_in, word_in};
 pub use upsets::{Upset, UpsetFault, Upsets, read_upsets};
 
 /// An interrupt that is asked for.

@@ -47,8 +47,8 @@ fn value_of(digits: &[u8]) -> u32
     value
 }
 
-/// The number of a field of one to nine digits.
-pub(crate) fn count_in(field: &[u8]) -> Option<u32>
+/// The number of a field of one to nine decimal digits.
+pub fn count_in(field: &[u8]) -> Option<u32>
     ensures { result ≡ count_of field.now }
 {
     if field.len() <= MOST_DIGITS && !field.is_empty() && has_digits_only(field) {
@@ -58,8 +58,8 @@ pub(crate) fn count_in(field: &[u8]) -> Option<u32>
     }
 }
 
-/// The number of four hexadecimal digits.
-fn word_in(field: &[u8]) -> Option<u16>
+/// The number of four hexadecimal digits of either case.
+pub fn word_in(field: &[u8]) -> Option<u16>
     ensures { result ≡ word_of (decode_sized field.now 2) }
 {
     match <[u8; 2] as FromHex>::from_hex(field) {

@@ -1,0 +1,24 @@
+use Rattle.std.proofs.Common.{◌≡◌, ◌∙◌, ◌+◌, drop, refl, sym, subst, arith}
+use Rattle.std.proofs.lemmas.List.{drop_more}
+use Rattle.debug_script.specs.Going.{AreTold, place_of}
+use Rattle.debug_script.specs.Showing.{shown}
+use Rattle.debug_script.proofs.GoingLemmas.{order_more, told_after}
+use Rattle.debug_script.proofs.debugger.obey_all.Goals as goal
+
+pub loop-order-preserved : goal.loop-order-preserved
+loop-order-preserved g c =
+    let l = c.loop-order in
+    let script = c.args.script.now in
+    let place = place_of l.session in
+    let there = place_of c.obey.new.session in
+    record {
+      shown = order_more l.marks c.obey.new.marks _ (drop l.order-index script) (drop (l.order-index + 1) script)
+          place there l.all.items c.obey.new.shown.items (shown script (place_of c.args.session.now)) l.invariant.shown
+          (drop_more script l.order-index _ c.loop-order-test.true) c.in_ok-obey.ensures.marks c.in_ok-obey.ensures.place
+          c.in_ok-obey.ensures.shown;
+      leads = record {
+        rows = c.in_ok-obey.ensures.leads.rows ∙ l.invariant.leads.rows;
+        state = c.in_ok-obey.ensures.leads.state ∙ l.invariant.leads.state;
+      };
+      told = subst AreTold (sym c.in_ok-obey.ensures.place) (told_after _ l.marks place l.invariant.told);
+    }

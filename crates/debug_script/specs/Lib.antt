@@ -1,0 +1,4 @@
+pub mod Scripts
+pub mod Places
+pub mod Showing
+pub mod Going

@@ -1,0 +1,128 @@
+//! The command `debug FCL IMAGE TRACE PLAN FLAGS SCRIPT`: what a script shows of a run, and the run.
+ghost use Rattle.std.specs.Prelude.{◌≡◌, ◌≤◌, length, Ok, IfOk, IfErr};
+ghost use Rattle.std.specs.List.{All};
+ghost use Rattle.debug_script.specs.Scripts.{script_of};
+ghost use Rattle.fz_status.specs.Refusals.{IsRefusal};
+ghost use Rattle.fz_status.specs.Words.{texts_of};
+ghost use Rattle.fz_top.specs.Contents.{bytes_of};
+ghost use Rattle.fz_top.specs.Debug.{DebugMakes, Debugs, debug_files, debug_in, debug_refusals, script_refusals};
+ghost use Rattle.fz_top.specs.Deeds.{IsResultOf};
+
+use crate::firmware::{Compiled, firmware_of};
+use crate::images::require_image;
+use crate::reading::content;
+use crate::run::{plan_of, samples_of};
+use crate::shown_lines::lines;
+use crate::words::flags;
+use crate::work::Work;
+use codegen::Width;
+use debug_script::{Script, ScriptFault, debug, read_script};
+use fz_status::{Status, word};
+use interrupt_plan::Plan;
+use std::alloc::Global;
+use trace_io::Sample;
+
+/// `debug FCL IMAGE TRACE PLAN FLAGS SCRIPT`
+#[derive(Clone, Copy, Debug, PartialEq, Eq)]
+pub struct DebugRun {
+    /// The condition codes that the machine leaves open.
+    flags: u8,
+}
+
+/// The words FCL, IMAGE, TRACE, PLAN and SCRIPT.
+pub(crate) static INPUTS: [u32; 5] = [2, 3, 4, 5, 7];
+
+/// What the files give, where all of them are accepted.
+#[derive(Drop)]
+struct Accepted {
+    compiled: Compiled,
+    samples: Vec<Sample>,
+    plan: Plan,
+    script: Script,
+}
+
+impl DebugRun {
+    /// The command of these words.
+    pub(crate) fn of(words: &[String]) -> Option<DebugRun>
+        ensures { result ≡ debug_in (texts_of words.now) }
+    {
+        match flags(word(words, 6)) {
+            Some(flags) => Some(DebugRun { flags }),
+            None => None,
+        }
+    }
+
+    /// Runs the samples of the trace under the plan and obeys the script on the way, once all files
+    /// are accepted, and writes down what the script shows and what came of the samples.
+    pub(crate) fn work(self, alloc: Global, contents: &[Vec<u8>]) -> Result<Work, Status>
+        requires { All (λ c. length c.items ≤ 1048576) contents.now }
+        ensures { IsResultOf (DebugMakes self (debug_files (bytes_of contents.now))) result }
+    {
+        let accepted = match self.accepted(alloc, contents) {
+            Ok(accepted) => accepted,
+            Err(status) => return Err(status),
+        };
+        let ran = debug(
+            alloc,
+            &accepted.compiled.firmware,
+            &accepted.samples,
+            &accepted.plan,
+            self.flags,
+            accepted.script.as_slice(),
+        );
+        let Ok((shown, rows)) = ran else {
+            return Err(Status::Memory);
+        };
+        match lines(alloc, &shown, &rows) {
+            Ok(lines) => Ok(Work { lines, file: None }),
+            Err(_) => Err(Status::Memory),
+        }
+    }
+
+    /// What the files give, or the first fault in their order.
+    fn accepted(self, alloc: Global, contents: &[Vec<u8>]) -> Result<Accepted, Status>
+        requires { All (λ c. length c.items ≤ 1048576) contents.now }
+        ensures accepted { IfOk result (λ a. Debugs (debug_files (bytes_of contents.now))
+            a.compiled.block a.compiled.firmware a.samples.items a.plan a.script) }
+        ensures fault { IfErr result (IsRefusal (debug_refusals self (debug_files (bytes_of contents.now)))) }
+    {
+        let compiled = match firmware_of(alloc, Width::Byte, content(contents, 0)) {
+            Ok(compiled) => compiled,
+            Err(status) => return Err(status),
+        };
+        match require_image(alloc, content(contents, 1), &compiled.firmware.image) {
+            Ok(()) => {}
+            Err(status) => return Err(status),
+        }
+        let samples = match samples_of(alloc, &compiled.block, content(contents, 2)) {
+            Ok(samples) => samples,
+            Err(status) => return Err(status),
+        };
+        let plan = match plan_of(alloc, content(contents, 3)) {
+            Ok(plan) => plan,
+            Err(status) => return Err(status),
+        };
+        match script_in(alloc, content(contents, 4)) {
+            Ok(script) => Ok(Accepted {
+                compiled,
+                samples,
+                plan,
+                script,
+            }),
+            Err(status) => Err(status),
+        }
+    }
+}
+
+/// The script that a text spells.
+fn script_in(alloc: Global, text: &[u8]) -> Result<Script, Status>
+    requires { length text.now ≤ 1048576 }
+    ensures script { IfOk result (λ script. script_of text.now ≡ Ok script) }
+    ensures fault { IfErr result (IsRefusal (script_refusals text.now)) }
+{
+    match read_script(alloc, text) {
+        Ok(script) => Ok(script),
+        Err(ScriptFault::Memory) => Err(Status::Memory),
+        Err(ScriptFault::Line(line)) => Err(Status::Script(line)),
+    }
+}
