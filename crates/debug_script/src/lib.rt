@@ -15,6 +15,3 @@ pub use debugger::debug;
 pub use order::{Order, Script, ScriptFault};
 pub use reader::read_script;
 pub use shown::Shown;
-
-#[cfg(test)]
-mod tests;

@@ -7,7 +7,7 @@ fn expect(rt: &impl Abort, text: &str, want: Result<Dec, DecFault>) {
 }
 
 #[test]
-fn decimals_are_read_in_ten_thousandths(rt: HostRuntime) {
+fn decimals_are_read_in_ten_thousandths_or_refused(rt: HostRuntime) {
     for (text, want) in [
         ("0", 0),
         ("-0", 0),
@@ -22,20 +22,13 @@ fn decimals_are_read_in_ten_thousandths(rt: HostRuntime) {
     ] {
         expect(&rt, text, Ok(Dec(want)));
     }
-}
-
-#[test]
-fn other_forms_are_no_decimals(rt: HostRuntime) {
     for text in [
         "", "+", "-", ".", "1.", ".5", "1..2", "1.2.3", "1e5", "1_0", " 1", "1 ", "--1", "1.-2",
         "1.5x", "100001.",
     ] {
         expect(&rt, text, Err(DecFault::Shape));
     }
-}
-
-#[test]
-fn a_fifth_place_is_told_before_a_large_number(rt: HostRuntime) {
+    // A fifth place is told before a large number.
     for text in ["0.00001", "-1.23456", "100001.00001"] {
         expect(&rt, text, Err(DecFault::Places));
     }

@@ -102,7 +102,9 @@ fn spreads_nine_factors_and_no_more(rt: HostRuntime) -> Result<(), Fail> {
         panic!(rt; "a fault");
     };
     assert_eq!(rt; flat.conjunctions.len(), 512);
-    let first = [0, 0, 0, 0, 0, 0, 0, 0, 0, 0xFE, 3, 0xFE, 0, 0, 0, 0, 0, 0, 0, 0, 1];
+    let first = [
+        0, 0, 0, 0, 0, 0, 0, 0, 0, 0xFE, 3, 0xFE, 0, 0, 0, 0, 0, 0, 0, 0, 1,
+    ];
     let last = [1, 1, 1, 1, 1, 1, 1, 1, 1, 0xFE, 3, 0xFF];
     list_is(&rt, alloc, &flat, 6144, (first.as_slice(), last.as_slice()))?;
     let too_long = spread(alloc, &ruled(alloc, EITHER, 9, b"WITH 0.5")?).err();

@@ -42,6 +42,8 @@ mod records;
 #[cfg(test)]
 mod runs;
 #[cfg(test)]
+mod scripts;
+#[cfg(test)]
 mod sources;
 #[cfg(test)]
 mod upsets;

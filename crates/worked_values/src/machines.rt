@@ -1,9 +1,9 @@
 //! The machine on the firmware of a small block: two input terms, two rules, one output. Its bytes are
-//! those of the block's image, and the frames were worked out by hand from the listing.
+//! those of the block's image. What its interrupts push is in `runs`.
 use cpu12_asm::{ByteMap, Image};
-use cpu12_emul::ends::{Frame, RunEnd, Stepped};
+use cpu12_emul::ends::RunEnd;
 use cpu12_emul::machine::Machine;
-use cpu12_isa::instr::{Trap, Write};
+use cpu12_isa::instr::Trap;
 use cpu12_isa::mem::FlatMem;
 use fz_list::Memory;
 use std::alloc::{AllocError, Global};
@@ -72,16 +72,12 @@ fn machine_of(alloc: Global, runs: &[(u16, &'static [u8])]) -> Result<Machine<Fl
     }
 }
 
-/// Does so many steps, and answers how many of them ended an instruction.
-fn steps(m: &mut Machine<FlatMem>, count: u32) -> Result<u32, Trap> {
-    let mut ended: u32 = 0;
+/// Does so many steps.
+fn steps(m: &mut Machine<FlatMem>, count: u32) -> Result<(), Trap> {
     for _ in 0..count {
-        match m.step()? {
-            Stepped::Part => {}
-            Stepped::Plain | Stepped::LastPart => ended = ended.wrapping_add(1),
-        }
+        m.step()?;
     }
-    Ok(ended)
+    Ok(())
 }
 
 /// The machine at the first boundary of a sample with this byte.
@@ -91,65 +87,6 @@ fn at_sample(alloc: Global, byte: u8) -> Result<Machine<FlatMem>, Fail> {
     m.poke(0x1001, byte);
     m.poke(0x1000, 1);
     Ok(m)
-}
-
-fn is_frame(f: &Frame, pc: u16, sp: u16, bytes: &[u8]) -> bool {
-    f.pc == pc && f.sp == sp && f.bytes.as_slice() == bytes
-}
-
-#[test]
-fn a_sample_takes_its_steps(rt: HostRuntime) -> Result<(), Fail> {
-    let mut m = at_sample(rt.alloc(), 64)?;
-    assert_eq!(rt; m.regs().pc, 0xC008);
-    assert!(rt; m.may_interrupt());
-    assert_eq!(rt; steps(&mut m, 36)?, 28);
-    assert_eq!(rt; m.regs().pc, 0xC008);
-    assert_eq!(rt; m.peek(0x1000), 0);
-    assert_eq!(rt; m.peek(0x1010), 64);
-    Ok(())
-}
-
-#[test]
-fn a_frame_inside_rev(rt: HostRuntime) -> Result<(), Fail> {
-    let mut m = at_sample(rt.alloc(), 64)?;
-    steps(&mut m, 17)?;
-    let writes = [Write {
-        at: 0x1800,
-        value: 0xFF,
-    }];
-    assert!(rt; m.may_interrupt());
-    let f = m.interrupt(&writes);
-    assert!(rt;
-        is_frame(
-            &f,
-            0xC031,
-            0x1FF5,
-            &[0xC2, 0x00, 0xBF, 0xD8, 0x03, 0x11, 0x00, 0xC0, 0x31]
-        )
-    );
-    assert_eq!(rt; m.peek(0x1800), 0xFF);
-    steps(&mut m, 19)?;
-    assert_eq!(rt; m.peek(0x1010), 64);
-    Ok(())
-}
-
-#[test]
-fn two_frames_inside_wav(rt: HostRuntime) -> Result<(), Fail> {
-    let mut m = at_sample(rt.alloc(), 64)?;
-    steps(&mut m, 26)?;
-    let bytes = [
-        0xC0, 0x01, 0x40, 0xD2, 0x01, 0x11, 0x03, 0xC0, 0x3C, 0x00, 0x00, 0x00, 0x00, 0x00, 0xBF,
-    ];
-    assert!(rt; m.may_interrupt());
-    let first = m.interrupt(&[]);
-    assert!(rt; is_frame(&first, 0xC03C, 0x1FEF, &bytes));
-    assert!(rt; m.may_interrupt());
-    let second = m.interrupt(&[]);
-    assert!(rt; is_frame(&second, 0xC03C, 0x1FEF, &bytes[..9]));
-    steps(&mut m, 10)?;
-    assert_eq!(rt; m.regs().pc, 0xC008);
-    assert_eq!(rt; m.peek(0x1010), 64);
-    Ok(())
 }
 
 #[test]

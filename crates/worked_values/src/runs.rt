@@ -102,11 +102,7 @@ static PUSHED: [Pushed; 2] = [
     },
 ];
 
-fn are_frames(
-    rt: &impl Abort,
-    frames: &[(u32, Frame)],
-    wanted: &[(u32, u16, u16, &'static [u8])],
-) {
+fn are_frames(rt: &impl Abort, frames: &[(u32, Frame)], wanted: &[(u32, u16, u16, &'static [u8])]) {
     assert_eq!(rt; frames.len(), wanted.len());
     for ((boundary, frame), (at, pc, sp, bytes)) in frames.iter().zip(wanted.iter()) {
         assert_eq!(rt; (*boundary, frame.pc, frame.sp), (*at, *pc, *sp));
@@ -142,7 +138,13 @@ fn counts(alloc: Global, firmware: &Firmware) -> Result<Option<(u32, u32)>, Fail
     requires { firmware.now.outputs ≤ 4 }
 {
     let samples = samples(alloc, 64)?;
-    let rows = run(alloc, firmware, samples.as_slice(), &no_interrupts(alloc), 0)?;
+    let rows = run(
+        alloc,
+        firmware,
+        samples.as_slice(),
+        &no_interrupts(alloc),
+        0,
+    )?;
     Ok(rows.first().map(|row| (row.instrs, row.steps)))
 }
 
@@ -175,8 +177,13 @@ fn a_session_stands_at_each_position(rt: HostRuntime) -> Result<(), Fail> {
     let firmware = firmware(alloc)?;
     let samples = samples(alloc, 64)?;
     let plan = plan_of(alloc, b"1,26\n")?;
-    let mut session: Session<PageMem> =
-        Session::new(alloc, &firmware, samples.as_slice(), &plan, 0)?;
+    let mut session: Session<PageMem> = Session::new(
+        alloc,
+        &firmware,
+        samples.as_slice(),
+        &plan,
+        0,
+    )?;
     assert_eq!(rt; session.at(), (1, 0));
     go_on(&mut session, 14);
     assert_eq!(rt; (session.at(), session.regs().pc), ((1, 14), 0xC031));

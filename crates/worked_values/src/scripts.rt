@@ -1,4 +1,5 @@
-use super::*;
+//! Scripts and their first lines of no form.
+use debug_script::{Order, ScriptFault, read_script};
 use std::alloc::Global;
 use std::test::Fail;
 
