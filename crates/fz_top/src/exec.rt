@@ -74,7 +74,7 @@ impl Exec {
 fn line_of(alloc: Global, regs: &Regs, steps: u32) -> Result<String, AllocError>
     ensures { IfOk result (λ s. string_bytes s ≡ exec_line regs.now steps) }
 {
-    let end = labelled(alloc, " steps ", u64::from(steps))?;
+    let end = labelled(alloc, " steps ", u128::from(steps))?;
     line_of_registers(alloc, regs, end.as_str())
 }
 
