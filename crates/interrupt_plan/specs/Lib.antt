@@ -1,3 +1,5 @@
 pub mod Plans
+pub mod Rows
 pub mod PlanTexts
+pub mod Posts
 pub mod OneReading
