@@ -1,5 +1,5 @@
 -- The turns of a firmware with one input and turns of 39 steps, so that posts meet the definition.
-use Rattle.std.proofs.Common.{◌≡◌, ℕ, List, [], ◌∷◌, refl, arith}
+use Rattle.std.proofs.Common.{ℕ, List, [], ◌∷◌, refl, arith}
 use Rattle.interrupt_plan.specs.declared.Post.{Post}
 use Rattle.posted_runs.specs.Turns.{AreTurns, over, answers}
 

@@ -1,5 +1,5 @@
 -- Posts have one list of turns.
-use Rattle.std.proofs.Common.{◌≡◌, ◌≢◌, ℕ, ◌+◌, ◌-◌, List, [], ◌∷◌, ◌++◌, refl, sym, ap, ap₂, ◌∙◌, subst}
+use Rattle.std.proofs.Common.{◌≡◌, ℕ, ◌+◌, ◌-◌, List, [], ◌∷◌, ◌++◌, sym, ap, ap₂, ◌∙◌, subst}
 use Rattle.interrupt_plan.specs.declared.Post.{Post}
 use Rattle.posted_runs.specs.Turns.{AreTurns, TurnsAreOne, over, idle, answers, up_to, behind, waiting, taken_from}
 
