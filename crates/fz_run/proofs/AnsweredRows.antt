@@ -65,7 +65,7 @@ off_loop : (v : State) → (v.regs.pc ≡ 0xC008 → ⊥) → is_idle main_layou
 off_loop v h = let t : (v.regs.pc == 0xC008) ≡ false = grind (arith, nat_tests) in rw t refl
 
 -- what each state keeps at which an interrupt may come, in the words of runs
-at_instruction : (image : List ℕ) (s : State) → IsInterruptible image s → AtInstruction is_free s
+at_instruction : (image : List ℕ) (s : State) → IsInterruptible is_free image s → AtInstruction is_free s
 at_instruction image s c = record {
   temps = c.temps;
   size = c.size;
@@ -240,21 +240,22 @@ answer_is : (xs ys : List ℕ) (i j : ℕ) → xs ≡ ys → i ≡ j
 answer_is xs ys i j v n = ap₂ (λ (x : List ℕ) (k : ℕ). let r : Answer = record { values = x; instructions = k } in r) v n
 
 all_answers : Laws
-    → (f : Firmware) (n : ℕ) (b : Block) (most : ℕ) (image : List ℕ) (flags : ℕ) (before : ℕ → ℕ) (plan : List Request) (k : ℕ) (samples : List (List ℕ)) (s : State)
+    → (f : Firmware) (n : ℕ) (b : Block) (image : List ℕ) (flags : ℕ) (before : ℕ → ℕ) (plan : List Request) (k : ℕ) (samples : List (List ℕ)) (s : State)
     → flags < 2 ^ 8 → AreShort samples → n ≤ 4
-    → (h : AreAnswered main_layout b (width_of f.wide) most image flags before samples s)
-    → map answer_of_row (rows_of_samples flags (alone f n) plan k (numbers b (width_of f.wide) most image flags before samples s h) samples s) ≡ answers_by b (alone f n) image flags before samples s h
+    → (h : AreAnswered main_layout b (width_of f.wide) f.instr_bound image flags before samples s)
+    → map answer_of_row (rows_of_samples flags (alone f n) plan k (numbers b (width_of f.wide) f.instr_bound image flags before samples s h) samples s) ≡ answers_by b (alone f n) image flags before samples s h
 unfolding numbers
-all_answers laws f n b most image flags before plan k [] s hf l few h = refl
-all_answers laws f n b most image flags before plan k (bytes ∷ samples) s hf l few h =
+all_answers laws f n b image flags before plan k [] s hf l few h = refl
+all_answers laws f n b image flags before plan k (bytes ∷ samples) s hf l few h =
     let w = width_of f.wide in
+    let most = f.instr_bound in
     let start = given main_layout bytes s in
     let g = went laws b w most image flags before bytes s h.0 hf l.0 h.1.0 in
     let later : ℕ → ℕ = λ o. answer w b o bytes (before o) in
     let end = uninterrupted flags (all_steps h.1.0.ds) start in
     let here =
     answer_is (answers_in (alone f n) end) (values_in (alone f n) h.0) (counted flags (all_steps h.1.0.ds) start) (length h.1.0.ds) (ap (answers_in (alone f n)) g.goes ∙ same_values f n h.0 few) g.counts in
-    let rest = all_answers laws f n b most image flags later plan (suc k) samples h.0 hf l.1 few h.1.1 in
+    let rest = all_answers laws f n b image flags later plan (suc k) samples h.0 hf l.1 few h.1.1 in
     let moved =
     subst (λ (u : State). map answer_of_row (rows_of_samples flags (alone f n) plan (suc k) (numbers b w most image flags later samples h.0 h.1.1) samples u) ≡ answers_by b (alone f n) image flags later samples h.0 h.1.1) (sym g.goes) rest in
     ap₂ (λ (x : Answer) (xs : List Answer). x ∷ xs) here moved
@@ -320,11 +321,11 @@ under laws b f n flags samples plan s hf few count h short good a answered =
     let expected = rows_of_samples flags g plan 1 ns samples s in
     let rows_are : rows ≡ expected =
     ap (λ (u : State). (rows_from (with_writes flags g) f.step_bound (λ k. requests_of k plan) 1 samples u).rows) first ∙ runs.rows_are in
-    let same = ap (map answer_of_row) rows_are ∙ all_answers laws f n b most image flags (λ o. 0) plan 1 samples s hf short count answered in
+    let same = ap (map answer_of_row) rows_are ∙ all_answers laws f n b image flags (λ o. 0) plan 1 samples s hf short count answered in
     let both = laws.answered_are_uninterrupted b g flags samples s h.outputs a answered in
     record {
       answers = record {
-        samples_are = ap (map (λ (r : RowSeen (List ℕ)). r.sample)) rows_are ∙ all_samples g b w image flags (λ o. 0) plan 1 samples s s answered;
+        samples_are = ap (map (λ (r : RowSeen (List ℕ)). r.sample)) rows_are ∙ all_samples g b w most image flags (λ o. 0) plan 1 samples s s answered;
         uninterrupted = subst (λ (xs : List Answer). AreUninterrupted g flags samples xs) (sym same) both.0;
         answers = subst (λ (xs : List Answer). AreAnswersOf w b most (λ o. 0) samples xs) (sym same) both.1;
         steps = subst (λ (rs : List (RowSeen (List ℕ))). All (λ (r : RowSeen (List ℕ)). r.steps ≤ step_bound w b) rs) (sym rows_are) (subst (λ (m : ℕ). All (λ (r : RowSeen (List ℕ)). r.steps ≤ m) expected) same_bound (few_steps flags g plan (steps_by b most) 1 ns samples s steps));

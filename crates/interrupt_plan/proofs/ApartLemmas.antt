@@ -1,4 +1,4 @@
--- A text that spells a plan has no fault.
+-- A text that spells a plan, or posts, has no fault.
 use Rattle.std.proofs.Common.{arith, ◌≡◌, ◌<◌, ◌+◌, ℕ, true, false, List, [], ◌∷◌, ◌++◌, length, refl, sym, ◌∙◌, ap, ap₂, subst}
 use Rattle.std.specs.Prelude.{All, Option, Some, drop}
 use Rattle.std.proofs.lemmas.List.{length-append}
@@ -7,113 +7,139 @@ use Rattle.fz_rows.specs.FirstRows.{Fields}
 use Rattle.fz_rows.specs.Laws.{FirstRowsAreOne}
 use Rattle.cpu12_isa.specs.Regions.{is_free}
 use Rattle.cpu12_isa.specs.declared.instr.Write.{Write}
-use Rattle.interrupt_plan.specs.OneReading.{SpelledPlansHaveNoFault}
-use Rattle.interrupt_plan.specs.Plans.{Ascends, IsGood, IsGoodRequest, NotAfter}
-use Rattle.interrupt_plan.specs.PlanTexts.{AreFree, FallsBehind, FirstFault, HasTimes, IsFirstTaken, RowFails, SpellRequests, SpellsRequest, Spells, HasFault, at_row, count_of, more, not_ascending, not_free, unread, writes_of}
+use Rattle.interrupt_plan.specs.OneReading.{SpelledPlansHaveNoFault, SpelledPostsHaveNoFault}
+use Rattle.interrupt_plan.specs.Plans.{Ascend, IsGood, NotAfter}
+use Rattle.interrupt_plan.specs.Posts.{AreGoodPosts, NoLater, SpellsPost, writes_in}
+use Rattle.interrupt_plan.specs.PlanTexts.{SpellsRequest, writes_by}
+use Rattle.interrupt_plan.specs.Rows.{AreFree, AreInOrder, FirstFault, HasFirstFault, HasNumbers, RowFails, SpellAll, SpellsText, at_row, count_of, more, not_ascending, not_free, unread}
 use Rattle.interrupt_plan.specs.declared.PlanFault.{PlanFault}
+use Rattle.interrupt_plan.specs.declared.Post.{Post}
 use Rattle.interrupt_plan.specs.declared.Request.{Request}
 
 same_some : {X : Type 0} {o : Option X} {x y : X} → o ≡ Some x → o ≡ Some y → x ≡ y
 same_some {X} {o} {x} {y} one other = let e : Some x ≡ Some y = sym one ∙ other in cc
 
--- ---- a row spells one request
+-- ---- a row spells one entry
 
-sample_one : (fields : Fields) (s m t n : ℕ) → HasTimes fields s m → HasTimes fields t n → (s ≡ t) × (m ≡ n)
-sample_one fields s m t n one other =
-    let same : one.sample_text ∷ one.moment_text ∷ one.pairs ≡ other.sample_text ∷ other.moment_text ∷ other.pairs =
+numbers_one : (fields : Fields) (s m t n : ℕ) → HasNumbers fields s m → HasNumbers fields t n → (s ≡ t) × (m ≡ n)
+numbers_one fields s m t n one other =
+    let same : one.first_text ∷ one.second_text ∷ one.pairs ≡ other.first_text ∷ other.second_text ∷ other.pairs =
     sym one.fields_are ∙ other.fields_are in
-    let first : one.sample_text ≡ other.sample_text = cc in
-    let second : one.moment_text ≡ other.moment_text = cc in
-    (same_some one.sample_is (ap count_of first ∙ other.sample_is), same_some one.moment_is (ap count_of second ∙ other.moment_is))
+    let first : one.first_text ≡ other.first_text = cc in
+    let second : one.second_text ≡ other.second_text = cc in
+    (same_some one.first_is (ap count_of first ∙ other.first_is), same_some one.second_is (ap count_of second ∙ other.second_is))
 
 request_one : (fields : Fields) (q r : Request) → SpellsRequest fields q → SpellsRequest fields r → q ≡ r
 request_one fields q r one other =
-    let times = sample_one fields q.sample q.moment r.sample r.moment one.times other.times in
-    let writes : q.writes ≡ r.writes = same_some one.writes_are other.writes_are in
-    (λ i. record { sample = times.0 i; moment = times.1 i; writes = writes i })
+    let numbers = numbers_one fields q.sample q.moment r.sample r.moment one.row.numbers other.row.numbers in
+    let writes : q.writes ≡ r.writes = same_some one.row.writes_are other.row.writes_are in
+    (λ i. record { sample = numbers.0 i; moment = numbers.1 i; writes = writes i })
 
--- ---- the requests before a row, its own, and those behind
-
-record Split (before : List Fields) (row : Fields) (plan : List Request) : Type 0 where
-  front : List Request
-  own : Request
-  behind : List Request
-  parts : plan ≡ front ++ own ∷ behind
-  spelled : SpellRequests before front
-  own_is : SpellsRequest row own
-
-split_at : (before : List Fields) (row : Fields) (after : List Fields) (plan : List Request)
-    → SpellRequests (before ++ row ∷ after) plan → Split before row plan
-split_at [] row after [] spelled = absurd spelled
-split_at [] row after (r ∷ rs) spelled = record { front = []; own = r; behind = rs; parts = refl; spelled = tt; own_is = spelled.0 }
-split_at (b ∷ before) row after [] spelled = absurd spelled
-split_at (b ∷ before) row after (r ∷ rs) spelled =
-    let rest = split_at before row after rs spelled.1 in
-    record {
-      front = r ∷ rest.front;
-      own = rest.own;
-      behind = rest.behind;
-      parts = ap (λ (l : List Request). r ∷ l) rest.parts;
-      spelled = (spelled.0, rest.spelled);
-      own_is = rest.own_is;
-    }
-
-requests_one : (rows : List Fields) (ps qs : List Request) → SpellRequests rows ps → SpellRequests rows qs → ps ≡ qs
-requests_one [] [] [] one other = refl
-requests_one [] [] (q ∷ qs) one other = absurd other
-requests_one [] (p ∷ ps) qs one other = absurd one
-requests_one (row ∷ rows) [] qs one other = absurd one
-requests_one (row ∷ rows) (p ∷ ps) [] one other = absurd other
-requests_one (row ∷ rows) (p ∷ ps) (q ∷ qs) one other =
-    ap₂ (λ (r : Request) (rs : List Request). r ∷ rs) (request_one row p q one.0 other.0) (requests_one rows ps qs one.1 other.1)
-
--- ---- a good plan's requests do not fail
-
-own_good : (front : List Request) (own : Request) (behind : List Request) → All IsGoodRequest (front ++ own ∷ behind) → IsGoodRequest own
-own_good [] own behind good = All-head IsGoodRequest own behind good
-own_good (r ∷ front) own behind good = own_good front own behind (All-tail IsGoodRequest r (front ++ own ∷ behind) good)
+post_one : (samples : ℕ) (fields : Fields) (q r : Post) → SpellsPost samples fields q → SpellsPost samples fields r → q ≡ r
+post_one samples fields q r one other =
+    let numbers = numbers_one fields q.moment q.sample r.moment r.sample one.row.numbers other.row.numbers in
+    let writes : q.writes ≡ r.writes = same_some one.row.writes_are other.row.writes_are in
+    (λ i. record { moment = numbers.0 i; sample = numbers.1 i; writes = writes i })
 
 first_is_free : (before : List Write) (w : Write) (after : List Write) → All (λ v. is_free v.at ≡ true) (before ++ w ∷ after) → is_free w.at ≡ true
 first_is_free [] w after free = All-head (λ v. is_free v.at ≡ true) w after free
 first_is_free (v ∷ before) w after free = first_is_free before w after (All-tail (λ u. is_free u.at ≡ true) v (before ++ w ∷ after) free)
 
-rises : (front : List Request) (last own : Request) (behind : List Request) → Ascends ((front ++ last ∷ []) ++ own ∷ behind) → NotAfter last own
-rises [] last own behind ascends = ascends.0
-rises (r ∷ []) last own behind ascends = rises [] last own behind ascends.1
-rises (r ∷ q ∷ front) last own behind ascends = rises (q ∷ front) last own behind ascends.1
+-- ---- entries that are spelled in one way do not fail
 
-module _ (before : List Fields) (row : Fields) (requests plan : List Request) (good : IsGood plan) (at : Split before row plan)
-    (spelled : SpellRequests before requests) where
-  own_free : IsGoodRequest at.own
-  own_free = own_good at.front at.own at.behind (subst (λ (l : List Request). All IsGoodRequest l) at.parts good.requests)
+module _ {E : Type 0} (Spells : Fields → E → Type 0) (writes : E → List Write) (Follows : E → E → Type 0)
+    (entry_one : (fields : Fields) (q r : E) → Spells fields q → Spells fields r → q ≡ r) where
+  -- the entries before a row, its own, and those behind
+  record Split (before : List Fields) (row : Fields) (all : List E) : Type 0 where
+    front : List E
+    own : E
+    behind : List E
+    parts : all ≡ front ++ own ∷ behind
+    spelled : SpellAll Spells before front
+    own_is : Spells row own
 
-  row_apart : (n : ℕ) (fault : PlanFault) → RowFails requests n row fault → ⊥
-  row_apart n fault (unread none) = none at.own at.own_is
-  row_apart n fault (not_free r address spells first) =
-      let same : r.writes ≡ at.own.writes = ap (λ (q : Request). q.writes) (request_one row r at.own spells at.own_is) in
-      let parts : at.own.writes ≡ first.before ++ first.write ∷ first.after = sym same ∙ first.writes_are in
-      let free = first_is_free first.before first.write first.after
-      (subst (λ (l : List Write). All (λ v. is_free v.at ≡ true) l) parts own_free.free) in
-      let bad : true ≡ false = sym free ∙ first.taken in
-      cc
-  row_apart n fault (not_ascending r spells free falls) =
-      let own : r ≡ at.own = request_one row r at.own spells at.own_is in
-      let front : at.front ≡ falls.front ++ falls.last ∷ [] = requests_one before at.front requests at.spelled spelled ∙ falls.before_is in
-      let parts : plan ≡ (falls.front ++ falls.last ∷ []) ++ at.own ∷ at.behind =
-      at.parts ∙ ap (λ (l : List Request). l ++ at.own ∷ at.behind) front in
-      let up = rises falls.front falls.last at.own at.behind (subst (λ (l : List Request). Ascends l) parts good.ascends) in
-      falls.falls (subst (λ (q : Request). NotAfter falls.last q) (sym own) up)
+  split_at : (before : List Fields) (row : Fields) (after : List Fields) (all : List E)
+      → SpellAll Spells (before ++ row ∷ after) all → Split before row all
+  split_at [] row after [] spelled = absurd spelled
+  split_at [] row after (r ∷ rs) spelled = record { front = []; own = r; behind = rs; parts = refl; spelled = tt; own_is = spelled.0 }
+  split_at (b ∷ before) row after [] spelled = absurd spelled
+  split_at (b ∷ before) row after (r ∷ rs) spelled =
+      let rest = split_at before row after rs spelled.1 in
+      record {
+        front = r ∷ rest.front;
+        own = rest.own;
+        behind = rest.behind;
+        parts = ap (λ (l : List E). r ∷ l) rest.parts;
+        spelled = (spelled.0, rest.spelled);
+        own_is = rest.own_is;
+      }
 
-rows_apart : (rows : List Fields) (plan : List Request) (fault : PlanFault) → length rows < 10001 → IsGood plan → SpellRequests rows plan
-    → FirstFault rows fault → ⊥
-rows_apart rows plan fault few good spelled (at_row before row after requests f split lt front front_good fails) =
-    let at = split_at before row after plan (subst (λ (rs : List Fields). SpellRequests rs plan) split spelled) in
-    row_apart before row requests plan good at front (length before + 1) f fails
-rows_apart rows plan fault few good spelled (more before row after requests split full front front_good) =
-    omega (arith, few, full, ap length split, length-append before (row ∷ after))
+  entries_one : (rows : List Fields) (ps qs : List E) → SpellAll Spells rows ps → SpellAll Spells rows qs → ps ≡ qs
+  entries_one [] [] [] one other = refl
+  entries_one [] [] (q ∷ qs) one other = absurd other
+  entries_one [] (p ∷ ps) qs one other = absurd one
+  entries_one (row ∷ rows) [] qs one other = absurd one
+  entries_one (row ∷ rows) (p ∷ ps) [] one other = absurd other
+  entries_one (row ∷ rows) (p ∷ ps) (q ∷ qs) one other =
+      ap₂ (λ (r : E) (rs : List E). r ∷ rs) (entry_one row p q one.0 other.0) (entries_one rows ps qs one.1 other.1)
 
-pub spelled_apart : FirstRowsAreOne → SpelledPlansHaveNoFault
-spelled_apart one text plan fault spells has =
-    let same : has.rows ≡ spells.rows = one text spells.rows has.rows spells.first spells.few has.first in
-    rows_apart spells.rows plan fault spells.few spells.good spells.spelled
-    (subst (λ (rs : List Fields). FirstFault rs fault) same has.fault_is)
+  own_free_in : (front : List E) (own : E) (behind : List E) → All (λ e. AreFree (writes e)) (front ++ own ∷ behind) → AreFree (writes own)
+  own_free_in [] own behind free = All-head (λ e. AreFree (writes e)) own behind free
+  own_free_in (r ∷ front) own behind free = own_free_in front own behind (All-tail (λ e. AreFree (writes e)) r (front ++ own ∷ behind) free)
+
+  rises : (front : List E) (last own : E) (behind : List E) → Ascend Follows ((front ++ last ∷ []) ++ own ∷ behind) → Follows last own
+  rises [] last own behind ascends = ascends.0
+  rises (r ∷ []) last own behind ascends = rises [] last own behind ascends.1
+  rises (r ∷ q ∷ front) last own behind ascends = rises (q ∷ front) last own behind ascends.1
+
+  module _ (before : List Fields) (row : Fields) (others all : List E) (order : AreInOrder writes Follows all) (at : Split before row all)
+      (spelled : SpellAll Spells before others) where
+    own_free : AreFree (writes at.own)
+    own_free = own_free_in at.front at.own at.behind (subst (λ (l : List E). All (λ e. AreFree (writes e)) l) at.parts order.free)
+
+    row_apart : (n : ℕ) (fault : PlanFault) → RowFails Spells writes Follows others n row fault → ⊥
+    row_apart n fault (unread none) = none at.own at.own_is
+    row_apart n fault (not_free r address spells first) =
+        let same : writes r ≡ writes at.own = ap writes (entry_one row r at.own spells at.own_is) in
+        let parts : writes at.own ≡ first.before ++ first.write ∷ first.after = sym same ∙ first.writes_are in
+        let free = first_is_free first.before first.write first.after
+        (subst (λ (l : List Write). All (λ v. is_free v.at ≡ true) l) parts own_free) in
+        let bad : true ≡ false = sym free ∙ first.taken in
+        cc
+    row_apart n fault (not_ascending r spells free falls) =
+        let own : r ≡ at.own = entry_one row r at.own spells at.own_is in
+        let front : at.front ≡ falls.front ++ falls.last ∷ [] = entries_one before at.front others at.spelled spelled ∙ falls.before_is in
+        let parts : all ≡ (falls.front ++ falls.last ∷ []) ++ at.own ∷ at.behind =
+        at.parts ∙ ap (λ (l : List E). l ++ at.own ∷ at.behind) front in
+        let up = rises falls.front falls.last at.own at.behind (subst (λ (l : List E). Ascend Follows l) parts order.ascends) in
+        falls.falls (subst (λ (q : E). Follows falls.last q) (sym own) up)
+
+  rows_apart : (rows : List Fields) (all : List E) (fault : PlanFault) → length rows < 10001 → AreInOrder writes Follows all → SpellAll Spells rows all
+      → FirstFault Spells writes Follows rows fault → ⊥
+  rows_apart rows all fault few order spelled (at_row before row after others f split lt front front_order fails) =
+      let at = split_at before row after all (subst (λ (rs : List Fields). SpellAll Spells rs all) split spelled) in
+      row_apart before row others all order at front (length before + 1) f fails
+  rows_apart rows all fault few order spelled (more before row after others split full front front_order) =
+      omega (arith, few, full, ap length split, length-append before (row ∷ after))
+
+  pub texts_apart : FirstRowsAreOne → (Good : List E → Type 0) → ((es : List E) → Good es → AreInOrder writes Follows es)
+      → (text : List ℕ) (all : List E) (fault : PlanFault) → SpellsText Spells Good text all → HasFirstFault Spells writes Follows text fault → ⊥
+  texts_apart one Good order text all fault spells has =
+      let same : has.rows ≡ spells.rows = one text spells.rows has.rows spells.first spells.few has.first in
+      rows_apart spells.rows all fault spells.few (order all spells.good) spells.spelled
+      (subst (λ (rs : List Fields). FirstFault Spells writes Follows rs fault) same has.fault_is)
+
+-- ---- plans and posts
+
+plan_order : (plan : List Request) → IsGood plan → AreInOrder writes_by NotAfter plan
+plan_order plan good = record { few = good.few; free = λ k d lt. (let r = good.requests k d lt in r.free); ascends = good.ascends }
+
+posts_order : (samples : ℕ) (posts : List Post) → AreGoodPosts samples posts → AreInOrder writes_in NoLater posts
+posts_order samples posts good = record { few = good.few; free = λ k d lt. (let r = good.posts_are k d lt in r.free); ascends = good.ascends }
+
+pub plans_apart : FirstRowsAreOne → SpelledPlansHaveNoFault
+plans_apart one text plan fault spells has = texts_apart SpellsRequest writes_by NotAfter request_one one IsGood plan_order text plan fault spells has
+
+pub posts_apart : FirstRowsAreOne → SpelledPostsHaveNoFault
+posts_apart one samples text posts fault spells has =
+    texts_apart (SpellsPost samples) writes_in NoLater (post_one samples) one (AreGoodPosts samples) (posts_order samples) text posts fault spells has

@@ -1,11 +1,11 @@
--- Rows and requests, one by one.
+-- Rows and entries, one by one.
 use Rattle.std.proofs.Common.{◌≡◌, ◌≤◌, ◌<◌, ◌+◌, ◌*◌, ◌-◌, ℕ, zero, suc, Bool, true, false, List, [], ◌∷◌, ◌++◌, length, take, drop, get_or, min, refl, sym, ◌∙◌, ap, subst, arith, rules, fold, add-one, drop-cons, take-append-drop}
-use Rattle.std.specs.Prelude.{map, Some, None, nat_le, nat_lt, ◌==◌, ◌&&◌, slice_get, if◌then◌else◌}
+use Rattle.std.specs.Prelude.{All, map, Result, Ok, Err, IfOk, Some, None, nat_le, nat_lt, ◌==◌, ◌&&◌, slice_get, if◌then◌else◌}
 use Rattle.std.specs.List.{list_all}
 use Rattle.std.proofs.Math.Seq.{take-suc}
 use Rattle.std.proofs.lemmas.Bool.Decides.{nat_tests}
 use Rattle.std.proofs.lemmas.List.{length-append, length-map, length-take-le, map-append}
-use Rattle.std.proofs.lemmas.List.Elements.{All-append, All-cons, All-nil}
+use Rattle.std.proofs.lemmas.List.Elements.{All-append, All-cons, All-head, All-nil, All-tail}
 use Rattle.std.proofs.lemmas.Str.Parse.{IsNumeralModel, numerals_by_fold, IsDigitsTest, FoldsDigits, digits_value_short}
 use Rattle.csv.specs.Records.{Row, fields_of}
 use Rattle.cpu12_isa.specs.declared.instr.Write.{Write}
@@ -13,10 +13,13 @@ use Rattle.cpu12_isa.specs.Regions.{is_free}
 use Rattle.fz_rows.specs.FirstRows.{Fields}
 use Rattle.fz_num.specs.Decimals.{is_digit, next_number, number}
 use Rattle.interrupt_plan.specs.declared.Request.{Request}
+use Rattle.interrupt_plan.specs.declared.Post.{Post}
 use Rattle.interrupt_plan.specs.declared.PlanFault.{PlanFault}
 use Rattle.interrupt_plan.specs.declared.PlanFault.TheVariants.{TooMany}
-use Rattle.interrupt_plan.specs.Plans.{Ascends, IsGood, IsGoodRequest, NotAfter}
-use Rattle.interrupt_plan.specs.PlanTexts.{AreFree, FirstFault, IsFirstTaken, RowFails, SpellRequests, SpellsRequest, at_row, count_of, more, writes_of}
+use Rattle.interrupt_plan.specs.Plans.{Ascend, IsGood, IsGoodRequest, NotAfter}
+use Rattle.interrupt_plan.specs.PlanTexts.{SpellsRequest, writes_by}
+use Rattle.interrupt_plan.specs.Posts.{AreGoodPosts, IsGoodPost, NoLater, SpellsPost, writes_in}
+use Rattle.interrupt_plan.specs.Rows.{AreFree, AreInOrder, FirstFault, IsFirstTaken, RowFails, SpellAll, SpellsRow, at_row, count_of, more, writes_of}
 use Rattle.interrupt_plan.proofs.PairLemmas.{length-writes}
 
 take_more : {X : Type 0} (xs : List X) (i : ℕ) (d : X) → i < length xs → take (i + 1) xs ≡ take i xs ++ get_or xs i d ∷ []
@@ -30,6 +33,10 @@ take_all zero [] le = refl
 take_all zero (x ∷ xs) le = absurd (omega arith)
 take_all (suc i) [] le = refl
 take_all {X} (suc i) (x ∷ xs) le = ap (λ (l : List X). x ∷ l) (take_all i xs (omega arith))
+
+pub if_ok : {T F : Type 0} (r : Result T F) (P Q : T → Type 0) → ((x : T) → P x → Q x) → IfOk r P → IfOk r Q
+if_ok (Ok x) P Q weaker h = weaker x h
+if_ok (Err e) P Q weaker h = h
 
 -- ---- numbers
 
@@ -87,10 +94,10 @@ length-behind_two [] some = absurd (omega arith)
 length-behind_two (f ∷ []) some = absurd (omega arith)
 length-behind_two (f ∷ g ∷ fields) some = omega arith
 
-pub spelled_count : (fields : Fields) (r : Request) → SpellsRequest fields r → length fields ≡ 2 * length r.writes + 2
-spelled_count fields r spelled =
-    let two : 2 ≤ length fields = omega (arith, ap length spelled.times.fields_are) in
-    omega (arith, length-behind_two fields two, length-writes (drop 2 fields) r.writes spelled.writes_are)
+pub spelled_count : (fields : Fields) (a b : ℕ) (ws : List Write) → SpellsRow fields a b ws → length fields ≡ 2 * length ws + 2
+spelled_count fields a b ws spelled =
+    let two : 2 ≤ length fields = omega (arith, ap length spelled.numbers.fields_are) in
+    omega (arith, length-behind_two fields two, length-writes (drop 2 fields) ws spelled.writes_are)
 
 pub few_writes : (fields : Fields) (ws : List Write) → writes_of (drop 2 fields) ≡ Some ws → 2 ≤ length fields → length fields ≤ 18 → length ws ≤ 8
 few_writes fields ws is some few = omega (arith, length-behind_two fields some, length-writes (drop 2 fields) ws is)
@@ -124,86 +131,109 @@ free_more writes i d lt free here =
 pub free_all : (writes : List Write) (i : ℕ) → length writes ≤ i → AreFree (take i writes) → AreFree writes
 free_all writes i le free = subst AreFree (take_all i writes le) free
 
--- ---- requests
+-- ---- entries
 
 pub good_request : (fields : Fields) (r : Request) → SpellsRequest fields r → AreFree r.writes → IsGoodRequest r
 good_request fields r spelled free = record {
-  sample_from = spelled.times.some;
-  sample_to = count_small spelled.times.sample_text r.sample spelled.times.sample_is;
-  moment_to = count_small spelled.times.moment_text r.moment spelled.times.moment_is;
-  few_writes = spelled.few;
+  sample_from = spelled.some;
+  sample_to = count_small spelled.row.numbers.first_text r.sample spelled.row.numbers.first_is;
+  moment_to = count_small spelled.row.numbers.second_text r.moment spelled.row.numbers.second_is;
+  few_writes = spelled.row.few;
   free = free;
 }
 
-last_at : {X : Type 0} (rs : List X) (n : ℕ) (r : X) → length rs ≡ suc n → Some r ≡ slice_get rs n → rs ≡ take n rs ++ r ∷ []
-last_at [] n r count is = absurd (omega arith)
-last_at {X} (x ∷ []) zero r count is = let e : x ≡ r = cc in ap (λ (y : X). y ∷ []) e
-last_at (x ∷ y ∷ rs) zero r count is = absurd (omega arith)
-last_at {X} (x ∷ rs) (suc n) r count is = ap (λ (l : List X). x ∷ l) (last_at rs n r (omega arith) is)
+good_requests : (rows : List Fields) (rs : List Request) → SpellAll SpellsRequest rows rs → All (λ r. AreFree (writes_by r)) rs → All IsGoodRequest rs
+good_requests [] [] spelled free = All-nil IsGoodRequest
+good_requests [] (r ∷ rs) spelled free = absurd spelled
+good_requests (row ∷ rows) [] spelled free = absurd spelled
+good_requests (row ∷ rows) (r ∷ rs) spelled free =
+    All-cons IsGoodRequest r rs (good_request row r spelled.0 (All-head (λ e. AreFree (writes_by e)) r rs free))
+    (good_requests rows rs spelled.1 (All-tail (λ e. AreFree (writes_by e)) r rs free))
 
-pub last_is : {X : Type 0} (rs : List X) (r : X) → Some r ≡ slice_get rs (length rs - 1) → rs ≡ take (length rs - 1) rs ++ r ∷ []
-last_is [] r is = cc
-last_is (x ∷ rs) r is = last_at (x ∷ rs) (length (x ∷ rs) - 1) r (omega arith) is
+pub good_plan : (rows : List Fields) (rs : List Request) → SpellAll SpellsRequest rows rs → AreInOrder writes_by NotAfter rs → IsGood rs
+good_plan rows rs spelled order = record { few = order.few; requests = good_requests rows rs spelled order.free; ascends = order.ascends }
 
-ascends-snoc : (rs : List Request) (r : Request) → Ascends rs → ((front : List Request) (last : Request) → rs ≡ front ++ last ∷ [] → NotAfter last r)
-    → Ascends (rs ++ r ∷ [])
-ascends-snoc [] r ascends follows = tt
-ascends-snoc (a ∷ []) r ascends follows = (follows [] a refl, tt)
-ascends-snoc (a ∷ b ∷ rest) r ascends follows =
-    (ascends.0, ascends-snoc (b ∷ rest) r ascends.1 (λ front last is. follows (a ∷ front) last (ap (λ (l : List Request). a ∷ l) is)))
+good_posts_of : (samples : ℕ) (rows : List Fields) (ps : List Post) → SpellAll (SpellsPost samples) rows ps → All (λ p. AreFree (writes_in p)) ps → All (IsGoodPost samples) ps
+good_posts_of samples [] [] spelled free = All-nil (IsGoodPost samples)
+good_posts_of samples [] (p ∷ ps) spelled free = absurd spelled
+good_posts_of samples (row ∷ rows) [] spelled free = absurd spelled
+good_posts_of samples (row ∷ rows) (p ∷ ps) spelled free =
+    let own : IsGoodPost samples p = record { moment_to = spelled.0.moment_to; sample_to = spelled.0.sample_to; few_writes = spelled.0.row.few; free = All-head (λ e. AreFree (writes_in e)) p ps free } in
+    All-cons (IsGoodPost samples) p ps own (good_posts_of samples rows ps spelled.1 (All-tail (λ e. AreFree (writes_in e)) p ps free))
 
-spelled-length : (rows : List Fields) (rs : List Request) → SpellRequests rows rs → length rs ≡ length rows
-spelled-length [] [] spelled = refl
-spelled-length [] (r ∷ rs) spelled = absurd spelled
-spelled-length (row ∷ rows) [] spelled = absurd spelled
-spelled-length (row ∷ rows) (r ∷ rs) spelled = omega (arith, spelled-length rows rs spelled.1)
+pub good_posts : (samples : ℕ) (rows : List Fields) (ps : List Post) → SpellAll (SpellsPost samples) rows ps → AreInOrder writes_in NoLater ps → AreGoodPosts samples ps
+good_posts samples rows ps spelled order = record { few = order.few; posts_are = good_posts_of samples rows ps spelled order.free; ascends = order.ascends }
 
-spell-snoc : (rows : List Fields) (rs : List Request) (row : Fields) (r : Request) → SpellRequests rows rs → SpellsRequest row r
-    → SpellRequests (rows ++ row ∷ []) (rs ++ r ∷ [])
-spell-snoc [] [] row r so_far here = (here, tt)
-spell-snoc [] (x ∷ rs) row r so_far here = absurd so_far
-spell-snoc (x ∷ rows) [] row r so_far here = absurd so_far
-spell-snoc (x ∷ rows) (y ∷ rs) row r so_far here = (so_far.0, spell-snoc rows rs row r so_far.1 here)
+last_at : {E : Type 0} (rs : List E) (n : ℕ) (r : E) → length rs ≡ suc n → Some r ≡ slice_get rs n → rs ≡ take n rs ++ r ∷ []
+last_at {E} [] n r count is = absurd (omega arith)
+last_at {E} (x ∷ []) zero r count is = let e : x ≡ r = cc in ap (λ (y : E). y ∷ []) e
+last_at {E} (x ∷ y ∷ rs) zero r count is = absurd (omega arith)
+last_at {E} (x ∷ rs) (suc n) r count is = ap (λ (l : List E). x ∷ l) (last_at rs n r (omega arith) is)
+
+pub last_is : {E : Type 0} (rs : List E) (r : E) → Some r ≡ slice_get rs (length rs - 1) → rs ≡ take (length rs - 1) rs ++ r ∷ []
+last_is {E} [] r is = cc
+last_is {E} (x ∷ rs) r is = last_at (x ∷ rs) (length (x ∷ rs) - 1) r (omega arith) is
 
 -- ---- the fields of the rows so far, of one row more, and of those behind
 
 module _ (rows : List Row) (i : ℕ) (row : Row) (lt : i < length rows) (is : row ≡ get_or rows i row) where
   pub fields_more : map fields_of (take (i + 1) rows) ≡ map fields_of (take i rows) ++ fields_of row ∷ []
-  fields_more = ap (map fields_of) (take_more rows i row lt ∙ ap (λ (r : Row). take i rows ++ r ∷ []) (sym is)) ∙ map-append fields_of (take i rows) (row ∷ [])
+  fields_more = ap (map fields_of) (take_more rows i row lt ∙ ap (λ (r : Row). take i rows ++ r ∷ []) (sym is))
+      ∙ map-append fields_of (take i rows) (row ∷ [])
 
-  pub fields_split : map fields_of rows ≡ map fields_of (take i rows) ++ fields_of row ∷ map fields_of (drop (suc i) rows)
+  pub fields_split :
+      map fields_of rows ≡ map fields_of (take i rows) ++ fields_of row ∷ map fields_of (drop (suc i) rows)
   fields_split = ap (map fields_of) (split_at rows i row lt ∙ ap (λ (r : Row). take i rows ++ r ∷ drop (suc i) rows) (sym is))
       ∙ map-append fields_of (take i rows) (row ∷ drop (suc i) rows)
 
   pub length-fields : length (map fields_of (take i rows)) ≡ i
   length-fields = rw length-map (length-take-le i rows (omega arith))
 
--- ---- one request more
+-- ---- one entry more
 
-module _ (rows : List Row) (i : ℕ) (row : Row) (lt : i < length rows) (is : row ≡ get_or rows i row) (rs : List Request)
-    (so_far : SpellRequests (map fields_of (take i rows)) rs) (good : IsGood rs) where
-  size : length (map fields_of (take i rows)) ≡ i
-  size = length-fields rows i row lt is
+module _ {E : Type 0} (Spells : Fields → E → Type 0) (writes : E → List Write) (Follows : E → E → Type 0) where
+  ascends-snoc : (es : List E) (e : E) → Ascend Follows es → ((front : List E) (last : E) → es ≡ front ++ last ∷ [] → Follows last e) → Ascend Follows (es ++ e ∷ [])
+  ascends-snoc [] e ascends follows = tt
+  ascends-snoc (a ∷ []) e ascends follows = (follows [] a refl, tt)
+  ascends-snoc (a ∷ b ∷ rest) e ascends follows =
+      (ascends.0, ascends-snoc (b ∷ rest) e ascends.1 (λ front last is. follows (a ∷ front) last (ap (λ (l : List E). a ∷ l) is)))
 
-  pub requests_more : (r : Request) (rs' : List Request) → SpellsRequest (fields_of row) r → rs' ≡ rs ++ r ∷ []
-      → SpellRequests (map fields_of (take (i + 1) rows)) rs'
-  requests_more r rs' here added = rw (fields_more rows i row lt is, added) (spell-snoc (map fields_of (take i rows)) rs (fields_of row) r so_far here)
+  spelled-length : (rows : List Fields) (es : List E) → SpellAll Spells rows es → length es ≡ length rows
+  spelled-length [] [] spelled = refl
+  spelled-length [] (e ∷ es) spelled = absurd spelled
+  spelled-length (row ∷ rows) [] spelled = absurd spelled
+  spelled-length (row ∷ rows) (e ∷ es) spelled = omega (arith, spelled-length rows es spelled.1)
 
-  pub good_more : (r : Request) (rs' : List Request) → IsGoodRequest r
-      → ((front : List Request) (last : Request) → rs ≡ front ++ last ∷ [] → NotAfter last r) → i < 10000 → rs' ≡ rs ++ r ∷ [] → IsGood rs'
-  good_more r rs' here follows few added =
-      let count : length rs ≡ i = spelled-length (map fields_of (take i rows)) rs so_far ∙ size in
-      subst IsGood (sym added) (record {
-        few = omega (arith, length-append rs (r ∷ []), count);
-        requests = All-append IsGoodRequest rs (r ∷ []) good.requests (All-cons IsGoodRequest r [] here (All-nil IsGoodRequest));
-        ascends = ascends-snoc rs r good.ascends follows;
-      })
+  spell-snoc : (rows : List Fields) (es : List E) (row : Fields) (e : E) → SpellAll Spells rows es → Spells row e → SpellAll Spells (rows ++ row ∷ []) (es ++ e ∷ [])
+  spell-snoc [] [] row e so_far here = (here, tt)
+  spell-snoc [] (x ∷ es) row e so_far here = absurd so_far
+  spell-snoc (x ∷ rows) [] row e so_far here = absurd so_far
+  spell-snoc (x ∷ rows) (y ∷ es) row e so_far here = (so_far.0, spell-snoc rows es row e so_far.1 here)
 
-  pub fault_at : (fault : PlanFault) (n : ℕ) → n ≡ i + 1 → i < 10000 → RowFails rs n (fields_of row) fault → FirstFault (map fields_of rows) fault
-  fault_at fault n number few fails =
-      let at : n ≡ length (map fields_of (take i rows)) + 1 = omega (arith, number, size) in
-      at_row (map fields_of (take i rows)) (fields_of row) (map fields_of (drop (suc i) rows)) rs fault (fields_split rows i row lt is) (omega (arith, size)) so_far good
-      (subst (λ (k : ℕ). RowFails rs k (fields_of row) fault) at fails)
+  module _ (rows : List Row) (i : ℕ) (row : Row) (lt : i < length rows) (is : row ≡ get_or rows i row) (es : List E)
+      (so_far : SpellAll Spells (map fields_of (take i rows)) es) (order : AreInOrder writes Follows es) where
+    size : length (map fields_of (take i rows)) ≡ i
+    size = length-fields rows i row lt is
 
-  pub too_many : i ≡ 10000 → FirstFault (map fields_of rows) TooMany
-  too_many many = more (map fields_of (take i rows)) (fields_of row) (map fields_of (drop (suc i) rows)) rs (fields_split rows i row lt is) (size ∙ many) so_far good
+    pub entries_more : (e : E) (es' : List E) → Spells (fields_of row) e → es' ≡ es ++ e ∷ [] → SpellAll Spells (map fields_of (take (i + 1) rows)) es'
+    entries_more e es' here added = rw (fields_more rows i row lt is, added) (spell-snoc (map fields_of (take i rows)) es (fields_of row) e so_far here)
+
+    pub order_more : (e : E) (es' : List E) → AreFree (writes e) → ((front : List E) (last : E) → es ≡ front ++ last ∷ [] → Follows last e) → i < 10000
+        → es' ≡ es ++ e ∷ [] → AreInOrder writes Follows es'
+    order_more e es' here follows few added =
+        let count : length es ≡ i = spelled-length (map fields_of (take i rows)) es so_far ∙ size in
+        subst (AreInOrder writes Follows) (sym added) (record {
+          few = omega (arith, length-append es (e ∷ []), count);
+          free = All-append (λ x. AreFree (writes x)) es (e ∷ []) order.free (All-cons (λ x. AreFree (writes x)) e [] here (All-nil (λ x. AreFree (writes x))));
+          ascends = ascends-snoc es e order.ascends follows;
+        })
+
+    pub fault_at : (fault : PlanFault) (n : ℕ) → n ≡ i + 1 → i < 10000 → RowFails Spells writes Follows es n (fields_of row) fault
+        → FirstFault Spells writes Follows (map fields_of rows) fault
+    fault_at fault n number few fails =
+        let at : n ≡ length (map fields_of (take i rows)) + 1 = omega (arith, number, size) in
+        at_row (map fields_of (take i rows)) (fields_of row) (map fields_of (drop (suc i) rows)) es fault (fields_split rows i row lt is) (omega (arith, size)) so_far order
+        (subst (λ (k : ℕ). RowFails Spells writes Follows es k (fields_of row) fault) at fails)
+
+    pub too_many : i ≡ 10000 → FirstFault Spells writes Follows (map fields_of rows) TooMany
+    too_many many = more (map fields_of (take i rows)) (fields_of row) (map fields_of (drop (suc i) rows)) es (fields_split rows i row lt is) (size ∙ many) so_far order

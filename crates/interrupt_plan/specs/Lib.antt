@@ -1,5 +1,7 @@
 pub mod Plans
+pub mod Rows
 pub mod PlanTexts
+pub mod Posts
 pub mod OneReading
 pub mod Upsets
 pub mod UpsetTexts

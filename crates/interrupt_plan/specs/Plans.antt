@@ -15,10 +15,14 @@ pub record IsGoodRequest (r : Request) : Type 0 where
 abbrev pub NotAfter : Request → Request → Type 0
 NotAfter a b = (a.sample < b.sample) ⊎ ((a.sample ≡ b.sample) × (a.moment ≤ b.moment))
 
+-- none of a list comes after the one behind it
+abbrev pub Ascend : {E : Type 0} → (E → E → Type 0) → List E → Type 0
+Ascend NotAfter [] = Unit {0}
+Ascend NotAfter (a ∷ []) = Unit {0}
+Ascend NotAfter (a ∷ b ∷ rest) = NotAfter a b × Ascend NotAfter (b ∷ rest)
+
 abbrev pub Ascends : List Request → Type 0
-Ascends [] = Unit {0}
-Ascends (a ∷ []) = Unit {0}
-Ascends (a ∷ b ∷ rest) = NotAfter a b × Ascends (b ∷ rest)
+Ascends = Ascend NotAfter
 
 pub record IsGood (plan : List Request) : Type 0 where
   pub few : length plan ≤ 10000

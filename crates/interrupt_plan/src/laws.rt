@@ -1,10 +1,17 @@
 //! Laws of plans, each the contract of a function that does nothing.
-ghost use Rattle.interrupt_plan.specs.OneReading.{SpelledPlansHaveNoFault};
+ghost use Rattle.interrupt_plan.specs.OneReading.{SpelledPlansHaveNoFault, SpelledPostsHaveNoFault};
 ghost use Rattle.interrupt_plan.specs.UpsetTexts.{SpelledUpsetsHaveNoFault};
 
 /// A text that spells a plan has no fault.
 pub fn spelled_plans_have_no_fault()
     ensures { SpelledPlansHaveNoFault }
+{
+    fz_rows::first_rows_are_one();
+}
+
+/// Nor has one that spells posts.
+pub fn spelled_posts_have_no_fault()
+    ensures { SpelledPostsHaveNoFault }
 {
     fz_rows::first_rows_are_one();
 }

@@ -4,7 +4,8 @@
 //! steps, and the bytes that its handler writes; it is taken at the first boundary at or after
 //! its moment where interrupts are allowed. A good plan writes only bytes that the firmware
 //! leaves free, and its requests ascend. [`read_plan`] answers exactly the plan that the rows of a
-//! text spell, which is good, or the fault of the first row that fails.
+//! text spell, which is good, or the fault of the first row that fails. [`read_posts`] does the same
+//! for the [`Posts`] of the mailbox form, whose handler may post a sample.
 //!
 //! [`read_upsets`] reads in the same way which byte of a firmware's tables holds another value while
 //! a sample is answered: a list of [`Upset`]s, one at most for each sample.
@@ -18,13 +19,16 @@ use fz_list::List;
 use std::alloc::Global;
 use thiserror::Error;
 
+mod entry;
 mod laws;
 mod reader;
 mod row;
 mod upsets;
 
-pub use laws::{spelled_plans_have_no_fault, spelled_upsets_have_no_fault};
-pub use reader::read_plan;
+pub use laws::{
+    spelled_plans_have_no_fault, spelled_posts_have_no_fault, spelled_upsets_have_no_fault,
+};
+pub use reader::{read_plan, read_posts};
 pub use row::{count_in, word_in};
 pub use upsets::{Upset, UpsetFault, Upsets, read_upsets};
 
@@ -42,19 +46,34 @@ pub struct Request {
 /// Requests that ascend by sample and then by moment, at most 10000 of them.
 pub type Plan = List<Request>;
 
-/// Why a text is no plan. Rows count from 1.
+/// A take of a handler that may post a sample.
+#[derive(Drop)]
+pub struct Post {
+    /// How many steps of the run are done before it, at the least: at most 1000000.
+    pub moment: u32,
+    /// The sample that it posts, counted from 1, or 0 for none.
+    pub sample: u32,
+    /// What its handler writes besides, in order: at most 8 bytes, each from `$1800` to `$1FDF`.
+    pub writes: List<Write>,
+}
+
+/// Posts that ascend by their moments, at most 10000 of them.
+pub type Posts = List<Post>;
+
+/// Why a text is no plan, or has no posts. Rows count from 1.
 #[derive(Clone, Copy, PartialEq, Eq, Debug, Error)]
 pub enum PlanFault {
     /// There is a row 10001.
     #[error("too many rows")]
     TooMany,
-    /// That row is not a sample from 1, a moment, and at most eight pairs of an address and a value.
+    /// That row is not its two numbers, a sample and a moment or a moment and a sample, each in its
+    /// limits, and at most eight pairs of an address and a value.
     #[error("row {0} is malformed")]
     BadRow(u32),
     /// In that row, that address is the first that is not free.
     #[error("row {0}: the byte at {1} is not free")]
     NotFree(u32, u16),
-    /// That row's sample and moment come before those of the row above it.
+    /// That row comes before the one above it: a request by its sample and moment, a post by its moment.
     #[error("row {0} falls back")]
     NotAscending(u32),
     /// Memory was wanted and not found.

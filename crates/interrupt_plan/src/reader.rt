@@ -1,92 +1,110 @@
-//! Plans from rows.
-ghost use Rattle.std.specs.Prelude.{◌≡◌, ◌≢◌, ◌<◌, ◌≤◌, ◌↔◌, ℕ, List as Items, [], ◌∷◌, ◌++◌, length, map, IfOk, IfErr, IsTrue};
+//! Plans and posts from rows.
+ghost use Rattle.std.specs.Prelude.{◌≡◌, ◌≢◌, ◌<◌, ◌≤◌, List as Items, [], ◌∷◌, ◌++◌, length, map, IfOk, IfErr};
 ghost use Rattle.csv.specs.Records.{fields_of};
-ghost use Rattle.interrupt_plan.specs.Plans.{IsGood, IsGoodRequest, NotAfter};
-ghost use Rattle.interrupt_plan.specs.PlanTexts.{FirstFault, HasFault, RowFails, SpellRequests, Spells, SpellsRequest};
-ghost use Rattle.interrupt_plan.specs.declared.Request.{Request as TheRequest};
+ghost use Rattle.interrupt_plan.specs.PlanTexts.{HasFault, Spells};
+ghost use Rattle.interrupt_plan.specs.Posts.{PostsHaveFault, SpellsPosts};
+ghost use Rattle.interrupt_plan.specs.Rows.{AreFree, AreInOrder, FirstFault, HasFirstFault, RowFails, SpellAll, SpellsText};
 
-use crate::row::{first_taken, request_in};
-use crate::{Plan, PlanFault, Request};
+use crate::entry::Entry;
+use crate::row::first_taken;
+use crate::{Plan, PlanFault, Posts};
 use csv::ByteRecord;
 use fz_list::List;
 use fz_rows::first_rows;
 use std::alloc::Global;
 
-/// The most requests of a plan.
-const MOST_REQUESTS: usize = 10000;
+/// The most rows.
+const MOST_ROWS: usize = 10000;
 
-fn is_not_after(a: &Request, b: &Request) -> bool
-    ensures { IsTrue result ↔ NotAfter a.now b.now }
-{
-    a.sample < b.sample || (a.sample == b.sample && a.moment <= b.moment)
-}
-
-/// The good request of a row with this number, behind those of the rows above it.
-fn next_request(
+/// The entry of a row with this number, behind those of the rows above it.
+fn next_entry<E: Entry>(
     alloc: Global,
-    before: &[Request],
+    before: &[E],
     row: &ByteRecord,
     number: u32,
-) -> Result<Request, PlanFault>
-    ensures request { IfOk result (SpellsRequest (fields_of row.now)) }
-    ensures good { IfOk result IsGoodRequest }
-    ensures ascends { IfOk result (λ r. (front : Items TheRequest) (last : TheRequest)
-        → before.now ≡ front ++ last ∷ [] → NotAfter last r) }
-    ensures fault { IfErr result (λ f. f ≢ PlanFault.Memory → RowFails before.now number (fields_of row.now) f) }
+    samples: u32,
+) -> Result<E, PlanFault>
+    ensures entry { IfOk result (E.spells samples (fields_of row.now)) }
+    ensures free { IfOk result (λ e. AreFree (E.written e)) }
+    ensures ascends { IfOk result (λ e. (front : Items E) (last : E)
+        → before.now ≡ front ++ last ∷ [] → E.not_after last e) }
+    ensures fault { IfErr result (λ f. f ≢ PlanFault.Memory → RowFails (E.spells samples) E.written E.not_after before.now number (fields_of row.now) f) }
 {
-    let request = match request_in(alloc, row) {
-        Ok(Some(request)) => request,
+    let entry = match E::read(alloc, row, samples) {
+        Ok(Some(entry)) => entry,
         Ok(None) => return Err(PlanFault::BadRow(number)),
         Err(_) => return Err(PlanFault::Memory),
     };
-    if let Some(at) = first_taken(request.writes.as_slice()) {
+    if let Some(at) = first_taken(entry.writes()) {
         return Err(PlanFault::NotFree(number, at));
     }
     match before.last() {
-        Some(last) if !is_not_after(last, &request) => Err(PlanFault::NotAscending(number)),
-        _ => Ok(request),
+        Some(last) if !last.is_not_after(&entry) => Err(PlanFault::NotAscending(number)),
+        _ => Ok(entry),
     }
 }
 
-/// The requests of rows, up to the first row that fails.
-fn requests_in(alloc: Global, rows: &[ByteRecord]) -> Result<Vec<Request>, PlanFault>
-    ensures requests { IfOk result (λ v. SpellRequests (map fields_of rows.now) v.items) }
+/// The entries of rows, up to the first row that fails.
+fn entries_in<E: Entry>(
+    alloc: Global,
+    rows: &[ByteRecord],
+    samples: u32,
+) -> Result<Vec<E>, PlanFault>
+    ensures entries { IfOk result (λ v. SpellAll (E.spells samples) (map fields_of rows.now) v.items) }
     ensures few { IfOk result (λ v. length rows.now < 10001) }
-    ensures good { IfOk result (λ v. IsGood v.items) }
-    ensures fault { IfErr result (λ f. f ≢ PlanFault.Memory → FirstFault (map fields_of rows.now) f) }
+    ensures order { IfOk result (λ v. AreInOrder E.written E.not_after v.items) }
+    ensures fault { IfErr result (λ f. f ≢ PlanFault.Memory → FirstFault (E.spells samples) E.written E.not_after (map fields_of rows.now) f) }
 {
-    let mut requests = Vec::new(alloc);
+    let mut entries = Vec::new(alloc);
     for (at, row) in rows.iter().enumerate() {
-        if at == MOST_REQUESTS {
+        if at == MOST_ROWS {
             return Err(PlanFault::TooMany);
         }
-        let request = match next_request(alloc, &requests, row, at as u32 + 1) {
-            Ok(request) => request,
+        let entry = match next_entry(alloc, &entries, row, at as u32 + 1, samples) {
+            Ok(entry) => entry,
             Err(fault) => return Err(fault),
         };
-        match requests.push(request) {
+        match entries.push(entry) {
             Ok(()) => {}
             Err(_) => return Err(PlanFault::Memory),
         }
     }
-    Ok(requests)
+    Ok(entries)
 }
 
-/// The plan that a text spells: comma-separated values without a header row, one row per request,
-/// with its sample, its moment and up to eight pairs of an address and a value, both hexadecimal.
-/// What `csv` does by default holds: empty lines are no rows, fields may be quoted, and a byte order
-/// mark at the start is skipped.
-pub fn read_plan(alloc: Global, text: &[u8]) -> Result<Plan, PlanFault>
-    requires { length text.now ≤ 1048576 }
-    ensures plan { IfOk result (Spells text.now) }
-    ensures fault { IfErr result (λ f. f ≢ PlanFault.Memory → HasFault text.now f) }
+/// The entries that a text spells: comma-separated values without a header row, one row per entry,
+/// with two numbers and up to eight pairs of an address and a value, both hexadecimal. What `csv` does
+/// by default holds: empty lines are no rows, fields may be quoted, and a byte order mark at the start
+/// is skipped.
+fn entries_of<E: Entry>(alloc: Global, text: &[u8], samples: u32) -> Result<List<E>, PlanFault>
+    ensures entries { IfOk result (SpellsText (E.spells samples) (AreInOrder E.written E.not_after) text.now) }
+    ensures fault { IfErr result (λ f. f ≢ PlanFault.Memory → HasFirstFault (E.spells samples) E.written E.not_after text.now f) }
 {
     let rows = match first_rows(alloc, text) {
         Ok(rows) => rows,
         Err(_) => return Err(PlanFault::Memory),
     };
-    match requests_in(alloc, &rows) {
-        Ok(requests) => Ok(List::new(requests)),
+    match entries_in(alloc, &rows, samples) {
+        Ok(entries) => Ok(List::new(entries)),
         Err(fault) => Err(fault),
     }
+}
+
+/// The plan that a text spells: a row per request, with its sample, its moment and its writes.
+pub fn read_plan(alloc: Global, text: &[u8]) -> Result<Plan, PlanFault>
+    requires { length text.now ≤ 1048576 }
+    ensures plan { IfOk result (Spells text.now) }
+    ensures fault { IfErr result (λ f. f ≢ PlanFault.Memory → HasFault text.now f) }
+{
+    entries_of(alloc, text, 0)
+}
+
+/// The posts that a text spells over so many samples: a row per post, with its moment, its sample and
+/// its writes.
+pub fn read_posts(alloc: Global, text: &[u8], samples: u32) -> Result<Posts, PlanFault>
+    requires { length text.now ≤ 1048576 }
+    ensures posts { IfOk result (SpellsPosts samples text.now) }
+    ensures fault { IfErr result (λ f. f ≢ PlanFault.Memory → PostsHaveFault samples text.now f) }
+{
+    entries_of(alloc, text, samples)
 }

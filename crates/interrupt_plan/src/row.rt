@@ -1,27 +1,26 @@
-//! The request of a row.
-ghost use Rattle.std.specs.Prelude.{◌≡◌, ◌≢◌, ◌↔◌, ◌<◌, ◌≤◌, ◌*◌, ◌+◌, ◌%◌, ◌^◌, ℕ, List, [], ◌∷◌, ◌++◌, length, drop, min, IfOk, Some, None, MatchOption, IsTrue, slice_index_or};
+//! The parts of a row.
+ghost use Rattle.std.specs.Prelude.{◌≡◌, ◌≢◌, ◌↔◌, ◌<◌, ◌≤◌, ◌*◌, ◌+◌, ◌%◌, ◌^◌, ℕ, List as Items, [], ◌∷◌, ◌++◌, length, drop, min, IfOk, Some, None, MatchOption, IsTrue, slice_index_or};
 ghost use Rattle.csv.specs.Records.{fields_of};
 ghost use Rattle.fz_num.specs.Decimals.{are_digits, is_digit, number};
 ghost use Rattle.std.specs.List.{list_all};
 ghost use Rattle.hex.specs.Hex.{decode_sized};
 ghost use Rattle.cpu12_isa.specs.Regions.{is_free};
-ghost use Rattle.interrupt_plan.specs.PlanTexts.{AreFree, HasTimes, IsFirstTaken, SpellsRequest, byte_of, count_of, word_of, write_of, writes_of};
-ghost use Rattle.interrupt_plan.specs.declared.Request.{Request as TheRequest};
+ghost use Rattle.cpu12_isa.specs.declared.instr.Write.{Write as TheWrite};
+ghost use Rattle.interrupt_plan.specs.Rows.{AreFree, HasNumbers, IsFirstTaken, SpellsRow, byte_of, count_of, word_of, write_of, writes_of};
 
-use crate::Request;
 use cpu12_isa::instr::Write;
 use csv::ByteRecord;
 use fz_list::List;
 use hex::FromHex;
 use std::alloc::{AllocError, Global};
 
-/// The most digits of a sample's number and of a moment.
+/// The most digits of a number.
 const MOST_DIGITS: usize = 9;
 
 /// One more than the greatest number of so many digits.
 const TOO_GREAT: u32 = 1_000_000_000;
 
-/// The most fields of a row: a sample, a moment, and eight writes.
+/// The most fields of a row: two numbers, and eight writes.
 const MOST_FIELDS: usize = 18;
 
 /// The free region.
@@ -98,7 +97,7 @@ pub(crate) fn field_at(row: &ByteRecord, at: usize) -> &[u8]
     }
 }
 
-/// The writes of a row behind its sample and moment.
+/// The writes of a row behind its numbers.
 fn writes_in(alloc: Global, row: &ByteRecord) -> Result<Option<Vec<Write>>, AllocError>
     requires some { 2 ≤ length (fields_of row.now) }
     requires pairs { length (fields_of row.now) % 2 ≡ 0 }
@@ -115,22 +114,30 @@ fn writes_in(alloc: Global, row: &ByteRecord) -> Result<Option<Vec<Write>>, Allo
     Ok(Some(writes))
 }
 
-/// The request that a row spells.
-pub(crate) fn request_in(alloc: Global, row: &ByteRecord) -> Result<Option<Request>, AllocError>
-    ensures { IfOk result (λ request. MatchOption request ((r : TheRequest) → SpellsRequest (fields_of row.now) r → ⊥)
-        (SpellsRequest (fields_of row.now))) }
+/// The two numbers and the writes of a row.
+#[derive(Drop)]
+pub(crate) struct Parts {
+    pub(crate) first: u32,
+    pub(crate) second: u32,
+    pub(crate) writes: List<Write>,
+}
+
+/// The parts of a row.
+pub(crate) fn parts_in(alloc: Global, row: &ByteRecord) -> Result<Option<Parts>, AllocError>
+    ensures { IfOk result (λ parts. MatchOption parts ((a b : ℕ) (ws : Items TheWrite) → SpellsRow (fields_of row.now) a b ws → ⊥)
+        (λ p. SpellsRow (fields_of row.now) p.first p.second p.writes)) }
 {
     if row.len() < 2 || row.len() > MOST_FIELDS || row.len() % 2 == 1 {
         return Ok(None);
     }
-    let (sample, moment) = match times_in(row) {
-        Some(times) => times,
+    let (first, second) = match numbers_in(row) {
+        Some(numbers) => numbers,
         None => return Ok(None),
     };
     match writes_in(alloc, row) {
-        Ok(Some(writes)) => Ok(Some(Request {
-            sample,
-            moment,
+        Ok(Some(writes)) => Ok(Some(Parts {
+            first,
+            second,
             writes: List::new(writes),
         })),
         Ok(None) => Ok(None),
@@ -138,19 +145,15 @@ pub(crate) fn request_in(alloc: Global, row: &ByteRecord) -> Result<Option<Reque
     }
 }
 
-/// The sample and the moment of a row.
-fn times_in(row: &ByteRecord) -> Option<(u32, u32)>
+/// The first two fields of a row, as numbers.
+fn numbers_in(row: &ByteRecord) -> Option<(u32, u32)>
     requires { 2 ≤ length (fields_of row.now) }
-    ensures { MatchOption result ((r : TheRequest) → SpellsRequest (fields_of row.now) r → ⊥)
-        (λ t. HasTimes (fields_of row.now) t.0 t.1) }
+    ensures { MatchOption result ((a b : ℕ) → HasNumbers (fields_of row.now) a b → ⊥)
+        (λ t. HasNumbers (fields_of row.now) t.0 t.1) }
 {
-    let sample = count_in(field_at(row, 0))?;
-    let moment = count_in(field_at(row, 1))?;
-    if sample >= 1 {
-        Some((sample, moment))
-    } else {
-        None
-    }
+    let first = count_in(field_at(row, 0))?;
+    let second = count_in(field_at(row, 1))?;
+    Some((first, second))
 }
 
 fn is_free(at: u16) -> bool

@@ -2,7 +2,7 @@ use Rattle.std.proofs.Common.{◌≡◌, ◌+◌, ◌*◌, ◌<◌, ℕ, List, d
 use Rattle.std.specs.Prelude.{Some}
 use Rattle.csv.specs.Records.{fields_of}
 use Rattle.cpu12_isa.specs.declared.instr.Write.{Write}
-use Rattle.interrupt_plan.specs.PlanTexts.{writes_of}
+use Rattle.interrupt_plan.specs.Rows.{writes_of}
 use Rattle.interrupt_plan.proofs.PairLemmas.{all_pairs, first_pairs, writes_more, writes_stop}
 use Rattle.interrupt_plan.proofs.PlanLemmas.{behind_two, length-behind_two}
 use Rattle.interrupt_plan.proofs.row.writes_in.Goals as goal

@@ -1,7 +1,7 @@
 use Rattle.std.proofs.Common.{◌≡◌, drop}
 use Rattle.std.specs.Prelude.{Some}
 use Rattle.csv.specs.Records.{fields_of}
-use Rattle.interrupt_plan.specs.PlanTexts.{writes_of}
+use Rattle.interrupt_plan.specs.Rows.{writes_of}
 use Rattle.interrupt_plan.proofs.PairLemmas.{first_pairs}
 use Rattle.interrupt_plan.proofs.row.writes_in.Given as goal
 
