@@ -10,7 +10,7 @@ use Rattle.fz_rows.specs.Laws.{FirstRowsAreOne}
 use Rattle.interrupt_plan.specs.declared.upsets.Upset.{Upset}
 use Rattle.interrupt_plan.specs.declared.upsets.UpsetFault.{UpsetFault}
 use Rattle.interrupt_plan.specs.declared.upsets.UpsetFault.TheVariants.{TooMany}
-use Rattle.interrupt_plan.specs.PlanTexts.{count_of, write_of, the_write, word_of, byte_of}
+use Rattle.interrupt_plan.specs.Rows.{count_of, write_of, the_write, word_of, byte_of}
 use Rattle.interrupt_plan.specs.Upsets.{AreGoodUpsets, IsGoodUpset, SamplesAscend, is_table}
 use Rattle.interrupt_plan.specs.UpsetTexts.{FirstUpsetFault, SpellUpsets, SpellsUpset, SpellsUpsets, HasUpsetFault, SpelledUpsetsHaveNoFault, UpsetRowFails, at_row, more, unread, not_table, not_ascending}
 use Rattle.interrupt_plan.proofs.PlanLemmas.{count_small, fields_more, fields_split, length-fields}

@@ -5,7 +5,7 @@ use Rattle.fz_rows.specs.FirstRows.{Fields, AreFirstRows}
 use Rattle.interrupt_plan.specs.declared.upsets.Upset.{Upset}
 use Rattle.interrupt_plan.specs.declared.upsets.UpsetFault.{UpsetFault}
 use Rattle.interrupt_plan.specs.declared.upsets.UpsetFault.TheVariants.{BadRow, NotTable, NotAscending, TooMany}
-use Rattle.interrupt_plan.specs.PlanTexts.{count_of, write_of}
+use Rattle.interrupt_plan.specs.Rows.{count_of, write_of}
 use Rattle.interrupt_plan.specs.Upsets.{AreGoodUpsets, is_table}
 
 -- three fields are an upset's sample, from 1, its address and its value

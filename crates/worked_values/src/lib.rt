@@ -38,6 +38,8 @@ mod parts;
 #[cfg(test)]
 mod plans;
 #[cfg(test)]
+mod posts;
+#[cfg(test)]
 mod records;
 #[cfg(test)]
 mod runs;

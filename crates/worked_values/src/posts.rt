@@ -1,4 +1,5 @@
-use super::*;
+//! Posts and their first faults.
+use interrupt_plan::{PlanFault, read_posts};
 use std::test::Fail;
 
 #[test]
