@@ -6,4 +6,5 @@ pub mod steps
 pub mod phases
 pub mod masses
 pub mod runs
+pub mod watching
 pub mod AlikeLemmas

@@ -11,3 +11,6 @@ pub mod Interruptible
 pub mod Alike
 pub mod Answers
 pub mod Uninterrupted
+pub mod Checksums
+pub mod WatchedCode
+pub mod Watched

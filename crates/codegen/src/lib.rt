@@ -6,24 +6,32 @@
 //! [`Width`] of the answers and of a [`Layout`], which says where each part stands; it holds exactly
 //! the bytes that this function names. Both refuse exactly the blocks that `rule_layout::spread`
 //! refuses, and take memory.
+//!
+//! [`compile_scrub`] makes a firmware that also watches its tables: it sums them before each sample,
+//! and answers the outputs' defaults, with a byte FAULT set, where they are not what they were.
 #![tactic(auto)]
 
 mod bounds;
+mod check;
 mod code;
 mod data;
 mod firmware;
 mod items;
 pub mod laws;
 mod layout;
+mod segments;
+mod watch;
 mod width;
 
 pub use firmware::{Firmware, compile, compile16};
 pub use items::firmware_items;
 pub use laws::{
     eval_answers, firmware_answers, firmware_is_uninterrupted, firmwares_are_one,
-    rules_give_masses, uninterrupted_are_one,
+    one_change_is_seen, rules_give_masses, uninterrupted_are_one, watched_answers,
 };
 pub use layout::Layout;
+pub use segments::Segment;
+pub use watch::compile_scrub;
 pub use width::Width;
 
 #[cfg(test)]
