@@ -15,17 +15,15 @@ use Rattle.rule_layout.specs.declared.flat.Form.{Form}
 use Rattle.rule_layout.specs.declared.flat.Slot.{Slot}
 use Rattle.cpu12_isa.specs.declared.instr.Instr.{Instr}
 use Rattle.cpu12_isa.specs.declared.instr.Instr.TheVariants.{Rts}
-use Rattle.cpu12_asm.specs.Bytes.{byte_at, start_of, word_or_zero}
+use Rattle.cpu12_asm.specs.Bytes.{byte_at, word_or_zero}
 use Rattle.cpu12_asm.specs.Items.{given_by}
 use Rattle.cpu12_asm.specs.declared.items.Item.{Item}
 use Rattle.codegen.specs.Alike.{FirmwaresAreOne}
 use Rattle.codegen.specs.Code.{eval_code_over, frame_code}
 use Rattle.codegen.specs.Data.{rule_bytes_by, singleton_bytes_of, weight_bytes_by}
-use Rattle.codegen.specs.Firmwares.{IsFirmwareOf}
 use Rattle.codegen.specs.Images.{bytes_at, code_at, block_items, firmware_items, vector_items}
 use Rattle.codegen.specs.Layouts.{main_layout}
 use Rattle.codegen.specs.Widths.{width_of}
-use Rattle.codegen.specs.declared.firmware.Firmware.{Firmware}
 use Rattle.codegen.specs.declared.layout.Layout.{Layout}
 use Rattle.codegen.specs.declared.width.Width.{Width}
 

@@ -7,4 +7,5 @@ pub mod phases
 pub mod masses
 pub mod runs
 pub mod turns
+pub mod watching
 pub mod AlikeLemmas

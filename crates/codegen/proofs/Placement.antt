@@ -79,7 +79,7 @@ length-rule_bytes slots form.Rev cs = omega arith
 length-rule_bytes slots form.Revw cs =
     omega (arith, length-words (list_words slots cs), length-marked 0xFFFE 0xFFFF (map (at_address slots) cs), length-marked 0xFE 0xFF cs, entries-at_address slots cs)
 
-length-rules : (slots : ℕ) (b : Block) → length (rule_bytes slots b) ≡ list_size b
+pub length-rules : (slots : ℕ) (b : Block) → length (rule_bytes slots b) ≡ list_size b
 unfolding list_size
 length-rules slots b = length-rule_bytes slots (form_of b) (conjunctions_of b)
 

@@ -13,3 +13,6 @@ pub mod Answers
 pub mod Uninterrupted
 pub mod Mailboxes
 pub mod Turns
+pub mod Checksums
+pub mod WatchedCode
+pub mod Watched

@@ -115,7 +115,7 @@ pub(crate) fn steps_by(block: &Block, flat: &Flat, instructions: u32) -> u32
     requires valid { IsValid block.now }
     requires flat { flat.now ≡ flat_of block.now }
     requires short { element_count block.now ≤ 9984 }
-    requires few { instructions ≤ 2020 }
+    requires few { instructions ≤ 130000 }
     ensures { result ≡ steps_by block.now instructions }
 {
     let singletons = u32::from(output_terms(block.outputs.as_slice()));

@@ -2,8 +2,10 @@
 ghost use Rattle.codegen.specs.Alike.{FirmwaresAreOne};
 ghost use Rattle.codegen.specs.Answers.{FirmwareAnswers};
 ghost use Rattle.codegen.specs.Evaluation.{EvalAnswers};
+ghost use Rattle.codegen.specs.Checksums.{OneChangeIsSeen, TwoChangesMayPass, UnchangedSumIsZero};
 ghost use Rattle.codegen.specs.Firing.{RulesGiveMasses};
 ghost use Rattle.codegen.specs.Turns.{MailboxTakesPosts, MailboxIsUninterrupted};
+ghost use Rattle.codegen.specs.Watched.{WatchedAnswers};
 ghost use Rattle.codegen.specs.Uninterrupted.{AnsweredAreUninterrupted, FirmwareIsUninterrupted, UninterruptedAreOne};
 
 use byte_scaling::nearest_is_byte;
@@ -92,4 +94,26 @@ pub fn firmwares_are_one()
     ensures { FirmwaresAreOne }
 {
     layouts_are_one();
+}
+
+/// With its check byte the sum of bytes is 0. Where one byte is changed to another it is not; where
+/// two are it may be.
+pub fn one_change_is_seen()
+    ensures unchanged { UnchangedSumIsZero }
+    ensures one { OneChangeIsSeen }
+    ensures two { TwoChangesMayPass }
+{}
+
+/// The firmware of a block with watched tables answers every list of samples, whatever the open flags
+/// are, within its bounds: by the block's answers over bytes and FAULT 0, but by the outputs' defaults
+/// and FAULT 1 while a byte of its tables holds another value.
+pub fn watched_answers()
+    ensures { WatchedAnswers }
+{
+    layout_law();
+    nearest_is_byte();
+    stays_fit();
+    rising_items();
+    holds_image();
+    eval_answers();
 }

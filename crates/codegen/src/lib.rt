@@ -5,10 +5,13 @@
 //! on the instructions and steps that a sample takes. The image is a function of the block, of the
 //! [`Width`] of the answers and of a [`Layout`], which says where each part stands; it holds exactly
 //! the bytes that this function names. [`compile_post`] makes the mailbox form, whose samples come by
-//! an interrupt. All refuse exactly the blocks that `rule_layout::spread` refuses, and take memory.
+//! an interrupt. [`compile_scrub`] makes a firmware that also watches its tables: it sums them before
+//! each sample, and answers the outputs' defaults, with a byte FAULT set, where they are not what they
+//! were. All refuse exactly the blocks that `rule_layout::spread` refuses, and take memory.
 #![tactic(auto)]
 
 mod bounds;
+mod check;
 mod code;
 mod data;
 mod firmware;
@@ -16,14 +19,19 @@ mod items;
 pub mod laws;
 mod layout;
 mod mailbox;
+mod segments;
+mod watch;
 mod width;
 
 pub use firmware::{Firmware, compile, compile16};
 pub use items::firmware_items;
 pub use laws::{
     eval_answers, firmware_answers, firmware_is_uninterrupted, firmwares_are_one,
-    mailbox_is_uninterrupted, mailbox_takes_posts, rules_give_masses, uninterrupted_are_one,
+    mailbox_is_uninterrupted, mailbox_takes_posts, one_change_is_seen, rules_give_masses,
+    uninterrupted_are_one, watched_answers,
 };
 pub use layout::Layout;
 pub use mailbox::compile_post;
+pub use segments::Segment;
+pub use watch::compile_scrub;
 pub use width::Width;

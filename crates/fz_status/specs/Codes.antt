@@ -13,6 +13,7 @@ code_of (status.Image f) = 5
 code_of (status.Cert f) = 6
 code_of (status.Trace f) = 7
 code_of (status.Plan f) = 7
+code_of (status.Upset f) = 7
 code_of (status.NotReached f) = 8
 code_of status.Memory = 9
 code_of (status.TooLong p) = 10

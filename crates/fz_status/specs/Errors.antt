@@ -3,7 +3,7 @@ use Rattle.std.specs.Prelude.{◌≡◌, ◌≤◌, ◌++◌, ℕ, List, [], len
 use Rattle.fz_shelf.specs.Faults.{HasCause, Rose}
 use Rattle.fz_shelf.specs.Told.{Taken, gained, GainedPart, HasRoom}
 use Rattle.fz_status.specs.FaultLines.{asm_line, cert_line, fcl_line, image_line, newline, not_reached_line, plan_line, trace_line}
-use Rattle.fz_status.specs.FaultLines.{trap_line, want_of_memory, with_name, with_number}
+use Rattle.fz_status.specs.FaultLines.{trap_line, upset_line, want_of_memory, with_name, with_number}
 use Rattle.fz_status.specs.Words.{Text, word_at}
 use Rattle.fz_status.specs.declared.status.Status.{Status}
 use Rattle.fz_status.specs.declared.status.Status.TheVariants as status
@@ -19,6 +19,7 @@ error_line_of words (status.Image f) = image_line f
 error_line_of words (status.Cert f) = cert_line f
 error_line_of words (status.Trace f) = trace_line f
 error_line_of words (status.Plan f) = plan_line f
+error_line_of words (status.Upset f) = upset_line f
 error_line_of words (status.NotReached f) = not_reached_line f
 error_line_of words status.Memory = want_of_memory
 error_line_of words (status.TooLong p) = with_name (codes "too long: ") (word_at words p)

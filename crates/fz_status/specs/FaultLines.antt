@@ -18,6 +18,8 @@ use Rattle.fcl_check.specs.declared.fault.LoadFault.TheVariants as load
 use Rattle.fz_shelf.specs.Parts.{address_digits, behind_blank, byte_digits}
 use Rattle.interrupt_plan.specs.declared.PlanFault.{PlanFault}
 use Rattle.interrupt_plan.specs.declared.PlanFault.TheVariants as plan
+use Rattle.interrupt_plan.specs.declared.upsets.UpsetFault.{UpsetFault}
+use Rattle.interrupt_plan.specs.declared.upsets.UpsetFault.TheVariants as upset
 use Rattle.rule_layout.specs.declared.flat.LayoutFault.{LayoutFault}
 use Rattle.rule_layout.specs.declared.flat.LayoutFault.TheVariants as layout
 use Rattle.srecord.specs.declared.fault.SrecFault.{SrecFault}
@@ -181,6 +183,14 @@ plan_line (plan.NotFree row address) =
     codes "plan: row " ++ (decimal row ++ (codes ": not free " ++ (address_digits address ++ newline)))
 plan_line (plan.NotAscending row) = with_number (codes "plan: row ") row (codes ": not ascending")
 plan_line plan.Memory = want_of_memory
+
+abbrev pub upset_line : UpsetFault → List ℕ
+upset_line upset.TooMany = codes "upset: too many rows" ++ newline
+upset_line (upset.BadRow row) = with_number (codes "upset: row ") row (codes ": bad row")
+upset_line (upset.NotTable row address) =
+    codes "upset: row " ++ (decimal row ++ (codes ": not table " ++ (address_digits address ++ newline)))
+upset_line (upset.NotAscending row) = with_number (codes "upset: row ") row (codes ": not ascending")
+upset_line upset.Memory = want_of_memory
 
 -- the byte at an address is no instruction
 abbrev pub trap_line : ℕ → ℕ → List ℕ

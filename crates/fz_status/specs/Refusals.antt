@@ -7,6 +7,7 @@ use Rattle.error_certifier.specs.declared.certifier.NotReached.TheVariants as st
 use Rattle.fcl_syntax.specs.declared.text.SyntaxFault.TheVariants as syntax
 use Rattle.fcl_check.specs.declared.fault.LoadFault.TheVariants as load
 use Rattle.interrupt_plan.specs.declared.PlanFault.TheVariants as plan
+use Rattle.interrupt_plan.specs.declared.upsets.UpsetFault.TheVariants as upset
 use Rattle.rule_layout.specs.declared.flat.LayoutFault.TheVariants as layout
 use Rattle.srecord.specs.declared.fault.SrecFault.TheVariants as srec
 use Rattle.trace_io.specs.declared.sample.TraceFault.TheVariants as trace
@@ -26,6 +27,7 @@ CarriesNoMemory (status.Cert (refusal.Text f)) = f ≢ cert.Memory
 CarriesNoMemory (status.Cert (refusal.Check f)) = f ≢ check.Memory
 CarriesNoMemory (status.Trace f) = f ≢ trace.Memory
 CarriesNoMemory (status.Plan f) = f ≢ plan.Memory
+CarriesNoMemory (status.Upset f) = f ≢ upset.Memory
 CarriesNoMemory (status.NotReached f) = f ≢ stop.Memory
 CarriesNoMemory (status.Asm f) = f ≢ asm.Memory
 CarriesNoMemory _ = Unit {0}

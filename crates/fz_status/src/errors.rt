@@ -8,7 +8,7 @@ ghost use Rattle.fz_status.specs.FaultLines.{with_name};
 use crate::Status;
 use crate::fault_lines::{
     put, put_asm, put_cert, put_fcl, put_image, put_not_reached, put_number, put_plan, put_text,
-    put_trace,
+    put_trace, put_upset,
 };
 use crate::words::word;
 use fz_shelf::{Failed, Part, Sink};
@@ -45,6 +45,7 @@ fn put_line<F: Sink>(err: &mut F, words: &[String], status: &Status) -> Result<(
         Status::Cert(fault) => put_cert(err, fault),
         Status::Trace(fault) => put_trace(err, fault),
         Status::Plan(fault) => put_plan(err, fault),
+        Status::Upset(fault) => put_upset(err, fault),
         Status::NotReached(fault) => put_not_reached(err, fault),
         Status::Memory => put_text(err, b"memory"),
         Status::TooLong(place) => put_name(err, b"too long: ", word(words, *place)),

@@ -4,7 +4,7 @@ ghost use Rattle.fz_shelf.specs.Parts.{part_text, parts_text};
 ghost use Rattle.fz_status.specs.Errors.{Puts};
 ghost use Rattle.fz_status.specs.FaultLines.{asm_line, byte_or_none, cert_line, check_line, fcl_line, image_line};
 ghost use Rattle.fz_status.specs.FaultLines.{layout_line, leaf_line, load_kind, load_line, newline, not_reached_line};
-ghost use Rattle.fz_status.specs.FaultLines.{plan_line, records_line, syntax_line, text_line, trace_line, with_number, with_two};
+ghost use Rattle.fz_status.specs.FaultLines.{plan_line, records_line, syntax_line, text_line, trace_line, upset_line, with_number, with_two};
 
 use crate::{CertRefusal, FclFault, ImageFault};
 use box_tree::CertFault;
@@ -15,7 +15,7 @@ use error_certifier::NotReached;
 use fcl_check::LoadFault;
 use fcl_syntax::SyntaxFault;
 use fz_shelf::{Failed, Part, Sink, put_parts};
-use interrupt_plan::PlanFault;
+use interrupt_plan::{PlanFault, UpsetFault};
 use rule_layout::LayoutFault;
 use srecord::SrecFault;
 use trace_io::TraceFault;
@@ -389,6 +389,28 @@ pub(crate) fn put_plan<F: Sink>(err: &mut F, fault: &PlanFault) -> Result<(), Fa
         ),
         PlanFault::NotAscending(row) => put_number(err, b"plan: row ", *row, b": not ascending"),
         PlanFault::Memory => put_text(err, b"memory"),
+    }
+}
+
+pub(crate) fn put_upset<F: Sink>(err: &mut F, fault: &UpsetFault) -> Result<(), Failed>
+    ensures { Puts (upset_line fault.now) (F.told err.old) (F.told err.new)
+        (F.faults err.old) (F.faults err.new) (F.sound err.old) (F.sound err.new) result }
+{
+    match fault {
+        UpsetFault::TooMany => put_text(err, b"upset: too many rows"),
+        UpsetFault::BadRow(row) => put_number(err, b"upset: row ", *row, b": bad row"),
+        UpsetFault::NotTable(row, address) => put(
+            err,
+            &[
+                Part::Text(b"upset: row "),
+                Part::Number(u64::from(*row)),
+                Part::Text(b": not table "),
+                Part::Address(*address),
+                Part::Text(b"\n"),
+            ],
+        ),
+        UpsetFault::NotAscending(row) => put_number(err, b"upset: row ", *row, b": not ascending"),
+        UpsetFault::Memory => put_text(err, b"memory"),
     }
 }
 

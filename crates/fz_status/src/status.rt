@@ -7,7 +7,7 @@ use cpu12_asm::AsmFault;
 use error_certifier::NotReached;
 use fcl_check::LoadFault;
 use fcl_syntax::SyntaxFault;
-use interrupt_plan::PlanFault;
+use interrupt_plan::{PlanFault, UpsetFault};
 use rule_layout::LayoutFault;
 use srecord::SrecFault;
 use trace_io::TraceFault;
@@ -33,6 +33,8 @@ pub enum Status {
     Trace(TraceFault),
     /// The text is no plan.
     Plan(PlanFault),
+    /// The text is no list of upsets of the image.
+    Upset(UpsetFault),
     /// Halving gives no certificate for the target. It is never `NotReached::Memory`.
     NotReached(NotReached),
     /// Memory was wanted and not found.
@@ -97,6 +99,7 @@ impl Status {
             Status::Cert(_) => 6,
             Status::Trace(_) => 7,
             Status::Plan(_) => 7,
+            Status::Upset(_) => 7,
             Status::NotReached(_) => 8,
             Status::Memory => 9,
             Status::TooLong(_) => 10,

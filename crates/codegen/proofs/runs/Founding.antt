@@ -1,5 +1,5 @@
 -- A firmware's code and data stand in its memory.
-use Rattle.std.proofs.Common.{◌≡◌, ◌⊎◌, ℕ, ◌+◌, ◌<◌, ◌≤◌, false, List, [], ◌∷◌, ◌++◌, length, refl, sym, ap, ◌∙◌, subst, arith, append_assoc, append-nil}
+use Rattle.std.proofs.Common.{◌≡◌, ◌⊎◌, ℕ, ◌+◌, ◌<◌, ◌≤◌, false, List, [], ◌∷◌, ◌++◌, length, sym, ap, ◌∙◌, subst, arith, append_assoc, append-nil}
 use Rattle.std.proofs.lemmas.Grind.{flat_map-append}
 use Rattle.fuzzy_meaning.specs.declared.block.Block.{Block}
 use Rattle.cpu12_isa.specs.declared.instr.Instr.{Instr}
@@ -22,7 +22,7 @@ use Rattle.codegen.proofs.phases.Law.{length-code}
 use Rattle.codegen.proofs.runs.Calling.{HasRoutine}
 use Rattle.codegen.proofs.runs.Standing.{Rises, HasGiven, bytes_stand, code_stands}
 
-bytes_append : (a b : List Instr) → code_bytes (a ++ b) ≡ code_bytes a ++ code_bytes b
+pub bytes_append : (a b : List Instr) → code_bytes (a ++ b) ≡ code_bytes a ++ code_bytes b
 bytes_append a b = flat_map-append encode_of a b
 
 -- the parts of a block stand
@@ -110,7 +110,7 @@ pub record IsFramed (l : Layout) : Type 0 where
   pub started : IsStarted l
   pub ready : l.ready < l.inputs
   pub samples : l.samples ≡ l.inputs
-  pub eval : l.eval ≡ l.code + 22
+  pub eval : l.eval < 65536
 
 -- its frame in three pieces
 abbrev pub turn_code : Layout → List Instr

@@ -100,15 +100,15 @@ bra_back : (c : Ctx) (s : State) (p : ℕ) → Live c s → s.regs.pc ≡ p → 
 bra_back c s p l ep h le = next c s p (p - 11) (Bra 0xF3) l ep h refl (omega arith) tt tt tt refl refl (omega (arith, h.high))
 
 -- up to EVAL
-record Called (c : Ctx) (s : State) : Type 0 where
-  t : State
-  goes : Goes c 3 0 s t
-  live : Live c t
-  pc_is : t.regs.pc ≡ c.layout.eval
-  sp_is : t.regs.sp ≡ 0x1FFE
-  mem_is : t.mem ≡ set (set s.mem 0x1FFE ((c.layout.wait + 8) / 2 ^ 8)) 0x1FFF ((c.layout.wait + 8) % 2 ^ 8)
+pub record Called (c : Ctx) (s : State) : Type 0 where
+  pub t : State
+  pub goes : Goes c 3 0 s t
+  pub live : Live c t
+  pub pc_is : t.regs.pc ≡ c.layout.eval
+  pub sp_is : t.regs.sp ≡ 0x1FFE
+  pub mem_is : t.mem ≡ set (set s.mem 0x1FFE ((c.layout.wait + 8) / 2 ^ 8)) 0x1FFF ((c.layout.wait + 8) % 2 ^ 8)
 
-call_run : (c : Ctx) (s : State) → HasFrame c → c.layout.ready < 0x1800 → Live c s → s.regs.pc ≡ c.layout.wait → s.regs.sp ≡ 0x2000
+pub call_run : (c : Ctx) (s : State) → HasFrame c → c.layout.ready < 0x1800 → Live c s → s.regs.pc ≡ c.layout.wait → s.regs.sp ≡ 0x2000
     → get_or s.mem c.layout.ready 0 ≡ 1 → Called c s
 call_run c s f low l ep es er =
     let p = c.layout.wait in
@@ -136,15 +136,15 @@ call_run c s f low l ep es er =
     }
 
 -- back to where the code waits
-record Left (c : Ctx) (s : State) : Type 0 where
-  t : State
-  goes : Goes c 2 0 s t
-  live : Live c t
-  pc_is : t.regs.pc ≡ c.layout.wait
-  sp_is : t.regs.sp ≡ s.regs.sp
-  mem_is : t.mem ≡ set s.mem c.layout.ready 0
+pub record Left (c : Ctx) (s : State) : Type 0 where
+  pub t : State
+  pub goes : Goes c 2 0 s t
+  pub live : Live c t
+  pub pc_is : t.regs.pc ≡ c.layout.wait
+  pub sp_is : t.regs.sp ≡ s.regs.sp
+  pub mem_is : t.mem ≡ set s.mem c.layout.ready 0
 
-leave_run : (c : Ctx) (s : State) → HasFrame c → c.layout.ready < 0x1800 → Live c s → s.regs.pc ≡ c.layout.wait + 8 → Left c s
+pub leave_run : (c : Ctx) (s : State) → HasFrame c → c.layout.ready < 0x1800 → Live c s → s.regs.pc ≡ c.layout.wait + 8 → Left c s
 leave_run c s f low l ep =
     let p = c.layout.wait in
     let s1 = after_plain c.flags (ClrExtended c.layout.ready) s in

@@ -22,7 +22,7 @@ use Rattle.rule_layout.specs.Layouts.{conjunctions_of, weights_of, form_of, IsBe
 use Rattle.cpu12_isa.specs.declared.instr.Instr.{Instr}
 use Rattle.cpu12_isa.specs.declared.instr.Instr.TheVariants.{LdaaImmediate, LdaaExtended, LdabImmediate, LdxImmediate, LdyImmediate, LdsImmediate, StaaExtended}
 use Rattle.cpu12_isa.specs.declared.instr.Instr.TheVariants.{StabExtended, ClrExtended, Coma, CpxImmediate, Beq, Bra, JsrExtended, Rts, Andcc, Orcc, TransferXD}
-use Rattle.cpu12_isa.specs.declared.instr.Instr.TheVariants.{TransferYD, Ediv, Fdiv, Rti, MovbExtended, Mem, Rev, Revw, Wav}
+use Rattle.cpu12_isa.specs.declared.instr.Instr.TheVariants.{TransferYD, Ediv, Fdiv, Rti, MovbExtended, Mem, Rev, Revw, Wav, Bne, AddbImmediate, AddbPostIncrementX}
 use Rattle.cpu12_isa.specs.Code.{encode_of, FitsOperands}
 use Rattle.cpu12_isa.specs.Fits.{AreBytes}
 use Rattle.cpu12_asm.specs.declared.items.Item.{Item}
@@ -83,6 +83,9 @@ encoded_fits Mem u h = (omega arith, tt)
 encoded_fits Rev u h = (omega arith, (omega arith, tt))
 encoded_fits Revw u h = (omega arith, (omega arith, tt))
 encoded_fits Wav u h = (omega arith, (omega arith, tt))
+encoded_fits (Bne v) u h = (omega arith, (h, tt))
+encoded_fits (AddbImmediate v) u h = (omega arith, (h, tt))
+encoded_fits AddbPostIncrementX u h = (omega arith, (omega arith, tt))
 encoded_fits i u h = absurd u
 
 fit_code : (is : List Instr) → UsedCode is → ItemsFit (map Op is)

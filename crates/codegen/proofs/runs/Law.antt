@@ -65,10 +65,10 @@ main_framed = record {
   started = record { low = omega arith; high = omega arith; wait = refl; ready = omega arith; apart = inl (omega arith) };
   ready = omega arith;
   samples = refl;
-  eval = refl;
+  eval = omega arith;
 }
 
-main_shut : IsShut is_free main_layout
+pub main_shut : IsShut is_free main_layout
 main_shut = record { reads = λ at low r. grind (arith, nat_tests); writes = λ at low w. grind (arith, nat_tests); high = λ at h. grind (arith, nat_tests) }
 
 main_frame_used : UsedCode (frame_code main_layout)

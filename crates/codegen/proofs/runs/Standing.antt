@@ -33,13 +33,13 @@ placed_append at (x ∷ a) b =
     ap (λ l. (at, x) ∷ l) (placed_append (at + 1) a b ∙ ap (λ k. placed (at + 1) a ++ placed k b) e)
 
 -- bytes, and code, give their bytes one after another
-given_bytes : (at : ℕ) (bs : List ℕ) (rest : List Item) → given_from at (map Byte bs ++ rest) ≡ placed at bs ++ given_from (at + length bs) rest
+pub given_bytes : (at : ℕ) (bs : List ℕ) (rest : List Item) → given_from at (map Byte bs ++ rest) ≡ placed at bs ++ given_from (at + length bs) rest
 given_bytes at [] rest = let e : at ≡ at + 0 = omega arith in ap (λ k. given_from k rest) e
 given_bytes at (b ∷ bs) rest =
     let e : at + 1 + length bs ≡ at + suc (length bs) = omega arith in
     ap (λ l. (at, b) ∷ l) (given_bytes (at + 1) bs rest ∙ ap (λ k. placed (at + 1) bs ++ given_from k rest) e)
 
-given_code : (at : ℕ) (is : List Instr) (rest : List Item)
+pub given_code : (at : ℕ) (is : List Instr) (rest : List Item)
     → given_from at (map Op is ++ rest) ≡ placed at (code_bytes is) ++ given_from (at + length (code_bytes is)) rest
 given_code at [] rest = let e : at ≡ at + 0 = omega arith in ap (λ k. given_from k rest) e
 given_code at (i ∷ is) rest =
@@ -78,7 +78,7 @@ none_behind rises at q (x ∷ xs) ys h low =
 other_below : (at q : ℕ) → q < at → is_at (nat_cmp q) at ≡ false
 other_below at q h = grind (arith, nat_tests)
 
-none_placed_below : (at q : ℕ) (bs : List ℕ) → q < at → byte_at (placed at bs) q ≡ None
+pub none_placed_below : (at q : ℕ) (bs : List ℕ) → q < at → byte_at (placed at bs) q ≡ None
 none_placed_below at q [] h = refl
 none_placed_below at q (b ∷ bs) h =
     ap (λ t. cond t (Some b) (byte_at (placed (at + 1) bs) q)) (other_below at q h) ∙ none_placed_below (at + 1) q bs (omega arith)

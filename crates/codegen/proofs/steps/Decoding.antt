@@ -1,7 +1,7 @@
 -- The instructions of the code, from their bytes.
 use Rattle.std.proofs.Common.{◌≡◌, ℕ, ◌+◌, ◌*◌, ◌/◌, ◌%◌, ◌^◌, ◌<◌, ◌≤◌, Ok, List, [], ◌∷◌, ◌++◌, flat_map, length, get_or, ap, ap₂, ◌∙◌, arith}
 use Rattle.cpu12_isa.specs.declared.instr.Instr.{Instr}
-use Rattle.cpu12_isa.specs.declared.instr.Instr.TheVariants.{LdaaImmediate, LdaaExtended, LdabImmediate, LdxImmediate, LdyImmediate, LdsImmediate, StaaExtended, StabExtended, ClrExtended, Coma, CpxImmediate, Beq, Bra, JsrExtended, Rts, Andcc, Orcc, TransferXD, TransferYD, Ediv, Fdiv, Rti, MovbExtended, Mem, Rev, Revw, Wav}
+use Rattle.cpu12_isa.specs.declared.instr.Instr.TheVariants.{LdaaImmediate, LdaaExtended, LdabImmediate, LdxImmediate, LdyImmediate, LdsImmediate, StaaExtended, StabExtended, ClrExtended, Coma, CpxImmediate, Beq, Bra, JsrExtended, Rts, Andcc, Orcc, TransferXD, TransferYD, Ediv, Fdiv, Rti, MovbExtended, Mem, Rev, Revw, Wav, Bne, AddbImmediate, AddbPostIncrementX}
 use Rattle.cpu12_isa.specs.Code.{encode_of, decode_of, decode_at, FitsOperands, six_from}
 use Rattle.cpu12_isa.specs.Memory.{plus, bytes_at}
 use Rattle.codegen.proofs.steps.Memory.{HasBytes, SameHigh}
@@ -35,6 +35,9 @@ IsUsed Mem = Unit {0}
 IsUsed Rev = Unit {0}
 IsUsed Revw = Unit {0}
 IsUsed Wav = Unit {0}
+IsUsed (Bne v) = Unit {0}
+IsUsed (AddbImmediate v) = Unit {0}
+IsUsed AddbPostIncrementX = Unit {0}
 IsUsed i = ⊥
 
 one : (m : List ℕ) (p a : ℕ) → get_or m p 0 ≡ a → decode_at m p ≡ decode_of (a ∷ get_or m (plus p 1) 0 ∷ get_or m (plus p 2) 0 ∷ get_or m (plus p 3) 0 ∷ get_or m (plus p 4) 0 ∷ get_or m (plus p 5) 0 ∷ [])
@@ -95,6 +98,9 @@ decode_here m p Mem u le h = one m p 1 h.0
 decode_here m p Rev u le h = two m p 24 58 le h.0 h.1.0
 decode_here m p Revw u le h = two m p 24 59 le h.0 h.1.0
 decode_here m p Wav u le h = two m p 24 60 le h.0 h.1.0
+decode_here m p (Bne v) u le h = two m p 38 v le h.0 h.1.0
+decode_here m p (AddbImmediate v) u le h = two m p 203 v le h.0 h.1.0
+decode_here m p AddbPostIncrementX u le h = two m p 235 48 le h.0 h.1.0
 decode_here m p i u le h = absurd u
 
 -- code of such instructions whose operands fit

@@ -1,5 +1,5 @@
-use Rattle.std.proofs.Common.{[], ◌∷◌, ◌++◌, map, flat_map, ap, ◌∙◌}
-use Rattle.cpu12_asm.specs.declared.items.Item.TheVariants.{Op, Place, Byte}
+use Rattle.std.proofs.Common.{◌++◌, map, flat_map, ap, ◌∙◌}
+use Rattle.cpu12_asm.specs.declared.items.Item.TheVariants.{Op, Byte}
 use Rattle.codegen.specs.Code.{eval_code}
 use Rattle.codegen.specs.Data.{singleton_bytes_of}
 use Rattle.codegen.proofs.Joins.{eval_code_over-flat, three_pieces, rule_data-flat, block_items-parts}

@@ -1,0 +1,64 @@
+use Rattle.std.proofs.Common.{◌≡◌, ◌+◌, ◌≤◌, ℕ, List, All, length, sum_by, refl, sym, ap, ap₂, ◌∙◌, subst, arith, rules}
+use Rattle.fuzzy_meaning.specs.declared.block.Output.{Output}
+use Rattle.codegen.specs.declared.layout.Layout.{Layout}
+use Rattle.codegen.specs.declared.segments.Segment.{Segment}
+use Rattle.codegen.specs.Bounds.{steps_by}
+use Rattle.codegen.specs.Layouts.{main_layout}
+use Rattle.codegen.specs.Watched.{segment_bound}
+use Rattle.codegen.specs.WatchedCode.{AreSegments, code_length, watched_front, watched_front_over}
+use Rattle.codegen.proofs.Placement.{element_count-le}
+use Rattle.codegen.proofs.watching.Answering.{short_front}
+use Rattle.codegen.proofs.watching.Emitting.{bound_made, segments_fit, segments_short}
+use Rattle.codegen.proofs.watching.Fronts.{length-le}
+use Rattle.codegen.proofs.watch.compile_scrub.Goals as goal
+
+pub watched_front-requires-clause-fit : goal.watched_front-requires-clause-fit
+watched_front-requires-clause-fit c =
+    subst (λ (gs : List Segment). AreSegments gs) (sym (c.deref.ensures.value ∙ c.in-Ok-segments.ensures))
+    (segments_fit c.layout_law.ensures c.args.block.now c.requires c.in-Ok.ensures.limits)
+
+pub code_length-requires : goal.code_length-requires
+code_length-requires c =
+    let b = c.args.block.now in
+    let front : c.deref-2.result.now ≡ watched_front main_layout b =
+    c.deref-2.ensures.value ∙ c.in-Ok-watched_front.ensures
+    ∙ ap₂ (λ (os : List Output) (gs : List Segment). watched_front_over main_layout os gs) c.as_slice-outputs.ensures (c.deref.ensures.value ∙ c.in-Ok-segments.ensures) in
+    omega (arith, ap length front, length-le (watched_front main_layout b), short_front b c.requires)
+
+pub overflow_add-layout : goal.overflow_add-layout
+overflow_add-layout c =
+    let b = c.args.block.now in
+    let front : c.deref-2.result.now ≡ watched_front main_layout b =
+    c.deref-2.ensures.value ∙ c.in-Ok-watched_front.ensures
+    ∙ ap₂ (λ (os : List Output) (gs : List Segment). watched_front_over main_layout os gs) c.as_slice-outputs.ensures (c.deref.ensures.value ∙ c.in-Ok-segments.ensures) in
+    omega (arith, c.code_length.ensures ∙ ap code_length front, short_front b c.requires)
+
+pub segment_bounds-requires-clause-short : goal.segment_bounds-requires-clause-short
+segment_bounds-requires-clause-short c =
+    subst (λ (gs : List Segment). All (λ g. length g.bytes ≤ 9984) gs) (sym (c.deref-4.ensures.value ∙ c.in-Ok-segments.ensures))
+    (segments_short c.layout_law.ensures c.args.block.now c.requires c.in-Ok.ensures.limits)
+
+pub steps_by-step_bound-requires-clause-short : goal.steps_by-step_bound-requires-clause-short
+steps_by-step_bound-requires-clause-short c = omega (arith, element_count-le c.args.block.now, c.in-Ok.ensures.limits.short_list)
+
+pub returns-clause-firmware : goal.returns-clause-firmware
+returns-clause-firmware c =
+    let b = c.args.block.now in
+    let front : c.deref-2.result.now ≡ watched_front main_layout b =
+    c.deref-2.ensures.value ∙ c.in-Ok-watched_front.ensures
+    ∙ ap₂ (λ (os : List Output) (gs : List Segment). watched_front_over main_layout os gs) c.as_slice-outputs.ensures (c.deref.ensures.value ∙ c.in-Ok-segments.ensures) in
+    let size : c.code_length.result ≡ code_length (watched_front main_layout b) = c.code_length.ensures ∙ ap code_length front in
+    let bound = bound_made b c.instruction_bound.result c.segment_bounds.result c.instruction_bound.ensures.value
+    (c.segment_bounds.ensures.value ∙ ap (λ (gs : List Segment). sum_by segment_bound gs) (c.deref-4.ensures.value ∙ c.in-Ok-segments.ensures)) in
+    record {
+      image = c.in-Ok-watched_image.ensures.image;
+      layout = ap (λ (n : ℕ). let l : Layout = record main_layout { eval = 49152 + n } in l) size;
+      inputs = search rules;
+      outputs = search rules;
+      narrow = refl;
+      instructions = bound;
+      steps = c.steps_by-step_bound.ensures ∙ ap (steps_by b) bound;
+    }
+
+pub returns-clause-answers : goal.returns-clause-answers
+returns-clause-answers c = c.watched_answers.ensures c.args.block.now _ c.requires c.in-Ok.ensures.limits (returns-clause-firmware c)
