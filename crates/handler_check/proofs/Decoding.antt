@@ -1,0 +1,35 @@
+-- What stands encoded at a place is what is decoded there, and its first byte.
+use Rattle.std.proofs.Common.{◌≡◌, ℕ, ◌<◌, ◌≤◌, Bool, true, false, List, get_or, refl, ap, arith, rules, inl, inr, ◌⊎◌}
+use Rattle.std.proofs.lemmas.Bool.{false≢true}
+use Rattle.std.specs.Prelude.{◌==◌}
+use Rattle.cpu12_isa.specs.declared.instr.Instr.{Instr}
+use Rattle.cpu12_isa.specs.declared.instr.Instr.TheVariants.{LdaaImmediate, Rti, Rev, Revw, Wav, Wavr}
+use Rattle.cpu12_isa.specs.Code.{StandsAt}
+use Rattle.cpu12_isa.specs.Meaning.{is_plain}
+use Rattle.handler_check.specs.Paths.{is_allowed}
+use Rattle.handler_check.specs.Cut.{size_of}
+
+-- whether an instruction is allowed and is not RTI
+abbrev pub is_stepping : Instr → Bool
+is_stepping Rti = false
+is_stepping i = is_allowed i
+
+pub first_byte : (mem : List ℕ) (pc : ℕ) (i : Instr) → is_stepping i ≡ true → StandsAt mem pc i → (get_or mem pc 0 == 11) ≡ false
+first_byte mem pc Rti a s = absurd (false≢true a)
+first_byte mem pc i a s = ap (λ (k : ℕ). k == 11) s.0
+
+pub plain_of : (i : Instr) → is_stepping i ≡ true → is_plain i ≡ true
+plain_of Rev h = h
+plain_of Revw h = h
+plain_of Wav h = h
+plain_of Wavr h = h
+plain_of i h = refl
+
+pub size_low : (i : Instr) → (0 < size_of i) × (size_of i ≤ 6)
+size_low (LdaaImmediate v) = (omega arith, omega arith)
+size_low i = (omega arith, omega arith)
+
+-- RTI, or another
+pub rti_or : (i : Instr) → is_allowed i ≡ true → (i ≡ Rti) ⊎ (is_stepping i ≡ true)
+rti_or Rti a = inl refl
+rti_or i a = inr a

@@ -1,0 +1,86 @@
+-- What is needed where one instruction is judged.
+use Rattle.std.proofs.Common.{◌≡◌, ℕ, suc, ◌+◌, ◌<◌, ◌≤◌, Bool, true, false, Option, Some, None, List, [], ◌∷◌, ◌++◌, ◌-◌, zero, nat_le, nat_lt, get_or, unwrap_or, replicate, length, refl, ap, sym, ◌∙◌, subst, arith, inl, inr}
+use Rattle.std.specs.Prelude.{IfSome, MatchOption, slice_get, if◌then◌else◌}
+use Rattle.cpu12_isa.specs.declared.instr.Instr.{Instr}
+use Rattle.cpu12_isa.specs.declared.instr.Instr.TheVariants.{LdaaImmediate, Psha, Pula}
+use Rattle.std.proofs.lemmas.Bool.Decides.{nat_tests}
+use Rattle.handler_check.specs.declared.faults.HandlerFault.{HandlerFault}
+use Rattle.handler_check.specs.declared.faults.HandlerFault.TheVariants.{Dead, Trap}
+use Rattle.handler_check.specs.declared.ways.Way.{Way}
+use Rattle.handler_check.specs.Cut.{code_end, AllFit, IsAt}
+use Rattle.handler_check.specs.Paths.{IsIn, leads, falls_to, branches_to, height_after, FitsHeight}
+use Rattle.handler_check.specs.Faults.{IsFirst, IsFirstFault}
+use Rattle.handler_check.specs.Accepted.{IsAccepted}
+use Rattle.handler_check.specs.Ways.{way_at, led_all, list_of}
+use Rattle.handler_check.specs.Judging.{AreFirsts, AreJudged}
+use Rattle.handler_check.proofs.Places.{below_end, is_at-here}
+use Rattle.handler_check.proofs.Marking.{accepted_of}
+use Rattle.handler_check.proofs.FirstFaults.{dead_first, trap_first}
+use Rattle.handler_check.proofs.Leading.{all_append, all_same}
+use Rattle.handler_check.proofs.Tables.{first_within}
+
+pub height_low : (i : Instr) (h : ℕ) → FitsHeight i h → h ≤ 15 → height_after i h ≤ 15
+height_low (LdaaImmediate v) h f l = l
+height_low Psha h f l = omega arith
+height_low Pula h f l = omega arith
+height_low i h f l = l
+
+-- a place, if there is one, is one of the table's
+pub to_within : (is : List Instr) (trapped : Bool) (firsts : List Bool) (o : Option ℕ) (tos : List ℕ) (n : ℕ) → AreFirsts is trapped firsts → list_of o ≡ tos → ((q : ℕ) → IsIn tos q → IsFirst is trapped q) → n ≡ length firsts
+    → IfSome o (λ at. (16384 ≤ at) × (at < 16384 + n))
+to_within is trapped firsts None tos n t e f l = tt
+to_within is trapped firsts (Some at) tos n t e f l =
+    let w = first_within is trapped firsts at t (f at (subst (λ (ts : List ℕ). IsIn ts at) e (inl refl))) in
+    (w.0, omega (arith, w.1))
+
+-- both ways on
+pub on_both : (ways mid later : ℕ → Option Way) (at : ℕ) (i : Instr) (falls branch : Option ℕ) (v : Way) → list_of falls ≡ falls_to at i → list_of branch ≡ branches_to at i
+    → ((q : ℕ) → mid q ≡ led_all ways (list_of falls) v q) → ((q : ℕ) → later q ≡ led_all mid (list_of branch) v q) → (q : ℕ) → later q ≡ led_all ways (leads at i) v q
+on_both ways mid later at i falls branch v e f a b q =
+    b q
+    ∙ all_same mid (led_all ways (list_of falls) v) (list_of branch) v a q
+    ∙ ap (λ (ts : List ℕ). led_all (led_all ways (list_of falls) v) ts v q) f
+    ∙ ap (λ (ts : List ℕ). led_all (led_all ways ts v) (branches_to at i) v q) e
+    ∙ sym (all_append ways (falls_to at i) (branches_to at i) v q)
+
+-- no way leads anywhere at first
+abbrev no_way : Option Way
+no_way = None
+
+unwrapped : (n k : ℕ) → unwrap_or (slice_get (replicate n no_way) k) no_way ≡ no_way
+unwrapped zero k = refl
+unwrapped (suc n) zero = refl
+unwrapped (suc n) (suc k) = unwrapped n k
+
+none_at : (xs : List (Option Way)) (n : ℕ) → xs ≡ replicate n no_way → (q : ℕ) → way_at xs q ≡ no_way
+none_at xs n e q = subst (λ (ys : List (Option Way)). way_at ys q ≡ no_way) (sym e) (cases (nat_le 16384 q))
+  where
+    cases : (b : Bool) → (if b then unwrap_or (slice_get (replicate n no_way) (q - 16384)) no_way else no_way) ≡ no_way
+    cases true = unwrapped n (q - 16384)
+    cases false = refl
+
+pub first_on : (xs : List (Option Way)) (n : ℕ) (later : ℕ → Option Way) (first : Way) → xs ≡ replicate n no_way → ((q : ℕ) → later q ≡ led_all (way_at xs) (16384 ∷ []) first q) → (q : ℕ) → later q ≡ led_all (λ at. None) (16384 ∷ []) first q
+first_on xs n later first e on q = on q ∙ all_same (way_at xs) (λ at. None) (16384 ∷ []) first (none_at xs n e) q
+
+-- behind the last instruction
+pub behind_first : (is : List Instr) (trapped : Bool) (best : ℕ) (ways : ℕ → Option Way) (at : ℕ) (f : HandlerFault) → at ≡ code_end is → trapped ≡ true → AreJudged is trapped at best ways
+    → (o : Option Way) → ways at ≡ o → MatchOption o (f ≡ Dead at) (λ w. f ≡ Trap at) → IsFirstFault is trapped f
+behind_first is trapped best ways at f e t m None w r = subst (λ (g : HandlerFault). IsFirstFault is trapped g) (sym r) (dead_first is trapped at best ways m (omega arith) (inr (t, e)) w)
+behind_first is trapped best ways at f e t m (Some way) w r =
+    subst (λ (g : HandlerFault). IsFirstFault is trapped g) (sym (r ∙ ap (λ (k : ℕ). Trap k) e))
+    (trap_first is trapped best ways way (subst (λ (k : ℕ). AreJudged is trapped k best ways) e m) t (ap ways (sym e) ∙ w))
+
+some_code : (is : List Instr) → 16384 < code_end is → 0 < length is
+some_code [] l = absurd (omega arith)
+some_code (i ∷ is) l = omega arith
+
+pub accepted_end : (is : List Instr) (trapped : Bool) (firsts : List Bool) (best : ℕ) (ways : ℕ → Option Way) (at : ℕ) → AreFirsts is trapped firsts → 0 < length firsts → AllFit is → trapped ≡ false → at ≡ code_end is → AreJudged is trapped at best ways
+    → IsAccepted is best
+accepted_end is trapped firsts best ways at t some fits e here m =
+    let u : nat_lt (code_end is) (16384 + length firsts) ≡ false = sym t.trap ∙ e in
+    let v : 16384 + length firsts ≤ code_end is = grind (arith, nat_tests) in
+    let ends = t.ends in
+    let limit = t.limit in
+    let n : 0 < length is = some_code is (omega arith) in
+    accepted_of is best ways fits (omega arith) (get_or is 0 (LdaaImmediate 0), is_at-here is 0 (LdaaImmediate 0) n)
+    (subst (λ (b : Bool). AreJudged is b (code_end is) best ways) e (subst (λ (k : ℕ). AreJudged is trapped k best ways) here m))

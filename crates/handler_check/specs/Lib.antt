@@ -1,0 +1,8 @@
+pub mod Cut
+pub mod Paths
+pub mod Accepted
+pub mod Faults
+pub mod Ways
+pub mod Judging
+pub mod Images
+pub mod Running

@@ -1,0 +1,52 @@
+//! Laws of handlers.
+ghost use Rattle.handler_check.specs.Images.{HandlersHaveNoFault, FaultsAreOne, CountsAreOne};
+ghost use Rattle.handler_check.specs.Running.{AcceptedIsTake, HandlersRunAsTakes, HandlersAreQuiet};
+
+use cpu12_emul::laws::{holds_image, plain_is_step, takes_quietly};
+use cpu12_isa::decode::decodes_encoded;
+use cpu12_isa::laws::{stack_is_hidden, writes_agree};
+use cpu12_parts::laws::wav_suspends;
+
+/// Accepted code, entered where no sums run, leaves what some writes to free bytes leave.
+pub fn accepted_is_take()
+    ensures { AcceptedIsTake }
+{
+    decodes_encoded();
+    writes_agree();
+    plain_is_step();
+    takes_quietly();
+}
+
+/// The interrupts of an accepted handler are interrupts that do some writes to free bytes.
+pub fn handlers_run_as_takes()
+    ensures { HandlersRunAsTakes }
+{
+    accepted_is_take();
+    wav_suspends();
+    stack_is_hidden();
+}
+
+/// An accepted handler is quiet beside the run without interrupts.
+pub fn handlers_are_quiet()
+    ensures { HandlersAreQuiet }
+{
+    accepted_is_take();
+    takes_quietly();
+}
+
+/// Where an image is an accepted handler, no image with the same bytes has a fault.
+pub fn handlers_have_no_fault()
+    ensures { HandlersHaveNoFault }
+{
+    decodes_encoded();
+    holds_image();
+}
+
+/// An image has one first fault, and a handler one greatest number of instructions.
+pub fn answers_are_one()
+    ensures faults { FaultsAreOne }
+    ensures counts { CountsAreOne }
+{
+    decodes_encoded();
+    holds_image();
+}
