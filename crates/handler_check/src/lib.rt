@@ -12,8 +12,6 @@ mod faults;
 mod judge;
 mod kinds;
 pub mod laws;
-#[cfg(test)]
-mod tests;
 mod ways;
 
 pub use check::check_handler;

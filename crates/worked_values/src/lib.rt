@@ -26,6 +26,8 @@ mod grades;
 #[cfg(test)]
 mod halving;
 #[cfg(test)]
+mod handlers;
+#[cfg(test)]
 mod instructions;
 #[cfg(test)]
 mod layouts;

@@ -1,6 +1,6 @@
-// Handlers that are accepted, and one for each fault.
-use crate::{Handler, HandlerFault, check_handler};
+//! Handlers that are accepted, and one for each fault.
 use cpu12_asm::{AsmFault, Item, assemble_items};
+use handler_check::{Handler, HandlerFault, check_handler};
 use std::alloc::{AllocError, Global};
 use std::test::Fail;
 
