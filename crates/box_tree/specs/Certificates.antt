@@ -44,7 +44,8 @@ pub record CertText (version : ℕ) (text : List ℕ) (cert : Cert) : Type 0 whe
   pub lines : text ≡ lines_of version cert.claims cert.nodes
 
 -- the text begins with whole lines of claims and nodes, of which none is at fault, and leaves this many boxes open
-pub record Begins (version : ℕ) (text claims : List ℕ) (nodes : List Node) (open_boxes : ℕ) (rest : List ℕ) : Type 0 where
+pub record Begins (version : ℕ) (text claims : List ℕ) (nodes : List Node) (open_boxes : ℕ)
+    (rest : List ℕ) : Type 0 where
   pub lines : text ≡ lines_of version claims nodes ++ rest
   pub good_claims : AreClaims claims
   pub good_nodes : All (IsNode (length claims)) nodes
@@ -56,7 +57,8 @@ abbrev pub HasNoClaims : List ℕ → Type 0
 HasNoClaims rest = (rest ≢ []) × ((claims behind : List ℕ) → AreClaims claims → rest ≢ claim_line claims ++ behind)
 
 abbrev pub HasNoNode : ℕ → List ℕ → Type 0
-HasNoNode width rest = (rest ≢ []) × ((node : Node) (behind : List ℕ) → IsNode width node → rest ≢ node_line node ++ behind)
+HasNoNode width rest =
+    (rest ≢ []) × ((node : Node) (behind : List ℕ) → IsNode width node → rest ≢ node_line node ++ behind)
 
 -- the number of the line behind those of nodes
 abbrev pub line_behind : List Node → ℕ
@@ -66,12 +68,18 @@ line_behind nodes = length nodes + 3
 pub data HasFault (version : ℕ) (text : List ℕ) : CertFault → Type 0 where
   bad_version : text ≢ [] → ((rest : List ℕ) → text ≢ version_line version ++ rest) → HasFault version text (BadLine 1)
   no_version : text ≡ [] → HasFault version text Early
-  bad_claims : (rest : List ℕ) → text ≡ version_line version ++ rest → HasNoClaims rest → HasFault version text (BadLine 2)
+  bad_claims : (rest : List ℕ) → text ≡ version_line version ++ rest → HasNoClaims rest
+      → HasFault version text (BadLine 2)
   no_claims : text ≡ version_line version → HasFault version text Early
-  bad_node : (claims : List ℕ) (nodes : List Node) (n : ℕ) (rest : List ℕ) → Begins version text claims nodes n rest → HasNoNode (length claims) rest
+  bad_node : (claims : List ℕ) (nodes : List Node) (n : ℕ) (rest : List ℕ) → Begins version text claims nodes n rest
+      → HasNoNode (length claims) rest
       → HasFault version text (BadLine (line_behind nodes))
-  left_open : (claims : List ℕ) (nodes : List Node) (n : ℕ) → Begins version text claims nodes n [] → 0 < n → HasFault version text Early
-  late : (claims : List ℕ) (nodes : List Node) (node : Node) (behind : List ℕ) → Begins version text claims nodes 0 (node_line node ++ behind) → IsNode (length claims) node
+  left_open : (claims : List ℕ) (nodes : List Node) (n : ℕ) → Begins version text claims nodes n [] → 0 < n
+      → HasFault version text Early
+  late : (claims : List ℕ) (nodes : List Node) (node : Node) (behind : List ℕ)
+      → Begins version text claims nodes 0 (node_line node ++ behind) → IsNode (length claims) node
       → HasFault version text (Late (line_behind nodes))
-  many_leaves : (claims : List ℕ) (nodes : List Node) (n : ℕ) (pairs : ArrayVec (ℕ × ℕ)) (behind : List ℕ) → Begins version text claims nodes n (node_line (Leaf pairs) ++ behind)
-      → IsNode (length claims) (Leaf pairs) → 0 < n → leaf_count nodes ≡ 4096 → HasFault version text (TooManyLeaves (line_behind nodes))
+  many_leaves : (claims : List ℕ) (nodes : List Node) (n : ℕ) (pairs : ArrayVec (ℕ × ℕ)) (behind : List ℕ)
+      → Begins version text claims nodes n (node_line (Leaf pairs) ++ behind)
+      → IsNode (length claims) (Leaf pairs) → 0 < n → leaf_count nodes ≡ 4096
+      → HasFault version text (TooManyLeaves (line_behind nodes))

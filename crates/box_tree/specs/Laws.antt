@@ -8,7 +8,8 @@ use Rattle.box_tree.specs.Trees.{open_from}
 
 -- a text has at most one certificate, and is of one version
 abbrev pub CertsAreOne : Type 0
-CertsAreOne = (v w : ℕ) (text : List ℕ) (a b : Cert) → v ≤ 2 → w ≤ 2 → CertText v text a → CertText w text b → (v ≡ w) × (a ≡ b)
+CertsAreOne =
+    (v w : ℕ) (text : List ℕ) (a b : Cert) → v ≤ 2 → w ≤ 2 → CertText v text a → CertText w text b → (v ≡ w) × (a ≡ b)
 
 -- a text has at most one first fault
 abbrev pub FaultsAreOne : Type 0
@@ -20,4 +21,5 @@ CertTextsAreSound = (v : ℕ) (text : List ℕ) (cert : Cert) (f : CertFault) �
 
 -- more nodes go on with the boxes that those before left open
 abbrev pub OpenBoxesGoOn : Type 0
-OpenBoxesGoOn = (k n : ℕ) (nodes more : List Node) → open_from k nodes ≡ Some n → open_from k (nodes ++ more) ≡ open_from n more
+OpenBoxesGoOn =
+    (k n : ℕ) (nodes more : List Node) → open_from k nodes ≡ Some n → open_from k (nodes ++ more) ≡ open_from n more

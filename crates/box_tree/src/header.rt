@@ -13,7 +13,8 @@ const MOST_CLAIMS: usize = 4;
 pub(crate) fn behind_version(text: &[u8], version: u32) -> Option<&[u8]>
     requires { version ≤ 2 }
     ensures shorter { IfSome result (λ rest. length rest.now < length text.now) }
-    ensures line { MatchOption result ((rest : List ℕ) → text.now ≢ version_line version ++ rest) (λ rest. text.now ≡ version_line version ++ rest.now) }
+    ensures line { MatchOption result ((rest : List ℕ) → text.now ≢ version_line version ++ rest)
+        (λ rest. text.now ≡ version_line version ++ rest.now) }
 {
     let (numbers, rest) = numbers_of(b"FZC", text)?;
     if is_just(numbers.as_slice(), version) {
@@ -35,7 +36,8 @@ fn is_just(numbers: &[u32], number: u32) -> bool
 /// The claims of the line at the front of a text, and what follows it.
 pub(crate) fn claims_at(text: &[u8]) -> Option<(ArrayVec<u32, 4>, &[u8])>
     ensures shorter { IfSome result (λ r. length r.1.now < length text.now) }
-    ensures claims { MatchOption result ((claims behind : List ℕ) → AreClaims claims → text.now ≢ claim_line claims ++ behind)
+    ensures claims { MatchOption result ((claims behind : List ℕ) → AreClaims claims
+        → text.now ≢ claim_line claims ++ behind)
         (λ r. AreClaims r.0.items × (text.now ≡ claim_line r.0.items ++ r.1.now)) }
 {
     let (numbers, rest) = numbers_of(b"claim", text)?;

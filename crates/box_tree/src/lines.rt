@@ -93,8 +93,11 @@ impl<'a> Lines<'a> {
         ensures less { IfOk result (λ next. IfSome next (λ _. unread_len self.new < unread_len self.old)) }
         ensures claims { claims_of self.new ≡ claims_of self.old }
         ensures node { (version : ℕ) (text : List ℕ) (nodes : List TheNode) → HasRead version text nodes self.old
-            → IfOk result (λ next. MatchOption next (CertText version text (cert_of self.old nodes) × (self.new ≡ self.old)) (λ node. HasRead version text (nodes ++ node ∷ []) self.new)) }
-        ensures fault { (version : ℕ) (text : List ℕ) (nodes : List TheNode) → HasRead version text nodes self.old → IfErr result (λ fault. HasFault version text fault × HasFailed fault self.new) }
+            → IfOk result
+            (λ next. MatchOption next (CertText version text (cert_of self.old nodes) × (self.new ≡ self.old))
+            (λ node. HasRead version text (nodes ++ node ∷ []) self.new)) }
+        ensures fault { (version : ℕ) (text : List ℕ) (nodes : List TheNode) → HasRead version text nodes self.old
+            → IfErr result (λ fault. HasFault version text fault × HasFailed fault self.new) }
         ensures again { (fault : TheFault) → HasFailed fault self.old → (result ≡ Err fault) × (self.new ≡ self.old) }
     {
         if let Some(fault) = self.fault {
@@ -124,8 +127,10 @@ impl<'a> Lines<'a> {
     /// The node of the next line with what follows that, `None` at the end of the text, or the
     /// fault that stands here.
     fn node_here(&self) -> Result<Option<(Node, &'a [u8])>, CertFault>
-        ensures node { IfOk result (λ next. MatchOption next ((self.now.rest.now ≡ []) × (self.now.open_boxes ≡ 0)) (λ r. StandsBefore r.0 r.1.now self.now)) }
-        ensures fault { (version : ℕ) (text : List ℕ) (nodes : List TheNode) → HasRead version text nodes self.now → IfErr result (HasFault version text) }
+        ensures node { IfOk result (λ next. MatchOption next ((self.now.rest.now ≡ []) × (self.now.open_boxes ≡ 0))
+            (λ r. StandsBefore r.0 r.1.now self.now)) }
+        ensures fault { (version : ℕ) (text : List ℕ) (nodes : List TheNode) → HasRead version text nodes self.now
+            → IfErr result (HasFault version text) }
     {
         if self.rest.is_empty() {
             return if self.open_boxes == 0 {

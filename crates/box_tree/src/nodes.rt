@@ -10,7 +10,8 @@ use arrayvec::ArrayVec;
 
 /// The cut of two numbers: an input and a byte.
 fn cut_of(numbers: &[u32]) -> Option<(u8, u8)>
-    ensures { MatchOption result ((input cut : ℕ) → IsCut input cut → numbers.now ≢ input ∷ cut ∷ []) (λ r. IsCut r.0 r.1 × (numbers.now ≡ r.0 ∷ r.1 ∷ [])) }
+    ensures { MatchOption result ((input cut : ℕ) → IsCut input cut → numbers.now ≢ input ∷ cut ∷ [])
+        (λ r. IsCut r.0 r.1 × (numbers.now ≡ r.0 ∷ r.1 ∷ [])) }
 {
     match numbers {
         [input, cut] if *input >= 1 && *input <= 8 && *cut <= 255 => Some((
@@ -30,7 +31,8 @@ fn is_pair(rule: u32, part: u32) -> bool
 /// The pairs that numbers are, if there are as many as claims.
 fn pairs_of(numbers: &[u32], width: usize) -> Option<ArrayVec<(u16, u8), 4>>
     requires { width ≤ 4 }
-    ensures { MatchOption result ((pairs : List (ℕ × ℕ)) → length pairs ≡ width → All IsPair pairs → numbers.now ≢ pair_numbers pairs)
+    ensures { MatchOption result ((pairs : List (ℕ × ℕ)) → length pairs ≡ width → All IsPair pairs
+        → numbers.now ≢ pair_numbers pairs)
         (λ pairs. (length pairs.items ≡ width) × All IsPair pairs.items × (numbers.now ≡ pair_numbers pairs.items)) }
 {
     if numbers.len() != 2 * width {
@@ -52,7 +54,8 @@ fn pairs_of(numbers: &[u32], width: usize) -> Option<ArrayVec<(u16, u8), 4>>
 pub(crate) fn node_at(text: &[u8], width: usize) -> Option<(Node, &[u8])>
     requires { width ≤ 4 }
     ensures shorter { IfSome result (λ r. length r.1.now < length text.now) }
-    ensures node { MatchOption result ((node : TheNode) (behind : List ℕ) → IsNode width node → text.now ≢ node_line node ++ behind)
+    ensures node { MatchOption result ((node : TheNode) (behind : List ℕ) → IsNode width node
+        → text.now ≢ node_line node ++ behind)
         (λ r. IsNode width r.0 × (text.now ≡ node_line r.0 ++ r.1.now)) }
 {
     match numbers_of(b"split", text) {

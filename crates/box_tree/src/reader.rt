@@ -36,8 +36,10 @@ pub fn read16(alloc: Global, text: &[u8]) -> Result<Cert, CertFault>
 
 /// The certificate of a text of which the first two lines are read.
 fn cert_behind(alloc: Global, mut lines: Lines<'_>) -> Result<Cert, CertFault>
-    ensures cert { (version : ℕ) (text : Items ℕ) → HasRead version text [] lines.entry → IfOk result (CertText version text) }
-    ensures fault { (version : ℕ) (text : Items ℕ) → HasRead version text [] lines.entry → IfErr result (λ fault. fault ≢ CertFault.Memory → HasFault version text fault) }
+    ensures cert { (version : ℕ) (text : Items ℕ) → HasRead version text [] lines.entry
+        → IfOk result (CertText version text) }
+    ensures fault { (version : ℕ) (text : Items ℕ) → HasRead version text [] lines.entry
+        → IfErr result (λ fault. fault ≢ CertFault.Memory → HasFault version text fault) }
 {
     let mut nodes = Vec::new(alloc);
     loop {

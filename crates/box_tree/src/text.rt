@@ -44,7 +44,8 @@ fn value_of(digits: &[u8]) -> u32
 
 /// The number at the front of a text, if it is not above the greatest, and what follows it.
 fn number(text: &[u8]) -> Option<(u32, &[u8])>
-    ensures { MatchOption result ((n : ℕ) (rest : List ℕ) → n ≤ GREATEST → EndsNumber rest → text.now ≢ decimal n ++ rest)
+    ensures { MatchOption result ((n : ℕ) (rest : List ℕ) → n ≤ GREATEST → EndsNumber rest
+        → text.now ≢ decimal n ++ rest)
         (λ r. (r.0 ≤ GREATEST) × EndsNumber r.1.now × (text.now ≡ decimal r.0 ++ r.1.now)) }
 {
     let (digits, rest) = text.split_at(digits_len(text));
@@ -58,15 +59,18 @@ fn number(text: &[u8]) -> Option<(u32, &[u8])>
 
 /// What follows a word at the front of a text.
 pub(crate) fn after<'a>(word: &[u8], text: &'a [u8]) -> Option<&'a [u8]>
-    ensures { MatchOption result ((rest : List ℕ) → text.now ≢ word.now ++ rest) (λ rest. text.now ≡ word.now ++ rest.now) }
+    ensures { MatchOption result ((rest : List ℕ) → text.now ≢ word.now ++ rest)
+        (λ rest. text.now ≡ word.now ++ rest.now) }
 {
     text.strip_prefix(word)
 }
 
 /// The numbers of the line of this word at the front of a text, and what follows it.
 pub(crate) fn numbers_of<'a>(word: &[u8], text: &'a [u8]) -> Option<(ArrayVec<u32, 8>, &'a [u8])>
-    ensures { MatchOption result ((ns behind : List ℕ) → length ns ≤ 8 → All (λ n. n ≤ GREATEST) ns → text.now ≢ line word.now ns ++ behind)
-        (λ r. (length r.0.items ≤ 8) × All (λ n. n ≤ GREATEST) r.0.items × (text.now ≡ line word.now r.0.items ++ r.1.now)) }
+    ensures { MatchOption result ((ns behind : List ℕ) → length ns ≤ 8 → All (λ n. n ≤ GREATEST) ns
+        → text.now ≢ line word.now ns ++ behind)
+        (λ r. (length r.0.items ≤ 8) × All
+        (λ n. n ≤ GREATEST) r.0.items × (text.now ≡ line word.now r.0.items ++ r.1.now)) }
 {
     let mut rest = after(word, text)?;
     let mut numbers = ArrayVec::new();

@@ -28,5 +28,6 @@ pub record IsAccepted (b : Block) (h : ℕ) (cert : Cert) (errors : List ℕ) : 
   pub errors_count : length errors ≡ length b.outputs
   pub parts : List Part
   pub tree : IsTree (whole b) cert.nodes parts []
-  pub greatest : (o : ℕ) (x : Output) (e : ℕ) → 1 ≤ o → output_at b o ≡ Some x → slice_get errors (o - 1) ≡ Some e → IsGreatestBound b o x h parts e
+  pub greatest : (o : ℕ) (x : Output) (e : ℕ) → 1 ≤ o → output_at b o ≡ Some x → slice_get errors (o - 1) ≡ Some e
+      → IsGreatestBound b o x h parts e
   pub claimed : (k e c : ℕ) → slice_get errors k ≡ Some e → slice_get cert.claims k ≡ Some c → e ≤ c

@@ -16,7 +16,12 @@ heater_cert = record { claims = 19609 ∷ []; nodes = Split 1 128 ∷ leaf_node 
 
 -- with a silent leaf between two strong ones
 abbrev pub latch_cert : Cert
-latch_cert = record { claims = 3922 ∷ []; nodes = Split 1 64 ∷ leaf_node 1 255 ∷ Split 1 192 ∷ leaf_node 0 0 ∷ leaf_node 2 255 ∷ [] }
+latch_cert = record {
+  claims = 3922 ∷ [];
+  nodes = Split 1 64 ∷ leaf_node 1 255 ∷ Split 1 192 ∷ leaf_node 0 0 ∷ leaf_node 2 255 ∷ [];
+}
 
 abbrev pub ExamplesAreAccepted : Type 0
-ExamplesAreAccepted = IsAccepted heater 1 heater_cert (19609 ∷ []) × IsAccepted heater 256 heater_cert (15702 ∷ []) × ((p : Box (Unit {0})) → IsAccepted (latch p) 1 latch_cert (3922 ∷ []))
+ExamplesAreAccepted =
+    IsAccepted heater 1 heater_cert (19609 ∷ []) × IsAccepted heater 256 heater_cert (15702 ∷ [])
+    × ((p : Box (Unit {0})) → IsAccepted (latch p) 1 latch_cert (3922 ∷ []))

@@ -17,7 +17,8 @@ use Rattle.cert_check.specs.Acceptance.{IsAccepted}
 
 -- a leaf's pairs hold for the outputs before number o
 abbrev pub HoldBefore : Block → Part → ℕ → Type 0
-HoldBefore b p o = (n : ℕ) (leaf : the.Leaf) → 1 ≤ n → n < o → slice_get p.pairs (n - 1) ≡ Some leaf → Holds b p.box n leaf
+HoldBefore b p o =
+    (n : ℕ) (leaf : the.Leaf) → 1 ≤ n → n < o → slice_get p.pairs (n - 1) ≡ Some leaf → Holds b p.box n leaf
 
 abbrev pub AllHold : Block → Part → Type 0
 AllHold b p = HoldBefore b p (length b.outputs + 1)

@@ -21,25 +21,35 @@ use Rattle.cert_check.specs.TextFaults.{IsAcceptedText, HasTextFault}
 
 -- each list of bytes of the box lies in exactly one leaf
 abbrev pub OneLeafHasTheBytes : Type 0
-OneLeafHasTheBytes = (box : List Interval) (nodes rest : List Node) (parts : List Part) (bytes : List ℕ) → IsTree box nodes parts rest → lies bytes box ≡ true → leaves_with bytes parts ≡ 1
+OneLeafHasTheBytes =
+    (box : List Interval) (nodes rest : List Node) (parts : List Part) (bytes : List ℕ) → IsTree box nodes parts rest
+    → lies bytes box ≡ true → leaves_with bytes parts ≡ 1
 
 -- the last answer to a list of samples, each the numbers of the inputs, in h parts to a byte
 abbrev pub answer_to : ℕ → Block → ℕ → List (List Dec) → ℕ
 answer_to h b o samples = fold (λ before xs. answer_in h b o (bytes_of b.inputs xs) before) 0 samples
 
--- for every list of samples in range the last answer over bytes, in one part or in 256, is within the output's error of the exact one
+-- for every list of samples in range the last answer over bytes, in one part or in 256, is within the output's error of
+-- the exact one
 abbrev pub AcceptedAnswersAreNear : Type 0
-AcceptedAnswersAreNear = (b : Block) (h : ℕ) (cert : Cert) (errors : List ℕ) (o : ℕ) (x : Output) (e : ℕ) (samples : List (List Dec)) →
-    IsValid b → 1 ≤ h → IsAccepted b h cert errors → 1 ≤ o → output_at b o ≡ Some x → slice_get errors (o - 1) ≡ Some e → All (AreInputs b) samples →
+AcceptedAnswersAreNear =
+    (b : Block) (h : ℕ) (cert : Cert) (errors : List ℕ) (o : ℕ) (x : Output) (e : ℕ) (samples : List (List Dec)) →
+    IsValid b → 1 ≤ h → IsAccepted b h cert errors → 1 ≤ o → output_at b o ≡ Some x → slice_get errors (o - 1) ≡ Some e
+    → All (AreInputs b) samples →
     IsClose (distance x.lo x.hi) e (value_in h x (answer_to h b o samples)) (exact_answer b o samples)
 
 -- a certificate is accepted with one list of errors
 abbrev pub ErrorsAreDetermined : Type 0
-ErrorsAreDetermined = (b : Block) (h : ℕ) (cert : Cert) (es fs : List ℕ) → IsValid b → IsAccepted b h cert es → IsAccepted b h cert fs → es ≡ fs
+ErrorsAreDetermined =
+    (b : Block) (h : ℕ) (cert : Cert) (es fs : List ℕ) → IsValid b → IsAccepted b h cert es → IsAccepted b h cert fs
+    → es ≡ fs
 
 -- one that is accepted for bytes is accepted for 16 bits, and no error rises
 abbrev pub WideIsAccepted : Type 0
-WideIsAccepted = (b : Block) (cert : Cert) (es : List ℕ) → IsValid b → IsAccepted b 1 cert es → (fs : List ℕ) × IsAccepted b 256 cert fs × ((k e f : ℕ) → slice_get es k ≡ Some e → slice_get fs k ≡ Some f → f ≤ e)
+WideIsAccepted =
+    (b : Block) (cert : Cert) (es : List ℕ) → IsValid b → IsAccepted b 1 cert es
+    → (fs : List ℕ) × IsAccepted b 256 cert fs
+    × ((k e f : ℕ) → slice_get es k ≡ Some e → slice_get fs k ≡ Some f → f ≤ e)
 
 -- a certificate with a fault is not accepted
 abbrev pub FaultyCertsFail : Type 0
@@ -50,7 +60,8 @@ FaultyCertsFail =
 -- a certificate has at most one first fault
 abbrev pub CheckFaultsAreOne : Type 0
 CheckFaultsAreOne =
-    (b : Block) (h : ℕ) (cert : Cert) (f g : CheckFault) → IsValid b → HasCheckFault b h cert f → HasCheckFault b h cert g → f ≡ g
+    (b : Block) (h : ℕ) (cert : Cert) (f g : CheckFault) → IsValid b → HasCheckFault b h cert f
+    → HasCheckFault b h cert g → f ≡ g
 
 -- the errors that a text is accepted with, or why it is refused
 abbrev pub IsTextAnswer : Block → ℕ → ℕ → List ℕ → Result (List ℕ) TextFault → Type 0

@@ -40,23 +40,27 @@ AreCutOut (box ∷ boxes) = (cuts_of box + length boxes ≤ 2040) × AreCutOut b
 -- nodes begin with a tree for each box
 abbrev pub AreTrees : List (List Interval) → List Node → List Part → List Node → Type 0
 AreTrees [] nodes parts rest = (parts ≡ []) × (nodes ≡ rest)
-AreTrees (box ∷ boxes) nodes parts rest = (ps : List Part) × (qs : List Part) × (mid : List Node) × IsTree box nodes ps mid
+AreTrees (box ∷ boxes) nodes parts rest =
+    (ps : List Part) × (qs : List Part) × (mid : List Node) × IsTree box nodes ps mid
     × AreTrees boxes mid qs rest × (parts ≡ ps ++ qs)
 
 -- in the first tree, or in a later one where the leaves of those before hold
 abbrev pub AreReached : Block → List (List Interval) → List Node → List Interval → List Node → Type 0
 AreReached b [] nodes found rest = ⊥
 AreReached b (box ∷ boxes) nodes found rest = Reaches b box nodes found rest ⊎
-    ((ps : List Part) × (mid : List Node) × IsTree box nodes ps mid × All (AllHold b) ps × AreReached b boxes mid found rest)
+    ((ps : List Part) × (mid : List Node) × IsTree box nodes ps mid × All (AllHold b) ps
+    × AreReached b boxes mid found rest)
 
 -- e is the greatest Bound of the leaves, or 0 where there is none
 pub record IsGreatestSoFar (b : Block) (o : ℕ) (x : Output) (h : ℕ) (parts : List Part) (e : ℕ) : Type 0 where
   pub each : All (λ p. (n : ℕ) × HasBound b o x h p n × (n ≤ e)) parts
   pub some : 1 ≤ e → Any (λ p. HasBound b o x h p e) parts
 
--- behind these nodes, whose leaves hold, these boxes are open and these the errors so far: with a tree for each of the boxes
+-- behind these nodes, whose leaves hold, these boxes are open and these the errors so far: with a tree for each of the
+-- boxes
 -- the nodes are a tree over all bytes
-pub record HasWalked (b : Block) (h : ℕ) (nodes : List Node) (boxes : List (List Interval)) (errors : List ℕ) : Type 0 where
+pub record HasWalked (b : Block) (h : ℕ) (nodes : List Node) (boxes : List (List Interval))
+    (errors : List ℕ) : Type 0 where
   pub are_boxes : All (IsBoxOf b) boxes
   pub cut_out : AreCutOut boxes
   pub open_count : open_behind nodes ≡ Some (length boxes)

@@ -47,7 +47,8 @@ pub(crate) fn push_halves(
     ensures boxes { OnOk result (stack_of boxes.new.items ≡ left_of (input - 1) cut bytes.0.items
         ∷ right_of (input - 1) cut bytes.0.items ∷ stack_of boxes.old.items) }
     ensures room { 2041 ≤ vec_capacity boxes.new }
-    ensures fault { IfErr result (λ fault. (fault ≡ CheckFault.BadCut line) × (IsCut (input - 1) cut bytes.0.items → ⊥)) }
+    ensures fault { IfErr result (λ fault. (fault ≡ CheckFault.BadCut line)
+        × (IsCut (input - 1) cut bytes.0.items → ⊥)) }
 {
     let place = input as usize - 1;
     match interval_cut(&bytes, place, cut) {

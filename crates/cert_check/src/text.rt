@@ -33,7 +33,8 @@ pub fn check_text(alloc: Global, block: &Block, text: &[u8]) -> Result<Vec<u32>,
     requires block { IsValid block.now }
     requires text { length text.now ≤ 1048576 }
     ensures accepted { IfOk result (λ errors. IsAcceptedText block.now 1 1 text.now errors.items) }
-    ensures refused { IfErr result (λ refusal. refusal ≢ TextFault.Memory → HasTextFault block.now 1 1 text.now refusal) }
+    ensures refused { IfErr result (λ refusal. refusal ≢ TextFault.Memory
+        → HasTextFault block.now 1 1 text.now refusal) }
 {
     match Lines::new(text) {
         Ok(lines) => errors_of(alloc, block, lines, 1),
@@ -46,7 +47,8 @@ pub fn check_text16(alloc: Global, block: &Block, text: &[u8]) -> Result<Vec<u32
     requires block { IsValid block.now }
     requires text { length text.now ≤ 1048576 }
     ensures accepted { IfOk result (λ errors. IsAcceptedText block.now 256 2 text.now errors.items) }
-    ensures refused { IfErr result (λ refusal. refusal ≢ TextFault.Memory → HasTextFault block.now 256 2 text.now refusal) }
+    ensures refused { IfErr result (λ refusal. refusal ≢ TextFault.Memory
+        → HasTextFault block.now 256 2 text.now refusal) }
 {
     match Lines::new16(text) {
         Ok(lines) => errors_of(alloc, block, lines, 256),

@@ -80,9 +80,11 @@ impl<'a> Walk<'a> {
 
     /// Takes the next node. After a fault it only passes by.
     pub(crate) fn take(&mut self, node: &Node)
-        requires { (nodes : List TheNode) × HasTaken nodes self.old × AreFirst (length self.old.claims.now) (nodes ++ node.now ∷ []) }
+        requires { (nodes : List TheNode) × HasTaken nodes self.old
+            × AreFirst (length self.old.claims.now) (nodes ++ node.now ∷ []) }
         ensures same { IsSameTask self.new self.old }
-        ensures taken { (nodes : List TheNode) → HasTaken nodes self.old → AreFirst (length self.old.claims.now) (nodes ++ node.now ∷ [])
+        ensures taken { (nodes : List TheNode) → HasTaken nodes self.old
+            → AreFirst (length self.old.claims.now) (nodes ++ node.now ∷ [])
             → HasTaken (nodes ++ node.now ∷ []) self.new }
     {
         if self.fault.is_some() {
@@ -96,13 +98,16 @@ impl<'a> Walk<'a> {
 
     /// Takes a node, where no fault was met before.
     fn visit(&mut self, node: &Node) -> Result<(), CheckFault>
-        requires { (nodes : List TheNode) × HasTaken nodes self.old × IsBehind nodes self.old × AreFirst (length self.old.claims.now) (nodes ++ node.now ∷ []) }
+        requires { (nodes : List TheNode) × HasTaken nodes self.old × IsBehind nodes self.old
+            × AreFirst (length self.old.claims.now) (nodes ++ node.now ∷ []) }
         ensures same { IsSameTask self.new self.old }
         ensures line { self.new.line ≡ self.old.line }
         ensures no_fault { self.new.fault ≡ self.old.fault }
-        ensures behind { OnOk result ((nodes : List TheNode) → IsBehind nodes self.old → AreFirst (length self.old.claims.now) (nodes ++ node.now ∷ [])
+        ensures behind { OnOk result ((nodes : List TheNode) → IsBehind nodes self.old
+            → AreFirst (length self.old.claims.now) (nodes ++ node.now ∷ [])
             → IsBehind (nodes ++ node.now ∷ []) (record self.new { line = self.old.line + 1 })) }
-        ensures fault { IfErr result (λ fault. (nodes rest : List TheNode) → IsBehind nodes self.old → AreFirst (length self.old.claims.now) (nodes ++ node.now ∷ [])
+        ensures fault { IfErr result (λ fault. (nodes rest : List TheNode) → IsBehind nodes self.old
+            → AreFirst (length self.old.claims.now) (nodes ++ node.now ∷ [])
             → HasCheckFault self.old.block.now self.old.parts (cert_over self.old (nodes ++ node.now ∷ rest)) fault) }
     {
         open_boxes_go_on();
@@ -129,7 +134,8 @@ impl<'a> Walk<'a> {
     pub(crate) fn finish(self) -> Result<Vec<u32>, CheckFault>
         requires { (nodes : List TheNode) × HasTaken nodes self }
         ensures accepted { (nodes : List TheNode) → HasTaken nodes self.entry → IsCert (cert_over self.entry nodes)
-            → IfOk result (λ errors. IsAccepted self.entry.block.now self.entry.parts (cert_over self.entry nodes) errors.items) }
+            → IfOk result
+            (λ errors. IsAccepted self.entry.block.now self.entry.parts (cert_over self.entry nodes) errors.items) }
         ensures fault { (nodes : List TheNode) → HasTaken nodes self.entry → IsCert (cert_over self.entry nodes)
             → IfErr result (HasCheckFault self.entry.block.now self.entry.parts (cert_over self.entry nodes)) }
     {

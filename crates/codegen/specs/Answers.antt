@@ -35,9 +35,11 @@ pub record IsArrived (l : Layout) (image : List ℕ) (flags : ℕ) (s : State) :
 abbrev pub given : Layout → List ℕ → State → State
 given l bytes s = record s { mem = slice_set (put s.mem l.samples bytes) l.ready 1 }
 
--- From there at most so many whole instructions lead to where the code waits again, with the answers after those before,
+-- From there at most so many whole instructions lead to where the code waits again, with the answers after those
+-- before,
 -- and no more steps than that says.
-pub record IsAnswered (l : Layout) (b : Block) (w : Width) (most : ℕ) (image : List ℕ) (flags : ℕ) (before : ℕ → ℕ) (bytes : List ℕ) (s t : State) : Type 0 where
+pub record IsAnswered (l : Layout) (b : Block) (w : Width) (most : ℕ) (image : List ℕ) (flags : ℕ) (before : ℕ → ℕ)
+    (bytes : List ℕ) (s t : State) : Type 0 where
   pub ds : List ℕ
   pub execution : Execution (IsInterruptibleStep is_free l image flags) ds (given l bytes s) t
   pub idle : is_idle l t ≡ true
@@ -50,12 +52,14 @@ pub record IsAnswered (l : Layout) (b : Block) (w : Width) (most : ℕ) (image :
 abbrev pub AreAnswered : Layout → Block → Width → ℕ → List ℕ → ℕ → (ℕ → ℕ) → List (List ℕ) → State → Type 0
 AreAnswered l b w most image flags before [] s = Unit {0}
 AreAnswered l b w most image flags before (bytes ∷ samples) s =
-    (t : State) × (IsAnswered l b w most image flags before bytes s t × AreAnswered l b w most image flags (λ o. answer w b o bytes (before o)) samples t)
+    (t : State) × (IsAnswered l b w most image flags before bytes s t × AreAnswered l b w most image flags
+    (λ o. answer w b o bytes (before o)) samples t)
 
 -- A firmware answers every list of samples of a block so from reset, within its bound, whatever the open flags are.
 abbrev pub AnswersFrom : Block → Firmware → Type 0
 AnswersFrom b f = (flags : ℕ) (samples : List (List ℕ)) → flags < 2 ^ 8 → All (AreInputBytes b) samples
-    → (s : State) × (IsArrived f.layout (image_memory f.image.bytes) flags s × AreAnswered f.layout b (width_of f.wide) f.instr_bound (image_memory f.image.bytes) flags (λ o. 0) samples s)
+    → (s : State) × (IsArrived f.layout (image_memory f.image.bytes) flags s
+    × AreAnswered f.layout b (width_of f.wide) f.instr_bound (image_memory f.image.bytes) flags (λ o. 0) samples s)
 
 -- The firmware of a block does.
 abbrev pub FirmwareAnswers : Type 0

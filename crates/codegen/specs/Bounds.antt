@@ -45,7 +45,8 @@ form_bound form.Revw = 1
 
 unfoldable pub instruction_bound : Width → Block → ℕ
 instruction_bound w b =
-    13 + length b.inputs + input_term_count b + 3 * complement_count b + output_term_count b + sum_by (output_bound w) b.outputs + form_bound (form_of b)
+    13 + length b.inputs + input_term_count b + 3 * complement_count b + output_term_count b
+    + sum_by (output_bound w) b.outputs + form_bound (form_of b)
 
 -- the steps of at most so many instructions: REV or REVW takes a step an element, and WAV a step a term
 unfoldable pub steps_by : Block → ℕ → ℕ

@@ -18,7 +18,8 @@ UnchangedSumIsZero = (bytes : List ℕ) → checked_sum bytes (check_byte bytes)
 
 -- One byte that is changed to another always changes it.
 abbrev pub OneChangeIsSeen : Type 0
-OneChangeIsSeen = (bytes : List ℕ) (at value : ℕ) → Bytes bytes → at < length bytes → value < 2 ^ 8 → value ≢ slice_index bytes at
+OneChangeIsSeen =
+    (bytes : List ℕ) (at value : ℕ) → Bytes bytes → at < length bytes → value < 2 ^ 8 → value ≢ slice_index bytes at
     → checked_sum (slice_set bytes at value) (check_byte bytes) ≢ 0
 
 -- bytes of which two are changed to others, and the sum is 0 as before
@@ -35,4 +36,5 @@ pub record TwoChangesUnseen (bytes : List ℕ) (first second v w : ℕ) : Type 0
 
 -- Two may not.
 abbrev pub TwoChangesMayPass : Type 0
-TwoChangesMayPass = (bytes : List ℕ) × (first : ℕ) × (second : ℕ) × (v : ℕ) × (w : ℕ) × TwoChangesUnseen bytes first second v w
+TwoChangesMayPass =
+    (bytes : List ℕ) × (first : ℕ) × (second : ℕ) × (v : ℕ) × (w : ℕ) × TwoChangesUnseen bytes first second v w

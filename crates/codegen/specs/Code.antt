@@ -17,7 +17,8 @@ use Rattle.codegen.specs.declared.width.Width.{Width}
 use Rattle.codegen.specs.declared.width.Width.TheVariants.{Byte, Word}
 use Rattle.codegen.specs.Widths.{places}
 
--- The stack is set up, READY cleared and interrupts let in; then, wherever READY is not 0, EVAL is called and READY cleared.
+-- The stack is set up, READY cleared and interrupts let in; then, wherever READY is not 0, EVAL is called and READY
+-- cleared.
 -- An interrupt returns at once.
 abbrev pub frame_code : Layout → List Instr
 frame_code l =
@@ -25,19 +26,23 @@ frame_code l =
     ∷ LdaaExtended l.ready ∷ Beq 0xFB ∷ JsrExtended l.eval ∷ ClrExtended l.ready ∷ Bra 0xF3
     ∷ Rti ∷ []
 
--- the grades of each input's byte, of which the first stands at this address, under its terms' tables, one after another
+-- the grades of each input's byte, of which the first stands at this address, under its terms' tables, one after
+-- another
 abbrev pub fuzzify_code : ℕ → List Input → List Instr
 fuzzify_code at [] = []
-fuzzify_code at (input ∷ inputs) = LdaaExtended at ∷ (replicate (length input.terms) Mem ++ fuzzify_code (at + 1) inputs)
+fuzzify_code at (input ∷ inputs) =
+    LdaaExtended at ∷ (replicate (length input.terms) Mem ++ fuzzify_code (at + 1) inputs)
 
 -- how many terms the inputs before this one have
 abbrev pub terms_before : List Input → ℕ → ℕ
 terms_before inputs i = sum_by term_count (take (i - 1) inputs)
 
--- what a slot at this address gets before the rules: a term's has its grade; a complement is 255 minus that; an output's term begins at 0
+-- what a slot at this address gets before the rules: a term's has its grade; a complement is 255 minus that; an
+-- output's term begins at 0
 abbrev pub slot_code : ℕ → List Input → ℕ → Slot → List Instr
 slot_code slots inputs at (Term i t) = []
-slot_code slots inputs at (Complement i t) = LdaaExtended (slots + (terms_before inputs i + (t - 1))) ∷ Coma ∷ StaaExtended at ∷ []
+slot_code slots inputs at (Complement i t) =
+    LdaaExtended (slots + (terms_before inputs i + (t - 1))) ∷ Coma ∷ StaaExtended at ∷ []
 slot_code slots inputs at (Out o t) = ClrExtended at ∷ []
 
 -- the same for slots one after another
@@ -48,7 +53,8 @@ slots_code slots inputs at (s ∷ ss) = slot_code slots inputs at s ++ slots_cod
 -- the rule list over the slots, from A 255 and V 0, with its weights where it has some
 abbrev pub rules_code : Layout → Form → List Instr
 rules_code l form.Rev = LdxImmediate l.rules ∷ LdyImmediate l.slots ∷ LdaaImmediate 0xFF ∷ Andcc 0xFD ∷ Rev ∷ []
-rules_code l form.Revw = LdxImmediate l.rules ∷ LdyImmediate l.weights ∷ LdaaImmediate 0xFF ∷ Andcc 0xFD ∷ Orcc 0x01 ∷ Revw ∷ []
+rules_code l form.Revw =
+    LdxImmediate l.rules ∷ LdyImmediate l.weights ∷ LdaaImmediate 0xFF ∷ Andcc 0xFD ∷ Orcc 0x01 ∷ Revw ∷ []
 
 -- the bytes of a word: the quotient, and what the remainder makes
 abbrev pub word_code : ℕ → List Instr
@@ -56,21 +62,25 @@ word_code at = Ediv ∷ Fdiv ∷ TransferYD ∷ StabExtended at ∷ TransferXD �
 
 -- the answer from the sums; where the sum of the masses is 0, the default's byte, or with NC none
 abbrev pub quotient_code : Width → ℕ → Option ℕ → List Instr
-quotient_code Byte at (Some byte) = CpxImmediate 0 ∷ Beq 5 ∷ Ediv ∷ TransferYD ∷ Bra 2 ∷ LdabImmediate byte ∷ StabExtended at ∷ []
+quotient_code Byte at (Some byte) =
+    CpxImmediate 0 ∷ Beq 5 ∷ Ediv ∷ TransferYD ∷ Bra 2 ∷ LdabImmediate byte ∷ StabExtended at ∷ []
 quotient_code Byte at None = CpxImmediate 0 ∷ Beq 6 ∷ Ediv ∷ TransferYD ∷ StabExtended at ∷ []
-quotient_code Word at (Some byte) = CpxImmediate 0 ∷ Beq 15 ∷ (word_code at ++ Bra 8 ∷ LdabImmediate byte ∷ StabExtended at ∷ ClrExtended (at + 1) ∷ [])
+quotient_code Word at (Some byte) =
+    CpxImmediate 0 ∷ Beq 15 ∷ (word_code at ++ Bra 8 ∷ LdabImmediate byte ∷ StabExtended at ∷ ClrExtended (at + 1) ∷ [])
 quotient_code Word at None = CpxImmediate 0 ∷ Beq 13 ∷ word_code at
 
 -- an output's answer to an address, from its singletons and its slots
 abbrev pub output_code : Width → ℕ → ℕ → ℕ → Output → List Instr
 output_code w singletons slots at o =
-    LdxImmediate singletons ∷ LdyImmediate slots ∷ LdabImmediate (length o.singletons) ∷ Wav ∷ quotient_code w at (option_map (nearest_byte o) o.default)
+    LdxImmediate singletons ∷ LdyImmediate slots ∷ LdabImmediate (length o.singletons) ∷ Wav
+    ∷ quotient_code w at (option_map (nearest_byte o) o.default)
 
 -- the same for outputs one after another
 abbrev pub outputs_code : Width → ℕ → ℕ → ℕ → List Output → List Instr
 outputs_code w singletons slots at [] = []
 outputs_code w singletons slots at (o ∷ os) =
-    output_code w singletons slots at o ++ outputs_code w (singletons + length o.singletons) (slots + length o.singletons) (at + places w) os
+    output_code w singletons slots at o
+    ++ outputs_code w (singletons + length o.singletons) (slots + length o.singletons) (at + places w) os
 
 -- how many slots stand before those of the outputs' terms
 abbrev pub input_slots : List Slot → List Output → ℕ

@@ -26,7 +26,9 @@ abbrev pub Writes : Layout → ℕ → Type 0
 Writes l = IsInOne ((l.outputs, 8) ∷ (l.slots, 300) ∷ [])
 
 abbrev pub Reads : Layout → ℕ → Type 0
-Reads l = IsInOne ((l.inputs, 8) ∷ (l.slots, 300) ∷ (l.tables, 480) ∷ (l.singletons, 60) ∷ (l.weights, 512) ∷ (l.rules, 9984) ∷ [])
+Reads l =
+    IsInOne ((l.inputs, 8) ∷ (l.slots, 300) ∷ (l.tables, 480) ∷ (l.singletons, 60) ∷ (l.weights, 512) ∷ (l.rules, 9984)
+    ∷ [])
 
 -- a whole instruction of EVAL: it stands in EVAL's code, touches what is owned alone, and leaves SP and I
 pub record IsEvalStep (l : Layout) (flags d : ℕ) (s t : State) : Type 0 where
@@ -54,7 +56,8 @@ pub record HasEval (l : Layout) (b : Block) (w : Width) (mem : List ℕ) : Type 
 
 -- an answer for each output stands where the outputs are
 abbrev pub HasAnswers : Layout → Block → Width → (ℕ → ℕ) → List ℕ → Type 0
-HasAnswers l b w answers mem = (o : ℕ) → 1 ≤ o → o ≤ length b.outputs → HasBytes mem (l.outputs + places w * (o - 1)) (bytes_of w (answers o))
+HasAnswers l b w answers mem =
+    (o : ℕ) → 1 ≤ o → o ≤ length b.outputs → HasBytes mem (l.outputs + places w * (o - 1)) (bytes_of w (answers o))
 
 -- at EVAL's first instruction, with these bytes of inputs and these answers before
 pub record IsAtEval (l : Layout) (b : Block) (w : Width) (bytes : List ℕ) (before : ℕ → ℕ) (s : State) : Type 0 where
@@ -64,19 +67,25 @@ pub record IsAtEval (l : Layout) (b : Block) (w : Width) (bytes : List ℕ) (bef
   pub inputs : HasBytes s.mem l.inputs bytes
   pub outputs : HasAnswers l b w before s.mem
 
--- EVAL leads behind its code with the answers. Outside their bytes and the slots memory is as it was. Around it, from a call
+-- EVAL leads behind its code with the answers. Outside their bytes and the slots memory is as it was. Around it, from a
+-- call
 -- to the return and what follows, six instructions have room in the bounds.
-pub record IsEvaluated (l : Layout) (b : Block) (w : Width) (flags : ℕ) (bytes : List ℕ) (before : ℕ → ℕ) (s t : State) : Type 0 where
+pub record IsEvaluated (l : Layout) (b : Block) (w : Width) (flags : ℕ) (bytes : List ℕ) (before : ℕ → ℕ)
+    (s t : State) : Type 0 where
   pub ds : List ℕ
   pub execution : Execution (IsEvalStep l flags) ds s t
   pub between : IsBetween t
   pub pc : t.regs.pc ≡ l.eval + length (eval_bytes l b w)
   pub answers : HasAnswers l b w (λ o. answer w b o bytes (before o)) t.mem
-  pub elsewhere : (at : ℕ) → (at < l.outputs) ⊎ (l.outputs + places w * length b.outputs ≤ at) → (at < l.slots) ⊎ (l.slots + length (slots_of b) ≤ at) → slice_index t.mem at ≡ slice_index s.mem at
+  pub elsewhere : (at : ℕ) → (at < l.outputs) ⊎ (l.outputs + places w * length b.outputs ≤ at)
+      → (at < l.slots) ⊎ (l.slots + length (slots_of b) ≤ at) → slice_index t.mem at ≡ slice_index s.mem at
   pub instructions : length ds + 6 ≤ instruction_bound w b
   pub steps : all_steps ds + 6 ≤ step_bound w b
 
--- EVAL answers a block over bytes wherever its regions are apart, wherever SP is and whether or not interrupts are masked.
+-- EVAL answers a block over bytes wherever its regions are apart, wherever SP is and whether or not interrupts are
+-- masked.
 abbrev pub EvalAnswers : Type 0
-EvalAnswers = (l : Layout) (b : Block) (w : Width) (flags : ℕ) (bytes : List ℕ) (before : ℕ → ℕ) (s : State) → IsApart l → IsValid b → IsWithinLimits b → flags < 2 ^ 8 → AreInputBytes b bytes
+EvalAnswers =
+    (l : Layout) (b : Block) (w : Width) (flags : ℕ) (bytes : List ℕ) (before : ℕ → ℕ) (s : State) → IsApart l
+    → IsValid b → IsWithinLimits b → flags < 2 ^ 8 → AreInputBytes b bytes
     → IsAtEval l b w bytes before s → (t : State) × IsEvaluated l b w flags bytes before s t

@@ -20,7 +20,8 @@ code_at at code = Place at ∷ map Op code
 abbrev pub bytes_at : ℕ → List ℕ → List Item
 bytes_at at bytes = Place at ∷ map Byte bytes
 
--- the interrupt's and the reset vector (CPU12 Reference Manual, section 7): the last instruction before EVAL, and the first one
+-- the interrupt's and the reset vector (CPU12 Reference Manual, section 7): the last instruction before EVAL, and the
+-- first one
 abbrev pub vector_items : Layout → List Item
 vector_items l = bytes_at 0xFFF2 (bytes_of_word l.interrupt) ++ bytes_at 0xFFFE (bytes_of_word l.code)
 

@@ -44,11 +44,13 @@ pub record IsShownPlain (open_to : ℕ → Bool) (flags : ℕ) (i : Instr) (s t 
   pub step : IsPlainStep flags i s t
   pub reads : AllShown (is_hidden open_to s.regs.sp) (read_by (act_of flags i s.regs) s.mem)
   pub writes : AllShown (is_hidden open_to (min s.regs.sp t.regs.sp)) (addresses (effect flags i s.regs s.mem).writes)
-  pub uncovers : Uncovers (is_hidden open_to s.regs.sp) (effect flags i s.regs s.mem).writes (is_hidden open_to t.regs.sp)
+  pub uncovers : Uncovers (is_hidden open_to s.regs.sp)
+      (effect flags i s.regs s.mem).writes (is_hidden open_to t.regs.sp)
 
 -- REV or REVW: what it reads and writes is shown, it writes below the image alone, and not itself, and between its
 -- parts PC is not where the code waits
-pub record IsShownRules (open_to : ℕ → Bool) (l : Layout) (i : Instr) (f : Form) (flags d : ℕ) (p : Rule) (ps : List Rule)
+pub record IsShownRules (open_to : ℕ → Bool) (l : Layout) (i : Instr) (f : Form) (flags d : ℕ) (p : Rule)
+    (ps : List Rule)
     (s t : State) : Type 0 where
   pub step : IsRulesStep i f flags d p ps s t
   pub reads : AllShown (is_hidden open_to s.regs.sp) (rules_read f s.regs p ps)
@@ -73,7 +75,8 @@ IsShownInstruction open_to l flags d s t =
     ⊎ IsShownAverage open_to l flags d s t))
 
 -- a whole instruction on a sample, from a state that does not wait
-pub record IsInterruptibleStep (open_to : ℕ → Bool) (l : Layout) (image : List ℕ) (flags d : ℕ) (s t : State) : Type 0 where
+pub record IsInterruptibleStep (open_to : ℕ → Bool) (l : Layout) (image : List ℕ) (flags d : ℕ)
+    (s t : State) : Type 0 where
   pub busy : is_idle l s ≡ false
   pub interruptible : IsInterruptible open_to image s
   pub instruction : IsShownInstruction open_to l flags d s t

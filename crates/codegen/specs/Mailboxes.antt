@@ -23,7 +23,12 @@ is_postable at = is_free at || is_mail at
 
 -- the layout of a block with n inputs: its code has a copy of six bytes for each
 abbrev pub mailbox_layout : ℕ → Layout
-mailbox_layout n = record main_layout { interrupt = 0xC019 + 6 * n; eval = 0xC01A + 6 * n; ready = 0x1028; samples = 0x1020 }
+mailbox_layout n = record main_layout {
+  interrupt = 0xC019 + 6 * n;
+  eval = 0xC01A + 6 * n;
+  ready = 0x1028;
+  samples = 0x1020;
+}
 
 -- the copy of n bytes, from the one address on to the other
 abbrev pub copy_code : ℕ → ℕ → ℕ → List Instr
@@ -34,7 +39,8 @@ copy_code from to (suc n) = MovbExtended from to ∷ copy_code (from + 1) (to + 
 abbrev pub call_code : Layout → ℕ → List Instr
 call_code l n = ClrExtended l.ready ∷ Andcc 0xEF ∷ JsrExtended l.eval ∷ Bra (239 - 6 * n) ∷ Rti ∷ []
 
--- the code before EVAL: the stack is set up, POSTED cleared and interrupts let in; then, wherever POSTED is not 0, interrupts are
+-- the code before EVAL: the stack is set up, POSTED cleared and interrupts let in; then, wherever POSTED is not 0,
+-- interrupts are
 -- kept out, and MAIL is copied to the inputs
 abbrev pub mailbox_code : Layout → ℕ → List Instr
 mailbox_code l n =

@@ -29,7 +29,8 @@ pub record IsAt (image : List ℕ) (at : ℕ) (s : State) : Type 0 where
   pub pc : s.regs.pc ≡ at
   pub sp : s.regs.sp ≡ 0x2000
 
--- Up to the copy's end what is read and written is neither free nor below SP on the stack. POSTED is read where the code waits.
+-- Up to the copy's end what is read and written is neither free nor below SP on the stack. POSTED is read where the
+-- code waits.
 pub record IsLook (l : Layout) (image : List ℕ) (flags : ℕ) (s t : State) : Type 0 where
   pub step : IsShownPlain is_free flags (LdaaExtended l.ready) s t
   pub at : IsAt image (l.wait + 3) t
@@ -64,11 +65,14 @@ pub record IsCopied (l : Layout) (n : ℕ) (image : List ℕ) (flags : ℕ) (s t
   pub at : IsAt image (call_of l n) t
   pub inputs : (k : ℕ) → k < n → slice_index t.mem (l.inputs + k) ≡ slice_index s.mem (l.samples + k)
   pub cleared : slice_index t.mem l.ready ≡ 0
-  pub elsewhere : (at : ℕ) → (at < l.inputs) ⊎ (l.inputs + n ≤ at) → at ≢ l.ready → slice_index t.mem at ≡ slice_index s.mem at
+  pub elsewhere : (at : ℕ) → (at < l.inputs) ⊎ (l.inputs + n ≤ at) → at ≢ l.ready
+      → slice_index t.mem at ≡ slice_index s.mem at
 
--- From there whole instructions lead to where the code waits again, with the answers after those before. None reads or writes the
+-- From there whole instructions lead to where the code waits again, with the answers after those before. None reads or
+-- writes the
 -- mailbox, which stays as it is. The n + 5 instructions up to the call have room in the bound.
-pub record IsTurned (l : Layout) (b : Block) (w : Width) (most : ℕ) (image : List ℕ) (flags : ℕ) (before : ℕ → ℕ) (bytes : List ℕ) (s t : State) : Type 0 where
+pub record IsTurned (l : Layout) (b : Block) (w : Width) (most : ℕ) (image : List ℕ) (flags : ℕ) (before : ℕ → ℕ)
+    (bytes : List ℕ) (s t : State) : Type 0 where
   pub ds : List ℕ
   pub execution : Execution (IsInterruptibleStep is_postable l image flags) ds s t
   pub at : IsAt image l.wait t
@@ -77,7 +81,8 @@ pub record IsTurned (l : Layout) (b : Block) (w : Width) (most : ℕ) (image : L
   pub instructions : length ds + length b.inputs + 5 ≤ most
   pub steps : all_steps ds + length b.inputs + 5 ≤ steps_by b most
 
--- the first arrival where the code waits, by three plain instructions from reset: no sample is posted, and the outputs are 0
+-- the first arrival where the code waits, by three plain instructions from reset: no sample is posted, and the outputs
+-- are 0
 pub record IsReady (l : Layout) (b : Block) (w : Width) (image : List ℕ) (flags : ℕ) (s : State) : Type 0 where
   pub way : PlainWay flags l.wait 3 (reset_with image) s
   pub at : IsAt image l.wait s
@@ -90,12 +95,16 @@ pub record TakesTurns (l : Layout) (b : Block) (w : Width) (most : ℕ) (image :
   pub looks : (s : State) → IsAt image l.wait s → (t : State) × IsLook l image flags s t
   pub chooses : (s : State) → IsAt image (l.wait + 3) s → (t : State) × IsChoice l image flags s t
   pub copies : (s : State) → IsAt image (l.wait + 5) s → (t : State) × IsCopied l (length b.inputs) image flags s t
-  pub evaluates : (bytes : List ℕ) (before : ℕ → ℕ) (s : State) → AreInputBytes b bytes → IsAt image (call_of l (length b.inputs)) s
-      → HasBytes s.mem l.inputs bytes → HasAnswers l b w before s.mem → (t : State) × IsTurned l b w most image flags before bytes s t
+  pub evaluates : (bytes : List ℕ) (before : ℕ → ℕ) (s : State) → AreInputBytes b bytes
+      → IsAt image (call_of l (length b.inputs)) s
+      → HasBytes s.mem l.inputs bytes → HasAnswers l b w before s.mem
+      → (t : State) × IsTurned l b w most image flags before bytes s t
 
 -- whatever the open flags are
 abbrev pub TakesPosts : Block → Firmware → Type 0
-TakesPosts b f = (flags : ℕ) → flags < 2 ^ 8 → TakesTurns f.layout b (width_of f.wide) f.instr_bound (image_memory f.image.bytes) flags
+TakesPosts b f =
+    (flags : ℕ) → flags < 2 ^ 8
+    → TakesTurns f.layout b (width_of f.wide) f.instr_bound (image_memory f.image.bytes) flags
 
 -- The mailbox firmware of a block does.
 abbrev pub MailboxTakesPosts : Type 0
@@ -103,4 +112,5 @@ MailboxTakesPosts = (b : Block) (f : Firmware) → IsValid b → IsWithinLimits 
 
 -- Its uninterrupted answers exist, and are the block's over bytes.
 abbrev pub MailboxIsUninterrupted : Type 0
-MailboxIsUninterrupted = (b : Block) (f : Firmware) → IsValid b → IsWithinLimits b → IsMailboxOf b f → AnswersUninterrupted b f
+MailboxIsUninterrupted =
+    (b : Block) (f : Firmware) → IsValid b → IsWithinLimits b → IsMailboxOf b f → AnswersUninterrupted b f

@@ -51,7 +51,8 @@ abbrev pub AreAnswersTo : Firmware → ℕ → List (List ℕ) → List Answer �
 AreAnswersTo f flags [] [] s = Unit {0}
 AreAnswersTo f flags [] (a ∷ answers) s = ⊥
 AreAnswersTo f flags (bytes ∷ samples) [] s = ⊥
-AreAnswersTo f flags (bytes ∷ samples) (a ∷ answers) s = (t : State) × (IsAnswerTo f flags bytes s t a × AreAnswersTo f flags samples answers t)
+AreAnswersTo f flags (bytes ∷ samples) (a ∷ answers) s =
+    (t : State) × (IsAnswerTo f flags bytes s t a × AreAnswersTo f flags samples answers t)
 
 -- the answers to a list of samples, from the first arrival where the code waits
 pub record AreUninterrupted (f : Firmware) (flags : ℕ) (samples : List (List ℕ)) (answers : List Answer) : Type 0 where
@@ -62,7 +63,9 @@ pub record AreUninterrupted (f : Firmware) (flags : ℕ) (samples : List (List �
 
 -- They have one value.
 abbrev pub UninterruptedAreOne : Type 0
-UninterruptedAreOne = (f : Firmware) (flags : ℕ) (samples : List (List ℕ)) (xs ys : List Answer) → AreUninterrupted f flags samples xs → AreUninterrupted f flags samples ys → xs ≡ ys
+UninterruptedAreOne =
+    (f : Firmware) (flags : ℕ) (samples : List (List ℕ)) (xs ys : List Answer) → AreUninterrupted f flags samples xs
+    → AreUninterrupted f flags samples ys → xs ≡ ys
 
 -- an answer has a block's answers over bytes after those before, by at most so many instructions
 pub record IsAnswerOf (w : Width) (b : Block) (most : ℕ) (before : ℕ → ℕ) (bytes : List ℕ) (a : Answer) : Type 0 where
@@ -75,10 +78,13 @@ abbrev pub AreAnswersOf : Width → Block → ℕ → (ℕ → ℕ) → List (Li
 AreAnswersOf w b most before [] [] = Unit {0}
 AreAnswersOf w b most before [] (a ∷ answers) = ⊥
 AreAnswersOf w b most before (bytes ∷ samples) [] = ⊥
-AreAnswersOf w b most before (bytes ∷ samples) (a ∷ answers) = IsAnswerOf w b most before bytes a × AreAnswersOf w b most (λ o. answer w b o bytes (before o)) samples answers
+AreAnswersOf w b most before (bytes ∷ samples) (a ∷ answers) =
+    IsAnswerOf w b most before bytes a × AreAnswersOf w b most (λ o. answer w b o bytes (before o)) samples answers
 
 -- the answers of samples that whole instructions answer where interrupts may come
-abbrev pub answers_by : (b : Block) (f : Firmware) (image : List ℕ) (flags : ℕ) (before : ℕ → ℕ) (samples : List (List ℕ)) (s : State) → AreAnswered f.layout b (width_of f.wide) f.instr_bound image flags before samples s → List Answer
+abbrev pub answers_by : (b : Block) (f : Firmware) (image : List ℕ) (flags : ℕ) (before : ℕ → ℕ)
+    (samples : List (List ℕ)) (s : State)
+    → AreAnswered f.layout b (width_of f.wide) f.instr_bound image flags before samples s → List Answer
 answers_by b f image flags before [] s h = []
 answers_by b f image flags before (bytes ∷ samples) s h =
     record { values = values_in f h.0; instructions = length h.1.0.ds }
@@ -86,16 +92,22 @@ answers_by b f image flags before (bytes ∷ samples) s h =
 
 -- They are the uninterrupted ones, and the block's, within the firmware's bound.
 abbrev pub AnsweredAreUninterrupted : Type 0
-AnsweredAreUninterrupted = (b : Block) (f : Firmware) (flags : ℕ) (samples : List (List ℕ)) (s : State) → f.outputs ≡ length b.outputs
-    → IsArrived f.layout (image_memory f.image.bytes) flags s → (h : AreAnswered f.layout b (width_of f.wide) f.instr_bound (image_memory f.image.bytes) flags (λ o. 0) samples s)
+AnsweredAreUninterrupted =
+    (b : Block) (f : Firmware) (flags : ℕ) (samples : List (List ℕ)) (s : State) → f.outputs ≡ length b.outputs
+    → IsArrived f.layout (image_memory f.image.bytes) flags s
+    → (h : AreAnswered f.layout b (width_of f.wide) f.instr_bound (image_memory f.image.bytes) flags
+    (λ o. 0) samples s)
     → AreUninterrupted f flags samples (answers_by b f (image_memory f.image.bytes) flags (λ o. 0) samples s h)
-    × AreAnswersOf (width_of f.wide) b f.instr_bound (λ o. 0) samples (answers_by b f (image_memory f.image.bytes) flags (λ o. 0) samples s h)
+    × AreAnswersOf (width_of f.wide) b f.instr_bound
+    (λ o. 0) samples (answers_by b f (image_memory f.image.bytes) flags (λ o. 0) samples s h)
 
 -- the uninterrupted answers to every list of samples exist, and are a block's, within the firmware's bound
 abbrev pub AnswersUninterrupted : Block → Firmware → Type 0
 AnswersUninterrupted b f = (flags : ℕ) (samples : List (List ℕ)) → flags < 2 ^ 8 → All (AreInputBytes b) samples
-    → (answers : List Answer) × (AreUninterrupted f flags samples answers × AreAnswersOf (width_of f.wide) b f.instr_bound (λ o. 0) samples answers)
+    → (answers : List Answer) × (AreUninterrupted f flags samples answers
+    × AreAnswersOf (width_of f.wide) b f.instr_bound (λ o. 0) samples answers)
 
 -- Those of the firmware of a block do, and are.
 abbrev pub FirmwareIsUninterrupted : Type 0
-FirmwareIsUninterrupted = (b : Block) (f : Firmware) → IsValid b → IsWithinLimits b → IsFirmwareOf b f → AnswersUninterrupted b f
+FirmwareIsUninterrupted =
+    (b : Block) (f : Firmware) → IsValid b → IsWithinLimits b → IsFirmwareOf b f → AnswersUninterrupted b f

@@ -29,7 +29,8 @@ use Rattle.codegen.specs.WatchedCode.{segments_of, fault_at, watched_front, watc
 
 -- the items of its image: those of a block with the check before EVAL, and the vectors
 abbrev pub watched_items : Block → List Item
-watched_items b = block_items (watched_layout b) b Byte (watched_front main_layout b) (Rts ∷ []) ++ vector_items (watched_layout b)
+watched_items b =
+    block_items (watched_layout b) b Byte (watched_front main_layout b) (Rts ∷ []) ++ vector_items (watched_layout b)
 
 -- what a segment adds to the instructions of a sample: three for each byte, and one
 abbrev pub segment_bound : Segment → ℕ
@@ -104,7 +105,8 @@ restored image (Some c) s = record s { mem = slice_set s.mem c.0 (slice_index im
 
 -- From there at most so many whole instructions lead to where the code waits again, and memory from $2000 on is the
 -- image with the byte changed. The answers and FAULT are the sample's.
-pub record IsWatchAnswered (l : Layout) (b : Block) (most : ℕ) (image : List ℕ) (flags : ℕ) (before : ℕ → ℕ) (x : Watched) (s t : State) : Type 0 where
+pub record IsWatchAnswered (l : Layout) (b : Block) (most : ℕ) (image : List ℕ) (flags : ℕ) (before : ℕ → ℕ)
+    (x : Watched) (s t : State) : Type 0 where
   pub ds : List ℕ
   pub execution : Execution (IsInterruptibleStep is_free l (changed x.change image) flags) ds (upset_given l x s) t
   pub idle : is_idle l t ≡ true
@@ -121,12 +123,16 @@ AreWatchAnswered l b most image flags before (x ∷ xs) s =
     (t : State) × (IsWatchAnswered l b most image flags before x s t
     × AreWatchAnswered l b most image flags (λ o. watched_answer b image x o (before o)) xs (restored image x.change t))
 
--- A firmware answers every list of samples so from reset, whatever the open flags are, with a byte of its tables changed
+-- A firmware answers every list of samples so from reset, whatever the open flags are, with a byte of its tables
+-- changed
 -- in each of them or in none.
 abbrev pub AnswersWatched : Block → Firmware → Type 0
-AnswersWatched b f = (flags : ℕ) (samples : List Watched) → flags < 2 ^ 8 → All (IsGoodSample b f.layout f.image.bytes) samples
-    → (s : State) × (IsArrived f.layout (image_memory f.image.bytes) flags s × AreWatchAnswered f.layout b f.instr_bound (image_memory f.image.bytes) flags (λ o. 0) samples s)
+AnswersWatched b f =
+    (flags : ℕ) (samples : List Watched) → flags < 2 ^ 8 → All (IsGoodSample b f.layout f.image.bytes) samples
+    → (s : State) × (IsArrived f.layout (image_memory f.image.bytes) flags s
+    × AreWatchAnswered f.layout b f.instr_bound (image_memory f.image.bytes) flags (λ o. 0) samples s)
 
 -- The firmware of a block with watched tables does.
 abbrev pub WatchedAnswers : Type 0
-WatchedAnswers = (b : Block) (f : Firmware) → IsValid b → IsWithinLimits b → IsWatchedFirmwareOf b f → AnswersWatched b f
+WatchedAnswers =
+    (b : Block) (f : Firmware) → IsValid b → IsWithinLimits b → IsWatchedFirmwareOf b f → AnswersWatched b f

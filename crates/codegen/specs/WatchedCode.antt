@@ -63,7 +63,8 @@ defaults_code at (o ∷ os) = default_code at (option_map (nearest_byte o) o.def
 abbrev pub bad_code : Layout → List Output → List Instr
 bad_code l outputs = LdabImmediate 1 ∷ StabExtended fault_at ∷ (defaults_code l.outputs outputs ++ Rts ∷ [])
 
--- a segment's bytes are added to B, of which one at least is there: back to ADDB as long as X is not behind the last one
+-- a segment's bytes are added to B, of which one at least is there: back to ADDB as long as X is not behind the last
+-- one
 abbrev pub segment_code : Segment → List Instr
 segment_code s = LdxImmediate s.at ∷ AddbPostIncrementX ∷ CpxImmediate (s.at + length s.bytes) ∷ Bne 0xF9 ∷ []
 
@@ -72,13 +73,15 @@ segments_code segments = flat_map segment_code segments
 
 -- how many bytes are between BAD and what stands behind the branch to it
 abbrev pub back_to_bad : Layout → List Output → List Segment → ℕ
-back_to_bad l outputs segments = code_length (bad_code l outputs) + code_length (LdabImmediate 0 ∷ segments_code segments) + 4
+back_to_bad l outputs segments =
+    code_length (bad_code l outputs) + code_length (LdabImmediate 0 ∷ segments_code segments) + 4
 
 -- the check: BAD where the segments' sum with the check byte is not 0, and else FAULT is cleared
 abbrev pub check_code : Layout → List Output → List Segment → List Instr
 check_code l outputs segments =
     LdabImmediate 0 ∷ (segments_code segments
-    ++ AddbImmediate (check_byte (segment_bytes segments)) ∷ Bne (2 ^ 8 - back_to_bad l outputs segments) ∷ ClrExtended fault_at ∷ [])
+    ++ AddbImmediate (check_byte (segment_bytes segments)) ∷ Bne (2 ^ 8 - back_to_bad l outputs segments)
+    ∷ ClrExtended fault_at ∷ [])
 
 -- where BAD and the check stand: behind the frame's last instruction
 abbrev pub bad_at : Layout → ℕ
@@ -96,7 +99,10 @@ abbrev pub watched_front : Layout → Block → List Instr
 watched_front l b = watched_front_over l b.outputs (segments_of l b)
 
 abbrev pub watched_layout_over : Layout → List Output → List Segment → Layout
-watched_layout_over l outputs segments = record l { eval = l.code + code_length (watched_front_over l outputs segments) }
+watched_layout_over l outputs segments = record l {
+  eval = l.code
+      + code_length (watched_front_over l outputs segments);
+}
 
 -- the layout of a watched firmware: that of one that stands alone, with EVAL behind the check
 abbrev pub watched_layout : Block → Layout

@@ -245,7 +245,8 @@ fn push_output(
 ) -> Result<(), AllocError>
     requires valid { IsValidOutput output.now }
     requires room { at + 1 < 2 ^ 16 }
-    ensures { OnOk result (items.new.items ≡ items.old.items ++ map Op (output_code width singletons slots at output.now)) }
+    ensures { OnOk result (items.new.items
+        ≡ items.old.items ++ map Op (output_code width singletons slots at output.now)) }
 {
     push_code(
         items,
@@ -275,7 +276,8 @@ pub(crate) fn push_outputs(
     requires valid { All IsValidOutput outputs.now }
     requires few { length outputs.now ≤ 4 }
     requires room { (singletons + 64 < 2 ^ 16) × (slots + 64 < 2 ^ 16) × (answers + 8 < 2 ^ 16) }
-    ensures { OnOk result (items.new.items ≡ items.old.items ++ map Op (outputs_code width singletons slots answers outputs.now)) }
+    ensures { OnOk result (items.new.items
+        ≡ items.old.items ++ map Op (outputs_code width singletons slots answers outputs.now)) }
 {
     let mut singleton = singletons;
     let mut slot = slots;

@@ -58,7 +58,8 @@ pub(crate) fn push_block(
     requires flat { flat.now ≡ flat_of block.now }
     requires laid_out { IsLaidOut flat.now }
     requires room { HasRoom layout.now }
-    ensures { OnOk result (items.new.items ≡ items.old.items ++ block_items layout.now block.now width before.now behind.now) }
+    ensures { OnOk result (items.new.items
+        ≡ items.old.items ++ block_items layout.now block.now width before.now behind.now) }
 {
     items.push(Item::Place(layout.code))?;
     push_code(items, before)?;
@@ -95,7 +96,8 @@ fn push_eval(
     requires few_outputs { length outputs.now ≤ 4 }
     requires slots { length slots.now ≤ 300 }
     requires room { HasRoom layout.now }
-    ensures { OnOk result (items.new.items ≡ items.old.items ++ map Op (eval_code_over layout.now width inputs.now outputs.now slots.now form)) }
+    ensures { OnOk result (items.new.items
+        ≡ items.old.items ++ map Op (eval_code_over layout.now width inputs.now outputs.now slots.now form)) }
 {
     push_code(
         items,
@@ -146,7 +148,8 @@ fn push_rule_data(
 ) -> Result<(), AllocError>
     requires laid_out { IsLaidOut flat.now }
     requires room { HasRoom layout.now }
-    ensures { OnOk result (items.new.items ≡ items.old.items ++ (bytes_at layout.now.weights (weight_bytes_by flat.now.form flat.now.weights)
+    ensures { OnOk result (items.new.items
+        ≡ items.old.items ++ (bytes_at layout.now.weights (weight_bytes_by flat.now.form flat.now.weights)
         ++ bytes_at layout.now.rules (rule_bytes_by layout.now.slots flat.now.form flat.now.conjunctions))) }
 {
     items.push(Item::Place(layout.weights))?;

@@ -103,7 +103,8 @@ fn push_weights(
     layout: &Layout,
     flat: &Flat,
 ) -> Result<(), AllocError>
-    ensures { OnOk result (segments.new.items ≡ segments.old.items ++ weight_segments layout.now.weights flat.now.form flat.now.weights) }
+    ensures { OnOk result (segments.new.items
+        ≡ segments.old.items ++ weight_segments layout.now.weights flat.now.form flat.now.weights) }
 {
     match flat.form {
         Form::Rev => Ok(()),

@@ -25,7 +25,9 @@ abbrev pub is_mnemonic : List ℕ → Bool
 is_mnemonic word = list_any (names_form word) every
 
 abbrev pub is_directive : List ℕ → Bool
-is_directive word = bytes_eq word (codes "ORG") || (bytes_eq word (codes "EQU") || (bytes_eq word (codes "FCB") || bytes_eq word (codes "FDB")))
+is_directive word =
+    bytes_eq word (codes "ORG") || (bytes_eq word (codes "EQU")
+    || (bytes_eq word (codes "FCB") || bytes_eq word (codes "FDB")))
 
 abbrev pub is_operation : List ℕ → Bool
 is_operation word = is_directive word || is_mnemonic word
@@ -69,18 +71,21 @@ plain_term value word =
 abbrev pub term_of : (List ℕ → Option ℕ) → List ℕ → Term
 term_of value [] = Bad
 term_of value (b ∷ bs) =
-    if b == 0x24 then (if is_number is_hex_digit bs then number (hexadecimal_value bs) else Bad) else plain_term value (b ∷ bs)
+    if b == 0x24 then (if is_number is_hex_digit bs then number (hexadecimal_value bs) else Bad)
+    else plain_term value (b ∷ bs)
 
 -- a sum with one term more; after the first of a group the others are taken away
 abbrev pub with_term : Sum → Term → Sum
-with_term s (Value v) = if s.negative then record s { taken = s.taken + v } else record s { added = s.added + v; negative = true }
+with_term s (Value v) =
+    if s.negative then record s { taken = s.taken + v } else record s { added = s.added + v; negative = true }
 with_term s Large = record s { large = true; negative = true }
 with_term s Unknown = record s { unknown = true; negative = true }
 with_term s Bad = record s { bad = true; negative = true }
 
 -- a sum with the terms of a group, of which the first is added
 abbrev pub with_group : (List ℕ → Option ℕ) → Sum → List ℕ → Sum
-with_group value s group = fold (λ t word. with_term t (term_of value word)) (record s { negative = false }) (pieces 0x2D group)
+with_group value s group =
+    fold (λ t word. with_term t (term_of value word)) (record s { negative = false }) (pieces 0x2D group)
 
 abbrev pub nothing : Sum
 nothing = record { added = 0; taken = 0; large = false; unknown = false; bad = false; negative = false }

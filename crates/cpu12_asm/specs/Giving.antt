@@ -46,11 +46,14 @@ before v (Err f) = Err f
 abbrev pub values_from : (List ℕ → Option ℕ) → ℕ → ℕ → List (List ℕ) → Result (List ℕ) LineFault
 values_from value first other [] = Ok []
 values_from value first other (e ∷ es) =
-    if fits first (sum_of value e) then before ((sum_of value e).added - (sum_of value e).taken) (values_from value other other es) else Err fault.Range
+    if fits first (sum_of value e)
+    then before ((sum_of value e).added - (sum_of value e).taken) (values_from value other other es)
+    else Err fault.Range
 
 abbrev pub values_of : (List ℕ → Option ℕ) → ℕ → ℕ → List ℕ → Result (List ℕ) LineFault
 values_of value first other text =
-    if any_unknown value (pieces 0x2C text) then Err fault.UnknownName else values_from value first other (pieces 0x2C text)
+    if any_unknown value (pieces 0x2C text) then Err fault.UnknownName
+    else values_from value first other (pieces 0x2C text)
 
 abbrev pub values_within : (List ℕ → Option ℕ) → List ℕ → Option Limits → Result (List ℕ) LineFault
 values_within value text None = Ok []
@@ -72,7 +75,8 @@ operand_with place vs o = o
 
 -- the target is more than 128 bytes before the next instruction, or more than 127 behind it
 abbrev pub is_far : ℕ → List ℕ → Operand → Bool
-is_far place vs (Offset _) = not (nat_le (behind_branch place) (slice_index vs 0 + 128) && nat_le (slice_index vs 0) (behind_branch place + 127))
+is_far place vs (Offset _) =
+    not (nat_le (behind_branch place) (slice_index vs 0 + 128) && nat_le (slice_index vs 0) (behind_branch place + 127))
 is_far place vs _ = false
 
 abbrev pub word_bytes : ℕ → List ℕ
@@ -96,7 +100,8 @@ pub record Given : Type 0 where
 abbrev pub overlaps : Given → List ℕ → Bool
 overlaps g bytes = list_any (λ b. is_some (byte_at g.bytes b.0)) (placed g.place bytes)
 
--- bytes at the place, unless they pass the end of memory, are those of a branch that is too far, or stand where others do
+-- bytes at the place, unless they pass the end of memory, are those of a branch that is too far, or stand where others
+-- do
 abbrev pub put : Given → Bool → List ℕ → Result Given LineFault
 put g far bytes =
     if nat_lt (2 ^ 16) (g.place + length bytes) then Err fault.Range else (

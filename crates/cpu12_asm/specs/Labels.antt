@@ -29,7 +29,8 @@ abbrev pub HasNoOrigin : List (List ℕ) → Type 0
 HasNoOrigin [] = Unit {0}
 HasNoOrigin (line ∷ lines) = ((name operand : List ℕ) → Says line name Origin operand → ⊥) × HasNoOrigin lines
 
--- the place behind lines: as many bytes behind the last ORG's value as the lines since then give, or behind 0 with no ORG
+-- the place behind lines: as many bytes behind the last ORG's value as the lines since then give, or behind 0 with no
+-- ORG
 pub data IsPlaceBehind (value : List ℕ → Option ℕ) : List (List ℕ) → ℕ → Type 0 where
   without_origin : (lines : List (List ℕ)) → HasNoOrigin lines → IsPlaceBehind value lines (sum_by line_size lines)
   behind_origin : (before since : List (List ℕ)) (line name operand : List ℕ) (to : ℕ) → Says line name Origin operand

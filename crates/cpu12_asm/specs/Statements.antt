@@ -77,7 +77,8 @@ stated name operand (Some a) = Some (record { name = name; action = a; operand =
 abbrev pub statement_with : List ℕ → List ℕ → Option Statement
 statement_with name text =
     if length (behind_word (behind_word text)) == 0
-    then stated name (first_word (behind_word text)) (action_of (nat_lt 0 (length name)) (first_word text) (first_word (behind_word text)))
+    then stated name (first_word (behind_word text))
+    (action_of (nat_lt 0 (length name)) (first_word text) (first_word (behind_word text)))
     else None
 
 -- what a line says, or none where it has another form

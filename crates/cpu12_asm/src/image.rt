@@ -95,7 +95,8 @@ impl ByteMap {
 
     /// Puts a byte to an address, in the place of one that is there.
     pub fn insert(&mut self, at: u16, byte: u8) -> Result<(), AllocError>
-        ensures put { OnOk result ((q : ℕ) → byte_at self.new q ≡ (if is_at (nat_cmp at) q then Some byte else byte_at self.old q)) }
+        ensures put { OnOk result ((q : ℕ)
+            → byte_at self.new q ≡ (if is_at (nat_cmp at) q then Some byte else byte_at self.old q)) }
         ensures err { OnErr result (self.new ≡ self.old) }
     {
         match self.bytes.insert(at, byte) {
@@ -118,7 +119,8 @@ impl ByteMap {
 
     /// Writes each byte to its address of a memory, whose other bytes stay.
     pub fn write_to<M: Mem>(&self, m: &mut M)
-        ensures { (at : ℕ) → at < 2 ^ 16 → slice_index (M.bytes m.new) at ≡ unwrap_or (byte_at self.now at) (slice_index (M.bytes m.old) at) }
+        ensures { (at : ℕ) → at < 2 ^ 16
+            → slice_index (M.bytes m.new) at ≡ unwrap_or (byte_at self.now at) (slice_index (M.bytes m.old) at) }
     {
         for (at, byte) in &self.bytes {
             m.write(*at, *byte);
@@ -131,10 +133,12 @@ impl ByteMap {
         requires place { place ≤ 2 ^ 16 }
         requires few { length bytes.now ≤ 2 ^ 16 }
         ensures behind { IfOk result (λ after. (after ≡ place + length bytes.now) × (after ≤ 2 ^ 16)) }
-        ensures held { (given : List (ℕ × ℕ)) → Holds self.old given → OnOk result (Holds self.new (given ++ placed place bytes.now)) }
+        ensures held { (given : List (ℕ × ℕ)) → Holds self.old given
+            → OnOk result (Holds self.new (given ++ placed place bytes.now)) }
         ensures past { result ≡ Err Refusal.PastEnd → 2 ^ 16 < place + length bytes.now }
         ensures taken { result ≡ Err Refusal.Taken → (place + length bytes.now ≤ 2 ^ 16)
-            × ((given : List (ℕ × ℕ)) → Holds self.old given → (k : ℕ) × (k < length bytes.now) × IsSome (byte_at given (place + k))) }
+            × ((given : List (ℕ × ℕ)) → Holds self.old given
+            → (k : ℕ) × (k < length bytes.now) × IsSome (byte_at given (place + k))) }
     {
         let end = place + bytes.len() as u32;
         if end > 0x1_0000 {

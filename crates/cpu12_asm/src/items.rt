@@ -78,10 +78,12 @@ pub fn assemble_items(alloc: Global, items: &[Item]) -> Result<Image, AsmFault>
 fn put_item(bytes: &mut ByteMap, place: u32, item: &Item) -> Result<u32, Refusal>
     requires { place ≤ 2 ^ 16 }
     ensures behind { IfOk result (λ after. (after ≡ place_after place item.now) × (after ≤ 2 ^ 16)) }
-    ensures held { (given : List (ℕ × ℕ)) → Holds bytes.old given → OnOk result (Holds bytes.new (given ++ placed place (item_bytes item.now))) }
+    ensures held { (given : List (ℕ × ℕ)) → Holds bytes.old given
+        → OnOk result (Holds bytes.new (given ++ placed place (item_bytes item.now))) }
     ensures past { result ≡ Err Refusal.PastEnd → 2 ^ 16 < place + length (item_bytes item.now) }
     ensures taken { result ≡ Err Refusal.Taken → (place + length (item_bytes item.now) ≤ 2 ^ 16)
-        × ((given : List (ℕ × ℕ)) → Holds bytes.old given → (k : ℕ) × (k < length (item_bytes item.now)) × IsSome (byte_at given (place + k))) }
+        × ((given : List (ℕ × ℕ)) → Holds bytes.old given
+        → (k : ℕ) × (k < length (item_bytes item.now)) × IsSome (byte_at given (place + k))) }
 {
     match *item {
         Item::Place(at) => Ok(u32::from(at)),

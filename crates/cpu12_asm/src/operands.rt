@@ -93,8 +93,11 @@ fn values_from(
     text: &[u8],
 ) -> Result<Vec<u16>, LineFault>
     requires { length text.now ≤ 2 ^ 32 }
-    ensures ok { IfOk result (λ vs. values_from (value_in names.now) limits.first limits.other (pieces 0x2C text.now) ≡ Ok vs.items) }
-    ensures err { IfErr result (λ f. f ≢ LineFault.Memory → values_from (value_in names.now) limits.first limits.other (pieces 0x2C text.now) ≡ Err f) }
+    ensures ok { IfOk result (λ vs. values_from (value_in names.now) limits.first limits.other (pieces 0x2C text.now)
+        ≡ Ok vs.items) }
+    ensures err { IfErr result
+        (λ f. f ≢ LineFault.Memory
+        → values_from (value_in names.now) limits.first limits.other (pieces 0x2C text.now) ≡ Err f) }
 {
     let mut values = Vec::new(alloc);
     let mut limit = limits.first;
@@ -122,7 +125,8 @@ fn values_of(
 ) -> Result<Vec<u16>, LineFault>
     requires { length text.now ≤ 2 ^ 32 }
     ensures ok { IfOk result (λ vs. values_of (value_in names.now) limits.first limits.other text.now ≡ Ok vs.items) }
-    ensures err { IfErr result (λ f. f ≢ LineFault.Memory → values_of (value_in names.now) limits.first limits.other text.now ≡ Err f) }
+    ensures err { IfErr result
+        (λ f. f ≢ LineFault.Memory → values_of (value_in names.now) limits.first limits.other text.now ≡ Err f) }
 {
     if any_unknown(names, text) {
         Err(LineFault::UnknownName)
@@ -151,7 +155,8 @@ pub(crate) fn values_within(
 ) -> Result<Vec<u16>, LineFault>
     requires { length text.now ≤ 2 ^ 32 }
     ensures ok { IfOk result (λ vs. values_within (value_in names.now) text.now (limits_of action.now) ≡ Ok vs.items) }
-    ensures err { IfErr result (λ f. f ≢ LineFault.Memory → values_within (value_in names.now) text.now (limits_of action.now) ≡ Err f) }
+    ensures err { IfErr result
+        (λ f. f ≢ LineFault.Memory → values_within (value_in names.now) text.now (limits_of action.now) ≡ Err f) }
 {
     match limits_of(action) {
         None => Ok(Vec::new(alloc)),

@@ -44,9 +44,13 @@ fn put(bytes: &mut ByteMap, place: u32, far: bool, line: &[u8]) -> Result<u32, L
     requires { place ≤ 2 ^ 16 }
     ensures ok { IfOk result (λ behind. (behind ≤ 2 ^ 16) × (behind ≡ place + length line.now)) }
     ensures held { (given : List (ℕ × ℕ)) → Holds bytes.old given
-        → IfOk result (λ behind. (put (record { place = place; bytes = given }) far line.now ≡ Ok (record { place = behind; bytes = given ++ placed place line.now }))
+        → IfOk result
+        (λ behind. (put (record { place = place; bytes = given }) far line.now
+        ≡ Ok (record { place = behind; bytes = given ++ placed place line.now }))
         × Holds bytes.new (given ++ placed place line.now)) }
-    ensures err { (given : List (ℕ × ℕ)) → Holds bytes.old given → IfErr result (λ fault. fault ≢ LineFault.Memory → put (record { place = place; bytes = given }) far line.now ≡ Err fault) }
+    ensures err { (given : List (ℕ × ℕ)) → Holds bytes.old given
+        → IfErr result (λ fault. fault ≢ LineFault.Memory → put (record { place = place; bytes = given }) far line.now
+        ≡ Err fault) }
 {
     if place as usize + line.len() > 0x1_0000 {
         return Err(LineFault::Range);
@@ -74,8 +78,13 @@ fn give(
     requires place { place ≤ 2 ^ 16 }
     ensures ok { IfOk result (λ behind. behind ≤ 2 ^ 16) }
     ensures held { (before : List (ℕ × ℕ)) → Holds bytes.old before
-        → IfOk result (λ behind. (after : List (ℕ × ℕ)) × (given (value_in names.now) (record { place = place; bytes = before }) (statement_of line.now) ≡ Ok (record { place = behind; bytes = after })) × Holds bytes.new after) }
-    ensures err { (before : List (ℕ × ℕ)) → Holds bytes.old before → IfErr result (λ fault. fault ≢ LineFault.Memory → given (value_in names.now) (record { place = place; bytes = before }) (statement_of line.now) ≡ Err fault) }
+        → IfOk result
+        (λ behind. (after : List (ℕ × ℕ))
+        × (given (value_in names.now) (record { place = place; bytes = before }) (statement_of line.now)
+        ≡ Ok (record { place = behind; bytes = after })) × Holds bytes.new after) }
+    ensures err { (before : List (ℕ × ℕ)) → Holds bytes.old before
+        → IfErr result (λ fault. fault ≢ LineFault.Memory → given (value_in names.now)
+        (record { place = place; bytes = before }) (statement_of line.now) ≡ Err fault) }
 {
     let Some(statement) = read_line(alloc, line) else {
         return Err(LineFault::BadLine);
@@ -109,9 +118,21 @@ fn give_bytes(
     requires place { place ≤ 2 ^ 16 }
     ensures ok { IfOk result (λ behind. behind ≤ 2 ^ 16) }
     ensures held { (before : List (ℕ × ℕ)) → Holds bytes.old before
-        → IfOk result (λ behind. (after : List (ℕ × ℕ)) × (put_values (record { place = place; bytes = before }) action.now (values_within (value_in names.now) operand.now (limits_of action.now)) ≡ Ok (record { place = behind; bytes = after })) × Holds bytes.new after) }
+        → IfOk result
+        (λ behind. (after : List (ℕ × ℕ))
+        × (put_values (record {
+          place = place;
+          bytes = before;
+        }) action.now (values_within (value_in names.now) operand.now (limits_of action.now))
+        ≡ Ok (record { place = behind; bytes = after })) × Holds bytes.new after) }
     ensures err { (before : List (ℕ × ℕ)) → Holds bytes.old before
-        → IfErr result (λ fault. fault ≢ LineFault.Memory → put_values (record { place = place; bytes = before }) action.now (values_within (value_in names.now) operand.now (limits_of action.now)) ≡ Err fault) }
+        → IfErr result
+        (λ fault. fault ≢ LineFault.Memory
+        → put_values (record {
+          place = place;
+          bytes = before;
+        }) action.now (values_within (value_in names.now) operand.now (limits_of action.now))
+        ≡ Err fault) }
 {
     let values = match values_within(alloc, names, action, operand) {
         Ok(values) => values,
@@ -128,8 +149,10 @@ fn give_bytes(
 /// The bytes that a source gives, by its lines one after another.
 fn read_bytes(alloc: Global, names: &Names<'_>, text: &[u8]) -> Result<ByteMap, AsmFault>
     requires { length text.now ≤ 2 ^ 20 }
-    ensures held { IfOk result (λ bytes. (g : Given) × (bytes_of (value_in names.now) text.now ≡ Ok g) × Holds bytes g.bytes) }
-    ensures fault { IfErr result (λ fault. fault ≢ AsmFault.Memory → bytes_of (value_in names.now) text.now ≡ Err fault) }
+    ensures held { IfOk result (λ bytes. (g : Given) × (bytes_of (value_in names.now) text.now ≡ Ok g)
+        × Holds bytes g.bytes) }
+    ensures fault { IfErr result (λ fault. fault ≢ AsmFault.Memory
+        → bytes_of (value_in names.now) text.now ≡ Err fault) }
 {
     let mut bytes = ByteMap::new(alloc);
     let mut place: u32 = 0;

@@ -59,7 +59,11 @@ fn read_behind(
 ) -> Result<Behind, LineFault>
     requires text { length statement.now.operand.now ≤ 2 ^ 32 }
     requires place { place ≤ 2 ^ 63 }
-    ensures value { result ≡ behind_of (record { place = place; value = value_in names.now }) statement.now.action statement.now.operand.now }
+    ensures value { result
+        ≡ behind_of (record {
+          place = place;
+          value = value_in names.now;
+        }) statement.now.action statement.now.operand.now }
     ensures bound { IfOk result (λ n. n.place ≤ place + 2 ^ 34) }
 {
     match statement.action {
@@ -117,8 +121,10 @@ pub(crate) fn define<'a>(
 ) -> Result<u64, LineFault>
     requires line { length line.now ≤ 2 ^ 32 }
     requires place { place ≤ 2 ^ 63 }
-    ensures ok { IfOk result (λ behind. defined (record { place = place; value = value_in names.old }) (statement_of line.now) ≡ Ok (record { place = behind; value = value_in names.new })) }
-    ensures err { IfErr result (λ fault. fault ≢ LineFault.Memory → defined (record { place = place; value = value_in names.old }) (statement_of line.now) ≡ Err fault) }
+    ensures ok { IfOk result (λ behind. defined (record { place = place; value = value_in names.old })
+        (statement_of line.now) ≡ Ok (record { place = behind; value = value_in names.new })) }
+    ensures err { IfErr result (λ fault. fault ≢ LineFault.Memory
+        → defined (record { place = place; value = value_in names.old }) (statement_of line.now) ≡ Err fault) }
     ensures bound { IfOk result (λ behind. behind ≤ place + 2 ^ 34) }
 {
     let Some(statement) = read_line(alloc, line) else {

@@ -41,7 +41,8 @@ pub record Parked (open_to : ℕ → Bool) (w s : State) : Type 0 where
   pub sums : bytes_at w.mem (from (plus s.regs.sp 65530) 6) ≡ sum_bytes product weight
   pub mem : Agree (is_hidden open_to s.regs.sp) w.mem s.mem
 
--- The state w of a run under interrupts simulates the state s of the run without: it is the same, or an interrupt has put
+-- The state w of a run under interrupts simulates the state s of the run without: it is the same, or an interrupt has
+-- put
 -- the sums that run in s on the stack.
 abbrev pub Simulates : (ℕ → Bool) → State → State → Type 0
 Simulates open_to w s = Same open_to w s ⊎ Parked open_to w s
@@ -50,7 +51,8 @@ Simulates open_to w s = Same open_to w s ⊎ Parked open_to w s
 abbrev pub AreSumsReady : (ℕ → Bool) → State → Temps → Type 0
 AreSumsReady open_to t Free = Unit {0}
 AreSumsReady open_to t OnStack = Unit {0}
-AreSumsReady open_to t (Running p w) = (p < 2 ^ 32) × (w < 2 ^ 16) × (slice_index t.mem t.regs.pc ≡ 60) × (is_hidden open_to t.regs.sp t.regs.pc ≡ false)
+AreSumsReady open_to t (Running p w) =
+    (p < 2 ^ 32) × (w < 2 ^ 16) × (slice_index t.mem t.regs.pc ≡ 60) × (is_hidden open_to t.regs.sp t.regs.pc ≡ false)
 
 -- what an interrupt needs of the state that it comes in: 15 bytes of the stack below SP
 pub record HasRoom (t : State) : Type 0 where
@@ -77,31 +79,41 @@ pub record StepsAlike (open_to : ℕ → Bool) (flags : ℕ) (s t : State) : Typ
   pub kind : next.kind ≡ goal.kind
   pub same : Same open_to next.state goal.state
 
--- Two states that agree outside hidden bytes step alike, where what is read is shown; less may be hidden after the step,
+-- Two states that agree outside hidden bytes step alike, where what is read is shown; less may be hidden after the
+-- step,
 -- if it writes what is hidden no more.
 abbrev pub StepAgrees : Type 0
 StepAgrees = (flags : ℕ) (r : Regs) (t : Temps) (m n : List ℕ) (l : Left) (hidden later : ℕ → Bool) → Agree hidden m n
-    → AllShown hidden (read_by (step_act flags r t) n) → outcome (step_act flags r t) n ≡ Ok l → Uncovers hidden l.writes later
+    → AllShown hidden (read_by (step_act flags r t) n) → outcome (step_act flags r t) n ≡ Ok l
+    → Uncovers hidden l.writes later
     → (outcome (step_act flags r t) m ≡ Ok l) × Agree later (write_all l.writes m) (write_all l.writes n)
 
 -- A step with the sums on the stack is that with the sums running.
 abbrev pub WavrGoesOn : Type 0
-WavrGoesOn = (flags : ℕ) (r : Regs) (t : Temps) (p w : ℕ) (m : List ℕ) → IsOff t → r.sp < 2 ^ 16 → p < 2 ^ 32 → w < 2 ^ 16 → slice_index m r.pc ≡ 60
+WavrGoesOn =
+    (flags : ℕ) (r : Regs) (t : Temps) (p w : ℕ) (m : List ℕ) → IsOff t → r.sp < 2 ^ 16 → p < 2 ^ 32 → w < 2 ^ 16
+    → slice_index m r.pc ≡ 60
     → bytes_at m (from (plus r.sp 65530) 6) ≡ sum_bytes p w
     → outcome (step_act flags (record r { sp = plus r.sp 65530 }) t) m ≡ outcome (step_act flags r (Running p w)) m
 
 -- A step keeps the simulation.
 abbrev pub StepKeeps : Type 0
-StepKeeps = (open_to : ℕ → Bool) (flags : ℕ) (s t : State) → Simulates open_to s t → IsShownStep open_to flags t → StepsAlike open_to flags s t
+StepKeeps =
+    (open_to : ℕ → Bool) (flags : ℕ) (s t : State) → Simulates open_to s t → IsShownStep open_to flags t
+    → StepsAlike open_to flags s t
 
 -- The nine bytes, writes to open bytes, and back change nothing that is shown.
 abbrev pub TakesQuietly : Type 0
-TakesQuietly = (open_to : ℕ → Bool) (ws : List Write) (s : State) → LeavesStack open_to → AreOpen open_to ws → length s.mem ≡ 65536 → FitsRegs s.regs → stack_start + 9 ≤ s.regs.sp → s.regs.sp ≤ stack_end
+TakesQuietly =
+    (open_to : ℕ → Bool) (ws : List Write) (s : State) → LeavesStack open_to → AreOpen open_to ws → length s.mem ≡ 65536
+    → FitsRegs s.regs → stack_start + 9 ≤ s.regs.sp → s.regs.sp ≤ stack_end
     → Same open_to (framed ws s) s
 
 -- An interrupt that writes open bytes keeps the simulation.
 abbrev pub TakeKeeps : Type 0
-TakeKeeps = (open_to : ℕ → Bool) (ws : List Write) (s t : State) → LeavesStack open_to → AreOpen open_to ws → HasRoom t → Simulates open_to s t → Simulates open_to (taken ws s) t
+TakeKeeps =
+    (open_to : ℕ → Bool) (ws : List Write) (s t : State) → LeavesStack open_to → AreOpen open_to ws → HasRoom t
+    → Simulates open_to s t → Simulates open_to (taken ws s) t
 
 -- A frame on the stack is the nine bytes of the registers, and the six of the sums where they run.
 abbrev pub FrameIsOnStack : Type 0
@@ -111,7 +123,8 @@ FrameIsOnStack = (s : State) → length s.mem ≡ 65536 → s.regs.sp < 2 ^ 16 �
 abbrev pub PlainIsStep : Type 0
 PlainIsStep = (flags : ℕ) (i : Instr) (s : State) → IsOff s.temps → decode_at s.mem s.regs.pc ≡ Ok i → is_plain i ≡ true
     → let e = effect flags i s.regs s.mem in
-    (outcome (step_act flags s.regs s.temps) s.mem ≡ Ok (record { regs = e.regs; temps = s.temps; writes = e.writes; kind = Plain }))
+    (outcome (step_act flags s.regs s.temps) s.mem
+    ≡ Ok (record { regs = e.regs; temps = s.temps; writes = e.writes; kind = Plain }))
     × (read_by (step_act flags s.regs s.temps) s.mem ≡ six_from s.regs.pc ++ read_by (act_of flags i s.regs) s.mem)
 
 -- what a part leaves

@@ -25,7 +25,15 @@ pub record Whole : Type 0 where
 -- the state that reset gives with a memory
 abbrev pub reset_with : List ℕ → State
 reset_with mem = record {
-  regs = record { a = 0; b = 0; x = 0; y = 0; sp = 0; pc = word_of (slice_index mem 65534) (slice_index mem 65535); ccr = record { 0 = 208 } };
+  regs = record {
+    a = 0;
+    b = 0;
+    x = 0;
+    y = 0;
+    sp = 0;
+    pc = word_of (slice_index mem 65534) (slice_index mem 65535);
+    ccr = record { 0 = 208 };
+  };
   temps = Free;
   mem = mem;
 }
@@ -68,7 +76,8 @@ pub record Next : Type 0 where
   pub kind : Stepped
 
 abbrev pub applied : Result Left ℕ → List ℕ → Result Next ℕ
-applied (Ok l) mem = Ok (record { state = record { regs = l.regs; temps = l.temps; mem = write_all l.writes mem }; kind = l.kind })
+applied (Ok l) mem =
+    Ok (record { state = record { regs = l.regs; temps = l.temps; mem = write_all l.writes mem }; kind = l.kind })
 applied (Err byte) mem = Err byte
 
 -- the state after one step, or the byte that is in no table

@@ -78,4 +78,8 @@ frame_of s =
 abbrev pub frame_in : State → Temps → FrameSeen
 frame_in s Free = record { pc = s.regs.pc; sp = plus s.regs.sp 65527; bytes = frame_bytes s.regs }
 frame_in s OnStack = record { pc = s.regs.pc; sp = plus s.regs.sp 65527; bytes = frame_bytes s.regs }
-frame_in s (Running p w) = record { pc = s.regs.pc; sp = plus s.regs.sp 65521; bytes = frame_bytes s.regs ++ sum_bytes p w }
+frame_in s (Running p w) = record {
+  pc = s.regs.pc;
+  sp = plus s.regs.sp 65521;
+  bytes = frame_bytes s.regs ++ sum_bytes p w;
+}

@@ -8,7 +8,8 @@ use cpu12_isa::mem::Mem;
 
 /// Whether REV stands at `pc`: the bytes `$18 3A`.
 pub(crate) fn is_rev<M: Mem>(m: &M, pc: u16) -> bool
-    ensures bytes { result ≡ (slice_index (M.bytes m.now) pc == 0x18 && slice_index (M.bytes m.now) (plus pc 1) == 0x3A) }
+    ensures bytes { result ≡ (slice_index (M.bytes m.now) pc == 0x18
+        && slice_index (M.bytes m.now) (plus pc 1) == 0x3A) }
     ensures decoded { result ≡ true → decode_at (M.bytes m.now) pc ≡ Ok Rev }
 {
     m.read(pc) == 0x18 && m.read(pc.wrapping_add(1)) == 0x3A
@@ -16,7 +17,8 @@ pub(crate) fn is_rev<M: Mem>(m: &M, pc: u16) -> bool
 
 /// Whether REVW stands at `pc`: the bytes `$18 3B`.
 pub(crate) fn is_revw<M: Mem>(m: &M, pc: u16) -> bool
-    ensures bytes { result ≡ (slice_index (M.bytes m.now) pc == 0x18 && slice_index (M.bytes m.now) (plus pc 1) == 0x3B) }
+    ensures bytes { result ≡ (slice_index (M.bytes m.now) pc == 0x18
+        && slice_index (M.bytes m.now) (plus pc 1) == 0x3B) }
     ensures decoded { result ≡ true → decode_at (M.bytes m.now) pc ≡ Ok Revw }
 {
     m.read(pc) == 0x18 && m.read(pc.wrapping_add(1)) == 0x3B

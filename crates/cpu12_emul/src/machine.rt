@@ -106,10 +106,14 @@ impl<M: Mem> Machine<M> {
 
     /// One part of an instruction in parts.
     fn part<R: Resumable>(&mut self, k: &R) -> Stepped
-        ensures regs { self.new.state.regs ≡ (outcome (R.act k.now self.old.flags self.old.state.regs self.old.state.temps) self.old.state.mem).regs }
-        ensures temps { self.new.state.temps ≡ (outcome (R.act k.now self.old.flags self.old.state.regs self.old.state.temps) self.old.state.mem).temps }
-        ensures mem { self.new.state.mem ≡ write_all (outcome (R.act k.now self.old.flags self.old.state.regs self.old.state.temps) self.old.state.mem).writes self.old.state.mem }
-        ensures kind { result ≡ kind_of (outcome (R.act k.now self.old.flags self.old.state.regs self.old.state.temps) self.old.state.mem).end }
+        ensures regs { self.new.state.regs
+            ≡ (outcome (R.act k.now self.old.flags self.old.state.regs self.old.state.temps) self.old.state.mem).regs }
+        ensures temps { self.new.state.temps
+            ≡ (outcome (R.act k.now self.old.flags self.old.state.regs self.old.state.temps) self.old.state.mem).temps }
+        ensures mem { self.new.state.mem
+            ≡ write_all (outcome (R.act k.now self.old.flags self.old.state.regs self.old.state.temps) self.old.state.mem).writes self.old.state.mem }
+        ensures kind { result
+            ≡ kind_of (outcome (R.act k.now self.old.flags self.old.state.regs self.old.state.temps) self.old.state.mem).end }
         ensures flags { self.new.flags ≡ self.old.flags }
     {
         let end = k.part(&mut self.regs, &mut self.mem, &mut self.temps, self.flags);
@@ -147,7 +151,8 @@ impl<M: Mem> Machine<M> {
         requires { IsOff self.old.state.temps }
         ensures next { MatchResult result
             (λ kind. next_of self.old.flags self.old.state ≡ Ok (record { state = self.new.state; kind = kind }))
-            (λ t. (next_of self.old.flags self.old.state ≡ Err t.byte) × (t.pc ≡ self.old.state.regs.pc) × (self.new ≡ self.old)) }
+            (λ t. (next_of self.old.flags self.old.state ≡ Err t.byte) × (t.pc ≡ self.old.state.regs.pc)
+            × (self.new ≡ self.old)) }
         ensures trap { IfErr result (λ t. decode_at self.old.state.mem self.old.state.regs.pc ≡ Err t.byte) }
         ensures flags { self.new.flags ≡ self.old.flags }
     {
@@ -165,7 +170,8 @@ impl<M: Mem> Machine<M> {
     pub fn step(&mut self) -> Result<Stepped, Trap>
         ensures next { MatchResult result
             (λ kind. next_of self.old.flags self.old.state ≡ Ok (record { state = self.new.state; kind = kind }))
-            (λ t. (next_of self.old.flags self.old.state ≡ Err t.byte) × (t.pc ≡ self.old.state.regs.pc) × (self.new ≡ self.old)) }
+            (λ t. (next_of self.old.flags self.old.state ≡ Err t.byte) × (t.pc ≡ self.old.state.regs.pc)
+            × (self.new ≡ self.old)) }
         ensures trap { IfErr result (λ t. decode_at self.old.state.mem self.old.state.regs.pc ≡ Err t.byte) }
         ensures running { IfErr result (λ _. IsOff self.old.state.temps) }
         ensures flags { self.new.flags ≡ self.old.flags }

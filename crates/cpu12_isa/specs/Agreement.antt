@@ -21,15 +21,20 @@ IsWritten (w ∷ ws) at = (at ≡ w.0) ⊎ IsWritten ws at
 abbrev pub Uncovers : (ℕ → Bool) → List (ℕ × ℕ) → (ℕ → Bool) → Type 0
 Uncovers hidden ws later = (at : ℕ) → later at ≡ false → (hidden at ≡ false) ⊎ IsWritten ws at
 
--- What acts of a kind do depends on the bytes that they read alone: where an act reads no hidden byte, memories that agree give the same outcome, and it reads the same addresses.
+-- What acts of a kind do depends on the bytes that they read alone: where an act reads no hidden byte, memories that
+-- agree give the same outcome, and it reads the same addresses.
 abbrev pub ReadsAlone : Type 0 → Type 0
 ReadsAlone A = (act : Act A) (m n : List ℕ) (hidden : ℕ → Bool) → Agree hidden m n → AllShown hidden (read_by act n)
     → (outcome act m ≡ outcome act n) × (read_by act m ≡ read_by act n)
 
 -- The same writes keep memories agreed, also where less is hidden after them, if they write what is hidden no more.
 abbrev pub WritesAgree : Type 0
-WritesAgree = (ws : List (ℕ × ℕ)) (m n : List ℕ) (hidden later : ℕ → Bool) → Agree hidden m n → Uncovers hidden ws later → Agree later (write_all ws m) (write_all ws n)
+WritesAgree =
+    (ws : List (ℕ × ℕ)) (m n : List ℕ) (hidden later : ℕ → Bool) → Agree hidden m n → Uncovers hidden ws later
+    → Agree later (write_all ws m) (write_all ws n)
 
 -- Writes change the bytes at their addresses alone.
 abbrev pub WritesStay : Type 0
-WritesStay = (ws : List (ℕ × ℕ)) (m : List ℕ) → (length (write_all ws m) ≡ length m) × ((at : ℕ) → (IsWritten ws at → ⊥) → slice_index (write_all ws m) at ≡ slice_index m at)
+WritesStay =
+    (ws : List (ℕ × ℕ)) (m : List ℕ) → (length (write_all ws m) ≡ length m)
+    × ((at : ℕ) → (IsWritten ws at → ⊥) → slice_index (write_all ws m) at ≡ slice_index m at)

@@ -45,7 +45,9 @@ abbrev pub made_from : List ℕ → Made → Instr
 made_from bytes (Alone i) = i
 made_from bytes (Of make) = let form = form_of (make 0) in make (first_in form.operand bytes (operands_at form))
 made_from bytes (OfBoth make) =
-    let form = form_of (make 0 0) in make (first_in form.operand bytes (operands_at form)) (second_in form.operand bytes (operands_at form))
+    let form =
+    form_of (make 0 0) in make (first_in form.operand bytes (operands_at form))
+    (second_in form.operand bytes (operands_at form))
 
 abbrev pub is_on : Page → Page → Bool
 is_on One One = true
@@ -107,4 +109,6 @@ StandFrom bytes k (v ∷ vs) = (slice_index bytes k ≡ v) × StandFrom bytes (k
 
 -- what is decoded has its opcode there, and its page's byte before it
 abbrev pub DecodedHasOpcode : Type 0
-DecodedHasOpcode = (bytes : List ℕ) (i : Instr) → decode_of bytes ≡ Ok i → StandFrom bytes 0 (prebytes (form_of i).page ++ ((form_of i).opcode ∷ []))
+DecodedHasOpcode =
+    (bytes : List ℕ) (i : Instr) → decode_of bytes ≡ Ok i
+    → StandFrom bytes 0 (prebytes (form_of i).page ++ ((form_of i).opcode ∷ []))

@@ -31,7 +31,9 @@ Leaves P (Get at next) = (v : ℕ) → v < 2 ^ 8 → Leaves P (next v)
 
 -- What fits stays so: on a memory of bytes an instruction leaves registers that fit, and writes bytes.
 abbrev pub StaysFit : Type 0
-StaysFit = (flags : ℕ) (i : Instr) (r : Regs) (mem : List ℕ) → flags < 2 ^ 8 → FitsOperands i → FitsRegs r → AreBytes mem → FitsRegs (effect flags i r mem).regs × FitsWrites (effect flags i r mem).writes
+StaysFit =
+    (flags : ℕ) (i : Instr) (r : Regs) (mem : List ℕ) → flags < 2 ^ 8 → FitsOperands i → FitsRegs r → AreBytes mem
+    → FitsRegs (effect flags i r mem).regs × FitsWrites (effect flags i r mem).writes
 
 -- Writes of bytes leave a memory of bytes.
 abbrev pub BytesStay : Type 0

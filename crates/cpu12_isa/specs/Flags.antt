@@ -66,7 +66,8 @@ abbrev pub added : Ccr → ℕ → ℕ → Ccr
 added c u v =
     let s = (u + v) % 2 ^ 8 in
     put (put (put (put (put c half_carry (nat_le 16 (u % 16 + v % 16))) negative (nat_le 128 s)) zero_result (s == 0))
-    overflow ((nat_le 128 u && nat_le 128 v && nat_lt s 128) || (nat_lt u 128 && nat_lt v 128 && nat_le 128 s))) carry (nat_le 256 (u + v))
+    overflow ((nat_le 128 u && nat_le 128 v && nat_lt s 128)
+    || (nat_lt u 128 && nat_lt v 128 && nat_le 128 s))) carry (nat_le 256 (u + v))
 
 -- the sum of two bytes and C, before it is cut to a byte
 abbrev pub sum_with_carry : Ccr → ℕ → ℕ → ℕ
@@ -76,22 +77,26 @@ sum_with_carry c u v = if has c carry then u + v + 1 else u + v
 abbrev pub added_with_carry : Ccr → ℕ → ℕ → Ccr
 added_with_carry c u v =
     let s = sum_with_carry c u v % 2 ^ 8 in
-    put (put (put (put (put c half_carry (nat_le 16 (sum_with_carry c (u % 16) (v % 16)))) negative (nat_le 128 s)) zero_result (s == 0))
-    overflow ((nat_le 128 u && nat_le 128 v && nat_lt s 128) || (nat_lt u 128 && nat_lt v 128 && nat_le 128 s))) carry (nat_le 256 (sum_with_carry c u v))
+    put (put (put (put (put c half_carry (nat_le 16 (sum_with_carry c (u % 16)
+    (v % 16)))) negative (nat_le 128 s)) zero_result (s == 0))
+    overflow ((nat_le 128 u && nat_le 128 v && nat_lt s 128)
+    || (nat_lt u 128 && nat_lt v 128 && nat_le 128 s))) carry (nat_le 256 (sum_with_carry c u v))
 
 -- N Z V C of the difference of two bytes
 abbrev pub subtracted : Ccr → ℕ → ℕ → Ccr
 subtracted c u v =
     let d = (u + (2 ^ 8 - v)) % 2 ^ 8 in
     put (put (put (put c negative (nat_le 128 d)) zero_result (d == 0))
-    overflow ((nat_le 128 u && nat_lt v 128 && nat_lt d 128) || (nat_lt u 128 && nat_le 128 v && nat_le 128 d))) carry (nat_lt u v)
+    overflow ((nat_le 128 u && nat_lt v 128 && nat_lt d 128)
+    || (nat_lt u 128 && nat_le 128 v && nat_le 128 d))) carry (nat_lt u v)
 
 -- N Z V C of the difference of two words
 abbrev pub subtracted_word : Ccr → ℕ → ℕ → Ccr
 subtracted_word c u v =
     let d = (u + (2 ^ 16 - v)) % 2 ^ 16 in
     put (put (put (put c negative (nat_le 32768 d)) zero_result (d == 0))
-    overflow ((nat_le 32768 u && nat_lt v 32768 && nat_lt d 32768) || (nat_lt u 32768 && nat_le 32768 v && nat_le 32768 d))) carry (nat_lt u v)
+    overflow ((nat_le 32768 u && nat_lt v 32768 && nat_lt d 32768)
+    || (nat_lt u 32768 && nat_le 32768 v && nat_le 32768 d))) carry (nat_lt u v)
 
 -- the flags as they are pulled from the stack: a pull never sets X (bit 6)
 abbrev pub pulled_flags : Ccr → ℕ → Ccr

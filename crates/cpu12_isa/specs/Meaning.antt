@@ -50,17 +50,24 @@ act_of flags (JsrExtended to) r = Give (record {
   regs = record r { sp = plus r.sp 65534; pc = to };
   writes = (plus r.sp 65534, high_of (plus r.pc 3)) ∷ (plus r.sp 65535, low_of (plus r.pc 3)) ∷ [];
 })
-act_of flags Rts r = Get r.sp (λ high. Get (plus r.sp 1) (λ low. Give (quiet (record r { sp = plus r.sp 2; pc = word_of high low }))))
+act_of flags Rts r =
+    Get r.sp (λ high. Get (plus r.sp 1) (λ low. Give (quiet (record r { sp = plus r.sp 2; pc = word_of high low }))))
 act_of flags (Andcc v) r = Give (quiet (record r { ccr = record { 0 = bit_and r.ccr.0 v }; pc = plus r.pc 2 }))
-act_of flags (Orcc v) r = Give (quiet (record r { ccr = record { 0 = bit_or r.ccr.0 (bit_and v 191) }; pc = plus r.pc 2 }))
+act_of flags (Orcc v) r =
+    Give (quiet (record r { ccr = record { 0 = bit_or r.ccr.0 (bit_and v 191) }; pc = plus r.pc 2 }))
 act_of flags TransferXD r = Give (quiet (transferred_d r r.x))
 act_of flags TransferYD r = Give (quiet (transferred_d r r.y))
 act_of flags Ediv r = Give (quiet (divided flags r))
 act_of flags Fdiv r = Give (quiet (divided_fraction r))
 act_of flags Rti r = get_all (from r.sp 9) (λ bytes. Give (quiet (pulled r bytes)))
 act_of flags Nop r = Give (quiet (passed r 1))
-act_of flags (IncExtended at) r = Get at (λ v. Give (let w = (v + 1) % 2 ^ 8 in let s = stored r w in writing (record s { ccr = put s.ccr overflow (w == 128) }) at w))
-act_of flags (DecExtended at) r = Get at (λ v. Give (let w = (v + 255) % 2 ^ 8 in let s = stored r w in writing (record s { ccr = put s.ccr overflow (w == 127) }) at w))
+act_of flags (IncExtended at) r =
+    Get at (λ v.
+    Give (let w = (v + 1) % 2 ^ 8 in let s =
+    stored r w in writing (record s { ccr = put s.ccr overflow (w == 128) }) at w))
+act_of flags (DecExtended at) r =
+    Get at (λ v. Give (let w = (v + 255) % 2 ^ 8 in let s =
+    stored r w in writing (record s { ccr = put s.ccr overflow (w == 127) }) at w))
 act_of flags (AddaImmediate v) r = Give (quiet (added_a r v 2))
 act_of flags (AddaExtended at) r = Get at (λ v. Give (quiet (added_a r v 3)))
 act_of flags (AddbImmediate v) r = Give (quiet (added_b r v 2))
@@ -84,7 +91,12 @@ act_of flags Pula r = Get r.sp (λ v. Give (quiet (record r { a = v; sp = plus r
 act_of flags (MovbImmediate v at) r = Give (writing (passed r 5) at v)
 act_of flags (MovbExtended source at) r = Get source (λ v. Give (writing (passed r 6) at v))
 act_of flags Mem r = Get r.x (λ p. Get (plus r.x 1) (λ q. Get (plus r.x 2) (λ s. Get (plus r.x 3) (λ t.
-    Give (writing (record r { x = plus r.x 4; y = plus r.y 1; pc = plus r.pc 1; ccr = opened r.ccr hnzvc flags }) r.y (grade p q s t r.a))))))
+    Give (writing (record r {
+      x = plus r.x 4;
+      y = plus r.y 1;
+      pc = plus r.pc 1;
+      ccr = opened r.ccr hnzvc flags;
+    }) r.y (grade p q s t r.a))))))
 act_of flags Rev r = Give (quiet r)
 act_of flags Revw r = Give (quiet r)
 act_of flags Wav r = Give (quiet r)

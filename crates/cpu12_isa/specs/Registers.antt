@@ -43,7 +43,11 @@ abbrev pub added_b : Regs → ℕ → ℕ → Regs
 added_b r v n = record r { b = (r.b + v) % 2 ^ 8; ccr = added r.ccr r.b v; pc = plus r.pc n }
 
 abbrev pub carried_a : Regs → ℕ → Regs
-carried_a r v = record r { a = sum_with_carry r.ccr r.a v % 2 ^ 8; ccr = added_with_carry r.ccr r.a v; pc = plus r.pc 2 }
+carried_a r v = record r {
+  a = sum_with_carry r.ccr r.a v % 2 ^ 8;
+  ccr = added_with_carry r.ccr r.a v;
+  pc = plus r.pc 2;
+}
 
 abbrev pub subtracted_a : Regs → ℕ → ℕ → Regs
 subtracted_a r v n = record r { a = (r.a + (2 ^ 8 - v)) % 2 ^ 8; ccr = subtracted r.ccr r.a v; pc = plus r.pc n }
@@ -79,8 +83,17 @@ divided flags r =
     let n = r.y * 2 ^ 16 + (r.a * 2 ^ 8 + r.b) in
     let pc = plus r.pc 1 in
     if r.x == 0 then record r { pc = pc; ccr = put (opened r.ccr nzv flags) carry true }
-    else (if nat_le 65536 (n / r.x) then record r { pc = pc; ccr = put (put (opened r.ccr nz flags) overflow true) carry false }
-    else record r { y = n / r.x; a = n % r.x / 2 ^ 8; b = n % r.x % 2 ^ 8; pc = pc; ccr = put (tested_word r.ccr (n / r.x)) carry false })
+    else (if nat_le 65536 (n / r.x) then record r {
+      pc = pc;
+      ccr = put (put (opened r.ccr nz flags) overflow true) carry false;
+    }
+    else record r {
+      y = n / r.x;
+      a = n % r.x / 2 ^ 8;
+      b = n % r.x % 2 ^ 8;
+      pc = pc;
+      ccr = put (tested_word r.ccr (n / r.x)) carry false;
+    })
 
 -- FDIV: D by X as fractions, the quotient in X and the remainder in D
 abbrev pub divided_fraction : Regs → Regs
@@ -104,7 +117,8 @@ grade p q s t a =
 
 -- the nine bytes of an interrupt's frame, from the lowest address
 abbrev pub frame_bytes : Regs → List ℕ
-frame_bytes r = r.ccr.0 ∷ r.b ∷ r.a ∷ high_of r.x ∷ low_of r.x ∷ high_of r.y ∷ low_of r.y ∷ high_of r.pc ∷ low_of r.pc ∷ []
+frame_bytes r =
+    r.ccr.0 ∷ r.b ∷ r.a ∷ high_of r.x ∷ low_of r.x ∷ high_of r.y ∷ low_of r.y ∷ high_of r.pc ∷ low_of r.pc ∷ []
 
 -- the registers pulled from a frame
 abbrev pub pulled : Regs → List ℕ → Regs

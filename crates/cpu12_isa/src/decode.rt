@@ -16,7 +16,8 @@ fn byte<M: Mem>(m: &M, pc: u16, k: u16) -> u8
 /// The word `k` places after `pc`.
 fn word<M: Mem>(m: &M, pc: u16, k: u16) -> u16
     requires { k < 6 }
-    ensures value { result ≡ word_of (slice_index (M.bytes m.now) (plus pc k)) (slice_index (M.bytes m.now) (plus pc (k + 1))) }
+    ensures value { result ≡ word_of (slice_index (M.bytes m.now) (plus pc k))
+        (slice_index (M.bytes m.now) (plus pc (k + 1))) }
     ensures high { high_of result ≡ slice_index (M.bytes m.now) (plus pc k) }
     ensures low { low_of result ≡ slice_index (M.bytes m.now) (plus pc (k + 1)) }
     ensures fits { result < 2 ^ 16 }
@@ -27,7 +28,8 @@ fn word<M: Mem>(m: &M, pc: u16, k: u16) -> u16
 /// The instruction that stands at `pc` and the number of its bytes, 1 to 6. A `Trap` comes exactly
 /// where the byte at `pc`, or the one after `$18`, `$B7` or `$EB`, is not in the table.
 pub fn decode<M: Mem>(m: &M, pc: u16) -> Result<(Instr, u8), Trap>
-    ensures found { MatchResult result (λ x. decode_at (M.bytes m.now) pc ≡ Ok x.0) (λ t. decode_at (M.bytes m.now) pc ≡ Err t.byte) }
+    ensures found { MatchResult result (λ x. decode_at (M.bytes m.now) pc ≡ Ok x.0)
+        (λ t. decode_at (M.bytes m.now) pc ≡ Err t.byte) }
     ensures size { IfOk result (λ x. x.1 ≡ length (encode_of x.0)) }
     ensures stands { IfOk result (λ x. StandsAt (M.bytes m.now) pc x.0) }
     ensures fits { IfOk result (λ x. FitsOperands x.0) }
@@ -92,7 +94,8 @@ pub fn decode<M: Mem>(m: &M, pc: u16) -> Result<(Instr, u8), Trap>
 /// The instruction at `pc`, whose first byte is `$18`.
 fn decode_page_18<M: Mem>(m: &M, pc: u16) -> Result<(Instr, u8), Trap>
     requires { slice_index (M.bytes m.now) pc ≡ 0x18 }
-    ensures found { MatchResult result (λ x. decode_at (M.bytes m.now) pc ≡ Ok x.0) (λ t. decode_at (M.bytes m.now) pc ≡ Err t.byte) }
+    ensures found { MatchResult result (λ x. decode_at (M.bytes m.now) pc ≡ Ok x.0)
+        (λ t. decode_at (M.bytes m.now) pc ≡ Err t.byte) }
     ensures size { IfOk result (λ x. x.1 ≡ length (encode_of x.0)) }
     ensures stands { IfOk result (λ x. StandsAt (M.bytes m.now) pc x.0) }
     ensures fits { IfOk result (λ x. FitsOperands x.0) }
@@ -113,7 +116,8 @@ fn decode_page_18<M: Mem>(m: &M, pc: u16) -> Result<(Instr, u8), Trap>
 /// The instruction at `pc`, whose first byte is `$B7`.
 fn decode_page_b7<M: Mem>(m: &M, pc: u16) -> Result<(Instr, u8), Trap>
     requires { slice_index (M.bytes m.now) pc ≡ 0xB7 }
-    ensures found { MatchResult result (λ x. decode_at (M.bytes m.now) pc ≡ Ok x.0) (λ t. decode_at (M.bytes m.now) pc ≡ Err t.byte) }
+    ensures found { MatchResult result (λ x. decode_at (M.bytes m.now) pc ≡ Ok x.0)
+        (λ t. decode_at (M.bytes m.now) pc ≡ Err t.byte) }
     ensures size { IfOk result (λ x. x.1 ≡ length (encode_of x.0)) }
     ensures stands { IfOk result (λ x. StandsAt (M.bytes m.now) pc x.0) }
     ensures fits { IfOk result (λ x. FitsOperands x.0) }
@@ -130,7 +134,8 @@ fn decode_page_b7<M: Mem>(m: &M, pc: u16) -> Result<(Instr, u8), Trap>
 /// The instruction at `pc`, whose first byte is `$EB`.
 fn decode_page_eb<M: Mem>(m: &M, pc: u16) -> Result<(Instr, u8), Trap>
     requires { slice_index (M.bytes m.now) pc ≡ 0xEB }
-    ensures found { MatchResult result (λ x. decode_at (M.bytes m.now) pc ≡ Ok x.0) (λ t. decode_at (M.bytes m.now) pc ≡ Err t.byte) }
+    ensures found { MatchResult result (λ x. decode_at (M.bytes m.now) pc ≡ Ok x.0)
+        (λ t. decode_at (M.bytes m.now) pc ≡ Err t.byte) }
     ensures size { IfOk result (λ x. x.1 ≡ length (encode_of x.0)) }
     ensures stands { IfOk result (λ x. StandsAt (M.bytes m.now) pc x.0) }
     ensures fits { IfOk result (λ x. FitsOperands x.0) }

@@ -30,7 +30,8 @@ pub fn pull_byte<M: Mem>(r: &mut Regs, m: &M) -> u8
 
 /// Pulls a word, its high byte first.
 pub fn pull_word<M: Mem>(r: &mut Regs, m: &M) -> u16
-    ensures value { result ≡ word_of (slice_index (M.bytes m.now) r.old.sp) (slice_index (M.bytes m.now) (plus r.old.sp 1)) }
+    ensures value { result ≡ word_of (slice_index (M.bytes m.now) r.old.sp)
+        (slice_index (M.bytes m.now) (plus r.old.sp 1)) }
     ensures regs { r.new ≡ record r.old { sp = plus r.old.sp 2 } }
 {
     let high = pull_byte(r, m);

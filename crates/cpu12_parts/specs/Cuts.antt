@@ -15,7 +15,8 @@ pub record Kind : Type 0 where
   pub pull : Regs → Temps → Act Outcome
 
 -- the kind with these three acts
-abbrev pub kind_by : (ℕ → Regs → Temps → Act Outcome) → (Regs → Temps → Act Outcome) → (Regs → Temps → Act Outcome) → Kind
+abbrev pub kind_by : (ℕ → Regs → Temps → Act Outcome) → (Regs → Temps → Act Outcome) → (Regs → Temps → Act Outcome)
+    → Kind
 kind_by act push pull = record { act = act; push = push; pull = pull }
 
 abbrev pub rev : Kind

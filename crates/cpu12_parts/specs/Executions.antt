@@ -25,8 +25,11 @@ pub record IsUntil (stops : State → Bool) (flags : ℕ) (ds : List ℕ) (s t :
 
 -- A whole instruction leads to one state, by one number of parts.
 abbrev pub WholeStepsAreOne : Type 0
-WholeStepsAreOne = (flags d e : ℕ) (s t u : State) → IsWholeStep flags d s t → IsWholeStep flags e s u → (d ≡ e) × (t ≡ u)
+WholeStepsAreOne =
+    (flags d e : ℕ) (s t u : State) → IsWholeStep flags d s t → IsWholeStep flags e s u → (d ≡ e) × (t ≡ u)
 
 -- Whole instructions come to one first state that stops, in one way.
 abbrev pub ExecutionsAreOne : Type 0
-ExecutionsAreOne = (stops : State → Bool) (flags : ℕ) (ds es : List ℕ) (s t u : State) → IsUntil stops flags ds s t → IsUntil stops flags es s u → (ds ≡ es) × (t ≡ u)
+ExecutionsAreOne =
+    (stops : State → Bool) (flags : ℕ) (ds es : List ℕ) (s t u : State) → IsUntil stops flags ds s t
+    → IsUntil stops flags es s u → (ds ≡ es) × (t ≡ u)

@@ -18,12 +18,18 @@ addresses (w ∷ ws) = w.0 ∷ addresses ws
 
 -- the next part reads at no address of one set, and writes at none of another
 abbrev pub Touches : Kind → ℕ → (ℕ → Bool) → (ℕ → Bool) → State → Type 0
-Touches k flags unread unwritten s = AllShown unread (read_by (k.act flags s.regs s.temps) s.mem) × AllShown unwritten (addresses (part_of k flags s).writes)
+Touches k flags unread unwritten s =
+    AllShown unread (read_by (k.act flags s.regs s.temps) s.mem)
+    × AllShown unwritten (addresses (part_of k flags s).writes)
 
--- one part and d further ones, the last of which ends the instruction, lead from s to t and touch no address of these sets
+-- one part and d further ones, the last of which ends the instruction, lead from s to t and touch no address of these
+-- sets
 abbrev pub PartsTo : Kind → ℕ → (ℕ → Bool) → (ℕ → Bool) → ℕ → State → State → Type 0
-PartsTo k flags unread unwritten zero s t = Touches k flags unread unwritten s × ((part_of k flags s).end ≡ Done) × (t ≡ after_part k flags s)
-PartsTo k flags unread unwritten (suc d) s t = Touches k flags unread unwritten s × ((part_of k flags s).end ≡ More) × PartsTo k flags unread unwritten d (after_part k flags s) t
+PartsTo k flags unread unwritten zero s t =
+    Touches k flags unread unwritten s × ((part_of k flags s).end ≡ Done) × (t ≡ after_part k flags s)
+PartsTo k flags unread unwritten (suc d) s t =
+    Touches k flags unread unwritten s × ((part_of k flags s).end ≡ More)
+    × PartsTo k flags unread unwritten d (after_part k flags s) t
 
 -- the n addresses below an address
 abbrev pub below : ℕ → ℕ → ℕ → Bool
@@ -46,12 +52,14 @@ Any t = Unit {0}
 
 -- suspend and then resume leave all as it was, but for the six bytes below SP
 abbrev pub GoesOn : Kind → (Temps → Type 0) → Type 0
-GoesOn k kept = (s : State) → length s.mem ≡ 65536 → s.regs.sp < 2 ^ 16 → kept s.temps → IsLike (resumed k (suspended k s)) s
+GoesOn k kept =
+    (s : State) → length s.mem ≡ 65536 → s.regs.sp < 2 ^ 16 → kept s.temps → IsLike (resumed k (suspended k s)) s
 
 -- suspend writes only below SP as it was, and resume writes nothing
 abbrev pub WritesBelow : Kind → Type 0
 WritesBelow k = (s : State) → s.regs.sp < 2 ^ 16
-    → ((at : ℕ) → IsWritten (outcome (k.push s.regs s.temps) s.mem).writes at → below 6 s.regs.sp at ≡ true) × ((outcome (k.pull s.regs s.temps) s.mem).writes ≡ [])
+    → ((at : ℕ) → IsWritten (outcome (k.push s.regs s.temps) s.mem).writes at → below 6 s.regs.sp at ≡ true)
+    × ((outcome (k.pull s.regs s.temps) s.mem).writes ≡ [])
 
 -- suspend and resume change nothing
 abbrev pub KeepsNothing : Kind → Type 0
@@ -62,25 +70,32 @@ pub record IsSteady (k : Kind) (kept : Temps → Type 0) : Type 0 where
   pub stack : (flags : ℕ) (s : State) → (part_of k flags s).regs.sp ≡ s.regs.sp
   pub temps : (flags : ℕ) (s : State) → (part_of k flags s).end ≡ More → kept (part_of k flags s).temps
 
--- Cuts at any boundaries, by suspend and then resume: the parts come to the same end, but for the six bytes below SP, if
+-- Cuts at any boundaries, by suspend and then resume: the parts come to the same end, but for the six bytes below SP,
+-- if
 -- no byte that is read is one of them.
 abbrev pub CutsChangeNothing : Kind → Type 0
-CutsChangeNothing k = (flags : ℕ) (unwritten : ℕ → Bool) (d : ℕ) (s t : State) → length s.mem ≡ 65536 → s.regs.sp < 2 ^ 16
-    → PartsTo k flags (below 6 s.regs.sp) unwritten d s t → (cs : List Bool) → length cs ≡ d → EndsWith k flags cs s × IsLike (cut_run k flags cs s) t
+CutsChangeNothing k =
+    (flags : ℕ) (unwritten : ℕ → Bool) (d : ℕ) (s t : State) → length s.mem ≡ 65536 → s.regs.sp < 2 ^ 16
+    → PartsTo k flags (below 6 s.regs.sp) unwritten d s t → (cs : List Bool) → length cs ≡ d
+    → EndsWith k flags cs s × IsLike (cut_run k flags cs s) t
 
 abbrev pub state_of : Regs → Temps → List ℕ → State
 state_of r t mem = record { regs = r; temps = t; mem = mem }
 
 -- REV's parts make the whole instruction: as many as its list has elements, and they touch only what it does.
 abbrev pub RevIsWhole : Type 0
-RevIsWhole = (flags : ℕ) (r : Regs) (t : Temps) (mem : List ℕ) (p : Rule) (ps : List Rule) (d : ℕ) (unread unwritten : ℕ → Bool) → flags < 2 ^ 8 → r.ccr.0 < 2 ^ 8
+RevIsWhole =
+    (flags : ℕ) (r : Regs) (t : Temps) (mem : List ℕ) (p : Rule) (ps : List Rule) (d : ℕ) (unread unwritten : ℕ → Bool)
+    → flags < 2 ^ 8 → r.ccr.0 < 2 ^ 8
     → AreReady (rev_form r.y) r mem p ps → length (elements_of (rev_form r.y) p ps) ≡ suc d
     → AllShown unread (rules_read (rev_form r.y) r p ps) → AllShown unwritten (rules_written (rev_form r.y) p ps)
     → PartsTo rev flags unread unwritten d (state_of r t mem) (rules_whole (rev_form r.y) flags r t mem p ps)
 
 -- So do REVW's.
 abbrev pub RevwIsWhole : Type 0
-RevwIsWhole = (flags : ℕ) (r : Regs) (t : Temps) (mem : List ℕ) (p : Rule) (ps : List Rule) (d : ℕ) (unread unwritten : ℕ → Bool) → flags < 2 ^ 8 → r.ccr.0 < 2 ^ 8
+RevwIsWhole =
+    (flags : ℕ) (r : Regs) (t : Temps) (mem : List ℕ) (p : Rule) (ps : List Rule) (d : ℕ) (unread unwritten : ℕ → Bool)
+    → flags < 2 ^ 8 → r.ccr.0 < 2 ^ 8
     → AreReady revw_form r mem p ps → length (elements_of revw_form p ps) ≡ suc d
     → AllShown unread (rules_read revw_form r p ps) → AllShown unwritten (rules_written revw_form p ps)
     → PartsTo revw flags unread unwritten d (state_of r t mem) (rules_whole revw_form flags r t mem p ps)
@@ -91,23 +106,37 @@ IsOff t = (t ≡ Free) ⊎ (t ≡ OnStack)
 
 -- So do WAV's, one for each pair and one where there is none.
 abbrev pub WavIsWhole : Type 0
-WavIsWhole = (flags : ℕ) (r : Regs) (t : Temps) (mem : List ℕ) (unread unwritten : ℕ → Bool) → flags < 2 ^ 8 → r.ccr.0 < 2 ^ 8 → IsOff t
-    → AllShown unread (wav_read r) → PartsTo wav flags unread unwritten (r.b - 1) (state_of r t mem) (wav_whole flags r mem)
+WavIsWhole =
+    (flags : ℕ) (r : Regs) (t : Temps) (mem : List ℕ) (unread unwritten : ℕ → Bool) → flags < 2 ^ 8 → r.ccr.0 < 2 ^ 8
+    → IsOff t
+    → AllShown unread (wav_read r)
+    → PartsTo wav flags unread unwritten (r.b - 1) (state_of r t mem) (wav_whole flags r mem)
 
 -- Over all cuts: from where the whole instruction is defined, and no byte that it reads is one of the six below SP, the
 -- parts end after as many as there are elements, wherever they are cut, and in the whole instruction's state but for
 -- those six bytes.
 abbrev pub RevOverCuts : Type 0
-RevOverCuts = (flags : ℕ) (r : Regs) (t : Temps) (mem : List ℕ) (p : Rule) (ps : List Rule) (cs : List Bool) → flags < 2 ^ 8 → r.ccr.0 < 2 ^ 8 → length mem ≡ 65536 → r.sp < 2 ^ 16
-    → AreReady (rev_form r.y) r mem p ps → AllShown (below 6 r.sp) (rules_read (rev_form r.y) r p ps) → length (elements_of (rev_form r.y) p ps) ≡ suc (length cs)
-    → EndsWith rev flags cs (state_of r t mem) × IsLike (cut_run rev flags cs (state_of r t mem)) (rules_whole (rev_form r.y) flags r t mem p ps)
+RevOverCuts =
+    (flags : ℕ) (r : Regs) (t : Temps) (mem : List ℕ) (p : Rule) (ps : List Rule) (cs : List Bool) → flags < 2 ^ 8
+    → r.ccr.0 < 2 ^ 8 → length mem ≡ 65536 → r.sp < 2 ^ 16
+    → AreReady (rev_form r.y) r mem p ps → AllShown (below 6 r.sp) (rules_read (rev_form r.y) r p ps)
+    → length (elements_of (rev_form r.y) p ps) ≡ suc (length cs)
+    → EndsWith rev flags cs (state_of r t mem)
+    × IsLike (cut_run rev flags cs (state_of r t mem)) (rules_whole (rev_form r.y) flags r t mem p ps)
 
 abbrev pub RevwOverCuts : Type 0
-RevwOverCuts = (flags : ℕ) (r : Regs) (t : Temps) (mem : List ℕ) (p : Rule) (ps : List Rule) (cs : List Bool) → flags < 2 ^ 8 → r.ccr.0 < 2 ^ 8 → length mem ≡ 65536 → r.sp < 2 ^ 16
-    → AreReady revw_form r mem p ps → AllShown (below 6 r.sp) (rules_read revw_form r p ps) → length (elements_of revw_form p ps) ≡ suc (length cs)
-    → EndsWith revw flags cs (state_of r t mem) × IsLike (cut_run revw flags cs (state_of r t mem)) (rules_whole revw_form flags r t mem p ps)
+RevwOverCuts =
+    (flags : ℕ) (r : Regs) (t : Temps) (mem : List ℕ) (p : Rule) (ps : List Rule) (cs : List Bool) → flags < 2 ^ 8
+    → r.ccr.0 < 2 ^ 8 → length mem ≡ 65536 → r.sp < 2 ^ 16
+    → AreReady revw_form r mem p ps → AllShown (below 6 r.sp) (rules_read revw_form r p ps)
+    → length (elements_of revw_form p ps) ≡ suc (length cs)
+    → EndsWith revw flags cs (state_of r t mem)
+    × IsLike (cut_run revw flags cs (state_of r t mem)) (rules_whole revw_form flags r t mem p ps)
 
 abbrev pub WavOverCuts : Type 0
-WavOverCuts = (flags : ℕ) (r : Regs) (t : Temps) (mem : List ℕ) (cs : List Bool) → flags < 2 ^ 8 → r.ccr.0 < 2 ^ 8 → length mem ≡ 65536 → r.sp < 2 ^ 16 → IsOff t
+WavOverCuts =
+    (flags : ℕ) (r : Regs) (t : Temps) (mem : List ℕ) (cs : List Bool) → flags < 2 ^ 8 → r.ccr.0 < 2 ^ 8
+    → length mem ≡ 65536 → r.sp < 2 ^ 16 → IsOff t
     → AllShown (below 6 r.sp) (wav_read r) → length cs ≡ r.b - 1
-    → EndsWith wav flags cs (state_of r t mem) × IsLike (cut_run wav flags cs (state_of r t mem)) (wav_whole flags r mem)
+    → EndsWith wav flags cs (state_of r t mem)
+    × IsLike (cut_run wav flags cs (state_of r t mem)) (wav_whole flags r mem)

@@ -47,7 +47,9 @@ revw_element flags s t e =
     if e == 65535 then leaving (passed r 2) t Done
     else (if e == 65534 then (
     if has s.ccr overflow then leaving (record r { a = 255; ccr = put r.ccr overflow false }) t More
-    else (if has s.ccr carry then Get s.y (λ w. leaving (record r { a = weighted s.a w; y = plus s.y 1; ccr = put r.ccr overflow true }) t More)
+    else (if has s.ccr carry
+    then Get s.y
+    (λ w. leaving (record r { a = weighted s.a w; y = plus s.y 1; ccr = put r.ccr overflow true }) t More)
     else leaving (record r { ccr = put r.ccr overflow true }) t More))
     else met s r t e)
 
@@ -74,7 +76,8 @@ wav_from flags r product weight pc =
     let p = (product + u * v) % 2 ^ 32 in
     let w = (weight + v) % 2 ^ 16 in
     if r.b == 1 then leaving (wav_end flags r p w pc) Free Done
-    else leaving (record r { x = plus r.x 1; y = plus r.y 1; b = r.b - 1; pc = pc; ccr = opened r.ccr hnzvc flags }) (Running p w) More))
+    else leaving (record r { x = plus r.x 1; y = plus r.y 1; b = r.b - 1; pc = pc; ccr = opened r.ccr hnzvc flags })
+    (Running p w) More))
 
 -- one part of WAV. Where no sums run it begins: the sums are 0, and PC goes to its second byte.
 abbrev pub wav_act : ℕ → Regs → Temps → Act Outcome

@@ -27,7 +27,15 @@ pub record Form : Type 0 where
 
 -- REV's list has offsets from Y
 abbrev pub rev_form : ℕ → Form
-rev_form y = record { size = 1; element = slice_index; separator = 254; stop = 255; place = plus y; weighs = λ c. false; mask = hnzc }
+rev_form y = record {
+  size = 1;
+  element = slice_index;
+  separator = 254;
+  stop = 255;
+  place = plus y;
+  weighs = λ c. false;
+  mask = hnzc;
+}
 
 -- REVW's has addresses
 abbrev pub revw_form : Form
@@ -134,7 +142,8 @@ rules_target f (p ∷ ps) = named f p.conclusions ++ rules_target f ps
 
 -- what the whole instruction reads and writes
 abbrev pub rules_read : Form → Regs → Rule → List Rule → List ℕ
-rules_read f r p ps = element_bytes f r.x (elements_of f p ps) ++ (rules_named f (p ∷ ps) ++ weight_bytes (f.weighs r.ccr) r.y (p ∷ ps))
+rules_read f r p ps =
+    element_bytes f r.x (elements_of f p ps) ++ (rules_named f (p ∷ ps) ++ weight_bytes (f.weighs r.ccr) r.y (p ∷ ps))
 
 abbrev pub rules_written : Form → Rule → List Rule → List ℕ
 rules_written f p ps = rules_target f (p ∷ ps)

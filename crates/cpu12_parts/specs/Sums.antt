@@ -15,7 +15,9 @@ sum_bytes p w = p / 2 ^ 24 ∷ p / 2 ^ 16 % 2 ^ 8 ∷ p / 2 ^ 8 % 2 ^ 8 ∷ p % 
 
 -- and back
 abbrev pub sums_of : List ℕ → Temps
-sums_of vs = Running (word_of (slice_index vs 0) (slice_index vs 1) * 2 ^ 16 + word_of (slice_index vs 2) (slice_index vs 3)) (word_of (slice_index vs 4) (slice_index vs 5))
+sums_of vs =
+    Running (word_of (slice_index vs 0) (slice_index vs 1) * 2 ^ 16 + word_of (slice_index vs 2) (slice_index vs 3))
+    (word_of (slice_index vs 4) (slice_index vs 5))
 
 -- nothing changes
 abbrev pub nothing : Regs → Temps → Act Outcome
@@ -25,7 +27,13 @@ nothing r t = leaving r t More
 abbrev pub wav_push : Regs → Temps → Act Outcome
 wav_push r Free = nothing r Free
 wav_push r OnStack = nothing r OnStack
-wav_push r (Running p w) = Give (record { regs = record r { sp = plus r.sp 65530 }; temps = OnStack; writes = placed (plus r.sp 65530) (sum_bytes p w); end = More })
+wav_push r (Running p w) =
+    Give (record {
+      regs = record r { sp = plus r.sp 65530 };
+      temps = OnStack;
+      writes = placed (plus r.sp 65530) (sum_bytes p w);
+      end = More;
+    })
 
 abbrev pub six_pulled : Regs → Act Outcome
 six_pulled r = get_all (from r.sp 6) (λ vs. leaving (record r { sp = plus r.sp 6 }) (sums_of vs) More)

@@ -30,7 +30,8 @@ pub record IsPlainOver (R W : ℕ → Type 0) (flags : ℕ) (i : Instr) (s t : S
   pub reads : Each R (read_by (act_of flags i s.regs) s.mem)
   pub writes : Each W (addresses (effect flags i s.regs s.mem).writes)
 
-pub record IsRulesOver (R W : ℕ → Type 0) (i : Instr) (f : Form) (flags d : ℕ) (p : Rule) (ps : List Rule) (s t : State) : Type 0 where
+pub record IsRulesOver (R W : ℕ → Type 0) (i : Instr) (f : Form) (flags d : ℕ) (p : Rule) (ps : List Rule)
+    (s t : State) : Type 0 where
   pub step : IsRulesStep i f flags d p ps s t
   pub reads : Each R (rules_read f s.regs p ps)
   pub writes : Each W (rules_written f p ps)

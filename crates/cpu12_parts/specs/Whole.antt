@@ -25,7 +25,8 @@ pub record IsPlainStep (flags : ℕ) (i : Instr) (s t : State) : Type 0 where
 -- n plain instructions lead from s to t, and none of them stands at this address
 abbrev pub PlainWay : ℕ → ℕ → ℕ → State → State → Type 0
 PlainWay flags at zero s t = s ≡ t
-PlainWay flags at (suc n) s t = (u : State) × ((s.regs.pc ≢ at) × ((i : Instr) × IsPlainStep flags i s u) × PlainWay flags at n u t)
+PlainWay flags at (suc n) s t =
+    (u : State) × ((s.regs.pc ≢ at) × ((i : Instr) × IsPlainStep flags i s u) × PlainWay flags at n u t)
 
 -- REV or REVW stands at PC with its rules, and leads from s to t by d parts more than one
 pub record IsRulesStep (i : Instr) (f : Form) (flags d : ℕ) (p : Rule) (ps : List Rule) (s t : State) : Type 0 where

@@ -52,20 +52,23 @@ pub trait Resumable {
     /// Does one part. Flags that the manual leaves open take their bits from `flags`.
     fn part<M: Mem>(&self, r: &mut Regs, m: &mut M, t: &mut Temps, flags: u8) -> PartEnd
         ensures regs { r.new ≡ (outcome (act self.now flags r.old t.old) (M.bytes m.old)).regs }
-        ensures mem { M.bytes m.new ≡ write_all (outcome (act self.now flags r.old t.old) (M.bytes m.old)).writes (M.bytes m.old) }
+        ensures mem { M.bytes m.new ≡ write_all (outcome (act self.now flags r.old t.old)
+            (M.bytes m.old)).writes (M.bytes m.old) }
         ensures temps { t.new ≡ (outcome (act self.now flags r.old t.old) (M.bytes m.old)).temps }
         ensures end { result ≡ (outcome (act self.now flags r.old t.old) (M.bytes m.old)).end };
 
     /// Puts on the stack what is kept between parts, before an interrupt is taken.
     fn suspend<M: Mem>(&self, r: &mut Regs, m: &mut M, t: &mut Temps)
         ensures regs { r.new ≡ (outcome (push self.now r.old t.old) (M.bytes m.old)).regs }
-        ensures mem { M.bytes m.new ≡ write_all (outcome (push self.now r.old t.old) (M.bytes m.old)).writes (M.bytes m.old) }
+        ensures mem { M.bytes m.new ≡ write_all (outcome (push self.now r.old t.old)
+            (M.bytes m.old)).writes (M.bytes m.old) }
         ensures temps { t.new ≡ (outcome (push self.now r.old t.old) (M.bytes m.old)).temps };
 
     /// Takes from the stack again what was kept between parts.
     fn resume<M: Mem>(&self, r: &mut Regs, m: &mut M, t: &mut Temps)
         ensures regs { r.new ≡ (outcome (pull self.now r.old t.old) (M.bytes m.old)).regs }
-        ensures mem { M.bytes m.new ≡ write_all (outcome (pull self.now r.old t.old) (M.bytes m.old)).writes (M.bytes m.old) }
+        ensures mem { M.bytes m.new ≡ write_all (outcome (pull self.now r.old t.old)
+            (M.bytes m.old)).writes (M.bytes m.old) }
         ensures temps { t.new ≡ (outcome (pull self.now r.old t.old) (M.bytes m.old)).temps };
 
     /// What `suspend` puts away `resume` gets back: all is as it was, but for the six bytes below SP.

@@ -191,7 +191,8 @@ pub fn debug(
     requires plan { IsGood plan.now }
     requires samples { length samples.now ≤ 4294967295 }
     ensures shown { IfOk result (λ r. r.0.items
-        ≡ shown script.now (positions (first_state firmware.now flags) (firmware_rows firmware.now (map input_bytes samples.now) plan.now flags))) }
+        ≡ shown script.now (positions (first_state firmware.now flags)
+        (firmware_rows firmware.now (map input_bytes samples.now) plan.now flags))) }
     ensures rows { IfOk result (λ r. map row_seen r.1.items
         ≡ (firmware_rows firmware.now (map input_bytes samples.now) plan.now flags).rows) }
     ensures answers { IfOk result (λ r.

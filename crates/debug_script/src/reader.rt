@@ -110,7 +110,8 @@ fn order_in(line: &[u8]) -> Option<Order>
 
 /// The first line of a text without its end, and what stands behind that; none where no line ends.
 fn cut_line(text: &[u8]) -> Option<(&[u8], &[u8])>
-    ensures line { MatchOption result (pieces text.now ≡ text.now ∷ []) (λ r. pieces text.now ≡ r.0.now ∷ pieces r.1.now) }
+    ensures line { MatchOption result (pieces text.now ≡ text.now ∷ [])
+        (λ r. pieces text.now ≡ r.0.now ∷ pieces r.1.now) }
     ensures shorter { IfSome result (λ r. length r.1.now < length text.now) }
 {
     let n = len_before(text, b'\n');

@@ -15,13 +15,16 @@ use Rattle.error_bound.specs.Boxes.{LieIn, LieInCells}
 use Rattle.error_bound.specs.Leaves.{Holds}
 use Rattle.error_bound.specs.Bounds.{IsBound}
 
--- answer q' with the value p' follows answer q, and the exact answer `after` follows `before`: where NC keeps the answer both are those before, else p' is near `after`
+-- answer q' with the value p' follows answer q, and the exact answer `after` follows `before`: where NC keeps the
+-- answer both are those before, else p' is near `after`
 pub record Follows (x : Output) (leaf : Leaf) (n : ℕ) (q q' : ℕ) (p' before after : Quotient) : Type 0 where
   pub kept : leaf.k ≡ 0 → x.default ≡ None → (q' ≡ q) × (after ≡ before)
   pub near : (leaf.k ≡ 0 → x.default ≢ None) → IsClose (distance x.lo x.hi) n p' after
 
--- a leaf's pair holds on a box with Bound n, for answers in h parts to a byte; the numbers lie in the cells of their bytes, and these lie in the box
-pub record IsOnLeaf (b : Block) (box : List Interval) (o : ℕ) (x : Output) (h : ℕ) (leaf : Leaf) (n : ℕ) (bytes : List ℕ) (xs : List Dec) : Type 0 where
+-- a leaf's pair holds on a box with Bound n, for answers in h parts to a byte; the numbers lie in the cells of their
+-- bytes, and these lie in the box
+pub record IsOnLeaf (b : Block) (box : List Interval) (o : ℕ) (x : Output) (h : ℕ) (leaf : Leaf) (n : ℕ)
+    (bytes : List ℕ) (xs : List Dec) : Type 0 where
   pub valid : IsValid b
   pub output_is : output_at b o ≡ Some x
   pub parts : 1 ≤ h
@@ -32,5 +35,9 @@ pub record IsOnLeaf (b : Block) (box : List Interval) (o : ℕ) (x : Output) (h 
 
 -- an answer over bytes, in one part or in 256, is within the Bound of the exact answer
 abbrev pub AnswersAreNear : Type 0
-AnswersAreNear = (b : Block) (box : List Interval) (o : ℕ) (x : Output) (h : ℕ) (leaf : Leaf) (n : ℕ) (bytes : List ℕ) (xs : List Dec) (before : Quotient) (q : ℕ) →
-    IsOnLeaf b box o x h leaf n bytes xs → Follows x leaf n q (answer_in h b o bytes q) (value_in h x (answer_in h b o bytes q)) before (answer_after b o before xs)
+AnswersAreNear =
+    (b : Block) (box : List Interval) (o : ℕ) (x : Output) (h : ℕ) (leaf : Leaf) (n : ℕ) (bytes : List ℕ)
+    (xs : List Dec) (before : Quotient) (q : ℕ) →
+    IsOnLeaf b box o x h leaf n bytes xs
+    → Follows x leaf n q (answer_in h b o bytes q)
+    (value_in h x (answer_in h b o bytes q)) before (answer_after b o before xs)

@@ -7,7 +7,8 @@ use Rattle.error_bound.specs.declared.boxes.Leaf.{Leaf}
 use Rattle.error_bound.specs.Boxes.{rule_span, rule_byte_span}
 use Rattle.error_bound.specs.Leaves.{rule_at, concludes_some, Holds}
 
--- rule number n concludes a term of output o, k/255 is the greatest such part of its strength all over the box, and over bytes it has one too
+-- rule number n concludes a term of output o, k/255 is the greatest such part of its strength all over the box, and
+-- over bytes it has one too
 pub record IsCandidate (b : Block) (box : List Interval) (o n k : ℕ) : Type 0 where
   pub from : 1 ≤ n
   pub rule : Rule
@@ -27,5 +28,6 @@ silent_leaf = record { rule = 0; k = 0 }
 -- the silent leaf where it holds, else the strongest one, else none
 pub data IsBest (b : Block) (box : List Interval) (o : ℕ) : Option Leaf → Type 0 where
   silent : Holds b box o silent_leaf → IsBest b box o (Some silent_leaf)
-  strong : (n k : ℕ) → (Holds b box o silent_leaf → ⊥) → IsCandidate b box o n k → IsFirstGreatest (IsCandidate b box o) n k → IsBest b box o (Some (record { rule = n; k = k }))
+  strong : (n k : ℕ) → (Holds b box o silent_leaf → ⊥) → IsCandidate b box o n k
+      → IsFirstGreatest (IsCandidate b box o) n k → IsBest b box o (Some (record { rule = n; k = k }))
   nothing : (Holds b box o silent_leaf → ⊥) → ((n k : ℕ) → IsCandidate b box o n k → ⊥) → IsBest b box o None

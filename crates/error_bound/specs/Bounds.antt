@@ -23,7 +23,8 @@ abbrev pub errors_from : Block → (ℕ → ℕ → ℕ) → ℕ → ℕ → Lis
 errors_from b e o t [] = 0
 errors_from b e o t (u ∷ us) = output_error b e o t + errors_from b e o (t + 1) us
 
--- |s/255 - u/w|, over 255 w: how far a number u above the low end is from the value of its byte s, as a part of the range w
+-- |s/255 - u/w|, over 255 w: how far a number u above the low end is from the value of its byte s, as a part of the
+-- range w
 abbrev pub offset : Output → Dec → ℕ
 offset x u = apart (nearest_byte x u * distance x.lo x.hi) (distance x.lo u * 255)
 
@@ -33,14 +34,17 @@ greatest_offset x (u ∷ us) = max (offset x u) (greatest_offset x us)
 
 -- S * 255/k + delta + 1/(255 h), where answers come in h parts to a byte
 abbrev pub strong_bound : Output → ℕ → ℕ → ℕ → ℕ
-strong_bound x h sum k = in_millionths (plus (over (sum * 255) (billion * k)) (plus (over (greatest_offset x x.singletons) (255 * distance x.lo x.hi)) (over 1 (255 * h))))
+strong_bound x h sum k =
+    in_millionths (plus (over (sum * 255) (billion * k))
+    (plus (over (greatest_offset x x.singletons) (255 * distance x.lo x.hi)) (over 1 (255 * h))))
 
 -- how far the default's byte is from it; 0 with NC
 abbrev pub silent_bound : Output → ℕ
 silent_bound x = option_map_or (λ d. in_millionths (over (offset x d) (255 * distance x.lo x.hi))) x.default 0
 
 abbrev pub bound : Block → (ℕ → ℕ → ℕ) → ℕ → Output → ℕ → Leaf → ℕ
-bound b e o x h leaf = if leaf.k == 0 then silent_bound x else strong_bound x h (errors_from b e o 1 x.singletons) leaf.k
+bound b e o x h leaf =
+    if leaf.k == 0 then silent_bound x else strong_bound x h (errors_from b e o 1 x.singletons) leaf.k
 
 -- n is the Bound of a leaf on a box for output o, for answers in h parts to a byte: 1, or 256 for those of 16 bits
 pub record IsBound (b : Block) (box : List Interval) (o : ℕ) (x : Output) (h : ℕ) (leaf : Leaf) (n : ℕ) : Type 0 where

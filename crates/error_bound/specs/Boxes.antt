@@ -31,19 +31,24 @@ pub record IsBoxOf (b : Block) (box : List Interval) : Type 0 where
 -- each byte lies in its interval
 pub record LieIn (box : List Interval) (bytes : List ℕ) : Type 0 where
   pub count : length bytes ≡ length box
-  pub within : (k : ℕ) (v : Interval) (n : ℕ) → slice_get box k ≡ Some v → slice_get bytes k ≡ Some n → (v.from ≤ n) × (n ≤ v.to)
+  pub within : (k : ℕ) (v : Interval) (n : ℕ) → slice_get box k ≡ Some v → slice_get bytes k ≡ Some n
+      → (v.from ≤ n) × (n ≤ v.to)
 
 -- each number is within its input's range and lies in the cell of its byte
 pub record LieInCells (b : Block) (bytes : List ℕ) (xs : List Dec) : Type 0 where
   pub inputs : AreInputs b xs
   pub count : length bytes ≡ length b.inputs
-  pub cell : (k : ℕ) (i : Input) (n : ℕ) (x : Dec) → slice_get b.inputs k ≡ Some i → slice_get bytes k ≡ Some n → slice_get xs k ≡ Some x → LiesInCell i n x
+  pub cell : (k : ℕ) (i : Input) (n : ℕ) (x : Dec) → slice_get b.inputs k ≡ Some i → slice_get bytes k ≡ Some n
+      → slice_get xs k ≡ Some x → LiesInCell i n x
 
 -- the degrees of a term over the cells of an interval
 abbrev pub degrees_over : Input → Trapezoid → Interval → Span
 degrees_over i t v =
     let w = distance i.lo i.hi in
-    record { low = low (points_of i t) (cell_start w v.from) (cell_end w v.to); high = high (points_of i t) (cell_start w v.from) (cell_end w v.to) (v.to == 255) }
+    record {
+      low = low (points_of i t) (cell_start w v.from) (cell_end w v.to);
+      high = high (points_of i t) (cell_start w v.from) (cell_end w v.to) (v.to == 255);
+    }
 
 -- the least and the greatest of n + 1 numbers from number p on
 abbrev pub least_from : (ℕ → ℕ) → ℕ → ℕ → ℕ
@@ -62,7 +67,9 @@ grades_over i t v =
 
 -- what f gives for term t of input i and that input's interval, where they are there
 abbrev pub at_literal : {A : Type 0} → (Input → Trapezoid → Interval → A) → A → Block → List Interval → ℕ → ℕ → A
-at_literal f otherwise b box i t = option_map_or (λ x. option_map_or (λ term. option_map_or (f x term) (slice_get box (i - 1)) otherwise) (slice_get x.terms (t - 1)) otherwise) (input_at b i) otherwise
+at_literal f otherwise b box i t =
+    option_map_or (λ x. option_map_or (λ term. option_map_or (f x term) (slice_get box (i - 1)) otherwise)
+    (slice_get x.terms (t - 1)) otherwise) (input_at b i) otherwise
 
 abbrev pub literal_span : Block → List Interval → ℕ → ℕ → Span
 literal_span b box i t = at_literal degrees_over (record { low = none; high = none }) b box i t

@@ -14,7 +14,9 @@ use Rattle.error_bound.specs.Errors.{billion}
 
 -- in parts of t, of byte b's cell in a range of width w
 abbrev pub cell_error : ℕ → Points → ℕ → (ℕ → ℕ) → ℕ → ℕ
-cell_error t k w grade b = max (gap t (grade b) (low k (over (b * w) 256) (over ((b + 1) * w) 256))) (gap t (grade b) (high k (over (b * w) 256) (over ((b + 1) * w) 256) (b == 255)))
+cell_error t k w grade b =
+    max (gap t (grade b) (low k (over (b * w) 256) (over ((b + 1) * w) 256)))
+    (gap t (grade b) (high k (over (b * w) 256) (over ((b + 1) * w) 256) (b == 255)))
 
 -- of n + 1 cells from p
 abbrev pub cells_error : ℕ → Points → ℕ → (ℕ → ℕ) → ℕ → ℕ → ℕ
@@ -22,7 +24,8 @@ cells_error t k w grade p zero = cell_error t k w grade p
 cells_error t k w grade p (suc n) = max (cells_error t k w grade p n) (cell_error t k w grade (p + suc n))
 
 abbrev pub term_error : Input → Trapezoid → Interval → ℕ
-term_error i t v = cells_error billion (points_of i t) (distance i.lo i.hi) (grade_of (row_of i t)) v.from (v.to - v.from)
+term_error i t v =
+    cells_error billion (points_of i t) (distance i.lo i.hi) (grade_of (row_of i t)) v.from (v.to - v.from)
 
 -- of each term of each input over a box
 abbrev pub term_errors : Block → List Interval → ℕ → ℕ → ℕ

@@ -26,7 +26,9 @@ apart a b = a - b + (b - a)
 
 -- for no byte of the interval and no place of its cell is |grade/255 - degree| above e
 abbrev pub Covers : Input → Trapezoid → Interval → ℕ → Type 0
-Covers i t v e = (n : ℕ) → v.from ≤ n → n ≤ v.to → (x : Fraction) → IsInCell (distance i.lo i.hi) n x → IsNear billion (grade_of (row_of i t) n) (degree_at (points_of i t) x) e
+Covers i t v e =
+    (n : ℕ) → v.from ≤ n → n ≤ v.to → (x : Fraction) → IsInCell (distance i.lo i.hi) n x
+    → IsNear billion (grade_of (row_of i t) n) (degree_at (points_of i t) x) e
 
 -- the eps of a term over an interval is the least such e
 pub record IsTermError (i : Input) (t : Trapezoid) (v : Interval) (e : ℕ) : Type 0 where
@@ -35,7 +37,8 @@ pub record IsTermError (i : Input) (t : Trapezoid) (v : Interval) (e : ℕ) : Ty
 
 -- e gives the eps of each term of each input over a box
 pub record AreTermErrors (b : Block) (box : List Interval) (e : ℕ → ℕ → ℕ) : Type 0 where
-  pub error : (i t : ℕ) (x : Input) (term : Trapezoid) (v : Interval) → input_at b i ≡ Some x → slice_get x.terms (t - 1) ≡ Some term → slice_get box (i - 1) ≡ Some v → IsTermError x term v (e i t)
+  pub error : (i t : ℕ) (x : Input) (term : Trapezoid) (v : Interval) → input_at b i ≡ Some x
+      → slice_get x.terms (t - 1) ≡ Some term → slice_get box (i - 1) ≡ Some v → IsTermError x term v (e i t)
 
 -- |(v + 1)/256 - w|, rounded up
 abbrev pub weight_error : Rule → ℕ
@@ -51,7 +54,8 @@ rule_error e r = greatest_literal e (condition_of r.cond) + weight_error r + flo
 -- of term t of output o: the greatest of those of the rules that conclude it, or 0
 abbrev pub output_error_among : (ℕ → ℕ → ℕ) → ℕ → ℕ → List Rule → ℕ
 output_error_among e o t [] = 0
-output_error_among e o t (r ∷ rs) = if concludes r o t then max (rule_error e r) (output_error_among e o t rs) else output_error_among e o t rs
+output_error_among e o t (r ∷ rs) =
+    if concludes r o t then max (rule_error e r) (output_error_among e o t rs) else output_error_among e o t rs
 
 abbrev pub output_error : Block → (ℕ → ℕ → ℕ) → ℕ → ℕ → ℕ
 output_error b e o t = output_error_among e o t b.rules

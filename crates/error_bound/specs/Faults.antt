@@ -25,11 +25,13 @@ pub record IsFirstFiring (b : Block) (box : List Interval) (o n : ℕ) (r : Rule
   pub from : 1 ≤ n
   pub rule_is : rule_at b n ≡ Some r
   pub concludes_one : IsTrue (concludes_some r o)
-  pub still_before : (m : ℕ) (q : Rule) → 1 ≤ m → m < n → rule_at b m ≡ Some q → (t : ℕ) → IsTrue (concludes q o t) → IsStill b box q
+  pub still_before : (m : ℕ) (q : Rule) → 1 ≤ m → m < n → rule_at b m ≡ Some q → (t : ℕ) → IsTrue (concludes q o t)
+      → IsStill b box q
 
 -- from s and over bytes from m on, a strength goes below k/255, or else over bytes to 0
 pub data IsStrongFault (leaf : the.Leaf) (s : Span) (m : ByteSpan) : LeafFault → Type 0 where
-  weak : IsBelow s.low (over leaf.k 255) → IsStrongFault leaf s m (Weak leaf.rule leaf.k (record { 0 = parts_down s.low }))
+  weak : IsBelow s.low (over leaf.k 255)
+      → IsStrongFault leaf s m (Weak leaf.rule leaf.k (record { 0 = parts_down s.low }))
   still : AtMost (over leaf.k 255) s.low → m.low ≡ 0 → IsStrongFault leaf s m (Still leaf.rule)
 
 -- up to s and over bytes up to m, rule number n has a strength, or else one over bytes
@@ -39,13 +41,19 @@ pub data IsSilentFault (n : ℕ) (s : Span) (m : ByteSpan) : LeafFault → Type 
 
 -- of the rule that a strong leaf names; of a silent leaf, of the first rule that has one
 pub data HasLeafFault (b : Block) (box : List Interval) (o : ℕ) (leaf : the.Leaf) (f : LeafFault) : Type 0 where
-  of_strong : (r : Rule) → 1 ≤ leaf.k → rule_at b leaf.rule ≡ Some r → IsStrongFault leaf (rule_span b box r) (rule_byte_span b box r) f → HasLeafFault b box o leaf f
-  of_silent : (n : ℕ) (r : Rule) → leaf.k ≡ 0 → IsFirstFiring b box o n r → IsSilentFault n (rule_span b box r) (rule_byte_span b box r) f → HasLeafFault b box o leaf f
+  of_strong : (r : Rule) → 1 ≤ leaf.k → rule_at b leaf.rule ≡ Some r
+      → IsStrongFault leaf (rule_span b box r) (rule_byte_span b box r) f → HasLeafFault b box o leaf f
+  of_silent : (n : ℕ) (r : Rule) → leaf.k ≡ 0 → IsFirstFiring b box o n r
+      → IsSilentFault n (rule_span b box r) (rule_byte_span b box r) f → HasLeafFault b box o leaf f
 
 -- a leaf with a fault doesn't hold
 abbrev pub FaultyLeavesFail : Type 0
-FaultyLeavesFail = (b : Block) (box : List Interval) (o : ℕ) (leaf : the.Leaf) (f : LeafFault) → HasLeafFault b box o leaf f → Holds b box o leaf → ⊥
+FaultyLeavesFail =
+    (b : Block) (box : List Interval) (o : ℕ) (leaf : the.Leaf) (f : LeafFault) → HasLeafFault b box o leaf f
+    → Holds b box o leaf → ⊥
 
 -- a leaf has at most one first fault
 abbrev pub LeafFaultsAreOne : Type 0
-LeafFaultsAreOne = (b : Block) (box : List Interval) (o : ℕ) (leaf : the.Leaf) (f g : LeafFault) → HasLeafFault b box o leaf f → HasLeafFault b box o leaf g → f ≡ g
+LeafFaultsAreOne =
+    (b : Block) (box : List Interval) (o : ℕ) (leaf : the.Leaf) (f g : LeafFault) → HasLeafFault b box o leaf f
+    → HasLeafFault b box o leaf g → f ≡ g

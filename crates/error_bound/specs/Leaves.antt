@@ -13,7 +13,8 @@ use Rattle.error_bound.specs.Boxes.{rule_span, rule_byte_span}
 abbrev pub rule_at : Block → ℕ → Option Rule
 rule_at b n = slice_get b.rules (n - 1)
 
--- the rule concludes a term of output o, and all over the box it has a strength of at least k/255, and over bytes of at least 1
+-- the rule concludes a term of output o, and all over the box it has a strength of at least k/255, and over bytes of at
+-- least 1
 pub record IsStrong (b : Block) (box : List Interval) (o : ℕ) (r : Rule) (k : ℕ) : Type 0 where
   pub term : ℕ
   pub concludes_it : IsTrue (concludes r o term)
@@ -27,14 +28,17 @@ pub record IsStill (b : Block) (box : List Interval) (r : Rule) : Type 0 where
 
 -- a strong leaf names a rule and a number from 1 to 255; a silent one has 0 and 0
 pub data Holds (b : Block) (box : List Interval) (o : ℕ) : Leaf → Type 0 where
-  strong : {leaf : Leaf} (r : Rule) → 1 ≤ leaf.rule → 1 ≤ leaf.k → leaf.k ≤ 255 → rule_at b leaf.rule ≡ Some r → IsStrong b box o r leaf.k → Holds b box o leaf
-  silent : {leaf : Leaf} → leaf.rule ≡ 0 → leaf.k ≡ 0 → All (λ r. (t : ℕ) → IsTrue (concludes r o t) → IsStill b box r) b.rules → Holds b box o leaf
+  strong : {leaf : Leaf} (r : Rule) → 1 ≤ leaf.rule → 1 ≤ leaf.k → leaf.k ≤ 255 → rule_at b leaf.rule ≡ Some r
+      → IsStrong b box o r leaf.k → Holds b box o leaf
+  silent : {leaf : Leaf} → leaf.rule ≡ 0 → leaf.k ≡ 0
+      → All (λ r. (t : ℕ) → IsTrue (concludes r o t) → IsStill b box r) b.rules → Holds b box o leaf
 
 -- whether a rule concludes some term of output o
 abbrev pub concludes_some : Rule → ℕ → Bool
 concludes_some r o = list_any (λ c. c.0 == o) r.concl
 
--- a pair of a certificate: both numbers are 0 or neither, and a strong one names a rule that concludes a term of output o
+-- a pair of a certificate: both numbers are 0 or neither, and a strong one names a rule that concludes a term of output
+-- o
 pub record IsPairFor (b : Block) (o : ℕ) (leaf : Leaf) : Type 0 where
   pub silent : leaf.k ≡ 0 → leaf.rule ≡ 0
   pub strong : 1 ≤ leaf.k → 1 ≤ leaf.rule

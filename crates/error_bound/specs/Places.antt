@@ -7,7 +7,9 @@ use Rattle.byte_scaling.specs.Cells.{IsFromTo}
 -- the rising side's limit from below: 1 past b, 0 up to a
 abbrev pub rise_until : Option ℕ → ℕ → Fraction → Fraction
 rise_until None b x = one
-rise_until (Some a) b x = if nat_lt (b * x.den) x.num then one else (if nat_le x.num (a * x.den) then none else over (x.num - a * x.den) ((b - a) * x.den))
+rise_until (Some a) b x =
+    if nat_lt (b * x.den) x.num then one
+    else (if nat_le x.num (a * x.den) then none else over (x.num - a * x.den) ((b - a) * x.den))
 
 -- from s on and below e, or up to e where it is closed: the rise at the start, the fall at the end
 abbrev pub low : Points → Fraction → Fraction → Fraction
@@ -24,6 +26,8 @@ high t s e closed = lesser (rise_end closed t.a t.b e) (fall_at t.c t.d s)
 -- l is the greatest lower bound of the degrees there, and h the least upper bound
 pub record AreBounds (t : Points) (s e : Fraction) (closed : Bool) (l h : Fraction) : Type 0 where
   pub lower : (x : Fraction) → IsProper x → IsFromTo s e closed x → AtMost l (degree_at t x)
-  pub greatest : (v : Fraction) → IsProper v → ((x : Fraction) → IsProper x → IsFromTo s e closed x → AtMost v (degree_at t x)) → AtMost v l
+  pub greatest : (v : Fraction) → IsProper v
+      → ((x : Fraction) → IsProper x → IsFromTo s e closed x → AtMost v (degree_at t x)) → AtMost v l
   pub upper : (x : Fraction) → IsProper x → IsFromTo s e closed x → AtMost (degree_at t x) h
-  pub least : (v : Fraction) → IsProper v → ((x : Fraction) → IsProper x → IsFromTo s e closed x → AtMost (degree_at t x) v) → AtMost h v
+  pub least : (v : Fraction) → IsProper v
+      → ((x : Fraction) → IsProper x → IsFromTo s e closed x → AtMost (degree_at t x) v) → AtMost h v

@@ -40,14 +40,18 @@ pub record AreTermCells (x : Input) (term : Trapezoid) (v : Interval) (c : TermC
 
 -- those of each term of an input
 abbrev pub AreInputCells : Input → Interval → InputCells → Type 0
-AreInputCells x v cells = (t : ℕ) (term : Trapezoid) → slice_get x.terms t ≡ Some term → (c : TermCells) × (slice_get cells.terms t ≡ Some c) × AreTermCells x term v c
+AreInputCells x v cells =
+    (t : ℕ) (term : Trapezoid) → slice_get x.terms t ≡ Some term
+    → (c : TermCells) × (slice_get cells.terms t ≡ Some c) × AreTermCells x term v c
 
 abbrev pub all_bytes : Interval
 all_bytes = record { from = 0; to = 255 }
 
 -- of each input, at all bytes
 abbrev pub AreAllCells : Block → List InputCells → Type 0
-AreAllCells b cells = (i : ℕ) (x : Input) → slice_get b.inputs i ≡ Some x → (c : InputCells) × (slice_get cells i ≡ Some c) × AreInputCells x all_bytes c
+AreAllCells b cells =
+    (i : ℕ) (x : Input) → slice_get b.inputs i ≡ Some x
+    → (c : InputCells) × (slice_get cells i ≡ Some c) × AreInputCells x all_bytes c
 
 -- at a place a condition that reaches as far as a rule's
 abbrev pub HasAlike : Block → Rule → ℕ → List Cond → Type 0
@@ -80,12 +84,16 @@ pub record IsReachOfTerm (x : Input) (term : Trapezoid) (v : Interval) (r : Reac
 
 -- the reaches of an input's terms
 abbrev pub AreInputReaches : Input → Interval → List Reach → Type 0
-AreInputReaches x v rs = (t : ℕ) (term : Trapezoid) → slice_get x.terms t ≡ Some term → (r : Reach) × (slice_get rs t ≡ Some r) × IsReachOfTerm x term v r
+AreInputReaches x v rs =
+    (t : ℕ) (term : Trapezoid) → slice_get x.terms t ≡ Some term
+    → (r : Reach) × (slice_get rs t ≡ Some r) × IsReachOfTerm x term v r
 
 -- of all inputs' terms over a box
 pub record AreBoxTerms (b : Block) (terms : BoxTerms) : Type 0 where
   pub count : length terms.bytes.0.items ≡ length b.inputs
-  pub each : (i : ℕ) (x : Input) → slice_get b.inputs i ≡ Some x → (r : Row) × (slice_get terms.rows i ≡ Some r) × ((v : Interval) → slice_get terms.bytes.0.items i ≡ Some v → AreInputReaches x v r.reaches)
+  pub each : (i : ℕ) (x : Input) → slice_get b.inputs i ≡ Some x
+      → (r : Row) × (slice_get terms.rows i ≡ Some r)
+      × ((v : Interval) → slice_get terms.bytes.0.items i ≡ Some v → AreInputReaches x v r.reaches)
 
 -- the reach of a literal over a box
 pub record IsReachOfLiteral (b : Block) (box : List Interval) (i t : ℕ) (r : Reach) : Type 0 where
@@ -117,4 +125,5 @@ pub record IsReachOfRule (b : Block) (box : List Interval) (r : Rule) (q : Reach
 pub record IsTable (b : Block) (t : BoxTable) : Type 0 where
   pub box_is : IsBoxOf b t.bytes.0.items
   pub count : length t.rules ≡ 256
-  pub each : (k : ℕ) (r : Rule) → slice_get b.rules k ≡ Some r → (q : Reach) × (slice_get t.rules k ≡ Some q) × IsReachOfRule b t.bytes.0.items r q
+  pub each : (k : ℕ) (r : Rule) → slice_get b.rules k ≡ Some r
+      → (q : Reach) × (slice_get t.rules k ≡ Some q) × IsReachOfRule b t.bytes.0.items r q

@@ -107,7 +107,8 @@ impl BoxTable {
         requires table { IsTable block.now self.now }
         requires block { IsValid block.now }
         requires output { IsValidOutput output.now }
-        ensures value { result ≡ errors_from block.now (term_errors block.now self.now.bytes.0.items) out 1 output.now.singletons }
+        ensures value { result
+            ≡ errors_from block.now (term_errors block.now self.now.bytes.0.items) out 1 output.now.singletons }
         ensures small { result ≤ 45000000000 }
     {
         let errors = self.errors_by_term(block, out);

@@ -22,7 +22,8 @@ pub fn term_error(input: &Input, term: u8, from: u8, to: u8) -> Nano
     requires term_from { 1 ≤ term }
     requires term_to { term ≤ length input.now.terms }
     requires order { from ≤ to }
-    ensures { IfSome (slice_get input.now.terms (term - 1)) (λ t. IsTermError input.now t (record { from = from; to = to }) result.0) }
+    ensures { IfSome (slice_get input.now.terms (term - 1))
+        (λ t. IsTermError input.now t (record { from = from; to = to }) result.0) }
 {
     let bytes = Interval { from, to };
     Nano(TermCells::new(input, term, bytes).over(bytes).error)
@@ -65,9 +66,12 @@ impl TermCells {
     /// The reach of the grades and the greatest error over an interval.
     pub(crate) fn over(&self, bytes: Interval) -> Grades
         requires { bytes.from ≤ bytes.to }
-        ensures least { result.least ≡ least_from (λ n. slice_index self.now.grades n) bytes.from (bytes.to - bytes.from) }
-        ensures greatest { result.greatest ≡ greatest_from (λ n. slice_index self.now.grades n) bytes.from (bytes.to - bytes.from) }
-        ensures error { result.error ≡ greatest_from (λ n. slice_index self.now.errors n) bytes.from (bytes.to - bytes.from) }
+        ensures least { result.least ≡ least_from
+            (λ n. slice_index self.now.grades n) bytes.from (bytes.to - bytes.from) }
+        ensures greatest { result.greatest ≡ greatest_from
+            (λ n. slice_index self.now.grades n) bytes.from (bytes.to - bytes.from) }
+        ensures error { result.error ≡ greatest_from
+            (λ n. slice_index self.now.errors n) bytes.from (bytes.to - bytes.from) }
     {
         let from = usize::from(bytes.from);
         let mut grades = Grades {
@@ -106,7 +110,8 @@ fn cells_under(input: &Input, term: &Trapezoid, table: [u8; 4], bytes: Interval)
 fn error_of_cell(input: &Input, term: &Trapezoid, table: [u8; 4], b: u8) -> u64
     requires input { IsValidInput input.now }
     requires term { IsValidTerm input.now.lo input.now.hi term.now }
-    ensures value { result ≡ cell_error 1000000000 (points_of input.now term.now) (distance input.now.lo input.now.hi) (grade_of table) b }
+    ensures value { result
+        ≡ cell_error 1000000000 (points_of input.now term.now) (distance input.now.lo input.now.hi) (grade_of table) b }
     ensures small { result ≤ 1000000000 }
 {
     let degrees = degrees_of(input, term, Interval { from: b, to: b });

@@ -41,7 +41,8 @@ impl BoxTable {
         requires table { IsTable block.now self.now }
         ensures none { IfNone result ((n k : ℕ) → IsCandidate block.now self.now.bytes.0.items out n k → ⊥) }
         ensures candidate { IfSome result (λ l. IsCandidate block.now self.now.bytes.0.items out l.rule l.k) }
-        ensures greatest { IfSome result (λ l. IsFirstGreatest (IsCandidate block.now self.now.bytes.0.items out) l.rule l.k) }
+        ensures greatest { IfSome result
+            (λ l. IsFirstGreatest (IsCandidate block.now self.now.bytes.0.items out) l.rule l.k) }
     {
         let mut rule: u16 = 0;
         let mut part: u8 = 0;
@@ -78,7 +79,8 @@ impl BoxTable {
 /// The strength all over a box in 255ths, rounded down, or 0 where over bytes it is 0 somewhere.
 fn part_of(reach: Reach) -> u8
     requires { HasSmallTruths reach }
-    ensures part { 1 ≤ (byte_span_of reach).low → result ≡ 255 * (span_of reach.degrees).low.num / (span_of reach.degrees).low.den }
+    ensures part { 1 ≤ (byte_span_of reach).low
+        → result ≡ 255 * (span_of reach.degrees).low.num / (span_of reach.degrees).low.den }
     ensures none { (byte_span_of reach).low ≡ 0 → result ≡ 0 }
 {
     if reach.least == 0 {

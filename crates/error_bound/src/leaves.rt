@@ -27,7 +27,8 @@ pub fn leaf_bound(block: &Block, bytes: &ByteBox, leaf: &Leaf, out: u8) -> Resul
     requires out_to { out ≤ length block.now.outputs }
     requires pair { IsPairFor block.now out leaf.now }
     ensures holds { OnOk result (Holds block.now bytes.now.0.items out leaf.now) }
-    ensures bound { IfOk result (λ n. IfSome (output_at block.now out) (λ x. IsBound block.now bytes.now.0.items out x 1 leaf.now n)) }
+    ensures bound { IfOk result (λ n. IfSome (output_at block.now out)
+        (λ x. IsBound block.now bytes.now.0.items out x 1 leaf.now n)) }
     ensures fault { IfErr result (HasLeafFault block.now bytes.now.0.items out leaf.now) }
 {
     BoxTable::new(block, bytes.copied()).bound(block, leaf, out, 1)
@@ -41,7 +42,8 @@ pub fn leaf_bound16(block: &Block, bytes: &ByteBox, leaf: &Leaf, out: u8) -> Res
     requires out_to { out ≤ length block.now.outputs }
     requires pair { IsPairFor block.now out leaf.now }
     ensures holds { OnOk result (Holds block.now bytes.now.0.items out leaf.now) }
-    ensures bound { IfOk result (λ n. IfSome (output_at block.now out) (λ x. IsBound block.now bytes.now.0.items out x 256 leaf.now n)) }
+    ensures bound { IfOk result (λ n. IfSome (output_at block.now out)
+        (λ x. IsBound block.now bytes.now.0.items out x 256 leaf.now n)) }
     ensures fault { IfErr result (HasLeafFault block.now bytes.now.0.items out leaf.now) }
 {
     BoxTable::new(block, bytes.copied()).bound(block, leaf, out, 256)
@@ -59,7 +61,8 @@ impl BoxTable {
         requires parts_from { 1 ≤ parts }
         requires parts_to { parts ≤ 256 }
         ensures holds { OnOk result (Holds block.now self.now.bytes.0.items out leaf.now) }
-        ensures bound { IfOk result (λ n. IfSome (output_at block.now out) (λ x. IsBound block.now self.now.bytes.0.items out x parts leaf.now n)) }
+        ensures bound { IfOk result (λ n. IfSome (output_at block.now out)
+            (λ x. IsBound block.now self.now.bytes.0.items out x parts leaf.now n)) }
         ensures fault { IfErr result (HasLeafFault block.now self.now.bytes.0.items out leaf.now) }
     {
         let output = &block.outputs.as_slice()[out as usize - 1];
@@ -80,7 +83,9 @@ impl BoxTable {
     pub(crate) fn silent_fault(&self, block: &Block, out: u8) -> Option<LeafFault>
         requires block { IsValid block.now }
         requires table { IsTable block.now self.now }
-        ensures still { IfNone result (All (λ r. (t : ℕ) → IsTrue (concludes_it r out t) → IsStill block.now self.now.bytes.0.items r) block.now.rules) }
+        ensures still { IfNone result (All
+            (λ r. (t : ℕ) → IsTrue (concludes_it r out t)
+            → IsStill block.now self.now.bytes.0.items r) block.now.rules) }
         ensures fault { IfSome result (HasLeafFault block.now self.now.bytes.0.items out (record { rule = 0; k = 0 })) }
     {
         let rules = block.rules.as_slice();

@@ -97,9 +97,12 @@ pub(crate) fn reach_of(cond: &Cond, block: &Block, terms: &BoxTerms) -> Reach
     requires cond { IsValidCondition block.now (condition_of cond.now) }
     requires block { IsValid block.now }
     requires terms { AreBoxTerms block.now terms.now }
-    ensures value { span_of result.degrees ≡ span (literal_span block.now terms.now.bytes.0.items) (condition_of cond.now) }
-    ensures bytes { byte_span_of result ≡ byte_span (literal_byte_span block.now terms.now.bytes.0.items) (condition_of cond.now) }
-    ensures error { result.error ≡ greatest_literal (term_errors block.now terms.now.bytes.0.items) (condition_of cond.now) }
+    ensures value { span_of result.degrees
+        ≡ span (literal_span block.now terms.now.bytes.0.items) (condition_of cond.now) }
+    ensures bytes { byte_span_of result
+        ≡ byte_span (literal_byte_span block.now terms.now.bytes.0.items) (condition_of cond.now) }
+    ensures error { result.error
+        ≡ greatest_literal (term_errors block.now terms.now.bytes.0.items) (condition_of cond.now) }
     ensures small { IsSmall result }
 {
     parts_are_valid();

@@ -120,7 +120,8 @@ impl BoxTerms {
 fn row_in(kept: Option<&BlockTable>, place: usize, input: &Input, bytes: Interval) -> Row
     requires input { IsValidInput input.now }
     requires order { bytes.from ≤ bytes.to }
-    requires kept { IfSome kept (λ table. (c : TheCells) × (slice_get table.now.inputs.items place ≡ Some c) × AreInputCells input.now all_bytes c) }
+    requires kept { IfSome kept (λ table. (c : TheCells) × (slice_get table.now.inputs.items place ≡ Some c)
+        × AreInputCells input.now all_bytes c) }
     ensures { AreInputReaches input.now bytes result.reaches }
 {
     match kept {

@@ -17,7 +17,8 @@ IsAnswer b h target (Err stop) = StopsAt b h target stop
 -- halving stops alike for blocks that are the same but for where their conditions lie in memory
 abbrev pub SameBlocksStopAlike : Type 0
 SameBlocksStopAlike =
-    (p q : Block) (h target : ℕ) (stop : NotReached) → IsSameBlock p q → StopsAt p h target stop → StopsAt q h target stop
+    (p q : Block) (h target : ℕ) (stop : NotReached) → IsSameBlock p q → StopsAt p h target stop
+    → StopsAt q h target stop
 
 -- a block has at most one answer for a target
 abbrev pub AnswersAreOne : Type 0

@@ -124,7 +124,8 @@ pub record IsValid (b : Block) : Type 0 where
 -- one number for each input, within its range
 pub record AreInputs (b : Block) (xs : List Dec) : Type 0 where
   pub count : length xs ≡ length b.inputs
-  pub within : (k : ℕ) (i : Input) (x : Dec) → slice_get b.inputs k ≡ Some i → slice_get xs k ≡ Some x → IsWithin i.lo i.hi x
+  pub within : (k : ℕ) (i : Input) (x : Dec) → slice_get b.inputs k ≡ Some i → slice_get xs k ≡ Some x
+      → IsWithin i.lo i.hi x
 
 -- each part of a valid AND or OR is valid
 abbrev pub PartsAreValid : Type 0

@@ -23,7 +23,12 @@ hot = record { a = Some (dec (pos 0)); b = dec (pos 2560000); c = dec (pos 25600
 abbrev pub heater : Block
 heater = record {
   inputs = record { lo = dec (pos 0); hi = dec (pos 2560000); terms = cold ∷ hot ∷ [] } ∷ [];
-  outputs = record { lo = dec (pos 0); hi = dec (pos 1000000); singletons = dec (pos 0) ∷ dec (pos 1000000) ∷ []; default = Some (dec (pos 0)) } ∷ [];
+  outputs = record {
+    lo = dec (pos 0);
+    hi = dec (pos 1000000);
+    singletons = dec (pos 0) ∷ dec (pos 1000000) ∷ [];
+    default = Some (dec (pos 0));
+  } ∷ [];
   rules =
       record { cond = Is 1 1; weight = None; concl = (1, 1) ∷ [] } ∷
       record { cond = Is 1 2; weight = None; concl = (1, 2) ∷ [] } ∷ [];
@@ -36,7 +41,12 @@ step_at n = record { a = Some (dec (pos n)); b = dec (pos n); c = dec (pos n); d
 abbrev pub latch : Box (Unit {0}) → Block
 latch p = record {
   inputs = record { lo = dec (pos 0); hi = dec (pos 2560000); terms = step_at 640000 ∷ step_at 1920000 ∷ [] } ∷ [];
-  outputs = record { lo = dec (pos 0); hi = dec (pos 1000000); singletons = dec (pos 0) ∷ dec (pos 1000000) ∷ []; default = None } ∷ [];
+  outputs = record {
+    lo = dec (pos 0);
+    hi = dec (pos 1000000);
+    singletons = dec (pos 0) ∷ dec (pos 1000000) ∷ [];
+    default = None;
+  } ∷ [];
   rules =
       record { cond = Not' p (Is 1 1); weight = None; concl = (1, 2) ∷ [] } ∷
       record { cond = Is 1 2; weight = None; concl = (1, 1) ∷ [] } ∷ [];
@@ -48,19 +58,33 @@ nots p zero c = c
 nots p (suc n) c = Not' p (nots p n c)
 
 abbrev pub full_term : Trapezoid
-full_term = record { a = Some (dec (neg_ℤ (pos 1000000000))); b = dec (pos 0); c = dec (pos 0); d = Some (dec (pos 1000000000)) }
+full_term = record {
+  a = Some (dec (neg_ℤ (pos 1000000000)));
+  b = dec (pos 0);
+  c = dec (pos 0);
+  d = Some (dec (pos 1000000000));
+}
 
 abbrev pub full_input : Input
 full_input = record { lo = dec (neg_ℤ (pos 1000000000)); hi = dec (pos 1000000000); terms = replicate 15 full_term }
 
 abbrev pub full_output : Output
-full_output = record { lo = dec (pos 1000000000); hi = dec (pos 1000010000); singletons = replicate 15 (dec (pos 1000000000)); default = Some (dec (pos 1000000000)) }
+full_output = record {
+  lo = dec (pos 1000000000);
+  hi = dec (pos 1000010000);
+  singletons = replicate 15 (dec (pos 1000000000));
+  default = Some (dec (pos 1000000000));
+}
 
 unfoldable pub full_rule : Box (Unit {0}) → Rule
 full_rule p = record { cond = nots p 255 (Is 8 15); weight = Some (dec (pos 10000)); concl = replicate 3840 (4, 15) }
 
 abbrev pub full : Box (Unit {0}) → Block
-full p = record { inputs = replicate 8 full_input; outputs = replicate 4 full_output; rules = replicate 256 (full_rule p) }
+full p = record {
+  inputs = replicate 8 full_input;
+  outputs = replicate 4 full_output;
+  rules = replicate 256 (full_rule p);
+}
 
 abbrev pub ExamplesAreValid : Type 0
 ExamplesAreValid = IsValid heater × ((p : Box (Unit {0})) → IsValid (latch p) × IsValid (full p))

@@ -14,7 +14,8 @@ use Rattle.fuzzy_meaning.specs.Rules.{concludes}
 
 -- the degree of term t of input i where the inputs are xs
 abbrev pub literal_degree : Block → List Dec → ℕ → ℕ → Fraction
-literal_degree b xs i t = option_map_or (λ term. option_map_or (degree term) (slice_get xs (i - 1)) none) (term_at b i t) none
+literal_degree b xs i t =
+    option_map_or (λ term. option_map_or (degree term) (slice_get xs (i - 1)) none) (term_at b i t) none
 
 -- the truth of a condition where d gives the degrees
 abbrev mutual
@@ -44,7 +45,8 @@ strength b xs r = times (truth (literal_degree b xs) (condition_of r.cond)) (wei
 -- the greatest strength of those of the rules that conclude term t of output o, or 0
 abbrev pub mass_among : Block → List Dec → ℕ → ℕ → List Rule → Fraction
 mass_among b xs o t [] = none
-mass_among b xs o t (r ∷ rs) = if concludes r o t then greater (strength b xs r) (mass_among b xs o t rs) else mass_among b xs o t rs
+mass_among b xs o t (r ∷ rs) =
+    if concludes r o t then greater (strength b xs r) (mass_among b xs o t rs) else mass_among b xs o t rs
 
 abbrev pub mass : Block → List Dec → ℕ → ℕ → Fraction
 mass b xs o t = mass_among b xs o t b.rules
@@ -82,7 +84,8 @@ quotient_of x = record { num = x.0; den = 10000 }
 
 -- the singletons weighted by their masses, or what stands in for it where there is no mass
 abbrev pub centre : List Share → Quotient → Quotient
-centre ss otherwise = if total_mass ss == 0 then otherwise else record { num = weighted_sum ss; den = total_mass ss * 10000 }
+centre ss otherwise =
+    if total_mass ss == 0 then otherwise else record { num = weighted_sum ss; den = total_mass ss * 10000 }
 
 -- the DEFAULT, or with NC the answer before
 abbrev pub resting : Output → Quotient → Quotient

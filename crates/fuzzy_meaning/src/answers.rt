@@ -29,7 +29,8 @@ impl Held {
     fn with(self, term: Heavy) -> Option<Held>
         requires held { AreSmall self }
         requires term { IsSmall term }
-        ensures terms { MatchOption result (length (shares_of self) ≡ 2) (λ h. shares_of h ≡ share_of term ∷ shares_of self) }
+        ensures terms { MatchOption result (length (shares_of self) ≡ 2)
+            (λ h. shares_of h ≡ share_of term ∷ shares_of self) }
         ensures small { IfSome result AreSmall }
     {
         match self {
@@ -101,7 +102,8 @@ pub fn exact(block: &Block, out: u8, xs: &[Dec], before: Frac) -> Option<Frac>
     requires xs { AreInputs block.now xs.now }
     requires before { pos 0 <ℤ before.den }
     ensures none { (result ≡ None) ↔ (2 < heavy_terms block.now out xs.now) }
-    ensures answer { IfSome result (λ f. (q : Quotient) → IsValueOf q before → IsValueOf (answer_after block.now out q xs.now) f) }
+    ensures answer { IfSome result (λ f. (q : Quotient) → IsValueOf q before
+        → IsValueOf (answer_after block.now out q xs.now) f) }
 {
     let output = &block.outputs.as_slice()[out as usize - 1];
     let held = held_terms(block, out, output, xs)?;
@@ -130,7 +132,8 @@ fn held_terms(block: &Block, out: u8, output: &Output, xs: &[Dec]) -> Option<Hel
     requires out_from { 1 ≤ out }
     requires output { output_at block.now out ≡ Some output.now }
     requires xs { AreInputs block.now xs.now }
-    ensures terms { MatchOption result (2 < length (heavy_shares (shares block.now xs.now out output.now))) (λ h. shares_of h ≡ heavy_shares (shares block.now xs.now out output.now)) }
+    ensures terms { MatchOption result (2 < length (heavy_shares (shares block.now xs.now out output.now)))
+        (λ h. shares_of h ≡ heavy_shares (shares block.now xs.now out output.now)) }
     ensures sums { IfSome result (λ h. Reduces (shares block.now xs.now out output.now) (shares_of h)) }
     ensures small { IfSome result AreSmall }
 {

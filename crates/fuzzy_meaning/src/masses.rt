@@ -19,7 +19,8 @@ pub fn strength(block: &Block, rule: u16, xs: &[Dec]) -> Frac
     requires rule_to { rule ≤ length block.now.rules }
     requires block { IsValid block.now }
     requires xs { AreInputs block.now xs.now }
-    ensures value { option_map (strength_of_rule block.now xs.now) (slice_get block.now.rules (rule - 1)) ≡ Some (fraction_of result) }
+    ensures value { option_map (strength_of_rule block.now xs.now) (slice_get block.now.rules (rule - 1))
+        ≡ Some (fraction_of result) }
     ensures truth { IsTruth 40000000000000 result }
 {
     strength_of(&block.rules.as_slice()[rule as usize - 1], block, xs)

@@ -31,7 +31,9 @@ without_sign (c ∷ cs) = if c == 43 || c == 45 then cs else c ∷ cs
 
 -- digits, and where a point follows, digits after it
 abbrev pub is_numeral : List ℕ → Bool
-is_numeral cs = are_digits (before_first is_point cs) && (nat_le (length cs) (position_or_len is_point cs) || are_digits (after_first is_point cs))
+is_numeral cs =
+    are_digits (before_first is_point cs)
+    && (nat_le (length cs) (position_or_len is_point cs) || are_digits (after_first is_point cs))
 
 -- no place past the fourth but 0
 abbrev pub has_four_places : List ℕ → Bool
@@ -59,4 +61,7 @@ signed negative n = if negative then neg_ℤ (pos n) else pos n
 abbrev pub decimal : List ℕ → Result Dec DecFault
 decimal bytes =
     let cs = without_sign bytes in
-    if not (is_numeral cs) then Err Shape else (if not (has_four_places cs) then Err Places else (if nat_lt 1000000000 (magnitude cs) then Err Large else Ok (record { 0 = signed (is_negative bytes) (magnitude cs) })))
+    if not (is_numeral cs) then Err Shape
+    else (if not (has_four_places cs) then Err Places
+    else (if nat_lt 1000000000 (magnitude cs) then Err Large
+    else Ok (record { 0 = signed (is_negative bytes) (magnitude cs) })))

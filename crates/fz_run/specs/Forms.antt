@@ -31,7 +31,8 @@ answers_at wide (suc n) at mem = answer_at wide at mem ∷ answers_at wide n (pl
 abbrev pub answers_in : Firmware → State → List ℕ
 answers_in f s = answers_at f.wide f.outputs f.layout.outputs s.mem
 
--- A run of a firmware that stands alone ends where the firmware waits with READY 0. Requests have a moment and a handler.
+-- A run of a firmware that stands alone ends where the firmware waits with READY 0. Requests have a moment and a
+-- handler.
 abbrev pub stand_alone : {A : Type 0} → ℕ → Firmware → (A → ℕ) → (A → State → State) → Form (List ℕ) A (Unit {0})
 stand_alone flags f moment handle = record {
   flags = flags;

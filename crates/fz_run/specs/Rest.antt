@@ -31,20 +31,44 @@ pub record Brief : Type 0 where
   pub frames : List (ℕ × FrameSeen)
 
 abbrev pub brief : {A B : Type 0} → Ran A B → Brief
-brief r = record { arrived = r.arrived; state = r.state; instrs = r.instrs; steps = r.steps; resumed = r.resumed; frames = r.frames }
+brief r = record {
+  arrived = r.arrived;
+  state = r.state;
+  instrs = r.instrs;
+  steps = r.steps;
+  resumed = r.resumed;
+  frames = r.frames;
+}
 
 -- what was counted before, and the rest
 abbrev pub after : ℕ → ℕ → ℕ → List (ℕ × FrameSeen) → Brief → Brief
-after instrs steps resumed frames r = record { arrived = r.arrived; state = r.state; instrs = instrs + r.instrs; steps = steps + r.steps; resumed = resumed + r.resumed; frames = frames ++ r.frames }
+after instrs steps resumed frames r = record {
+  arrived = r.arrived;
+  state = r.state;
+  instrs = instrs + r.instrs;
+  steps = steps + r.steps;
+  resumed = resumed + r.resumed;
+  frames = frames ++ r.frames;
+}
 
 -- the rest of a run, with what was counted before it
-abbrev pub rest_of : {S A B : Type 0} → Form S A B → ℕ → ℕ → Bool → List A → State → ℕ → ℕ → ℕ → List (ℕ × FrameSeen) → Brief
-rest_of g n m inside qs s instrs steps resumed frames = after instrs steps resumed frames (brief (run_from g n m inside qs s))
+abbrev pub rest_of : {S A B : Type 0} → Form S A B → ℕ → ℕ → Bool → List A → State → ℕ → ℕ → ℕ → List (ℕ × FrameSeen)
+    → Brief
+rest_of g n m inside qs s instrs steps resumed frames =
+    after instrs steps resumed frames (brief (run_from g n m inside qs s))
 
 -- the same of a tally
 abbrev pub rest_at : {S A B : Type 0} → Form S A B → ℕ → List A → Tally → State → Brief
-rest_at g n qs t s = rest_of g n t.moment t.inside (drop t.next qs) s t.instrs t.moment t.resumed (frames_seen t.frames.items)
+rest_at g n qs t s =
+    rest_of g n t.moment t.inside (drop t.next qs) s t.instrs t.moment t.resumed (frames_seen t.frames.items)
 
 -- what a tally says at the end
 abbrev pub counted_at : Tally → State → Brief
-counted_at t s = record { arrived = t.arrived; state = s; instrs = t.instrs; steps = t.moment; resumed = t.resumed; frames = frames_seen t.frames.items }
+counted_at t s = record {
+  arrived = t.arrived;
+  state = s;
+  instrs = t.instrs;
+  steps = t.moment;
+  resumed = t.resumed;
+  frames = frames_seen t.frames.items;
+}

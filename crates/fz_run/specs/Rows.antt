@@ -27,7 +27,14 @@ frames_seen fs = map boundary_seen fs
 
 -- a row of the code, as it is seen
 abbrev pub row_seen : declared.Row → RowSeen (List ℕ)
-row_seen r = record { sample = r.bytes.items; answers = r.answers.items; instrs = r.instrs; steps = r.steps; resumed = r.resumed; frames = frames_seen r.frames }
+row_seen r = record {
+  sample = r.bytes.items;
+  answers = r.answers.items;
+  instrs = r.instrs;
+  steps = r.steps;
+  resumed = r.resumed;
+  frames = frames_seen r.frames;
+}
 
 abbrev pub then_arrival : State → (State → State) → Result Next ℕ → State
 then_arrival s rest (Ok next) = rest next.state
@@ -47,4 +54,5 @@ input_bytes s = s.bytes.items
 
 -- the run of a firmware over a list of samples, each given by its input bytes, under a plan
 abbrev pub firmware_rows : Firmware → List (List ℕ) → List Request → ℕ → Rows (List ℕ) Request (Unit {0})
-firmware_rows f samples plan flags = rows_from (with_writes flags f) f.step_bound (λ k. requests_of k plan) 1 samples (first_state f flags)
+firmware_rows f samples plan flags =
+    rows_from (with_writes flags f) f.step_bound (λ k. requests_of k plan) 1 samples (first_state f flags)

@@ -18,7 +18,8 @@ pub record HasRoom (requests : List Request) (room : Vec (ℕ × Frame) Global) 
 abbrev pub HaveRoom : ℕ → ℕ → List Request → List (Vec (ℕ × Frame) Global) → Type 0
 HaveRoom k zero plan rooms = rooms ≡ []
 HaveRoom k (suc n) plan [] = ⊥
-HaveRoom k (suc n) plan (room ∷ rooms) = HasRoom (requests_first k plan) room × HaveRoom (suc k) n (drop (length (requests_first k plan)) plan) rooms
+HaveRoom k (suc n) plan (room ∷ rooms) =
+    HasRoom (requests_first k plan) room × HaveRoom (suc k) n (drop (length (requests_first k plan)) plan) rooms
 
 -- the requests that are left after n samples from number k on
 abbrev pub requests_after : ℕ → ℕ → List Request → List Request

@@ -35,15 +35,20 @@ pub(crate) fn come<M: Mem, H: Handler<Request>>(
     st: &mut Stand,
 )
     requires on { (st.old.over ≡ false) × (st.old.tally.arrived ≡ false) }
-    requires room { vec_len st.old.tally.frames + (length requests.now - st.old.tally.next) ≤ vec_capacity st.old.tally.frames }
+    requires room { vec_len st.old.tally.frames + (length requests.now - st.old.tally.next)
+        ≤ vec_capacity st.old.tally.frames }
     requires counts { (st.old.tally.instrs ≤ st.old.tally.moment) × (st.old.tally.resumed ≤ st.old.tally.moment) }
     requires sum { st.old.tally.moment + st.old.left < 2 ^ 32 }
-    ensures coming { after_takes (stand_alone m.old.flags firmware.now (H.moment h.now) (H.take h.now)) requests.now st.new m.new.state
-        ≡ before_takes (stand_alone m.old.flags firmware.now (H.moment h.now) (H.take h.now)) requests.now st.old m.old.state }
+    ensures coming { after_takes (stand_alone m.old.flags firmware.now (H.moment h.now)
+        (H.take h.now)) requests.now st.new m.new.state
+        ≡ before_takes (stand_alone m.old.flags firmware.now (H.moment h.now)
+        (H.take h.now)) requests.now st.old m.old.state }
     ensures moment { st.new.tally.moment ≡ st.old.tally.moment }
-    ensures room { vec_len st.new.tally.frames + (length requests.now - st.new.tally.next) ≤ vec_capacity st.new.tally.frames }
+    ensures room { vec_len st.new.tally.frames + (length requests.now - st.new.tally.next)
+        ≤ vec_capacity st.new.tally.frames }
     ensures counts { (st.new.tally.instrs ≤ st.new.tally.moment) × (st.new.tally.resumed ≤ st.new.tally.moment + 1) }
-    ensures on { st.new.over ≡ false → (st.new.tally.arrived ≡ false) × (st.new.tally.moment + st.new.left + 1 < 2 ^ 32) }
+    ensures on { st.new.over ≡ false → (st.new.tally.arrived ≡ false)
+        × (st.new.tally.moment + st.new.left + 1 < 2 ^ 32) }
     ensures flags { m.new.flags ≡ m.old.flags }
 {
     if is_idle(&firmware.layout, m) {
@@ -67,10 +72,20 @@ pub(crate) fn come<M: Mem, H: Handler<Request>>(
 pub(crate) fn step_on<M: Mem>(m: &mut Machine<M>, st: &mut Stand) -> bool
     requires on { st.old.over ≡ false }
     requires counts { (st.old.tally.instrs ≤ st.old.tally.moment) × (st.old.tally.moment + 1 < 2 ^ 32) }
-    ensures goes { result ≡ true → (g : PlanForm) (qs : List Asked) → g.flags ≡ m.old.flags → after_takes g qs st.old m.old.state ≡ after_state m.old.state (before_takes g qs st.new m.new.state) }
-    ensures stuck { result ≡ false → (g : PlanForm) (qs : List Asked) → g.flags ≡ m.old.flags → after_takes g qs st.old m.old.state ≡ at_end st.old.tally m.old.state }
+    ensures goes { result ≡ true → (g : PlanForm) (qs : List Asked) → g.flags ≡ m.old.flags
+        → after_takes g qs st.old m.old.state ≡ after_state m.old.state (before_takes g qs st.new m.new.state) }
+    ensures stuck { result ≡ false → (g : PlanForm) (qs : List Asked) → g.flags ≡ m.old.flags
+        → after_takes g qs st.old m.old.state ≡ at_end st.old.tally m.old.state }
     ensures same { result ≡ false → (st.new ≡ st.old) × (m.new ≡ m.old) }
-    ensures rest { result ≡ true → st.new ≡ record st.old { tally = record (st.old.tally) { moment = st.old.tally.moment + 1; inside = st.new.tally.inside; instrs = st.new.tally.instrs } } }
+    ensures rest { result ≡ true
+        → st.new
+        ≡ record st.old {
+          tally = record (st.old.tally) {
+            moment = st.old.tally.moment + 1;
+            inside = st.new.tally.inside;
+            instrs = st.new.tally.instrs;
+          };
+        } }
     ensures counts { result ≡ true → st.new.tally.instrs ≤ st.new.tally.moment }
     ensures flags { m.new.flags ≡ m.old.flags }
 {
@@ -95,9 +110,12 @@ pub(crate) fn pass<M: Mem, H: Handler<Request>>(
     st: &mut Stand,
 ) -> bool
     requires steady { IsSteady requests.now st.old }
-    ensures goes { result ≡ true → after_takes (stand_alone m.old.flags firmware.now (H.moment h.now) (H.take h.now)) requests.now st.old m.old.state
-        ≡ after_state m.old.state (after_takes (stand_alone m.old.flags firmware.now (H.moment h.now) (H.take h.now)) requests.now st.new m.new.state) }
-    ensures ends { result ≡ false → after_takes (stand_alone m.old.flags firmware.now (H.moment h.now) (H.take h.now)) requests.now st.old m.old.state ≡ at_end st.old.tally m.old.state }
+    ensures goes { result ≡ true → after_takes (stand_alone m.old.flags firmware.now (H.moment h.now)
+        (H.take h.now)) requests.now st.old m.old.state
+        ≡ after_state m.old.state (after_takes (stand_alone m.old.flags firmware.now (H.moment h.now)
+        (H.take h.now)) requests.now st.new m.new.state) }
+    ensures ends { result ≡ false → after_takes (stand_alone m.old.flags firmware.now (H.moment h.now)
+        (H.take h.now)) requests.now st.old m.old.state ≡ at_end st.old.tally m.old.state }
     ensures same { result ≡ false → (st.new ≡ st.old) × (m.new ≡ m.old) }
     ensures moment { result ≡ true → st.new.tally.moment ≡ st.old.tally.moment + 1 }
     ensures steady { IsSteady requests.now st.new }

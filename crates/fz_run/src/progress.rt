@@ -47,7 +47,15 @@ pub struct Progress {
 
 /// Before the first boundary of a sample that may take `budget` steps.
 fn fresh_stand(budget: u32, frames: Vec<(u32, Frame)>) -> Stand
-    ensures tally { result.tally ≡ record { arrived = false; moment = 0; inside = false; next = 0; instrs = 0; resumed = 0; frames = frames } }
+    ensures tally { result.tally ≡ record {
+      arrived = false;
+      moment = 0;
+      inside = false;
+      next = 0;
+      instrs = 0;
+      resumed = 0;
+      frames = frames;
+    } }
     ensures left { result.left ≡ budget }
     ensures on { result.over ≡ false }
     ensures sum { result.tally.moment + result.left < 2 ^ 32 }
@@ -80,7 +88,10 @@ fn put_row<M: Mem>(
     requires outputs { firmware.now.outputs ≤ 4 }
     requires len { vec_len rows.old ≡ number - 1 }
     requires room { number ≤ vec_capacity rows.old }
-    ensures rows { (flags : ℕ) → map row_seen rows.new.items ≡ with_row number (map row_seen rows.old.items) (row_by (with_writes flags firmware.now) bytes.now.items (counted_at tally m.now.state)) }
+    ensures rows { (flags : ℕ)
+        → map row_seen rows.new.items
+        ≡ with_row number (map row_seen rows.old.items)
+        (row_by (with_writes flags firmware.now) bytes.now.items (counted_at tally m.now.state)) }
     ensures len { vec_len rows.new ≡ number }
     ensures room { vec_capacity rows.old ≤ vec_capacity rows.new }
 {
@@ -110,7 +121,9 @@ fn give_next<M: Mem>(
     requires way { IsUnderWay firmware.now samples.now plan.now p.old }
     requires left { p.old.number < length samples.now }
     ensures outlook { from_here (outlook_at m.old.flags firmware.now samples.now plan.now p.new m.new.state)
-        ≡ ahead (with_writes m.old.flags firmware.now) firmware.now.step_bound (p.old.number + 1) (drop p.old.behind plan.now) (map input_bytes (drop p.old.number samples.now)) (rows_here m.old.flags firmware.now p.old m.old.state) m.old.state }
+        ≡ ahead (with_writes m.old.flags firmware.now) firmware.now.step_bound (p.old.number + 1)
+        (drop p.old.behind plan.now) (map input_bytes (drop p.old.number samples.now))
+        (rows_here m.old.flags firmware.now p.old m.old.state) m.old.state }
     ensures way { IsUnderWay firmware.now samples.now plan.now p.new }
     ensures flags { m.new.flags ≡ m.old.flags }
 {
@@ -144,9 +157,15 @@ pub(crate) fn advance<M: Mem>(
 ) -> bool
     requires way { IsUnderWay firmware.now samples.now plan.now p.old }
     ensures goes { result ≡ true → outlook_at m.old.flags firmware.now samples.now plan.now p.old m.old.state
-        ≡ at_position (record { sample = p.old.number; moment = p.old.stand.tally.moment; state = m.old.state }) (from_here (outlook_at m.old.flags firmware.now samples.now plan.now p.new m.new.state)) }
+        ≡ at_position (record { sample = p.old.number; moment = p.old.stand.tally.moment; state = m.old.state })
+        (from_here (outlook_at m.old.flags firmware.now samples.now plan.now p.new m.new.state)) }
     ensures ends { result ≡ false → outlook_at m.old.flags firmware.now samples.now plan.now p.old m.old.state
-        ≡ record { here = record { sample = p.old.number; moment = p.old.stand.tally.moment; state = m.old.state }; later = []; rows = rows_here m.old.flags firmware.now p.old m.old.state; state = m.old.state } }
+        ≡ record {
+          here = record { sample = p.old.number; moment = p.old.stand.tally.moment; state = m.old.state };
+          later = [];
+          rows = rows_here m.old.flags firmware.now p.old m.old.state;
+          state = m.old.state;
+        } }
     ensures same { result ≡ false → (p.new ≡ p.old) × (m.new ≡ m.old) }
     ensures way { IsUnderWay firmware.now samples.now plan.now p.new }
     ensures flags { m.new.flags ≡ m.old.flags }
@@ -182,7 +201,8 @@ pub(crate) fn before_samples(
     requires none { rows.items ≡ [] }
     requires room { length samples.now ≤ vec_capacity rows }
     ensures outlook { (flags : ℕ) (s : State) → outlook_at flags firmware.now samples.now plan.now result s
-        ≡ at_position (record { sample = 0; moment = 0; state = s }) (ahead (with_writes flags firmware.now) firmware.now.step_bound 1 plan.now (map input_bytes samples.now) [] s) }
+        ≡ at_position (record { sample = 0; moment = 0; state = s })
+        (ahead (with_writes flags firmware.now) firmware.now.step_bound 1 plan.now (map input_bytes samples.now) [] s) }
     ensures way { IsUnderWay firmware.now samples.now plan.now result }
 {
     let mut stand = fresh_stand(0, Vec::new(alloc));
@@ -208,9 +228,11 @@ pub(crate) fn begin<M: Mem>(
 )
     requires way { IsUnderWay firmware.now samples.now plan.now p.old }
     requires before { outlook_at m.old.flags firmware.now samples.now plan.now p.old m.old.state
-        ≡ at_position (record { sample = 0; moment = 0; state = m.old.state }) (ahead (with_writes m.old.flags firmware.now) firmware.now.step_bound 1 plan.now (map input_bytes samples.now) [] m.old.state) }
+        ≡ at_position (record { sample = 0; moment = 0; state = m.old.state })
+        (ahead (with_writes m.old.flags firmware.now) firmware.now.step_bound 1 plan.now (map input_bytes samples.now) [] m.old.state) }
     ensures first { from_here (outlook_at m.old.flags firmware.now samples.now plan.now p.new m.new.state)
-        ≡ of_run m.old.state (rows_from (with_writes m.old.flags firmware.now) firmware.now.step_bound (λ k. requests_of k plan.now) 1 (map input_bytes samples.now) m.old.state) }
+        ≡ of_run m.old.state (rows_from (with_writes m.old.flags firmware.now) firmware.now.step_bound
+        (λ k. requests_of k plan.now) 1 (map input_bytes samples.now) m.old.state) }
     ensures way { IsUnderWay firmware.now samples.now plan.now p.new }
     ensures flags { m.new.flags ≡ m.old.flags }
 {
@@ -226,7 +248,8 @@ pub(crate) fn drive<M: Mem>(
     p: &mut Progress,
 )
     requires way { IsUnderWay firmware.now samples.now plan.now p.old }
-    ensures rows { rows_here m.old.flags firmware.now p.new m.new.state ≡ (outlook_at m.old.flags firmware.now samples.now plan.now p.old m.old.state).rows }
+    ensures rows { rows_here m.old.flags firmware.now p.new m.new.state
+        ≡ (outlook_at m.old.flags firmware.now samples.now plan.now p.old m.old.state).rows }
     ensures state { m.new.state ≡ (outlook_at m.old.flags firmware.now samples.now plan.now p.old m.old.state).state }
     ensures way { IsUnderWay firmware.now samples.now plan.now p.new }
 {

@@ -51,9 +51,12 @@ pub fn run_on<M: Mem>(
 ) -> Result<(Vec<Row>, M), Memory>
     requires outputs { firmware.now.outputs ≤ 4 }
     requires plan { IsGood plan.now }
-    ensures rows { IfOk result (λ r. map row_seen r.0.items ≡ (firmware_rows firmware.now (map input_bytes samples.now) plan.now flags).rows) }
-    ensures answers { IfOk result (λ r. AnswersItsBlock firmware.now flags (map input_bytes samples.now) plan.now (map row_seen r.0.items)) }
-    ensures memory { IfOk result (λ r. M.bytes r.1 ≡ (firmware_rows firmware.now (map input_bytes samples.now) plan.now flags).state.mem) }
+    ensures rows { IfOk result (λ r. map row_seen r.0.items
+        ≡ (firmware_rows firmware.now (map input_bytes samples.now) plan.now flags).rows) }
+    ensures answers { IfOk result
+        (λ r. AnswersItsBlock firmware.now flags (map input_bytes samples.now) plan.now (map row_seen r.0.items)) }
+    ensures memory { IfOk result
+        (λ r. M.bytes r.1 ≡ (firmware_rows firmware.now (map input_bytes samples.now) plan.now flags).state.mem) }
 {
     answers_under_plans();
     let session = Session::new(alloc, firmware, samples, plan, flags)?;
@@ -70,8 +73,10 @@ pub fn run(
 ) -> Result<Vec<Row>, Memory>
     requires outputs { firmware.now.outputs ≤ 4 }
     requires plan { IsGood plan.now }
-    ensures rows { IfOk result (λ rows. map row_seen rows.items ≡ (firmware_rows firmware.now (map input_bytes samples.now) plan.now flags).rows) }
-    ensures answers { IfOk result (λ rows. AnswersItsBlock firmware.now flags (map input_bytes samples.now) plan.now (map row_seen rows.items)) }
+    ensures rows { IfOk result (λ rows. map row_seen rows.items
+        ≡ (firmware_rows firmware.now (map input_bytes samples.now) plan.now flags).rows) }
+    ensures answers { IfOk result
+        (λ rows. AnswersItsBlock firmware.now flags (map input_bytes samples.now) plan.now (map row_seen rows.items)) }
 {
     let (rows, _memory): (Vec<Row>, PageMem) = run_on(alloc, firmware, samples, plan, flags)?;
     Ok(rows)

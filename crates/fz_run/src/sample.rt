@@ -92,8 +92,12 @@ fn take_next<M: Mem, R, H: Handler<R>>(
 )
     requires due { is_due (H.moment h.now) t.old.moment (drop t.old.next requests.now) m.old.state ≡ true }
     requires room { vec_len t.old.frames < vec_capacity t.old.frames }
-    ensures takes { with_frames (frames_seen t.old.frames.items) (takes (stand_alone m.old.flags firmware.now (H.moment h.now) (H.take h.now)) t.old.moment (drop t.old.next requests.now) m.old.state)
-        ≡ with_frames (frames_seen t.new.frames.items) (takes (stand_alone m.old.flags firmware.now (H.moment h.now) (H.take h.now)) t.old.moment (drop t.new.next requests.now) m.new.state) }
+    ensures takes { with_frames (frames_seen t.old.frames.items)
+        (takes (stand_alone m.old.flags firmware.now (H.moment h.now)
+        (H.take h.now)) t.old.moment (drop t.old.next requests.now) m.old.state)
+        ≡ with_frames (frames_seen t.new.frames.items)
+        (takes (stand_alone m.old.flags firmware.now (H.moment h.now)
+        (H.take h.now)) t.old.moment (drop t.new.next requests.now) m.new.state) }
     ensures next { t.new.next ≡ t.old.next + 1 }
     ensures len { vec_len t.new.frames ≡ vec_len t.old.frames + 1 }
     ensures capacity { vec_capacity t.old.frames ≤ vec_capacity t.new.frames }
@@ -115,7 +119,9 @@ pub(crate) fn take_due<M: Mem, R, H: Handler<R>>(
     t: &mut Tally,
 )
     requires room { vec_len t.old.frames + (length requests.now - t.old.next) ≤ vec_capacity t.old.frames }
-    ensures takes { with_frames (frames_seen t.old.frames.items) (takes (stand_alone m.old.flags firmware.now (H.moment h.now) (H.take h.now)) t.old.moment (drop t.old.next requests.now) m.old.state)
+    ensures takes { with_frames (frames_seen t.old.frames.items)
+        (takes (stand_alone m.old.flags firmware.now (H.moment h.now)
+        (H.take h.now)) t.old.moment (drop t.old.next requests.now) m.old.state)
         ≡ record { state = m.new.state; frames = frames_seen t.new.frames.items; left = drop t.new.next requests.now } }
     ensures room { vec_len t.new.frames + (length requests.now - t.new.next) ≤ vec_capacity t.new.frames }
     ensures rest { t.new ≡ record t.old { next = t.new.next; frames = t.new.frames } }

@@ -50,7 +50,8 @@ impl<'a, M: Mem> Session<'a, M> {
     ) -> Result<Session<'a, M>, Memory>
         requires outputs { firmware.now.outputs ≤ 4 }
         requires plan { IsGood plan.now }
-        ensures { IfOk result (λ s. from_here s ≡ of_run (first_state firmware.now flags) (firmware_rows firmware.now (map input_bytes samples.now) plan.now flags)) }
+        ensures { IfOk result (λ s. from_here s ≡ of_run (first_state firmware.now flags)
+            (firmware_rows firmware.now (map input_bytes samples.now) plan.now flags)) }
     {
         let rooms = make_rooms(alloc, samples.len(), plan.as_slice())?;
         let Ok(rows) = Vec::with_capacity(alloc, samples.len()) else {

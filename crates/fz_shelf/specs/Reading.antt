@@ -22,11 +22,14 @@ ReadTells file (Err error.Memory) bytes = Unit {0}
 -- the counts after a read: each fault raises its own
 abbrev pub ReadCounts : Counts → Counts → Result Unit ReadError → Type 0
 ReadCounts old new (Ok u) = new ≡ old
-ReadCounts old new (Err error.Failed) = (new ≡ record old { reads = new.reads }) × (old.reads ≤ new.reads) × Rose old.reads new.reads
-ReadCounts old new (Err error.TooLong) = (new ≡ record old { longs = new.longs }) × (old.longs ≤ new.longs) × Rose old.longs new.longs
+ReadCounts old new (Err error.Failed) =
+    (new ≡ record old { reads = new.reads }) × (old.reads ≤ new.reads) × Rose old.reads new.reads
+ReadCounts old new (Err error.TooLong) =
+    (new ≡ record old { longs = new.longs }) × (old.longs ≤ new.longs) × Rose old.longs new.longs
 ReadCounts old new (Err error.Memory) = new ≡ old
 
 -- the counts after a write
 abbrev pub WriteCounts : {E : Type 0} → Counts → Counts → Result Unit E → Type 0
 WriteCounts old new (Ok u) = new ≡ old
-WriteCounts old new (Err e) = (new ≡ record old { writes = new.writes }) × (old.writes ≤ new.writes) × Rose old.writes new.writes
+WriteCounts old new (Err e) =
+    (new ≡ record old { writes = new.writes }) × (old.writes ≤ new.writes) × Rose old.writes new.writes

@@ -89,11 +89,13 @@ impl MemShelf {
     ) -> Result<MemShelf, Memory>
         ensures files { IfOk result (λ s. ⟦<MemShelf as Shelf>⟧.files s ≡ file_in files) }
         ensures asked { IfOk result (λ s. ⟦<MemShelf as Shelf>⟧.asked s ≡ []) }
-        ensures counts { IfOk result (λ s. ⟦<MemShelf as Shelf>⟧.counts s ≡ record { reads = 0; longs = 0; writes = 0 }) }
+        ensures counts { IfOk result (λ s. ⟦<MemShelf as Shelf>⟧.counts s
+            ≡ record { reads = 0; longs = 0; writes = 0 }) }
         ensures numbers { IfOk result (λ s. (reads_of s ≡ 0) × (writes_of s ≡ 0)) }
         ensures failing_reads { IfOk result (λ s. failing_reads_of s ≡ failing_reads) }
         ensures failing_writes { IfOk result (λ s. failing_writes_of s ≡ failing_writes) }
-        ensures sound { All (λ n. n ≤ 0) failing_reads → All (λ n. n ≤ 0) failing_writes → IfOk result (λ s. ⟦<MemShelf as Shelf>⟧.sound s) }
+        ensures sound { All (λ n. n ≤ 0) failing_reads → All (λ n. n ≤ 0) failing_writes
+            → IfOk result (λ s. ⟦<MemShelf as Shelf>⟧.sound s) }
     {
         let files = match store(alloc, files) {
             Ok(files) => files,
@@ -137,14 +139,18 @@ impl Shelf for MemShelf {
         requires { into.old.items ≡ [] }
         ensures files { ⟦<MemShelf as Shelf>⟧.files self.new ≡ ⟦<MemShelf as Shelf>⟧.files self.old }
         ensures tells { ReadTells (⟦<MemShelf as Shelf>⟧.files self.old name.now) result into.new.items }
-        ensures counts { ReadCounts (⟦<MemShelf as Shelf>⟧.counts self.old) (⟦<MemShelf as Shelf>⟧.counts self.new) result }
-        ensures asked { ⟦<MemShelf as Shelf>⟧.asked self.new ≡ asked_after (⟦<MemShelf as Shelf>⟧.asked self.old) name.now result }
+        ensures counts { ReadCounts (⟦<MemShelf as Shelf>⟧.counts self.old)
+            (⟦<MemShelf as Shelf>⟧.counts self.new) result }
+        ensures asked { ⟦<MemShelf as Shelf>⟧.asked self.new
+            ≡ asked_after (⟦<MemShelf as Shelf>⟧.asked self.old) name.now result }
         ensures sound { ⟦<MemShelf as Shelf>⟧.sound self.old → ⟦<MemShelf as Shelf>⟧.sound self.new }
         ensures steady { ⟦<MemShelf as Shelf>⟧.sound self.old → IsThere (⟦<MemShelf as Shelf>⟧.files self.old name.now)
             → IsErrOf result ReadError.Failed → ⊥ }
 
-        ensures listed { IsListed (failing_reads_of self.old) (reads_of self.old) → IsErrOf result ReadError.Failed ⊎ IsErrOf result ReadError.Memory }
-        ensures unlisted { (IsListed (failing_reads_of self.old) (reads_of self.old) → ⊥) → IsThere (⟦<MemShelf as Shelf>⟧.files self.old name.now)
+        ensures listed { IsListed (failing_reads_of self.old) (reads_of self.old)
+            → IsErrOf result ReadError.Failed ⊎ IsErrOf result ReadError.Memory }
+        ensures unlisted { (IsListed (failing_reads_of self.old) (reads_of self.old) → ⊥)
+            → IsThere (⟦<MemShelf as Shelf>⟧.files self.old name.now)
             → IsErrOf result ReadError.Failed → ⊥ }
         ensures numbered { (IsErrOf result ReadError.Memory → ⊥) → reads_of self.new ≡ one_more (reads_of self.old) }
         ensures orders { AreKept self.old self.new × (writes_of self.new ≡ writes_of self.old) }
@@ -185,11 +191,14 @@ impl Shelf for MemShelf {
     /// of more bytes than its room.
     fn write(&mut self, name: &str, bytes: &[u8]) -> Result<(), Failed>
         ensures written { OnOk result (Written (⟦<MemShelf as Shelf>⟧.files self.old name.now) bytes.now (⟦<MemShelf as Shelf>⟧.files self.new name.now)) }
-        ensures others { (other : List ℕ) → other ≢ name.now → ⟦<MemShelf as Shelf>⟧.files self.new other ≡ ⟦<MemShelf as Shelf>⟧.files self.old other }
-        ensures counts { WriteCounts (⟦<MemShelf as Shelf>⟧.counts self.old) (⟦<MemShelf as Shelf>⟧.counts self.new) result }
+        ensures others { (other : List ℕ) → other ≢ name.now
+            → ⟦<MemShelf as Shelf>⟧.files self.new other ≡ ⟦<MemShelf as Shelf>⟧.files self.old other }
+        ensures counts { WriteCounts (⟦<MemShelf as Shelf>⟧.counts self.old)
+            (⟦<MemShelf as Shelf>⟧.counts self.new) result }
         ensures asked { ⟦<MemShelf as Shelf>⟧.asked self.new ≡ ⟦<MemShelf as Shelf>⟧.asked self.old }
         ensures sound { ⟦<MemShelf as Shelf>⟧.sound self.old → ⟦<MemShelf as Shelf>⟧.sound self.new }
-        ensures steady { ⟦<MemShelf as Shelf>⟧.sound self.old → Fits (⟦<MemShelf as Shelf>⟧.files self.old name.now) (length bytes.now) → IsOk result }
+        ensures steady { ⟦<MemShelf as Shelf>⟧.sound self.old
+            → Fits (⟦<MemShelf as Shelf>⟧.files self.old name.now) (length bytes.now) → IsOk result }
 
         ensures listed { IsListed (failing_writes_of self.old) (writes_of self.old) → IsErr result }
         ensures unlisted { (IsListed (failing_writes_of self.old) (writes_of self.old) → ⊥)

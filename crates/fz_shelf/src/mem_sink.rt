@@ -77,10 +77,12 @@ impl Sink for MemSink {
     fn put(&mut self, bytes: &[u8]) -> Result<usize, Failed>
         ensures part { IfOk result (λ n. IsPart n (length bytes.now)) }
         ensures fits { IfOk result (IsWithinRoom (⟦<MemSink as Sink>⟧.told self.old)) }
-        ensures told { ⟦<MemSink as Sink>⟧.told self.new ≡ after_put (⟦<MemSink as Sink>⟧.told self.old) bytes.now result }
+        ensures told { ⟦<MemSink as Sink>⟧.told self.new
+            ≡ after_put (⟦<MemSink as Sink>⟧.told self.old) bytes.now result }
         ensures cause { HasCause (⟦<MemSink as Sink>⟧.faults self.old) (⟦<MemSink as Sink>⟧.faults self.new) result }
         ensures sound { ⟦<MemSink as Sink>⟧.sound self.old → ⟦<MemSink as Sink>⟧.sound self.new }
-        ensures steady { ⟦<MemSink as Sink>⟧.sound self.old → HasRoom (⟦<MemSink as Sink>⟧.told self.old) (length bytes.now) → IsOk result }
+        ensures steady { ⟦<MemSink as Sink>⟧.sound self.old
+            → HasRoom (⟦<MemSink as Sink>⟧.told self.old) (length bytes.now) → IsOk result }
 
         ensures listed { IsListed (failing_puts_of self.old) (puts_of self.old) → IsErr result }
         ensures over { IfOk result (λ n. IsWithinRoom (⟦<MemSink as Sink>⟧.told self.old) (length bytes.now)) }

@@ -25,7 +25,12 @@ sub_of r = record (new_shape r.word) { rules = map positional (take r.count ids)
 
 -- subcommands alone, one of them required, and no help
 abbrev pub open_top : Shape
-open_top = record (new_shape (codes "fuzz12")) { disable_help_flag = true; disable_help_subcommand = true; subcommand_required = true; is_leaf = false }
+open_top = record (new_shape (codes "fuzz12")) {
+  disable_help_flag = true;
+  disable_help_subcommand = true;
+  subcommand_required = true;
+  is_leaf = false;
+}
 
 abbrev pub app_with : {T : Type 0} → List (Row T) → App
 app_with rows = record { top = open_top; subs = map sub_of rows }

@@ -36,7 +36,8 @@ fn with_positional<'a>(
     id: &'a str,
 ) -> Result<Command<'a>, AllocError>
     ensures app { IfOk result (λ c. app_of c ≡ with_rule (app_of command.entry) (positional id.entry.now)) }
-    ensures local { (fields_of command.entry).has_globals ≡ false → IfOk result (λ c. (fields_of c).has_globals ≡ false) }
+    ensures local { (fields_of command.entry).has_globals ≡ false
+        → IfOk result (λ c. (fields_of c).has_globals ≡ false) }
 {
     command.arg(Arg::new(alloc, id).required(true))
 }
@@ -82,7 +83,8 @@ fn takes_words<'a, T: Copy>(
     requires some { 0 < length rows.now }
     requires few { AreFew (rows_of rows.now) }
     ensures taken { OnOk result (fault_of (app_with (rows_of rows.now)) (map string_bytes words.now) ≡ []) }
-    ensures refused { IsErrOf result Refusal.Usage → fault_of (app_with (rows_of rows.now)) (map string_bytes words.now) ≢ [] }
+    ensures refused { IsErrOf result Refusal.Usage
+        → fault_of (app_with (rows_of rows.now)) (map string_bytes words.now) ≢ [] }
 {
     let command = match command(alloc, rows) {
         Ok(command) => command,
@@ -161,7 +163,8 @@ pub fn command_of<'a, T: Copy>(
     ensures usage { IsErrOf result Refusal.Usage → command_in (rows_of rows.now) (map string_bytes words.now) ≡ None }
 
     // words are of a row exactly where clap takes them
-    ensures clap { (command_in (rows_of rows.now) (map string_bytes words.now) ≡ None) ↔ IsRefused (rows_of rows.now) (map string_bytes words.now) }
+    ensures clap { (command_in (rows_of rows.now) (map string_bytes words.now) ≡ None)
+        ↔ IsRefused (rows_of rows.now) (map string_bytes words.now) }
 {
     if any_after_first(words) {
         return Err(Refusal::Usage);

@@ -22,9 +22,12 @@ Applies is trapped (Trap at) = (trapped ≡ true) × (at ≡ code_end is)
 Applies is trapped (Refused at) = (i : Instr) × (IsAt is at i × (is_allowed i ≡ false))
 Applies is trapped (NotFree at to) = (i : Instr) × (IsAt is at i × IsIn (written_by i) to × (is_free to ≡ false))
 Applies is trapped (Backward at) = (i : Instr) × (IsAt is at i × (GoesForward i → ⊥))
-Applies is trapped (Target at to) = (i : Instr) × (IsAt is at i × IsIn (branches_to at i) to × (IsFirst is trapped to → ⊥))
-Applies is trapped (Height at) = (i : Instr) × (IsAt is at i × (Meets is at ⊎ ((n : ℕ) × (h : ℕ) × (Path is n at h × (FitsHeight i h → ⊥)))))
-Applies is trapped (Falls at) = (i : Instr) × (to : ℕ) × (IsAt is at i × IsIn (falls_to at i) to × (IsFirst is trapped to → ⊥))
+Applies is trapped (Target at to) =
+    (i : Instr) × (IsAt is at i × IsIn (branches_to at i) to × (IsFirst is trapped to → ⊥))
+Applies is trapped (Height at) =
+    (i : Instr) × (IsAt is at i × (Meets is at ⊎ ((n : ℕ) × (h : ℕ) × (Path is n at h × (FitsHeight i h → ⊥)))))
+Applies is trapped (Falls at) =
+    (i : Instr) × (to : ℕ) × (IsAt is at i × IsIn (falls_to at i) to × (IsFirst is trapped to → ⊥))
 Applies is trapped fault = ⊥
 
 abbrev pub place_of : HandlerFault → ℕ

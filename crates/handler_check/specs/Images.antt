@@ -27,7 +27,8 @@ is_trapped image is = is_some (byte_at image (code_end is))
 -- an image has a byte at an address outside $4000 to $4FFF, or behind a gap
 abbrev pub IsOutside : List (ℕ × ℕ) → ℕ → Type 0
 IsOutside image at = IsSome (byte_at image at)
-    × ((at < code_start) ⊎ ((code_limit ≤ at) ⊎ ((gap : ℕ) × ((code_start ≤ gap) × (gap < at) × (byte_at image gap ≡ None)))))
+    × ((at < code_start)
+    ⊎ ((code_limit ≤ at) ⊎ ((gap : ℕ) × ((code_start ≤ gap) × (gap < at) × (byte_at image gap ≡ None)))))
 
 -- all bytes of an image stand from $4000 on, one at least, without a gap, and end before $5000
 pub record IsWhole (image : List (ℕ × ℕ)) : Type 0 where
@@ -44,9 +45,11 @@ pub record IsRun (image : List (ℕ × ℕ)) (end : ℕ) : Type 0 where
 -- the first fault of an image
 abbrev pub IsFault : List (ℕ × ℕ) → HandlerFault → Type 0
 IsFault image Empty = byte_at image code_start ≡ None
-IsFault image (Outside at) = IsSome (byte_at image code_start) × IsOutside image at × ((q : ℕ) → IsOutside image q → at ≤ q)
+IsFault image (Outside at) =
+    IsSome (byte_at image code_start) × IsOutside image at × ((q : ℕ) → IsOutside image q → at ≤ q)
 IsFault image Memory = ⊥
-IsFault image fault = IsWhole image × ((is : List Instr) × (IsCut image is × IsFirstFault is (is_trapped image is) fault))
+IsFault image fault =
+    IsWhole image × ((is : List Instr) × (IsCut image is × IsFirstFault is (is_trapped image is) fault))
 
 -- an image is an accepted handler, and the greatest number of instructions on a path
 pub record IsHandler (image : List (ℕ × ℕ)) (instrs : ℕ) : Type 0 where

@@ -38,7 +38,8 @@ pub record Fails (is : List Instr) (trapped : Bool) (at : ℕ) (i : Instr) (way 
 abbrev pub PathBelow : List Instr → ℕ → ℕ → ℕ → ℕ → Type 0
 PathBelow is below zero at h = Path is zero at h
 PathBelow is below (suc n) at h =
-    (from : ℕ) × (g : ℕ) × (i : Instr) × (Path is n from g × IsAt is from i × IsIn (leads from i) at × (h ≡ height_after i g) × (from < below))
+    (from : ℕ) × (g : ℕ) × (i : Instr) × (Path is n from g × IsAt is from i × IsIn (leads from i) at
+    × (h ≡ height_after i g) × (from < below))
 
 -- a place has a way, which tells of a path with this height and number of instructions, unless paths meet there
 pub record Has (ways : ℕ → Option Way) (at h n : ℕ) : Type 0 where
@@ -48,7 +49,8 @@ pub record Has (ways : ℕ → Option Way) (at h n : ℕ) : Type 0 where
   pub few : way.meets ≡ false → n ≤ way.most
 
 -- an instruction to which no fault applies, and that ends no path that is too long
-pub record Judged (is : List Instr) (trapped : Bool) (best : ℕ) (ways : ℕ → Option Way) (at : ℕ) (i : Instr) : Type 0 where
+pub record Judged (is : List Instr) (trapped : Bool) (best : ℕ) (ways : ℕ → Option Way) (at : ℕ)
+    (i : Instr) : Type 0 where
   pub way : Way
   pub is_marked : ways at ≡ Some way
   pub passes : Passes is trapped at i way 9

@@ -80,4 +80,5 @@ FitsHeight i h = Unit {0}
 abbrev pub Path : List Instr → ℕ → ℕ → ℕ → Type 0
 Path is zero at h = (at ≡ code_start) × (h ≡ 0)
 Path is (suc n) at h =
-    (from : ℕ) × (g : ℕ) × (i : Instr) × (Path is n from g × IsAt is from i × IsIn (leads from i) at × (h ≡ height_after i g))
+    (from : ℕ) × (g : ℕ) × (i : Instr) × (Path is n from g × IsAt is from i × IsIn (leads from i) at
+    × (h ≡ height_after i g))

@@ -36,7 +36,8 @@ unfoldable pub until_rti : ℕ → ℕ → State → Returned
 until_rti flags zero s = record { state = s; steps = 0; done = false }
 until_rti flags (suc n) s = then_back (slice_index s.mem s.regs.pc == 0x0B) (until_rti flags n) s (next_of flags s)
 
--- the first instruction of code that is entered where no sums run: the nine bytes, I, the request's writes, and PC from the vector
+-- the first instruction of code that is entered where no sums run: the nine bytes, I, the request's writes, and PC from
+-- the vector
 abbrev pub at_code : List Write → State → State
 at_code ws v = vectored (written ws (pushed v))
 

@@ -13,5 +13,6 @@ SpelledPlansHaveNoFault = (text : List ℕ) (plan : List Request) (fault : PlanF
 
 -- Nor has one that spells posts.
 abbrev pub SpelledPostsHaveNoFault : Type 0
-SpelledPostsHaveNoFault = (samples : ℕ) (text : List ℕ) (posts : List Post) (fault : PlanFault) → SpellsPosts samples text posts
+SpelledPostsHaveNoFault =
+    (samples : ℕ) (text : List ℕ) (posts : List Post) (fault : PlanFault) → SpellsPosts samples text posts
     → PostsHaveFault samples text fault → ⊥

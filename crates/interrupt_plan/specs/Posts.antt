@@ -8,7 +8,8 @@ use Rattle.interrupt_plan.specs.declared.PlanFault.{PlanFault}
 use Rattle.interrupt_plan.specs.Plans.{Ascend}
 use Rattle.interrupt_plan.specs.Rows.{SpellsRow, SpellsText, HasFirstFault}
 
--- a post of one of so many samples, or of none: it comes at a moment up to 1000000, and writes at most eight bytes, each free
+-- a post of one of so many samples, or of none: it comes at a moment up to 1000000, and writes at most eight bytes,
+-- each free
 pub record IsGoodPost (samples : ℕ) (p : Post) : Type 0 where
   pub moment_to : p.moment ≤ 1000000
   pub sample_to : p.sample ≤ samples

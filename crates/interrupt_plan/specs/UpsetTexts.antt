@@ -26,9 +26,11 @@ pub record FallsBack (before : List Upset) (u : Upset) : Type 0 where
   pub falls : u.sample ≤ last.sample
 
 -- row number n fails, behind rows that spell these upsets
-pub data UpsetRowFails (image : List (ℕ × ℕ)) (before : List Upset) (n : ℕ) (fields : Fields) : UpsetFault → Type 0 where
+pub data UpsetRowFails (image : List (ℕ × ℕ)) (before : List Upset) (n : ℕ) (fields : Fields) : UpsetFault
+    → Type 0 where
   unread : ((u : Upset) → SpellsUpset fields u → ⊥) → UpsetRowFails image before n fields (BadRow n)
-  not_table : (u : Upset) → SpellsUpset fields u → is_table image u.at ≡ false → UpsetRowFails image before n fields (NotTable n u.at)
+  not_table : (u : Upset) → SpellsUpset fields u → is_table image u.at ≡ false
+      → UpsetRowFails image before n fields (NotTable n u.at)
   not_ascending : (u : Upset) → SpellsUpset fields u → is_table image u.at ≡ true → FallsBack before u
       → UpsetRowFails image before n fields (NotAscending n)
 
@@ -44,7 +46,8 @@ SpellUpsets (row ∷ rows) (u ∷ us) = SpellsUpset row u × SpellUpsets rows us
 pub data FirstUpsetFault (image : List (ℕ × ℕ)) (rows : List Fields) : UpsetFault → Type 0 where
   at_row : (before : List Fields) (row : Fields) (after : List Fields) (upsets : List Upset)
       (fault : UpsetFault) → rows ≡ before ++ row ∷ after → length before < 10000
-      → SpellUpsets before upsets → AreGoodUpsets image upsets → UpsetRowFails image upsets (length before + 1) row fault
+      → SpellUpsets before upsets → AreGoodUpsets image upsets
+      → UpsetRowFails image upsets (length before + 1) row fault
       → FirstUpsetFault image rows fault
   more : (before : List Fields) (row : Fields) (after : List Fields) (upsets : List Upset)
       → rows ≡ before ++ row ∷ after → length before ≡ 10000

@@ -28,7 +28,8 @@ pub(crate) trait Entry: Sized + Drop {
 
     /// The entry of a row.
     fn read(alloc: Global, row: &ByteRecord, samples: u32) -> Result<Option<Self>, AllocError>
-        ensures { IfOk result (λ entry. MatchOption entry ((e : Self) → spells samples (fields_of row.now) e → ⊥) (spells samples (fields_of row.now))) };
+        ensures { IfOk result (λ entry. MatchOption entry ((e : Self) → spells samples (fields_of row.now) e → ⊥)
+            (spells samples (fields_of row.now))) };
 
     /// What it writes, in order.
     fn writes(&self) -> &[Write]

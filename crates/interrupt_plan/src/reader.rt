@@ -28,7 +28,8 @@ fn next_entry<E: Entry>(
     ensures free { IfOk result (λ e. AreFree (E.written e)) }
     ensures ascends { IfOk result (λ e. (front : Items E) (last : E)
         → before.now ≡ front ++ last ∷ [] → E.not_after last e) }
-    ensures fault { IfErr result (λ f. f ≢ PlanFault.Memory → RowFails (E.spells samples) E.written E.not_after before.now number (fields_of row.now) f) }
+    ensures fault { IfErr result (λ f. f ≢ PlanFault.Memory
+        → RowFails (E.spells samples) E.written E.not_after before.now number (fields_of row.now) f) }
 {
     let entry = match E::read(alloc, row, samples) {
         Ok(Some(entry)) => entry,
@@ -53,7 +54,8 @@ fn entries_in<E: Entry>(
     ensures entries { IfOk result (λ v. SpellAll (E.spells samples) (map fields_of rows.now) v.items) }
     ensures few { IfOk result (λ v. length rows.now < 10001) }
     ensures order { IfOk result (λ v. AreInOrder E.written E.not_after v.items) }
-    ensures fault { IfErr result (λ f. f ≢ PlanFault.Memory → FirstFault (E.spells samples) E.written E.not_after (map fields_of rows.now) f) }
+    ensures fault { IfErr result (λ f. f ≢ PlanFault.Memory
+        → FirstFault (E.spells samples) E.written E.not_after (map fields_of rows.now) f) }
 {
     let mut entries = Vec::new(alloc);
     for (at, row) in rows.iter().enumerate() {
@@ -78,7 +80,8 @@ fn entries_in<E: Entry>(
 /// is skipped.
 fn entries_of<E: Entry>(alloc: Global, text: &[u8], samples: u32) -> Result<List<E>, PlanFault>
     ensures entries { IfOk result (SpellsText (E.spells samples) (AreInOrder E.written E.not_after) text.now) }
-    ensures fault { IfErr result (λ f. f ≢ PlanFault.Memory → HasFirstFault (E.spells samples) E.written E.not_after text.now f) }
+    ensures fault { IfErr result (λ f. f ≢ PlanFault.Memory
+        → HasFirstFault (E.spells samples) E.written E.not_after text.now f) }
 {
     let rows = match first_rows(alloc, text) {
         Ok(rows) => rows,

@@ -124,7 +124,8 @@ pub(crate) struct Parts {
 
 /// The parts of a row.
 pub(crate) fn parts_in(alloc: Global, row: &ByteRecord) -> Result<Option<Parts>, AllocError>
-    ensures { IfOk result (λ parts. MatchOption parts ((a b : ℕ) (ws : Items TheWrite) → SpellsRow (fields_of row.now) a b ws → ⊥)
+    ensures { IfOk result
+        (λ parts. MatchOption parts ((a b : ℕ) (ws : Items TheWrite) → SpellsRow (fields_of row.now) a b ws → ⊥)
         (λ p. SpellsRow (fields_of row.now) p.first p.second p.writes)) }
 {
     if row.len() < 2 || row.len() > MOST_FIELDS || row.len() % 2 == 1 {

@@ -116,7 +116,8 @@ fn upsets_in(alloc: Global, image: &Image, rows: &[ByteRecord]) -> Result<Vec<Up
     ensures upsets { IfOk result (λ v. SpellUpsets (map fields_of rows.now) v.items) }
     ensures few { IfOk result (λ v. length rows.now < 10001) }
     ensures good { IfOk result (λ v. AreGoodUpsets image.now.bytes v.items) }
-    ensures fault { IfErr result (λ f. f ≢ UpsetFault.Memory → FirstUpsetFault image.now.bytes (map fields_of rows.now) f) }
+    ensures fault { IfErr result (λ f. f ≢ UpsetFault.Memory
+        → FirstUpsetFault image.now.bytes (map fields_of rows.now) f) }
 {
     let mut upsets = Vec::new(alloc);
     for (at, row) in rows.iter().enumerate() {

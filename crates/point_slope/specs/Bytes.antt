@@ -14,7 +14,9 @@ use Rattle.point_slope.specs.Tables.{row_of, grade_of}
 
 -- the grade of term t of input i at the bytes of the inputs
 abbrev pub literal_grade : Block → List ℕ → ℕ → ℕ → ℕ
-literal_grade b bytes i t = option_map_or (λ x. option_map_or (λ term. grade_of (row_of x term) (slice_index bytes (i - 1))) (slice_get x.terms (t - 1)) 0) (input_at b i) 0
+literal_grade b bytes i t =
+    option_map_or (λ x. option_map_or (λ term. grade_of (row_of x term) (slice_index bytes (i - 1)))
+    (slice_get x.terms (t - 1)) 0) (input_at b i) 0
 
 -- the grade, 255 minus, the least, the greatest
 abbrev pub byte_truth : Block → List ℕ → Condition → ℕ
@@ -27,7 +29,9 @@ byte_strength b bytes r = byte_truth b bytes (condition_of r.cond) * (weight_byt
 -- the greatest strength of those of the rules that conclude term t of output o, or 0
 abbrev pub byte_mass_among : Block → List ℕ → ℕ → ℕ → List Rule → ℕ
 byte_mass_among b bytes o t [] = 0
-byte_mass_among b bytes o t (r ∷ rs) = if concludes r o t then max (byte_strength b bytes r) (byte_mass_among b bytes o t rs) else byte_mass_among b bytes o t rs
+byte_mass_among b bytes o t (r ∷ rs) =
+    if concludes r o t then max (byte_strength b bytes r) (byte_mass_among b bytes o t rs)
+    else byte_mass_among b bytes o t rs
 
 abbrev pub byte_mass : Block → List ℕ → ℕ → ℕ → ℕ
 byte_mass b bytes o t = byte_mass_among b bytes o t b.rules
@@ -40,7 +44,8 @@ pub record ByteShare : Type 0 where
 -- of output o, whose terms from number t on have these singletons
 abbrev pub byte_shares_from : Block → List ℕ → ℕ → Output → ℕ → List Dec → List ByteShare
 byte_shares_from b bytes o x t [] = []
-byte_shares_from b bytes o x t (u ∷ us) = record { byte = nearest_byte x u; mass = byte_mass b bytes o t } ∷ byte_shares_from b bytes o x (t + 1) us
+byte_shares_from b bytes o x t (u ∷ us) = record { byte = nearest_byte x u; mass = byte_mass b bytes o t }
+    ∷ byte_shares_from b bytes o x (t + 1) us
 
 abbrev pub byte_shares : Block → List ℕ → ℕ → Output → List ByteShare
 byte_shares b bytes o x = byte_shares_from b bytes o x 1 x.singletons
@@ -62,7 +67,8 @@ resting_answer h x before = option_map_or (λ d. h * nearest_byte x d) x.default
 
 -- what output o answers to the bytes of the inputs, after the answer before
 abbrev pub answer_in : ℕ → Block → ℕ → List ℕ → ℕ → ℕ
-answer_in h b o bytes before = option_map_or (λ x. centre h (byte_shares b bytes o x) (resting_answer h x before)) (output_at b o) before
+answer_in h b o bytes before =
+    option_map_or (λ x. centre h (byte_shares b bytes o x) (resting_answer h x before)) (output_at b o) before
 
 -- as a byte
 abbrev pub byte_answer : Block → ℕ → List ℕ → ℕ → ℕ
@@ -74,4 +80,6 @@ wide_answer b o bytes before = answer_in 256 b o bytes before
 
 -- no answer of a valid block is above 255 bytes
 abbrev pub AnswersAreInRange : Type 0
-AnswersAreInRange = (h : ℕ) (b : Block) (o : ℕ) (bytes : List ℕ) (before : ℕ) → IsValid b → before ≤ 255 * h → answer_in h b o bytes before ≤ 255 * h
+AnswersAreInRange =
+    (h : ℕ) (b : Block) (o : ℕ) (bytes : List ℕ) (before : ℕ) → IsValid b → before ≤ 255 * h
+    → answer_in h b o bytes before ≤ 255 * h

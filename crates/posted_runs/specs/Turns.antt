@@ -20,11 +20,15 @@ waiting w (p ∷ ps) = waiting (if p.sample == 0 then w else p.sample) ps
 abbrev pub taken_from : ℕ → List Post → List (ℕ × Post)
 taken_from m posts = map (λ p. (max m p.moment, p)) posts
 
--- Boundaries are counted over the whole run. A turn begins at boundary g, where sample w waits, or none, after those that are
--- done; the code has n inputs, and a turn that answers takes as many steps as `steps` says of the samples up to its own. A turn
--- looks at POSTED at its first boundary, so what is posted up to there decides it. `taken` has the posts that are left with the
+-- Boundaries are counted over the whole run. A turn begins at boundary g, where sample w waits, or none, after those
+-- that are
+-- done; the code has n inputs, and a turn that answers takes as many steps as `steps` says of the samples up to its
+-- own. A turn
+-- looks at POSTED at its first boundary, so what is posted up to there decides it. `taken` has the posts that are left
+-- with the
 -- boundaries at which they are taken, and `answered` the samples with the boundaries at which their turns end.
-pub data AreTurns (n : ℕ) (steps : List ℕ → ℕ) : ℕ → ℕ → List ℕ → List Post → List (ℕ × Post) → List (ℕ × ℕ) → Type 0 where
+pub data AreTurns (n : ℕ) (steps : List ℕ → ℕ) : ℕ → ℕ → List ℕ → List Post → List (ℕ × Post) → List (ℕ × ℕ)
+    → Type 0 where
   -- no sample waits and no post is left
   over : (g w : ℕ) (done : List ℕ) (posts : List Post) (taken : List (ℕ × Post)) (answered : List (ℕ × ℕ))
       → waiting w (up_to g posts) ≡ 0 → behind g posts ≡ []
@@ -34,14 +38,20 @@ pub data AreTurns (n : ℕ) (steps : List ℕ → ℕ) : ℕ → ℕ → List �
       → waiting w (up_to g posts) ≡ 0 → behind g posts ≢ []
       → AreTurns n steps (g + 2) (waiting w (up_to (g + 1) posts)) done (behind (g + 1) posts) later answered
       → taken ≡ taken_from g (up_to (g + 1) posts) ++ later → AreTurns n steps g w done posts taken answered
-  -- The sample posted last up to boundary g + 2 is answered. From there on I is 1 up to boundary g + 5 + n, behind the copy.
-  answers : (g w : ℕ) (done : List ℕ) (posts : List Post) (taken later : List (ℕ × Post)) (answered rest : List (ℕ × ℕ)) (s end : ℕ)
+  -- The sample posted last up to boundary g + 2 is answered. From there on I is 1 up to boundary g + 5 + n, behind the
+  -- copy.
+  answers : (g w : ℕ) (done : List ℕ) (posts : List Post) (taken later : List (ℕ × Post)) (answered rest : List (ℕ × ℕ))
+      (s end : ℕ)
       → waiting w (up_to g posts) ≢ 0 → s ≡ waiting w (up_to (g + 2) posts) → end ≡ g + steps (done ++ s ∷ [])
-      → AreTurns n steps end (waiting 0 (up_to (end - 1) (behind (g + 2) posts))) (done ++ s ∷ []) (behind (end - 1) (behind (g + 2) posts)) later rest
-      → taken ≡ taken_from g (up_to (g + 2) posts) ++ (taken_from (g + 5 + n) (up_to (end - 1) (behind (g + 2) posts)) ++ later)
+      → AreTurns n steps end (waiting 0 (up_to (end - 1) (behind (g + 2) posts))) (done ++ s ∷ [])
+      (behind (end - 1) (behind (g + 2) posts)) later rest
+      → taken ≡ taken_from g (up_to (g + 2) posts)
+      ++ (taken_from (g + 5 + n) (up_to (end - 1) (behind (g + 2) posts)) ++ later)
       → answered ≡ (s, end) ∷ rest → AreTurns n steps g w done posts taken answered
 
 -- Posts have one list of turns.
 abbrev pub TurnsAreOne : Type 0
-TurnsAreOne = (n : ℕ) (steps : List ℕ → ℕ) (g w : ℕ) (done : List ℕ) (posts : List Post) (xs ys : List (ℕ × Post)) (us vs : List (ℕ × ℕ))
+TurnsAreOne =
+    (n : ℕ) (steps : List ℕ → ℕ) (g w : ℕ) (done : List ℕ) (posts : List Post) (xs ys : List (ℕ × Post))
+    (us vs : List (ℕ × ℕ))
     → AreTurns n steps g w done posts xs us → AreTurns n steps g w done posts ys vs → (xs ≡ ys) × (us ≡ vs)

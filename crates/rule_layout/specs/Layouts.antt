@@ -24,7 +24,10 @@ rule_spread r = spread_of false (condition_of r.cond)
 
 -- a conjunction of a rule, by the numbers of the slots
 abbrev pub conjunction_of : List Slot → Rule → List Literal → Conjunction
-conjunction_of ss r ls = record { literals = map (literal_number ss) ls; conclusions = map (conclusion_number ss) r.concl }
+conjunction_of ss r ls = record {
+  literals = map (literal_number ss) ls;
+  conclusions = map (conclusion_number ss) r.concl;
+}
 
 abbrev pub rule_conjunctions : List Slot → Rule → List Conjunction
 rule_conjunctions ss r = map (conjunction_of ss r) (rule_spread r)

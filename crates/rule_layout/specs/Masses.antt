@@ -35,9 +35,11 @@ raises c n = list_any (λ e. e == n) c.conclusions
 abbrev pub left_in : List ℕ → List ℕ → List Conjunction → ℕ → ℕ
 left_in bytes ws [] n = 0
 left_in bytes [] (c ∷ cs) n = 0
-left_in bytes (w ∷ ws) (c ∷ cs) n = max (if raises c n then scaled w (least_byte bytes c.literals) else 0) (left_in bytes ws cs n)
+left_in bytes (w ∷ ws) (c ∷ cs) n =
+    max (if raises c n then scaled w (least_byte bytes c.literals) else 0) (left_in bytes ws cs n)
 
 -- the list of a valid block leaves in the slot of an output's term its mass
 abbrev pub MassLaw : Type 0
 MassLaw = (b : Block) (bytes : List ℕ) (o t : ℕ) → IsValid b → HasSingleton b o t →
-    left_in (slot_bytes (literal_grade b bytes) (slots_of b)) ((flat_of b).weights) ((flat_of b).conjunctions) (conclusion_number (slots_of b) (o, t)) ≡ byte_mass b bytes o t
+    left_in (slot_bytes (literal_grade b bytes) (slots_of b)) ((flat_of b).weights) ((flat_of b).conjunctions)
+    (conclusion_number (slots_of b) (o, t)) ≡ byte_mass b bytes o t

@@ -17,4 +17,6 @@ TermNumberLaw = (b : Block) (i t : ℕ) → IsValid b → HasTerm b i t →
 -- before an output's term stand all input terms, the complements, and the output terms before it
 abbrev pub OutNumberLaw : Type 0
 OutNumberLaw = (b : Block) (o t : ℕ) → IsValid b → HasSingleton b o t →
-    number_in (slots_of b) (Out o t) ≡ length (input_terms b) + length (complemented_terms b) + (sum_by singleton_count (take (o - 1) b.outputs) + (t - 1))
+    number_in (slots_of b) (Out o t)
+    ≡ length (input_terms b) + length (complemented_terms b)
+    + (sum_by singleton_count (take (o - 1) b.outputs) + (t - 1))

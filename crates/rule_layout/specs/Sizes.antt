@@ -22,11 +22,14 @@ IsSizeOf xs (Some s) = (length xs ≤ 512) × (s.conjunctions ≡ length xs) × 
 
 abbrev pub IsSum : Size → Size → Option Size → Type 0
 IsSum s o None = 512 < s.conjunctions + o.conjunctions
-IsSum s o (Some r) = (r.conjunctions ≡ s.conjunctions + o.conjunctions) × (r.conjunctions ≤ 512) × (r.entries ≡ s.entries + o.entries)
+IsSum s o (Some r) =
+    (r.conjunctions ≡ s.conjunctions + o.conjunctions) × (r.conjunctions ≤ 512) × (r.entries ≡ s.entries + o.entries)
 
 abbrev pub IsProduct : Size → Size → Option Size → Type 0
 IsProduct s o None = 512 < s.conjunctions * o.conjunctions
-IsProduct s o (Some r) = (r.conjunctions ≡ s.conjunctions * o.conjunctions) × (r.conjunctions ≤ 512) × (r.entries ≡ s.entries * o.conjunctions + s.conjunctions * o.entries)
+IsProduct s o (Some r) =
+    (r.conjunctions ≡ s.conjunctions * o.conjunctions) × (r.conjunctions ≤ 512)
+    × (r.entries ≡ s.entries * o.conjunctions + s.conjunctions * o.entries)
 
 -- a rule whose size can be counted
 pub record IsCountable (r : Rule) : Type 0 where
@@ -43,10 +46,12 @@ entry_count rules = sum_by rule_entries rules
 
 abbrev pub IsSizeOfRule : Rule → Option Size → Type 0
 IsSizeOfRule r None = 512 < length (rule_spread r)
-IsSizeOfRule r (Some s) = (length (rule_spread r) ≤ 512) × (s.conjunctions ≡ length (rule_spread r)) × (s.entries ≡ rule_entries r)
+IsSizeOfRule r (Some s) =
+    (length (rule_spread r) ≤ 512) × (s.conjunctions ≡ length (rule_spread r)) × (s.entries ≡ rule_entries r)
 
 abbrev pub IsSizeOfRules : List Rule → Result Size LayoutFault → Type 0
-IsSizeOfRules rules (Ok s) = (conjunction_count rules ≤ 512) × (s.conjunctions ≡ conjunction_count rules) × (s.entries ≡ entry_count rules)
+IsSizeOfRules rules (Ok s) =
+    (conjunction_count rules ≤ 512) × (s.conjunctions ≡ conjunction_count rules) × (s.entries ≡ entry_count rules)
 IsSizeOfRules rules (Err (TooManyRules n)) = IsFirstTooMany rules n
 IsSizeOfRules rules (Err (ListTooLong n)) = ⊥
 IsSizeOfRules rules (Err Memory) = ⊥

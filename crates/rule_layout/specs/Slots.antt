@@ -56,7 +56,10 @@ out_slot p = Out p.0 p.1
 -- all input terms in the order of their declaration, the complements that some rule uses, in the
 -- same order, and all output terms
 unfoldable pub slots_of : Block → List Slot
-slots_of b = map term_slot (input_terms b) ++ (map complement_slot (filter (λ p. is_complemented b.rules p.0 p.1) (input_terms b)) ++ map out_slot (output_terms b))
+slots_of b =
+    map term_slot (input_terms b)
+    ++ (map complement_slot (filter (λ p. is_complemented b.rules p.0 p.1) (input_terms b))
+    ++ map out_slot (output_terms b))
 
 abbrev pub is_same_slot : Slot → Slot → Bool
 is_same_slot (Term i t) (Term j u) = i == j && t == u

@@ -11,7 +11,10 @@ use Rattle.rule_layout.specs.Layouts.{rule_spread}
 
 -- a conjunction of a rule
 abbrev pub table_conjunction : List ℕ → Rule → List Literal → Conjunction
-table_conjunction table r ls = record { literals = map (table_literal table) ls; conclusions = map (λ p. table_number table (out_slot p)) r.concl }
+table_conjunction table r ls = record {
+  literals = map (table_literal table) ls;
+  conclusions = map (λ p. table_number table (out_slot p)) r.concl;
+}
 
 abbrev pub table_conjunctions : List ℕ → Rule → List Conjunction
 table_conjunctions table r = map (table_conjunction table r) (rule_spread r)

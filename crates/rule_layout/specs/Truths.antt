@@ -19,4 +19,6 @@ greatest_conjunction n v (c ∷ cs) = max (least_literal n v c) (greatest_conjun
 
 -- the greatest of the conjunctions that a condition spreads into is its truth
 abbrev pub SpreadingLaw : Type 0
-SpreadingLaw = (n : ℕ) (v : ℕ → ℕ → ℕ) (c : Condition) → 1 ≤ n → ((i t : ℕ) → v i t ≤ n) → greatest_conjunction n v (spread_of false c) ≡ level n v c
+SpreadingLaw =
+    (n : ℕ) (v : ℕ → ℕ → ℕ) (c : Condition) → 1 ≤ n → ((i t : ℕ) → v i t ≤ n)
+    → greatest_conjunction n v (spread_of false c) ≡ level n v c

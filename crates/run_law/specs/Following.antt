@@ -37,7 +37,8 @@ pub record Follows {S A B : Type 0} (open_to : ℕ → Bool) (f : Form S A B) (O
   pub last : Same open_to r.state (uninterrupted f.flags all s)
   pub own : Own (onto r.told done) r.state
 
--- The run of one sample from any boundary m on follows the run without interrupts from s, the state at boundary 0, where
+-- The run of one sample from any boundary m on follows the run without interrupts from s, the state at boundary 0,
+-- where
 -- none of its good requests is taken before m.
 abbrev pub RunFollows : {S A B : Type 0} → (ℕ → Bool) → Form S A B → (State → Type 0) → (A → Type 0)
     → (List (A × B) → State → Type 0) → Type 0
@@ -52,7 +53,8 @@ abbrev pub AllComplete : {S A B : Type 0} → (State → Type 0) → Form S A B 
 AllComplete P f [] [] s = Unit {0}
 AllComplete P f (n ∷ ns) [] s = ⊥
 AllComplete P f [] (x ∷ rest) s = ⊥
-AllComplete P f (n ∷ ns) (x ∷ rest) s = Completes P f 0 n n (f.give x s) × AllComplete P f ns rest (f.leave x (uninterrupted f.flags n (f.give x s)))
+AllComplete P f (n ∷ ns) (x ∷ rest) s =
+    Completes P f 0 n n (f.give x s) × AllComplete P f ns rest (f.leave x (uninterrupted f.flags n (f.give x s)))
 
 abbrev pub AllWithin : ℕ → List ℕ → Type 0
 AllWithin most [] = Unit {0}
@@ -73,25 +75,31 @@ abbrev pub expected_rows : {S A B : Type 0} → Form S A B → (ℕ → List A) 
 expected_rows f asks k [] samples s = []
 expected_rows f asks k (n ∷ ns) [] s = []
 expected_rows f asks k (n ∷ ns) (x ∷ rest) s =
-    expected_row f (asks k) n x (f.give x s) ∷ expected_rows f asks (suc k) ns rest (f.leave x (uninterrupted f.flags n (f.give x s)))
+    expected_row f (asks k) n x (f.give x s)
+    ∷ expected_rows f asks (suc k) ns rest (f.leave x (uninterrupted f.flags n (f.give x s)))
 
 -- the requests that are taken, sample by sample
 abbrev pub expected_taken : {S A B : Type 0} → Form S A B → (ℕ → List A) → ℕ → List ℕ → List S → State → List (List A)
 expected_taken f asks k [] samples s = []
 expected_taken f asks k (n ∷ ns) [] s = []
 expected_taken f asks k (n ∷ ns) (x ∷ rest) s =
-    taken_before (taken_at f.flags f.moment n (f.give x s)) n (asks k) ∷ expected_taken f asks (suc k) ns rest (f.leave x (uninterrupted f.flags n (f.give x s)))
+    taken_before (taken_at f.flags f.moment n (f.give x s)) n (asks k)
+    ∷ expected_taken f asks (suc k) ns rest (f.leave x (uninterrupted f.flags n (f.give x s)))
 
 abbrev pub last_uninterrupted : {S A B : Type 0} → Form S A B → List ℕ → List S → State → State
 last_uninterrupted f [] samples s = s
 last_uninterrupted f (n ∷ ns) [] s = s
-last_uninterrupted f (n ∷ ns) (x ∷ rest) s = last_uninterrupted f ns rest (f.leave x (uninterrupted f.flags n (f.give x s)))
+last_uninterrupted f (n ∷ ns) (x ∷ rest) s =
+    last_uninterrupted f ns rest (f.leave x (uninterrupted f.flags n (f.give x s)))
 
-abbrev pub RowsSimulate : {S A B : Type 0} → (ℕ → Bool) → Form S A B → List ℕ → List S → List (List State) → State → Type 0
+abbrev pub RowsSimulate : {S A B : Type 0} → (ℕ → Bool) → Form S A B → List ℕ → List S → List (List State) → State
+    → Type 0
 RowsSimulate open_to f [] samples wss s = Unit {0}
 RowsSimulate open_to f (n ∷ ns) [] wss s = Unit {0}
 RowsSimulate open_to f (n ∷ ns) (x ∷ rest) [] s = ⊥
-RowsSimulate open_to f (n ∷ ns) (x ∷ rest) (ws ∷ wss) s = AllSimulate open_to f.flags ws (f.give x s) × RowsSimulate open_to f ns rest wss (f.leave x (uninterrupted f.flags n (f.give x s)))
+RowsSimulate open_to f (n ∷ ns) (x ∷ rest) (ws ∷ wss) s =
+    AllSimulate open_to f.flags ws (f.give x s)
+    × RowsSimulate open_to f ns rest wss (f.leave x (uninterrupted f.flags n (f.give x s)))
 
 abbrev pub all_onto : {C : Type 0} → List (List C) → List C → List C
 all_onto [] done = done
@@ -108,7 +116,8 @@ pub record AllFollow {S A B : Type 0} (open_to : ℕ → Bool) (f : Form S A B) 
   pub last : Same open_to all.state (last_uninterrupted f ns samples s)
   pub own : Own (all_onto all.told done) all.state
 
--- The runs of a list of samples follow the runs without interrupts, whatever good requests `asks` gives each, where these
+-- The runs of a list of samples follow the runs without interrupts, whatever good requests `asks` gives each, where
+-- these
 -- ascend and no sample takes more steps than `most`.
 abbrev pub RunsFollow : {S A B : Type 0} → (ℕ → Bool) → Form S A B → (State → Type 0) → (A → Type 0)
     → (List (A × B) → State → Type 0) → Type 0

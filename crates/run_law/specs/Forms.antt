@@ -7,8 +7,10 @@ use Rattle.cpu12_emul.specs.declared.ends.Stepped.TheVariants.{Plain, Part, Last
 use Rattle.cpu12_emul.specs.Step.{Next, next_of}
 use Rattle.cpu12_emul.specs.Take.{FrameSeen, frame_of, may_interrupt}
 
--- A firmware that is given samples S and serves requests A, each of which tells a B: the byte from which open flags are taken; how a
--- sample is given, and taken away again at its end; when it ends, by the moment and the state; what it answers there; the least
+-- A firmware that is given samples S and serves requests A, each of which tells a B: the byte from which open flags are
+-- taken; how a
+-- sample is given, and taken away again at its end; when it ends, by the moment and the state; what it answers there;
+-- the least
 -- boundary of a request; and what its handler does and tells, from a state in which no sums run, up to the return.
 pub record Form (S A B : Type 0) : Type 0 where
   pub flags : ℕ
@@ -41,7 +43,8 @@ abbrev pub is_empty : {C : Type 0} → List C → Bool
 is_empty [] = true
 is_empty (x ∷ xs) = false
 
--- What is taken at a boundary: the state after it, the frames with their boundary, the requests with what they tell, and those that
+-- What is taken at a boundary: the state after it, the frames with their boundary, the requests with what they tell,
+-- and those that
 -- are left.
 pub record Taking (A B : Type 0) : Type 0 where
   pub state : State
@@ -59,8 +62,10 @@ takes f m (q ∷ qs) s =
     if may_interrupt s && nat_le (f.moment q) m then put_take (m, frame_of s) (told f q s) (takes f m qs (taken f q s))
     else record { state = s; frames = []; told = []; left = q ∷ qs }
 
--- A run to its end: whether it arrived there; the last state; the state at each boundary, after what was taken there; how many
--- steps were plain or last parts; how many there were; at how many boundaries an interrupt was taken inside an instruction; each
+-- A run to its end: whether it arrived there; the last state; the state at each boundary, after what was taken there;
+-- how many
+-- steps were plain or last parts; how many there were; at how many boundaries an interrupt was taken inside an
+-- instruction; each
 -- frame with its boundary; what was told; and the requests that are left.
 pub record Ran (A B : Type 0) : Type 0 where
   pub arrived : Bool
@@ -75,7 +80,17 @@ pub record Ran (A B : Type 0) : Type 0 where
 
 -- no step more
 abbrev pub ended : {A B : Type 0} → Bool → List A → State → Ran A B
-ended arrived qs s = record { arrived = arrived; state = s; states = s ∷ []; instrs = 0; steps = 0; resumed = 0; frames = []; told = []; left = qs }
+ended arrived qs s = record {
+  arrived = arrived;
+  state = s;
+  states = s ∷ [];
+  instrs = 0;
+  steps = 0;
+  resumed = 0;
+  frames = [];
+  told = [];
+  left = qs;
+}
 
 -- a boundary inside an instruction, or not, at which these were taken
 abbrev pub resumes : {A B : Type 0} → Bool → Taking A B → ℕ
@@ -97,19 +112,31 @@ before_rest inside b kind r = record {
 
 -- a boundary after which no step is defined
 abbrev pub stuck : {A B : Type 0} → Bool → Taking A B → Ran A B
-stuck inside b = record { arrived = false; state = b.state; states = b.state ∷ []; instrs = 0; steps = 0; resumed = resumes inside b; frames = b.frames; told = b.told; left = b.left }
+stuck inside b = record {
+  arrived = false;
+  state = b.state;
+  states = b.state ∷ [];
+  instrs = 0;
+  steps = 0;
+  resumed = resumes inside b;
+  frames = b.frames;
+  told = b.told;
+  left = b.left;
+}
 
 abbrev pub then_rest : {A B : Type 0} → Bool → Taking A B → (Bool → State → Ran A B) → Result Next ℕ → Ran A B
 then_rest inside b rest (Ok next) = before_rest inside b next.kind (rest (is_part next.kind) next.state)
 then_rest inside b rest (Err byte) = stuck inside b
 
--- From boundary m on, with these requests left, where the step before was a part and not the last or it was not: at most n steps
+-- From boundary m on, with these requests left, where the step before was a part and not the last or it was not: at
+-- most n steps
 -- to the end. The run ends where it stands if no step is defined there, or if n steps are done.
 unfoldable pub run_from : {S A B : Type 0} → Form S A B → ℕ → ℕ → Bool → List A → State → Ran A B
 run_from f zero m inside qs s = ended (f.ends m s) qs s
 run_from f (suc n) m inside qs s =
     if f.ends m s then ended true qs s
-    else (let b = takes f m qs s in then_rest inside b (λ i t. run_from f n (suc m) i b.left t) (next_of f.flags b.state))
+    else (let b = takes f m qs s in then_rest inside b
+    (λ i t. run_from f n (suc m) i b.left t) (next_of f.flags b.state))
 
 -- a row, as it is seen
 pub record RowSeen (S : Type 0) : Type 0 where
@@ -121,9 +148,17 @@ pub record RowSeen (S : Type 0) : Type 0 where
   pub frames : List (ℕ × FrameSeen)
 
 abbrev pub row_of : {S A B : Type 0} → Form S A B → S → Ran A B → RowSeen S
-row_of f x r = record { sample = x; answers = f.answers r.state; instrs = r.instrs; steps = r.steps; resumed = r.resumed; frames = r.frames }
+row_of f x r = record {
+  sample = x;
+  answers = f.answers r.state;
+  instrs = r.instrs;
+  steps = r.steps;
+  resumed = r.resumed;
+  frames = r.frames;
+}
 
--- the runs of a list of samples: of each the row, its states at its boundaries and what was told; whether all arrived; and the last state
+-- the runs of a list of samples: of each the row, its states at its boundaries and what was told; whether all arrived;
+-- and the last state
 pub record Rows (S A B : Type 0) : Type 0 where
   pub rows : List (RowSeen S)
   pub states : List (List State)
@@ -135,7 +170,13 @@ abbrev pub no_rows : {S A B : Type 0} → State → Rows S A B
 no_rows s = record { rows = []; states = []; told = []; arrived = true; state = s }
 
 abbrev pub put_row : {S A B : Type 0} → RowSeen S → Ran A B → Rows S A B → Rows S A B
-put_row row r rs = record { rows = row ∷ rs.rows; states = r.states ∷ rs.states; told = r.told ∷ rs.told; arrived = r.arrived && rs.arrived; state = rs.state }
+put_row row r rs = record {
+  rows = row ∷ rs.rows;
+  states = r.states ∷ rs.states;
+  told = r.told ∷ rs.told;
+  arrived = r.arrived && rs.arrived;
+  state = rs.state;
+}
 
 -- the samples from number k on, each of at most so many steps, where `asks` gives the requests of a sample
 unfoldable pub rows_from : {S A B : Type 0} → Form S A B → ℕ → (ℕ → List A) → ℕ → List S → State → Rows S A B

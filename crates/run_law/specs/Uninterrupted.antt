@@ -47,7 +47,8 @@ abbrev pub first_open : ℕ → State → ℕ → ℕ → ℕ
 first_open flags s zero m = m
 first_open flags s (suc k) m = if may_interrupt (uninterrupted flags m s) then m else first_open flags s k (suc m)
 
--- the boundary at which a request is taken: the least from its moment on at which I is 0 without interrupts, if one comes before n
+-- the boundary at which a request is taken: the least from its moment on at which I is 0 without interrupts, if one
+-- comes before n
 abbrev pub taken_at : {A : Type 0} → ℕ → (A → ℕ) → ℕ → State → A → ℕ
 taken_at flags moment n s q = first_open flags s (n - moment q) (moment q)
 
@@ -68,11 +69,17 @@ left_from moment n (q ∷ qs) = if nat_lt (moment q) n then left_from moment n q
 -- how many boundaries below n are inside REV, REVW or WAV and have a request that is taken there
 abbrev pub resumed_of : {A : Type 0} → ℕ → (A → ℕ) → State → List A → ℕ → ℕ
 resumed_of flags moment s qs zero = 0
-resumed_of flags moment s qs (suc n) = resumed_of flags moment s qs n + one_if (is_inside flags s n && has_moment moment n qs)
+resumed_of flags moment s qs (suc n) =
+    resumed_of flags moment s qs n + one_if (is_inside flags s n && has_moment moment n qs)
 
 -- the frame that is expected in a state, read off its registers and sums: the first at a boundary has the sums' bytes
 abbrev pub frame_on : Bool → State → Temps → FrameSeen
-frame_on first s (Running p w) = record { pc = s.regs.pc; sp = plus s.regs.sp 65521; bytes = if first then frame_bytes s.regs ++ sum_bytes p w else frame_bytes s.regs }
+frame_on first s (Running p w) = record {
+  pc = s.regs.pc;
+  sp = plus s.regs.sp 65521;
+  bytes = if first
+      then frame_bytes s.regs ++ sum_bytes p w else frame_bytes s.regs;
+}
 frame_on first s Free = record { pc = s.regs.pc; sp = plus s.regs.sp 65527; bytes = frame_bytes s.regs }
 frame_on first s OnStack = record { pc = s.regs.pc; sp = plus s.regs.sp 65527; bytes = frame_bytes s.regs }
 
@@ -87,7 +94,9 @@ is_new (Some k) m = not (k == m)
 -- the frames of these requests, after one at that boundary
 abbrev pub frames_after : {A : Type 0} → ℕ → (A → ℕ) → State → Option ℕ → List A → List (ℕ × FrameSeen)
 frames_after flags moment s before [] = []
-frames_after flags moment s before (q ∷ qs) = (moment q, expected_frame (is_new before (moment q)) (uninterrupted flags (moment q) s)) ∷ frames_after flags moment s (Some (moment q)) qs
+frames_after flags moment s before (q ∷ qs) =
+    (moment q, expected_frame (is_new before (moment q)) (uninterrupted flags (moment q) s))
+    ∷ frames_after flags moment s (Some (moment q)) qs
 
 abbrev pub frames_of : {A : Type 0} → ℕ → (A → ℕ) → State → List A → ℕ → List (ℕ × FrameSeen)
 frames_of flags moment s qs n = frames_after flags moment s None (taken_before moment n qs)

@@ -43,7 +43,8 @@ pub trait SoundForm {
 
     /// The form is sound. Its proof may use that the same writes keep memories agreed, and that listed
     /// writes are quiet.
-    ghost sound: { (x : Setting) → WritesAgree → WritesAreQuiet → Sound (open_to x) (form x) (holds x) (good x) (own x) };
+    ghost sound: { (x : Setting) → WritesAgree → WritesAreQuiet
+        → Sound (open_to x) (form x) (holds x) (good x) (own x) };
 }
 
 /// The run of one sample, from any boundary on, follows the run without interrupts.

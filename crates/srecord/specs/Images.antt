@@ -25,7 +25,8 @@ pub record IsPiece (p : Piece) (behind : List (ℕ × ℕ)) : Type 0 where
 -- bytes cut into pieces from the first on
 pub data AreCut : List (ℕ × ℕ) → List Piece → Type 0 where
   none : AreCut [] []
-  next : (p : Piece) (behind : List (ℕ × ℕ)) (pieces : List Piece) → IsPiece p behind → AreCut behind pieces → AreCut (placed p.at p.bytes ++ behind) (p ∷ pieces)
+  next : (p : Piece) (behind : List (ℕ × ℕ)) (pieces : List Piece) → IsPiece p behind → AreCut behind pieces
+      → AreCut (placed p.at p.bytes ++ behind) (p ∷ pieces)
 
 abbrev pub data_text : List Piece → List ℕ
 data_text [] = []
@@ -36,4 +37,5 @@ pub record ImageText (bytes : List (ℕ × ℕ)) (start : ℕ) (text : List ℕ)
   pub pieces : List Piece
   pub cut : AreCut bytes pieces
   pub fits : start < 65536
-  pub records : text ≡ record_text 48 0 (codes "FZ12") ++ (data_text pieces ++ (record_text 53 (length pieces) [] ++ record_text 57 start []))
+  pub records : text ≡ record_text 48 0 (codes "FZ12") ++ (data_text pieces
+      ++ (record_text 53 (length pieces) [] ++ record_text 57 start []))

@@ -12,4 +12,6 @@ checksum_of body = 255 - sum body % 256
 
 -- the record of a digit, which is its kind, with its body and the checksum in hexadecimal
 abbrev pub record_text : ℕ → ℕ → List ℕ → List ℕ
-record_text digit address bytes = codes "S" ++ (digit ∷ (encode_upper (body_of address bytes ++ checksum_of (body_of address bytes) ∷ []) ++ codes "\n"))
+record_text digit address bytes =
+    codes "S"
+    ++ (digit ∷ (encode_upper (body_of address bytes ++ checksum_of (body_of address bytes) ∷ []) ++ codes "\n"))

@@ -60,7 +60,8 @@ pub(crate) fn put_pieces(
     text: &mut Vec<u8>,
     bytes: &[(u16, u8)],
 ) -> Result<usize, AllocError>
-    ensures { IfOk result (λ count. (pieces : List Piece) × AreCut bytes.now pieces × (text.new.items ≡ text.old.items ++ data_text pieces) × (count ≡ length pieces)) }
+    ensures { IfOk result (λ count. (pieces : List Piece) × AreCut bytes.now pieces
+        × (text.new.items ≡ text.old.items ++ data_text pieces) × (count ≡ length pieces)) }
 {
     let mut rest = bytes;
     let mut count = 0;

@@ -25,7 +25,12 @@ abbrev pub drawn_input : Input
 drawn_input = record { lo = whole 0; hi = whole 256; terms = map term_number (0 ∷ 1 ∷ 2 ∷ 3 ∷ 4 ∷ 5 ∷ 6 ∷ 7 ∷ 8 ∷ []) }
 
 abbrev pub drawn_output : Output
-drawn_output = record { lo = whole 0; hi = whole 100; singletons = map whole (0 ∷ 25 ∷ 50 ∷ 75 ∷ 100 ∷ []); default = Some (whole 0) }
+drawn_output = record {
+  lo = whole 0;
+  hi = whole 100;
+  singletons = map whole (0 ∷ 25 ∷ 50 ∷ 75 ∷ 100 ∷ []);
+  default = Some (whole 0);
+}
 
 -- rule number n, from 0, under a shift: where x is term n / 9 and y is term n % 9
 pub record IsDrawnRule (shift n : ℕ) (r : Rule) : Type 0 where

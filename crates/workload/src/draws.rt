@@ -34,7 +34,8 @@ impl Draws {
 
     /// The shift of the rules, 0 to 4.
     pub(crate) fn shift(&mut self) -> u8
-        ensures state { (number n : ℕ) → self.old.state ≡ state_after number n → self.new.state ≡ state_after number (n + 1) }
+        ensures state { (number n : ℕ) → self.old.state ≡ state_after number n
+            → self.new.state ≡ state_after number (n + 1) }
         ensures value { (number n : ℕ) → self.old.state ≡ state_after number n → result ≡ draw number n 5 }
         ensures small { result < 5 }
     {
@@ -43,7 +44,8 @@ impl Draws {
 
     /// The two numbers of a sample, in 1/10000, each at most 256.
     pub(crate) fn sample(&mut self) -> (u32, u32)
-        ensures state { (number n : ℕ) → self.old.state ≡ state_after number n → self.new.state ≡ state_after number (n + 2) }
+        ensures state { (number n : ℕ) → self.old.state ≡ state_after number n
+            → self.new.state ≡ state_after number (n + 2) }
         ensures value { (number n : ℕ) → self.old.state ≡ state_after number n
             → result ≡ (draw number n 2560001, draw number (n + 1) 2560001) }
     {
@@ -54,7 +56,8 @@ impl Draws {
 
     /// The moment of a request, how far behind the first free byte it writes, and what.
     pub(crate) fn request(&mut self) -> (u32, u32, u32)
-        ensures state { (number n : ℕ) → self.old.state ≡ state_after number n → self.new.state ≡ state_after number (n + 3) }
+        ensures state { (number n : ℕ) → self.old.state ≡ state_after number n
+            → self.new.state ≡ state_after number (n + 3) }
         ensures value { (number n : ℕ) → self.old.state ≡ state_after number n
             → result ≡ (draw number n 456, draw number (n + 1) 2016, draw number (n + 2) 256) }
         ensures small { result.1 < 2016 }

@@ -136,8 +136,10 @@ fn requests_of(alloc: Global, plan: &[u8]) -> Result<Plan, Memory>
 }
 
 fn are_drawn_samples(samples: &[Sample], draws: &mut Draws) -> bool
-    ensures state { (number : ℕ) → draws.old.state ≡ state_after number 1 → result ≡ true → draws.new.state ≡ state_after number 2001 }
-    ensures drawn { (number : ℕ) → draws.old.state ≡ state_after number 1 → result ≡ true → AreDrawnSamples number samples.now }
+    ensures state { (number : ℕ) → draws.old.state ≡ state_after number 1 → result ≡ true
+        → draws.new.state ≡ state_after number 2001 }
+    ensures drawn { (number : ℕ) → draws.old.state ≡ state_after number 1 → result ≡ true
+        → AreDrawnSamples number samples.now }
 {
     if samples.len() != 1000 {
         return false;
@@ -161,7 +163,8 @@ fn has_values(sample: &Sample, x: u32, y: u32) -> bool
 }
 
 fn are_drawn_requests(requests: &[Request], draws: &mut Draws) -> bool
-    ensures { (number : ℕ) → draws.old.state ≡ state_after number 2001 → result ≡ true → AreDrawnRequests number requests.now }
+    ensures { (number : ℕ) → draws.old.state ≡ state_after number 2001 → result ≡ true
+        → AreDrawnRequests number requests.now }
 {
     if requests.len() != 1000 {
         return false;
