@@ -127,6 +127,23 @@ static COMMANDS: [Accepted; 10] = [
     },
 ];
 
+// The command that reads no file.
+static WORKLOAD: [Accepted; 1] = [Accepted {
+    line: &["fuzz12", "gen", "7"],
+    reads: &[],
+    writes: false,
+    lines: &[
+        "gen 7\n",
+        "error 1 357753\n",
+        "instructions 48\n",
+        "samples 1000\n",
+        "frames 1000\n",
+        "resumed 900\n",
+        "sum 127051\n",
+    ],
+    start: "gen",
+}];
+
 /// The files that stand on the shelf, with these records of 16 bits.
 fn house(alloc: Global, wide: &[u8], faults: &Faults) -> Result<MemShelf, Fail> {
     let mut files = Vec::new(alloc);
@@ -296,7 +313,7 @@ fn short_puts(rt: &impl Abort, alloc: Global, wide: &[u8], command: &Accepted) -
     case(rt, alloc, wide, command.line, &faults, &broken)
 }
 
-/// The puts of err fail too: the status stays, and of the line stands what err took.
+/// The puts of err fail too, behind a read that does: the status stays, and of the line stands what err took.
 fn failing_err(
     rt: &impl Abort,
     alloc: Global,
@@ -326,15 +343,26 @@ fn failing_err(
     case(rt, alloc, wide, command.line, &second, &part)
 }
 
-#[test]
-fn failures(rt: HostRuntime) -> Result<(), Fail> {
-    let wide = wide_records(&rt, rt.alloc())?;
-    for command in COMMANDS.iter() {
-        failing_reads(&rt, rt.alloc(), &wide, command)?;
-        failing_write(&rt, rt.alloc(), &wide, command)?;
-        failing_puts(&rt, rt.alloc(), &wide, command)?;
-        short_puts(&rt, rt.alloc(), &wide, command)?;
-        failing_err(&rt, rt.alloc(), &wide, command)?;
+fn failing(rt: &impl Abort, alloc: Global, commands: &[Accepted]) -> Result<(), Fail> {
+    let wide = wide_records(rt, alloc)?;
+    for command in commands {
+        failing_reads(rt, alloc, &wide, command)?;
+        failing_write(rt, alloc, &wide, command)?;
+        failing_puts(rt, alloc, &wide, command)?;
+        short_puts(rt, alloc, &wide, command)?;
+        if !command.reads.is_empty() {
+            failing_err(rt, alloc, &wide, command)?;
+        }
     }
     Ok(())
+}
+
+#[test]
+fn failures(rt: HostRuntime) -> Result<(), Fail> {
+    failing(&rt, rt.alloc(), COMMANDS.as_slice())
+}
+
+#[test]
+fn failures_of_a_workload(rt: HostRuntime) -> Result<(), Fail> {
+    failing(&rt, rt.alloc(), WORKLOAD.as_slice())
 }
