@@ -9,6 +9,7 @@ use std::test::Fail;
 mod blocks;
 mod certify;
 mod certs;
+mod debug;
 mod exec;
 mod failures;
 mod generate;

@@ -10,13 +10,14 @@ use std::process::Abort;
 use std::test::Fail;
 
 // The files, but for OUT and the records of 16 bits.
-static FILES: [(&str, &[&str]); 8] = [
+static FILES: [(&str, &[&str]); 9] = [
     ("a.fcl", &[BLOCK]),
     ("a.s19", &[RECORDS]),
     ("a.cert", &["FZC 1\nclaim 19609\n", HALVES]),
     ("wide.cert", &["FZC 2\nclaim 15702\n", HALVES]),
     ("a.csv", &["64\n"]),
     ("empty", &[]),
+    ("script", &["step 1\nregs\n"]),
     ("small.asm", &[SOURCE]),
     ("small.s19", &[SOURCE_RECORDS]),
 ];
@@ -33,7 +34,7 @@ struct Accepted {
     start: &'static str,
 }
 
-static COMMANDS: [Accepted; 10] = [
+static COMMANDS: [Accepted; 11] = [
     Accepted {
         line: &["fuzz12", "asm", "small.asm", "out"],
         reads: &["small.asm"],
@@ -124,6 +125,19 @@ static COMMANDS: [Accepted; 10] = [
         writes: true,
         lines: &["error 1 15702\n", "leaves 2\n"],
         start: "err",
+    },
+    Accepted {
+        line: &[
+            "fuzz12", "debug", "a.fcl", "a.s19", "a.csv", "empty", "00", "script",
+        ],
+        reads: &["a.fcl", "a.s19", "a.csv", "empty", "script"],
+        writes: false,
+        lines: &[
+            "stop 1 1 C00B\n",
+            "pc C00B a 01 b 00 x 0000 y 0000 sp 2000 ccr C0\n",
+            "sample 1 bytes 64 answers 64 instructions 28 steps 36 resumed 0 frames 0\n",
+        ],
+        start: "sto",
     },
 ];
 
