@@ -12,6 +12,7 @@ pub mod Exec
 pub mod Firmwares
 pub mod Images
 pub mod Lines
+pub mod Mcompile
 pub mod Reads
 pub mod Run
 pub mod Runs

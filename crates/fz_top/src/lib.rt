@@ -21,6 +21,7 @@ mod firmware;
 mod images;
 mod laws;
 mod lines;
+mod mcompile;
 mod program;
 mod reading;
 mod run;

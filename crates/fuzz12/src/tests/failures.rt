@@ -33,7 +33,7 @@ struct Accepted {
     start: &'static str,
 }
 
-static COMMANDS: [Accepted; 10] = [
+static COMMANDS: [Accepted; 11] = [
     Accepted {
         line: &["fuzz12", "asm", "small.asm", "out"],
         reads: &["small.asm"],
@@ -75,6 +75,13 @@ static COMMANDS: [Accepted; 10] = [
         writes: false,
         lines: &["pc C003 a FA b 00 x 0000 y 0000 sp 0000 ccr D9 steps 2\n"],
         start: "pc ",
+    },
+    Accepted {
+        line: &["fuzz12", "mcompile", "a.fcl", "out"],
+        reads: &["a.fcl"],
+        writes: true,
+        lines: &["instructions 31\n", "steps 39\n", "bytes 109\n"],
+        start: "ins",
     },
     Accepted {
         line: &[
