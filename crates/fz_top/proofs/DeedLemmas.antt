@@ -229,6 +229,8 @@ module _ (first : FirstFaultsAreOne) (load : LoadFaultsAreOne) (alike : SpelledB
   apart (command.Debug debug) contents deed s makes fault = debug_stands debug _ deed makes s fault
   apart (command.Exec exec) contents deed s makes fault = exec_stands exec _ deed makes s fault
   apart (command.Generate generate) contents deed s makes fault = generate_stands generate.number deed makes s fault
+  apart command.Mcompile contents deed s makes fault =
+      text_stands _ makes.block makes.gives.spelled makes.gives.limits s fault
   apart (command.Run run) contents deed s makes fault = run_stands run _ makes.report makes.certified s fault
 
 -- ---- a fault that is made is no want of memory
@@ -243,6 +245,7 @@ faults_carry (command.Compile compile) contents s makes = makes.0
 faults_carry (command.Debug debug) contents s makes = makes.0
 faults_carry (command.Exec exec) contents s makes = makes.0
 faults_carry (command.Generate generate) contents s makes = makes.0
+faults_carry command.Mcompile contents s makes = makes.0
 faults_carry (command.Run run) contents s makes = makes.0
 
 pub carries : (words : List Text) (old new : World) (s : Status) → Runs words old new s → CarriesNoMemory s

@@ -12,11 +12,12 @@ use Rattle.fz_top.specs.Debug.{DebugMakes, debug_files, debug_in, debug_inputs}
 use Rattle.fz_top.specs.Deeds.{Deed}
 use Rattle.fz_top.specs.Exec.{ExecMakes, exec_in, exec_inputs}
 use Rattle.fz_top.specs.Generate.{GenerateMakes, generate_in, generate_inputs}
+use Rattle.fz_top.specs.Mcompile.{McompileMakes}
 use Rattle.fz_top.specs.Run.{RunMakes, files_in, run_in, run_inputs}
 use Rattle.fz_status.specs.Words.{Text}
 use Rattle.fz_top.specs.Contents.{content_at}
 use Rattle.fz_top.specs.declared.command.Command.{Command}
-use Rattle.fz_top.specs.declared.command.Command.TheVariants.{Asm, Certify, Check, Compile, Debug, Exec, Generate, Run}
+use Rattle.fz_top.specs.declared.command.Command.TheVariants.{Asm, Certify, Check, Compile, Debug, Exec, Generate, Mcompile, Run}
 use Rattle.fz_top.specs.declared.command.Name.{Name}
 use Rattle.fz_top.specs.declared.command.Name.TheVariants as name
 use Rattle.fz_status.specs.declared.status.Status.{Status}
@@ -27,7 +28,7 @@ table = row (codes "asm") 2 name.Asm ∷ row (codes "certify") 3 name.Certify �
     ∷ row (codes "check") 2 name.Check ∷ row (codes "check16") 2 name.Check16
     ∷ row (codes "compile") 2 name.Compile ∷ row (codes "compile16") 2 name.Compile16
     ∷ row (codes "debug") 6 name.Debug ∷ row (codes "exec") 3 name.Exec ∷ row (codes "gen") 1 name.Generate
-    ∷ row (codes "run") 6 name.Run ∷ row (codes "run16") 6 name.Run16 ∷ []
+    ∷ row (codes "mcompile") 2 name.Mcompile ∷ row (codes "run") 6 name.Run ∷ row (codes "run16") 6 name.Run16 ∷ []
 
 -- the command of a name, where the words have its form
 unfoldable pub form_of : Name → List Text → Option Command
@@ -41,6 +42,7 @@ form_of name.Compile16 words = Some (Compile (compile_in Word))
 form_of name.Debug words = option_map Debug (debug_in words)
 form_of name.Exec words = option_map Exec (exec_in words)
 form_of name.Generate words = option_map Generate (generate_in words)
+form_of name.Mcompile words = Some Mcompile
 form_of name.Run words = option_map Run (run_in Byte words)
 form_of name.Run16 words = option_map Run (run_in Word words)
 
@@ -53,6 +55,7 @@ inputs_of (Compile compile) = compile_inputs
 inputs_of (Debug debug) = debug_inputs
 inputs_of (Exec exec) = exec_inputs
 inputs_of (Generate generate) = generate_inputs
+inputs_of Mcompile = compile_inputs
 inputs_of (Run run) = run_inputs
 
 -- what the command makes of the contents of its files
@@ -64,6 +67,7 @@ Makes (Compile compile) contents r = CompileMakes compile (content_at contents 0
 Makes (Debug debug) contents r = DebugMakes debug (debug_files contents) r
 Makes (Exec exec) contents r = ExecMakes exec (content_at contents 0) r
 Makes (Generate generate) contents r = GenerateMakes generate r
+Makes Mcompile contents r = McompileMakes (content_at contents 0) r
 Makes (Run run) contents r = RunMakes run (files_in contents) r
 
 abbrev pub name_in : List Text → Option Name

@@ -1,8 +1,9 @@
 -- The block and the firmware of a text.
-use Rattle.std.specs.Prelude.{◌≡◌, ℕ, List}
+use Rattle.std.specs.Prelude.{◌≡◌, ℕ, false, List}
 use Rattle.fuzzy_meaning.specs.declared.block.Block.{Block}
 use Rattle.rule_layout.specs.Layouts.{IsWithinLimits, IsFaultOf as IsLayoutFault}
 use Rattle.codegen.specs.Firmwares.{IsFirmwareOf}
+use Rattle.codegen.specs.Mailboxes.{IsMailboxOf}
 use Rattle.codegen.specs.declared.firmware.Firmware.{Firmware}
 use Rattle.codegen.specs.declared.width.Width.{Width}
 use Rattle.codegen.specs.Widths.{is_wide}
@@ -20,7 +21,14 @@ pub record GivesFirmware (width : Width) (text : List ℕ) (block : Block) (firm
   pub compiled : IsFirmwareOf block firmware
   pub wide : firmware.wide ≡ is_wide width
 
--- why a text gives no firmware
+-- the same for its firmware in the mailbox form, which answers bytes
+pub record GivesMailbox (text : List ℕ) (block : Block) (firmware : Firmware) : Type 0 where
+  pub spelled : SpellsBlock text block
+  pub limits : IsWithinLimits block
+  pub compiled : IsMailboxOf block firmware
+  pub narrow : firmware.wide ≡ false
+
+-- why a text gives no firmware, in either form
 abbrev pub RefusesText : List ℕ → FclFault → Type 0
 RefusesText text (fcl.Syntax f) = IsFirstFault text f
 RefusesText text (fcl.Load f) = HasLoadFault text f

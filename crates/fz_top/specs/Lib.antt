@@ -14,6 +14,7 @@ pub mod Firmwares
 pub mod Generate
 pub mod Images
 pub mod Lines
+pub mod Mcompile
 pub mod Reads
 pub mod Run
 pub mod Runs

@@ -11,7 +11,6 @@ ghost use Rattle.fz_top.specs.Contents.{bytes_of};
 ghost use Rattle.fz_top.specs.Commands.{IsUsage, Makes, command_in, form_of, inputs_of, name_in, table};
 ghost use Rattle.fz_top.specs.Deeds.{IsResultOf};
 
-use crate::asm;
 use crate::certify::{self, Certify};
 use crate::check::{self, Check};
 use crate::compile::{self, Compile};
@@ -21,6 +20,7 @@ use crate::generate::{self, Generate};
 use crate::reading::content;
 use crate::run::{self, Run};
 use crate::work::Work;
+use crate::{asm, mcompile};
 use codegen::Width;
 use fz_status::Status;
 use fz_words::Refusal;
@@ -39,12 +39,13 @@ pub(crate) enum Name {
     Debug,
     Exec,
     Generate,
+    Mcompile,
     Run,
     Run16,
 }
 
 /// The commands by their names on the command line, each with the number of words that follow.
-static COMMANDS: [(&str, usize, Name); 12] = [
+static COMMANDS: [(&str, usize, Name); 13] = [
     ("asm", 2, Name::Asm),
     ("certify", 3, Name::Certify),
     ("certify16", 3, Name::Certify16),
@@ -55,6 +56,7 @@ static COMMANDS: [(&str, usize, Name); 12] = [
     ("debug", 6, Name::Debug),
     ("exec", 3, Name::Exec),
     ("gen", 1, Name::Generate),
+    ("mcompile", 2, Name::Mcompile),
     ("run", 6, Name::Run),
     ("run16", 6, Name::Run16),
 ];
@@ -76,6 +78,8 @@ pub enum Command {
     Exec(Exec),
     /// `gen NUMBER`
     Generate(Generate),
+    /// `mcompile FCL OUT`
+    Mcompile,
     /// `run FCL IMAGE CERT TRACE PLAN FLAGS`, and `run16 ..`
     Run(Run),
 }
@@ -96,6 +100,7 @@ fn formed(name: Name, words: &[String]) -> Option<Command>
         Name::Debug => DebugRun::of(words).map(Command::Debug),
         Name::Exec => Exec::of(words).map(Command::Exec),
         Name::Generate => Generate::of(words).map(Command::Generate),
+        Name::Mcompile => Some(Command::Mcompile),
         Name::Run => Run::of(Width::Byte, words).map(Command::Run),
         Name::Run16 => Run::of(Width::Word, words).map(Command::Run),
     }
@@ -115,6 +120,7 @@ impl Command {
             Command::Debug(_) => debug::INPUTS.as_slice(),
             Command::Exec(_) => exec::INPUTS.as_slice(),
             Command::Generate(_) => generate::INPUTS.as_slice(),
+            Command::Mcompile => compile::INPUTS.as_slice(),
             Command::Run(_) => run::INPUTS.as_slice(),
         }
     }
@@ -133,6 +139,7 @@ impl Command {
             Command::Debug(debug) => debug.work(alloc, contents),
             Command::Exec(exec) => exec.work(alloc, content(contents, 0)),
             Command::Generate(generate) => generate.work(alloc),
+            Command::Mcompile => mcompile::work(alloc, content(contents, 0)),
             Command::Run(run) => run.work(alloc, contents),
         }
     }

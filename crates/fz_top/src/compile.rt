@@ -22,7 +22,7 @@ pub struct Compile {
 pub(crate) static INPUTS: [u32; 1] = [2];
 
 /// The place of the word OUT.
-const OUT: u32 = 3;
+pub(crate) const OUT: u32 = 3;
 
 impl Compile {
     /// Compiles the text, and writes down the records of the image and its bounds.
@@ -50,7 +50,7 @@ impl Compile {
 }
 
 /// The bounds on instructions and steps, and how many bytes the image has.
-fn lines(alloc: Global, firmware: &Firmware) -> Result<Vec<String>, AllocError>
+pub(crate) fn lines(alloc: Global, firmware: &Firmware) -> Result<Vec<String>, AllocError>
     ensures { IfOk result (λ lines. text_of lines.items ≡
         compile_lines firmware.now.instr_bound firmware.now.step_bound (length firmware.now.image.bytes)) }
 {

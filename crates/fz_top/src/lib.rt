@@ -23,6 +23,7 @@ mod generate;
 mod images;
 mod laws;
 mod lines;
+mod mcompile;
 mod program;
 mod reading;
 mod run;

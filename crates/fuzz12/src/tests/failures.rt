@@ -78,6 +78,13 @@ static COMMANDS: [Accepted; 11] = [
         start: "pc ",
     },
     Accepted {
+        line: &["fuzz12", "mcompile", "a.fcl", "out"],
+        reads: &["a.fcl"],
+        writes: true,
+        lines: &["instructions 31\n", "steps 39\n", "bytes 109\n"],
+        start: "ins",
+    },
+    Accepted {
         line: &[
             "fuzz12", "run", "a.fcl", "a.s19", "a.cert", "a.csv", "empty", "00",
         ],

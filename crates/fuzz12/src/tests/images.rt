@@ -1,5 +1,5 @@
 //! Images that are written.
-use super::texts::{BLOCK, RECORDS, SOURCE, SOURCE_RECORDS};
+use super::texts::{BLOCK, MAILBOX_RECORDS, RECORDS, SOURCE, SOURCE_RECORDS};
 use super::{BEFORE, Left, NONE, call, file_holds, push_file, push_room, shelf_of};
 use std::alloc::Global;
 use std::process::Abort;
@@ -21,13 +21,25 @@ const COMPILED: Written = Written {
     records: Some(RECORDS),
 };
 
-static WRITTEN: [Written; 5] = [
+static WRITTEN: [Written; 7] = [
     COMPILED,
     Written {
         command: "compile16",
         left: Left::Lines("instructions 31\nsteps 39\nbytes 112\n"),
         records: None,
         ..COMPILED
+    },
+    Written {
+        command: "mcompile",
+        left: Left::Lines("instructions 31\nsteps 39\nbytes 109\n"),
+        records: Some(MAILBOX_RECORDS),
+        ..COMPILED
+    },
+    Written {
+        command: "mcompile",
+        source: "",
+        left: Left::Refused(4, "fcl: at 0: expected\n"),
+        records: Some(BEFORE),
     },
     Written {
         source: "",
