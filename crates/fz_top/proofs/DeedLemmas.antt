@@ -187,6 +187,8 @@ module _ (first : FirstFaultsAreOne) (load : LoadFaultsAreOne) (alike : SpelledB
       text_stands _ makes.block makes.gives.spelled makes.gives.limits s fault
   apart (command.Exec exec) contents deed s makes fault = exec_stands exec _ deed makes s fault
   apart (command.Run run) contents deed s makes fault = run_stands run _ makes.report makes.certified s fault
+  apart command.Scompile contents deed s makes fault =
+      text_stands _ makes.block makes.gives.spelled makes.gives.limits s fault
 
 -- ---- a fault that is made is no want of memory
 
@@ -199,6 +201,7 @@ faults_carry (command.Check check) contents s makes = makes.0
 faults_carry (command.Compile compile) contents s makes = makes.0
 faults_carry (command.Exec exec) contents s makes = makes.0
 faults_carry (command.Run run) contents s makes = makes.0
+faults_carry command.Scompile contents s makes = makes.0
 
 pub carries : (words : List Text) (old new : World) (s : Status) → Runs words old new s → CarriesNoMemory s
 carries words old new s runs = go s (kind_of s) runs

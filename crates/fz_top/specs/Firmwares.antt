@@ -3,6 +3,7 @@ use Rattle.std.specs.Prelude.{◌≡◌, ℕ, List}
 use Rattle.fuzzy_meaning.specs.declared.block.Block.{Block}
 use Rattle.rule_layout.specs.Layouts.{IsWithinLimits, IsFaultOf as IsLayoutFault}
 use Rattle.codegen.specs.Firmwares.{IsFirmwareOf}
+use Rattle.codegen.specs.Watched.{IsWatchedFirmwareOf}
 use Rattle.codegen.specs.declared.firmware.Firmware.{Firmware}
 use Rattle.codegen.specs.declared.width.Width.{Width}
 use Rattle.codegen.specs.Widths.{is_wide}
@@ -19,6 +20,12 @@ pub record GivesFirmware (width : Width) (text : List ℕ) (block : Block) (firm
   pub limits : IsWithinLimits block
   pub compiled : IsFirmwareOf block firmware
   pub wide : firmware.wide ≡ is_wide width
+
+-- the same with firmware that watches its tables
+pub record GivesWatched (text : List ℕ) (block : Block) (firmware : Firmware) : Type 0 where
+  pub spelled : SpellsBlock text block
+  pub limits : IsWithinLimits block
+  pub compiled : IsWatchedFirmwareOf block firmware
 
 -- why a text gives no firmware
 abbrev pub RefusesText : List ℕ → FclFault → Type 0

@@ -11,7 +11,6 @@ ghost use Rattle.fz_top.specs.Contents.{bytes_of};
 ghost use Rattle.fz_top.specs.Commands.{IsUsage, Makes, command_in, form_of, inputs_of, name_in, table};
 ghost use Rattle.fz_top.specs.Deeds.{IsResultOf};
 
-use crate::asm;
 use crate::certify::{self, Certify};
 use crate::check::{self, Check};
 use crate::compile::{self, Compile};
@@ -19,6 +18,7 @@ use crate::exec::{self, Exec};
 use crate::reading::content;
 use crate::run::{self, Run};
 use crate::work::Work;
+use crate::{asm, scompile};
 use codegen::Width;
 use fz_status::Status;
 use fz_words::Refusal;
@@ -37,10 +37,11 @@ pub(crate) enum Name {
     Exec,
     Run,
     Run16,
+    Scompile,
 }
 
 /// The commands by their names on the command line, each with the number of words that follow.
-static COMMANDS: [(&str, usize, Name); 10] = [
+static COMMANDS: [(&str, usize, Name); 11] = [
     ("asm", 2, Name::Asm),
     ("certify", 3, Name::Certify),
     ("certify16", 3, Name::Certify16),
@@ -51,6 +52,7 @@ static COMMANDS: [(&str, usize, Name); 10] = [
     ("exec", 3, Name::Exec),
     ("run", 6, Name::Run),
     ("run16", 6, Name::Run16),
+    ("scompile", 2, Name::Scompile),
 ];
 
 /// A command with what its words give beside the names of files.
@@ -68,6 +70,8 @@ pub enum Command {
     Exec(Exec),
     /// `run FCL IMAGE CERT TRACE PLAN FLAGS`, and `run16 ..`
     Run(Run),
+    /// `scompile FCL OUT`
+    Scompile,
 }
 
 /// The command of this name that the words ask for.
@@ -86,6 +90,7 @@ fn formed(name: Name, words: &[String]) -> Option<Command>
         Name::Exec => Exec::of(words).map(Command::Exec),
         Name::Run => Run::of(Width::Byte, words).map(Command::Run),
         Name::Run16 => Run::of(Width::Word, words).map(Command::Run),
+        Name::Scompile => Some(Command::Scompile),
     }
 }
 
@@ -102,6 +107,7 @@ impl Command {
             Command::Compile(_) => compile::INPUTS.as_slice(),
             Command::Exec(_) => exec::INPUTS.as_slice(),
             Command::Run(_) => run::INPUTS.as_slice(),
+            Command::Scompile => scompile::INPUTS.as_slice(),
         }
     }
 
@@ -118,6 +124,7 @@ impl Command {
             Command::Compile(compile) => compile.work(alloc, content(contents, 0)),
             Command::Exec(exec) => exec.work(alloc, content(contents, 0)),
             Command::Run(run) => run.work(alloc, contents),
+            Command::Scompile => scompile::work(alloc, content(contents, 0)),
         }
     }
 }

@@ -50,7 +50,7 @@ impl Compile {
 }
 
 /// The bounds on instructions and steps, and how many bytes the image has.
-fn lines(alloc: Global, firmware: &Firmware) -> Result<Vec<String>, AllocError>
+pub(crate) fn lines(alloc: Global, firmware: &Firmware) -> Result<Vec<String>, AllocError>
     ensures { IfOk result (λ lines. text_of lines.items ≡
         compile_lines firmware.now.instr_bound firmware.now.step_bound (length firmware.now.image.bytes)) }
 {

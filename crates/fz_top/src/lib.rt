@@ -25,6 +25,7 @@ mod program;
 mod reading;
 mod run;
 mod run_lines;
+mod scompile;
 mod words;
 mod work;
 

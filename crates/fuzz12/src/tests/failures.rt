@@ -33,7 +33,7 @@ struct Accepted {
     start: &'static str,
 }
 
-static COMMANDS: [Accepted; 10] = [
+static COMMANDS: [Accepted; 11] = [
     Accepted {
         line: &["fuzz12", "asm", "small.asm", "out"],
         reads: &["small.asm"],
@@ -124,6 +124,13 @@ static COMMANDS: [Accepted; 10] = [
         writes: true,
         lines: &["error 1 15702\n", "leaves 2\n"],
         start: "err",
+    },
+    Accepted {
+        line: &["fuzz12", "scompile", "a.fcl", "out"],
+        reads: &["a.fcl"],
+        writes: true,
+        lines: &["instructions 89\n", "steps 97\n", "bytes 149\n"],
+        start: "ins",
     },
 ];
 
