@@ -232,6 +232,8 @@ module _ (first : FirstFaultsAreOne) (load : LoadFaultsAreOne) (alike : SpelledB
   apart command.Mcompile contents deed s makes fault =
       text_stands _ makes.block makes.gives.spelled makes.gives.limits s fault
   apart (command.Run run) contents deed s makes fault = run_stands run _ makes.report makes.certified s fault
+  apart command.Scompile contents deed s makes fault =
+      text_stands _ makes.block makes.gives.spelled makes.gives.limits s fault
 
 -- ---- a fault that is made is no want of memory
 
@@ -247,6 +249,7 @@ faults_carry (command.Exec exec) contents s makes = makes.0
 faults_carry (command.Generate generate) contents s makes = makes.0
 faults_carry command.Mcompile contents s makes = makes.0
 faults_carry (command.Run run) contents s makes = makes.0
+faults_carry command.Scompile contents s makes = makes.0
 
 pub carries : (words : List Text) (old new : World) (s : Status) → Runs words old new s → CarriesNoMemory s
 carries words old new s runs = go s (kind_of s) runs

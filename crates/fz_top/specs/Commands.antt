@@ -14,10 +14,11 @@ use Rattle.fz_top.specs.Exec.{ExecMakes, exec_in, exec_inputs}
 use Rattle.fz_top.specs.Generate.{GenerateMakes, generate_in, generate_inputs}
 use Rattle.fz_top.specs.Mcompile.{McompileMakes}
 use Rattle.fz_top.specs.Run.{RunMakes, files_in, run_in, run_inputs}
+use Rattle.fz_top.specs.Scompile.{ScompileMakes, scompile_inputs}
 use Rattle.fz_status.specs.Words.{Text}
 use Rattle.fz_top.specs.Contents.{content_at}
 use Rattle.fz_top.specs.declared.command.Command.{Command}
-use Rattle.fz_top.specs.declared.command.Command.TheVariants.{Asm, Certify, Check, Compile, Debug, Exec, Generate, Mcompile, Run}
+use Rattle.fz_top.specs.declared.command.Command.TheVariants.{Asm, Certify, Check, Compile, Debug, Exec, Generate, Mcompile, Run, Scompile}
 use Rattle.fz_top.specs.declared.command.Name.{Name}
 use Rattle.fz_top.specs.declared.command.Name.TheVariants as name
 use Rattle.fz_status.specs.declared.status.Status.{Status}
@@ -28,7 +29,8 @@ table = row (codes "asm") 2 name.Asm ∷ row (codes "certify") 3 name.Certify �
     ∷ row (codes "check") 2 name.Check ∷ row (codes "check16") 2 name.Check16
     ∷ row (codes "compile") 2 name.Compile ∷ row (codes "compile16") 2 name.Compile16
     ∷ row (codes "debug") 6 name.Debug ∷ row (codes "exec") 3 name.Exec ∷ row (codes "gen") 1 name.Generate
-    ∷ row (codes "mcompile") 2 name.Mcompile ∷ row (codes "run") 6 name.Run ∷ row (codes "run16") 6 name.Run16 ∷ []
+    ∷ row (codes "mcompile") 2 name.Mcompile ∷ row (codes "run") 6 name.Run ∷ row (codes "run16") 6 name.Run16
+    ∷ row (codes "scompile") 2 name.Scompile ∷ []
 
 -- the command of a name, where the words have its form
 unfoldable pub form_of : Name → List Text → Option Command
@@ -45,6 +47,7 @@ form_of name.Generate words = option_map Generate (generate_in words)
 form_of name.Mcompile words = Some Mcompile
 form_of name.Run words = option_map Run (run_in Byte words)
 form_of name.Run16 words = option_map Run (run_in Word words)
+form_of name.Scompile words = Some Scompile
 
 -- the words that name the files to read, in order
 unfoldable pub inputs_of : Command → List ℕ
@@ -57,6 +60,7 @@ inputs_of (Exec exec) = exec_inputs
 inputs_of (Generate generate) = generate_inputs
 inputs_of Mcompile = compile_inputs
 inputs_of (Run run) = run_inputs
+inputs_of Scompile = scompile_inputs
 
 -- what the command makes of the contents of its files
 unfoldable pub Makes : Command → List (List ℕ) → Result Deed Status → Type 0
@@ -69,6 +73,7 @@ Makes (Exec exec) contents r = ExecMakes exec (content_at contents 0) r
 Makes (Generate generate) contents r = GenerateMakes generate r
 Makes Mcompile contents r = McompileMakes (content_at contents 0) r
 Makes (Run run) contents r = RunMakes run (files_in contents) r
+Makes Scompile contents r = ScompileMakes (content_at contents 0) r
 
 abbrev pub name_in : List Text → Option Name
 name_in words = command_by table words

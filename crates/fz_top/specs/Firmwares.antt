@@ -4,6 +4,7 @@ use Rattle.fuzzy_meaning.specs.declared.block.Block.{Block}
 use Rattle.rule_layout.specs.Layouts.{IsWithinLimits, IsFaultOf as IsLayoutFault}
 use Rattle.codegen.specs.Firmwares.{IsFirmwareOf}
 use Rattle.codegen.specs.Mailboxes.{IsMailboxOf}
+use Rattle.codegen.specs.Watched.{IsWatchedFirmwareOf}
 use Rattle.codegen.specs.declared.firmware.Firmware.{Firmware}
 use Rattle.codegen.specs.declared.width.Width.{Width}
 use Rattle.codegen.specs.Widths.{is_wide}
@@ -28,7 +29,13 @@ pub record GivesMailbox (text : List ℕ) (block : Block) (firmware : Firmware) 
   pub compiled : IsMailboxOf block firmware
   pub narrow : firmware.wide ≡ false
 
--- why a text gives no firmware, in either form
+-- the same for firmware that watches its tables
+pub record GivesWatched (text : List ℕ) (block : Block) (firmware : Firmware) : Type 0 where
+  pub spelled : SpellsBlock text block
+  pub limits : IsWithinLimits block
+  pub compiled : IsWatchedFirmwareOf block firmware
+
+-- why a text gives no firmware, in any form
 abbrev pub RefusesText : List ℕ → FclFault → Type 0
 RefusesText text (fcl.Syntax f) = IsFirstFault text f
 RefusesText text (fcl.Load f) = HasLoadFault text f

@@ -6,6 +6,7 @@ pub mod Certs
 pub mod Check
 pub mod Commands
 pub mod Compile
+pub mod Scompile
 pub mod Contents
 pub mod Debug
 pub mod Deeds

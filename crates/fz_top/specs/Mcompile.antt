@@ -12,7 +12,8 @@ use Rattle.fz_top.specs.Firmwares.{GivesMailbox, text_refusals}
 use Rattle.fz_status.specs.Refusals.{Refuses}
 use Rattle.fz_status.specs.declared.status.Status.{Status}
 
--- the text gives firmware in the mailbox form, OUT is to hold the records of its image, and the lines are as those of `compile`
+-- the text gives firmware in the mailbox form, OUT is to hold the records of its image, and the lines are as those of
+-- `compile`
 pub record McompileGives (text : List ℕ) (deed : Deed) : Type 0 where
   pub block : Block
   pub firmware : Firmware
@@ -20,7 +21,8 @@ pub record McompileGives (text : List ℕ) (deed : Deed) : Type 0 where
   pub records : List ℕ
   pub image : ImageText firmware.image.bytes firmware.image.start records
   pub deed_is : deed ≡ record {
-    text = compile_lines (mailbox_bound Byte block) (steps_by block (mailbox_bound Byte block)) (length firmware.image.bytes);
+    text = compile_lines (mailbox_bound Byte block) (steps_by block (mailbox_bound Byte block))
+        (length firmware.image.bytes);
     file = Some (3, records);
   }
 

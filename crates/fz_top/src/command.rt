@@ -20,7 +20,7 @@ use crate::generate::{self, Generate};
 use crate::reading::content;
 use crate::run::{self, Run};
 use crate::work::Work;
-use crate::{asm, mcompile};
+use crate::{asm, mcompile, scompile};
 use codegen::Width;
 use fz_status::Status;
 use fz_words::Refusal;
@@ -42,10 +42,11 @@ pub(crate) enum Name {
     Mcompile,
     Run,
     Run16,
+    Scompile,
 }
 
 /// The commands by their names on the command line, each with the number of words that follow.
-static COMMANDS: [(&str, usize, Name); 13] = [
+static COMMANDS: [(&str, usize, Name); 14] = [
     ("asm", 2, Name::Asm),
     ("certify", 3, Name::Certify),
     ("certify16", 3, Name::Certify16),
@@ -59,6 +60,7 @@ static COMMANDS: [(&str, usize, Name); 13] = [
     ("mcompile", 2, Name::Mcompile),
     ("run", 6, Name::Run),
     ("run16", 6, Name::Run16),
+    ("scompile", 2, Name::Scompile),
 ];
 
 /// A command with what its words give beside the names of files.
@@ -82,6 +84,8 @@ pub enum Command {
     Mcompile,
     /// `run FCL IMAGE CERT TRACE PLAN FLAGS`, and `run16 ..`
     Run(Run),
+    /// `scompile FCL OUT`
+    Scompile,
 }
 
 /// The command of this name that the words ask for.
@@ -103,6 +107,7 @@ fn formed(name: Name, words: &[String]) -> Option<Command>
         Name::Mcompile => Some(Command::Mcompile),
         Name::Run => Run::of(Width::Byte, words).map(Command::Run),
         Name::Run16 => Run::of(Width::Word, words).map(Command::Run),
+        Name::Scompile => Some(Command::Scompile),
     }
 }
 
@@ -122,6 +127,7 @@ impl Command {
             Command::Generate(_) => generate::INPUTS.as_slice(),
             Command::Mcompile => compile::INPUTS.as_slice(),
             Command::Run(_) => run::INPUTS.as_slice(),
+            Command::Scompile => scompile::INPUTS.as_slice(),
         }
     }
 
@@ -141,6 +147,7 @@ impl Command {
             Command::Generate(generate) => generate.work(alloc),
             Command::Mcompile => mcompile::work(alloc, content(contents, 0)),
             Command::Run(run) => run.work(alloc, contents),
+            Command::Scompile => scompile::work(alloc, content(contents, 0)),
         }
     }
 }

@@ -1,10 +1,10 @@
 //! From a text to its block, and to the block's firmware.
 ghost use Rattle.std.specs.Prelude.{◌≡◌, ◌≤◌, length, IfOk, IfErr};
 ghost use Rattle.fcl_check.specs.Texts.{SpellsBlock};
-ghost use Rattle.fz_top.specs.Firmwares.{GivesFirmware, GivesMailbox, text_refusals};
+ghost use Rattle.fz_top.specs.Firmwares.{GivesFirmware, GivesMailbox, GivesWatched, text_refusals};
 ghost use Rattle.fz_status.specs.Refusals.{IsRefusal};
 
-use codegen::{Firmware, Width, compile, compile_post, compile16};
+use codegen::{Firmware, Width, compile, compile_post, compile_scrub, compile16};
 use fcl_check::{LoadFault, load};
 use fcl_syntax::{SyntaxFault, parse};
 use fuzzy_meaning::Block;
@@ -53,6 +53,24 @@ pub(crate) fn mailbox_of(alloc: Global, text: &[u8]) -> Result<Compiled, Status>
         Err(status) => return Err(status),
     };
     match compile_post(alloc, &block) {
+        Ok(firmware) => Ok(Compiled { block, firmware }),
+        Err(LayoutFault::Memory) => Err(Status::Memory),
+        Err(fault) => Err(Status::Fcl(FclFault::Layout(fault))),
+    }
+}
+
+/// The block that the text spells, and that block's firmware with watched tables. The faults are the
+/// same.
+pub(crate) fn watched_firmware_of(alloc: Global, text: &[u8]) -> Result<Compiled, Status>
+    requires { length text.now ≤ 1048576 }
+    ensures gives { IfOk result (λ c. GivesWatched text.now c.block c.firmware) }
+    ensures fault { IfErr result (IsRefusal (text_refusals text.now)) }
+{
+    let block = match block_of(alloc, text) {
+        Ok(block) => block,
+        Err(status) => return Err(status),
+    };
+    match compile_scrub(alloc, &block) {
         Ok(firmware) => Ok(Compiled { block, firmware }),
         Err(LayoutFault::Memory) => Err(Status::Memory),
         Err(fault) => Err(Status::Fcl(FclFault::Layout(fault))),

@@ -28,6 +28,7 @@ mod program;
 mod reading;
 mod run;
 mod run_lines;
+mod scompile;
 mod shown_lines;
 mod words;
 mod work;

@@ -34,7 +34,7 @@ struct Accepted {
     start: &'static str,
 }
 
-static COMMANDS: [Accepted; 11] = [
+static COMMANDS: [Accepted; 13] = [
     Accepted {
         line: &["fuzz12", "asm", "small.asm", "out"],
         reads: &["small.asm"],
@@ -145,6 +145,13 @@ static COMMANDS: [Accepted; 11] = [
             "sample 1 bytes 64 answers 64 instructions 28 steps 36 resumed 0 frames 0\n",
         ],
         start: "sto",
+    },
+    Accepted {
+        line: &["fuzz12", "scompile", "a.fcl", "out"],
+        reads: &["a.fcl"],
+        writes: true,
+        lines: &["instructions 89\n", "steps 97\n", "bytes 149\n"],
+        start: "ins",
     },
 ];
 

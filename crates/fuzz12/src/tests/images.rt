@@ -1,5 +1,5 @@
 //! Images that are written.
-use super::texts::{BLOCK, MAILBOX_RECORDS, RECORDS, SOURCE, SOURCE_RECORDS};
+use super::texts::{BLOCK, MAILBOX_RECORDS, RECORDS, SOURCE, SOURCE_RECORDS, WATCHED_RECORDS};
 use super::{BEFORE, Left, NONE, call, file_holds, push_file, push_room, shelf_of};
 use std::alloc::Global;
 use std::process::Abort;
@@ -21,12 +21,18 @@ const COMPILED: Written = Written {
     records: Some(RECORDS),
 };
 
-static WRITTEN: [Written; 7] = [
+static WRITTEN: [Written; 8] = [
     COMPILED,
     Written {
         command: "compile16",
         left: Left::Lines("instructions 31\nsteps 39\nbytes 112\n"),
         records: None,
+        ..COMPILED
+    },
+    Written {
+        command: "scompile",
+        left: Left::Lines("instructions 89\nsteps 97\nbytes 149\n"),
+        records: Some(WATCHED_RECORDS),
         ..COMPILED
     },
     Written {
