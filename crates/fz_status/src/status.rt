@@ -7,6 +7,7 @@ use cpu12_asm::AsmFault;
 use error_certifier::NotReached;
 use fcl_check::LoadFault;
 use fcl_syntax::SyntaxFault;
+use handler_check::HandlerFault;
 use interrupt_plan::PlanFault;
 use rule_layout::LayoutFault;
 use srecord::SrecFault;
@@ -45,6 +46,8 @@ pub enum Status {
     Trap(u16, u8),
     /// So many steps were taken without arriving.
     Budget(u32),
+    /// The image is no handler. It is never `HandlerFault::Memory`.
+    Handler(HandlerFault),
 }
 
 /// Why a text gives no firmware. It never carries want of memory.
@@ -101,6 +104,7 @@ impl Status {
             Status::Asm(_) => 11,
             Status::Trap(_, _) => 12,
             Status::Budget(_) => 13,
+            Status::Handler(_) => 14,
         }
     }
 }
