@@ -20,4 +20,5 @@ code_of (status.TooLong p) = 10
 code_of (status.Asm f) = 11
 code_of (status.Trap pc byte) = 12
 code_of (status.Budget steps) = 13
+code_of (status.Handler f) = 14
 code_of (status.Script line) = 15

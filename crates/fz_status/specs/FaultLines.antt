@@ -16,6 +16,8 @@ use Rattle.fcl_syntax.specs.declared.text.SyntaxFault.TheVariants as syntax
 use Rattle.fcl_check.specs.declared.fault.LoadFault.{LoadFault}
 use Rattle.fcl_check.specs.declared.fault.LoadFault.TheVariants as load
 use Rattle.fz_shelf.specs.Parts.{address_digits, behind_blank, byte_digits}
+use Rattle.handler_check.specs.declared.faults.HandlerFault.{HandlerFault}
+use Rattle.handler_check.specs.declared.faults.HandlerFault.TheVariants as handler
 use Rattle.interrupt_plan.specs.declared.PlanFault.{PlanFault}
 use Rattle.interrupt_plan.specs.declared.PlanFault.TheVariants as plan
 use Rattle.interrupt_plan.specs.declared.upsets.UpsetFault.{UpsetFault}
@@ -195,3 +197,27 @@ upset_line upset.Memory = want_of_memory
 -- the byte at an address is no instruction
 abbrev pub trap_line : ℕ → ℕ → List ℕ
 trap_line pc byte = codes "trap: " ++ (address_digits pc ++ (codes " " ++ (byte_digits byte ++ newline)))
+
+-- ---- handlers
+
+-- why the instruction at an address is refused
+abbrev pub at_address : ℕ → Text → List ℕ
+at_address at why = codes "handler: " ++ (address_digits at ++ (codes ": " ++ (why ++ newline)))
+
+-- the same, with another address
+abbrev pub at_addresses : ℕ → Text → ℕ → List ℕ
+at_addresses at why to =
+    codes "handler: " ++ (address_digits at ++ (codes ": " ++ (why ++ (address_digits to ++ newline))))
+
+abbrev pub handler_line : HandlerFault → List ℕ
+handler_line handler.Empty = codes "handler: empty" ++ newline
+handler_line (handler.Outside at) = at_address at (codes "outside")
+handler_line (handler.Dead at) = at_address at (codes "dead")
+handler_line (handler.Trap at) = at_address at (codes "trap")
+handler_line (handler.Refused at) = at_address at (codes "refused")
+handler_line (handler.NotFree at to) = at_addresses at (codes "not free ") to
+handler_line (handler.Backward at) = at_address at (codes "backward")
+handler_line (handler.Target at to) = at_addresses at (codes "target ") to
+handler_line (handler.Height at) = at_address at (codes "height")
+handler_line (handler.Falls at) = at_address at (codes "falls")
+handler_line handler.Memory = want_of_memory

@@ -6,6 +6,7 @@ use Rattle.cpu12_asm.specs.declared.items.AsmFault.TheVariants as asm
 use Rattle.error_certifier.specs.declared.certifier.NotReached.TheVariants as stop
 use Rattle.fcl_syntax.specs.declared.text.SyntaxFault.TheVariants as syntax
 use Rattle.fcl_check.specs.declared.fault.LoadFault.TheVariants as load
+use Rattle.handler_check.specs.declared.faults.HandlerFault.TheVariants as handler
 use Rattle.interrupt_plan.specs.declared.PlanFault.TheVariants as plan
 use Rattle.interrupt_plan.specs.declared.upsets.UpsetFault.TheVariants as upset
 use Rattle.rule_layout.specs.declared.flat.LayoutFault.TheVariants as layout
@@ -30,6 +31,7 @@ CarriesNoMemory (status.Plan f) = f ≢ plan.Memory
 CarriesNoMemory (status.Upset f) = f ≢ upset.Memory
 CarriesNoMemory (status.NotReached f) = f ≢ stop.Memory
 CarriesNoMemory (status.Asm f) = f ≢ asm.Memory
+CarriesNoMemory (status.Handler f) = f ≢ handler.Memory
 CarriesNoMemory _ = Unit {0}
 
 -- for each status, where it refuses contents

@@ -2,7 +2,7 @@
 ghost use Rattle.std.specs.Prelude.{◌≡◌, ◌++◌};
 ghost use Rattle.fz_shelf.specs.Parts.{part_text, parts_text};
 ghost use Rattle.fz_status.specs.Errors.{Puts};
-ghost use Rattle.fz_status.specs.FaultLines.{asm_line, byte_or_none, cert_line, check_line, fcl_line, image_line};
+ghost use Rattle.fz_status.specs.FaultLines.{asm_line, at_address, at_addresses, byte_or_none, cert_line, check_line, fcl_line, handler_line, image_line};
 ghost use Rattle.fz_status.specs.FaultLines.{layout_line, leaf_line, load_kind, load_line, newline, not_reached_line};
 ghost use Rattle.fz_status.specs.FaultLines.{plan_line, records_line, syntax_line, text_line, trace_line, upset_line, with_number, with_two};
 
@@ -15,6 +15,7 @@ use error_certifier::NotReached;
 use fcl_check::LoadFault;
 use fcl_syntax::SyntaxFault;
 use fz_shelf::{Failed, Part, Sink, put_parts};
+use handler_check::HandlerFault;
 use interrupt_plan::{PlanFault, UpsetFault};
 use rule_layout::LayoutFault;
 use srecord::SrecFault;
@@ -448,5 +449,59 @@ pub(crate) fn put_asm<F: Sink>(err: &mut F, fault: &AsmFault) -> Result<(), Fail
         AsmFault::Range(line) => put_number(err, b"asm: line ", *line, b": range"),
         AsmFault::Overlap(line) => put_number(err, b"asm: line ", *line, b": overlap"),
         AsmFault::Memory => put_text(err, b"memory"),
+    }
+}
+
+/// Why the instruction at an address is refused.
+fn put_at<'a, F: Sink>(err: &mut F, at: u16, why: &'a [u8]) -> Result<(), Failed>
+    ensures { Puts (at_address at why.now) (F.told err.old) (F.told err.new)
+        (F.faults err.old) (F.faults err.new) (F.sound err.old) (F.sound err.new) result }
+{
+    put(
+        err,
+        &[
+            Part::Text(b"handler: "),
+            Part::Address(at),
+            Part::Text(b": "),
+            Part::Text(why),
+            Part::Text(b"\n"),
+        ],
+    )
+}
+
+/// Why the instruction at an address is refused, with another address.
+fn put_at_to<'a, F: Sink>(err: &mut F, at: u16, why: &'a [u8], to: u16) -> Result<(), Failed>
+    ensures { Puts (at_addresses at why.now to) (F.told err.old) (F.told err.new)
+        (F.faults err.old) (F.faults err.new) (F.sound err.old) (F.sound err.new) result }
+{
+    put(
+        err,
+        &[
+            Part::Text(b"handler: "),
+            Part::Address(at),
+            Part::Text(b": "),
+            Part::Text(why),
+            Part::Address(to),
+            Part::Text(b"\n"),
+        ],
+    )
+}
+
+pub(crate) fn put_handler<F: Sink>(err: &mut F, fault: &HandlerFault) -> Result<(), Failed>
+    ensures { Puts (handler_line fault.now) (F.told err.old) (F.told err.new)
+        (F.faults err.old) (F.faults err.new) (F.sound err.old) (F.sound err.new) result }
+{
+    match fault {
+        HandlerFault::Empty => put_text(err, b"handler: empty"),
+        HandlerFault::Outside(at) => put_at(err, *at, b"outside"),
+        HandlerFault::Dead(at) => put_at(err, *at, b"dead"),
+        HandlerFault::Trap(at) => put_at(err, *at, b"trap"),
+        HandlerFault::Refused(at) => put_at(err, *at, b"refused"),
+        HandlerFault::NotFree(at, to) => put_at_to(err, *at, b"not free ", *to),
+        HandlerFault::Backward(at) => put_at(err, *at, b"backward"),
+        HandlerFault::Target(at, to) => put_at_to(err, *at, b"target ", *to),
+        HandlerFault::Height(at) => put_at(err, *at, b"height"),
+        HandlerFault::Falls(at) => put_at(err, *at, b"falls"),
+        HandlerFault::Memory => put_text(err, b"memory"),
     }
 }

@@ -7,6 +7,7 @@ use cpu12_asm::AsmFault;
 use error_certifier::NotReached;
 use fcl_check::LoadFault;
 use fcl_syntax::SyntaxFault;
+use handler_check::HandlerFault;
 use interrupt_plan::{PlanFault, UpsetFault};
 use rule_layout::LayoutFault;
 use srecord::SrecFault;
@@ -47,6 +48,8 @@ pub enum Status {
     Trap(u16, u8),
     /// So many steps were taken without arriving.
     Budget(u32),
+    /// The image is no handler. It is never `HandlerFault::Memory`.
+    Handler(HandlerFault),
     /// That line of the script is of no form.
     Script(u32),
 }
@@ -106,6 +109,7 @@ impl Status {
             Status::Asm(_) => 11,
             Status::Trap(_, _) => 12,
             Status::Budget(_) => 13,
+            Status::Handler(_) => 14,
             Status::Script(_) => 15,
         }
     }
