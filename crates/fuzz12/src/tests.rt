@@ -11,6 +11,7 @@ mod certify;
 mod certs;
 mod exec;
 mod failures;
+mod hcheck;
 mod images;
 mod malicious;
 mod reads;

@@ -10,11 +10,12 @@ use Rattle.fz_top.specs.Check.{CheckMakes, check_in, check_inputs}
 use Rattle.fz_top.specs.Compile.{CompileMakes, compile_in, compile_inputs}
 use Rattle.fz_top.specs.Deeds.{Deed}
 use Rattle.fz_top.specs.Exec.{ExecMakes, exec_in, exec_inputs}
+use Rattle.fz_top.specs.Hcheck.{HcheckMakes, hcheck_inputs}
 use Rattle.fz_top.specs.Run.{RunMakes, files_in, run_in, run_inputs}
 use Rattle.fz_status.specs.Words.{Text}
 use Rattle.fz_top.specs.Contents.{content_at}
 use Rattle.fz_top.specs.declared.command.Command.{Command}
-use Rattle.fz_top.specs.declared.command.Command.TheVariants.{Asm, Certify, Check, Compile, Exec, Run}
+use Rattle.fz_top.specs.declared.command.Command.TheVariants.{Asm, Certify, Check, Compile, Exec, Hcheck, Run}
 use Rattle.fz_top.specs.declared.command.Name.{Name}
 use Rattle.fz_top.specs.declared.command.Name.TheVariants as name
 use Rattle.fz_status.specs.declared.status.Status.{Status}
@@ -24,6 +25,7 @@ unfoldable pub table : List (Row Name)
 table = row (codes "asm") 2 name.Asm ∷ row (codes "certify") 3 name.Certify ∷ row (codes "certify16") 3 name.Certify16
     ∷ row (codes "check") 2 name.Check ∷ row (codes "check16") 2 name.Check16
     ∷ row (codes "compile") 2 name.Compile ∷ row (codes "compile16") 2 name.Compile16 ∷ row (codes "exec") 3 name.Exec
+    ∷ row (codes "hcheck") 1 name.Hcheck
     ∷ row (codes "run") 6 name.Run ∷ row (codes "run16") 6 name.Run16 ∷ []
 
 -- the command of a name, where the words have its form
@@ -36,6 +38,7 @@ form_of name.Check16 words = Some (Check (check_in Word))
 form_of name.Compile words = Some (Compile (compile_in Byte))
 form_of name.Compile16 words = Some (Compile (compile_in Word))
 form_of name.Exec words = option_map Exec (exec_in words)
+form_of name.Hcheck words = Some Hcheck
 form_of name.Run words = option_map Run (run_in Byte words)
 form_of name.Run16 words = option_map Run (run_in Word words)
 
@@ -46,6 +49,7 @@ inputs_of (Certify certify) = certify_inputs
 inputs_of (Check check) = check_inputs
 inputs_of (Compile compile) = compile_inputs
 inputs_of (Exec exec) = exec_inputs
+inputs_of Hcheck = hcheck_inputs
 inputs_of (Run run) = run_inputs
 
 -- what the command makes of the contents of its files
@@ -55,6 +59,7 @@ Makes (Certify certify) contents r = CertifyMakes certify (content_at contents 0
 Makes (Check check) contents r = CheckMakes check (content_at contents 0) (content_at contents 1) r
 Makes (Compile compile) contents r = CompileMakes compile (content_at contents 0) r
 Makes (Exec exec) contents r = ExecMakes exec (content_at contents 0) r
+Makes Hcheck contents r = HcheckMakes (content_at contents 0) r
 Makes (Run run) contents r = RunMakes run (files_in contents) r
 
 abbrev pub name_in : List Text → Option Name

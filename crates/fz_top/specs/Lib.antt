@@ -10,6 +10,7 @@ pub mod Contents
 pub mod Deeds
 pub mod Exec
 pub mod Firmwares
+pub mod Hcheck
 pub mod Images
 pub mod Lines
 pub mod Reads

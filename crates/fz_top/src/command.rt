@@ -11,7 +11,6 @@ ghost use Rattle.fz_top.specs.Contents.{bytes_of};
 ghost use Rattle.fz_top.specs.Commands.{IsUsage, Makes, command_in, form_of, inputs_of, name_in, table};
 ghost use Rattle.fz_top.specs.Deeds.{IsResultOf};
 
-use crate::asm;
 use crate::certify::{self, Certify};
 use crate::check::{self, Check};
 use crate::compile::{self, Compile};
@@ -19,6 +18,7 @@ use crate::exec::{self, Exec};
 use crate::reading::content;
 use crate::run::{self, Run};
 use crate::work::Work;
+use crate::{asm, hcheck};
 use codegen::Width;
 use fz_status::Status;
 use fz_words::Refusal;
@@ -35,12 +35,13 @@ pub(crate) enum Name {
     Compile,
     Compile16,
     Exec,
+    Hcheck,
     Run,
     Run16,
 }
 
 /// The commands by their names on the command line, each with the number of words that follow.
-static COMMANDS: [(&str, usize, Name); 10] = [
+static COMMANDS: [(&str, usize, Name); 11] = [
     ("asm", 2, Name::Asm),
     ("certify", 3, Name::Certify),
     ("certify16", 3, Name::Certify16),
@@ -49,6 +50,7 @@ static COMMANDS: [(&str, usize, Name); 10] = [
     ("compile", 2, Name::Compile),
     ("compile16", 2, Name::Compile16),
     ("exec", 3, Name::Exec),
+    ("hcheck", 1, Name::Hcheck),
     ("run", 6, Name::Run),
     ("run16", 6, Name::Run16),
 ];
@@ -66,6 +68,8 @@ pub enum Command {
     Compile(Compile),
     /// `exec IMAGE STEPS FLAGS`
     Exec(Exec),
+    /// `hcheck HANDLER`
+    Hcheck,
     /// `run FCL IMAGE CERT TRACE PLAN FLAGS`, and `run16 ..`
     Run(Run),
 }
@@ -84,6 +88,7 @@ fn formed(name: Name, words: &[String]) -> Option<Command>
         Name::Compile => Some(Command::Compile(Compile { width: Width::Byte })),
         Name::Compile16 => Some(Command::Compile(Compile { width: Width::Word })),
         Name::Exec => Exec::of(words).map(Command::Exec),
+        Name::Hcheck => Some(Command::Hcheck),
         Name::Run => Run::of(Width::Byte, words).map(Command::Run),
         Name::Run16 => Run::of(Width::Word, words).map(Command::Run),
     }
@@ -101,6 +106,7 @@ impl Command {
             Command::Check(_) => check::INPUTS.as_slice(),
             Command::Compile(_) => compile::INPUTS.as_slice(),
             Command::Exec(_) => exec::INPUTS.as_slice(),
+            Command::Hcheck => hcheck::INPUTS.as_slice(),
             Command::Run(_) => run::INPUTS.as_slice(),
         }
     }
@@ -117,6 +123,7 @@ impl Command {
             Command::Check(check) => check.work(alloc, content(contents, 0), content(contents, 1)),
             Command::Compile(compile) => compile.work(alloc, content(contents, 0)),
             Command::Exec(exec) => exec.work(alloc, content(contents, 0)),
+            Command::Hcheck => hcheck::work(alloc, content(contents, 0)),
             Command::Run(run) => run.work(alloc, contents),
         }
     }

@@ -18,6 +18,7 @@ mod compile;
 mod delivery;
 mod exec;
 mod firmware;
+mod hcheck;
 mod images;
 mod laws;
 mod lines;

@@ -10,7 +10,7 @@ use std::process::Abort;
 use std::test::Fail;
 
 // The files, but for OUT and the records of 16 bits.
-static FILES: [(&str, &[&str]); 8] = [
+static FILES: [(&str, &[&str]); 9] = [
     ("a.fcl", &[BLOCK]),
     ("a.s19", &[RECORDS]),
     ("a.cert", &["FZC 1\nclaim 19609\n", HALVES]),
@@ -19,6 +19,8 @@ static FILES: [(&str, &[&str]); 8] = [
     ("empty", &[]),
     ("small.asm", &[SOURCE]),
     ("small.s19", &[SOURCE_RECORDS]),
+    // INC $1800; RTI
+    ("handler.s19", &["S10740007218000B23\nS9030000FC\n"]),
 ];
 
 /// A command whose files are accepted.
@@ -33,7 +35,7 @@ struct Accepted {
     start: &'static str,
 }
 
-static COMMANDS: [Accepted; 10] = [
+static COMMANDS: [Accepted; 11] = [
     Accepted {
         line: &["fuzz12", "asm", "small.asm", "out"],
         reads: &["small.asm"],
@@ -75,6 +77,13 @@ static COMMANDS: [Accepted; 10] = [
         writes: false,
         lines: &["pc C003 a FA b 00 x 0000 y 0000 sp 0000 ccr D9 steps 2\n"],
         start: "pc ",
+    },
+    Accepted {
+        line: &["fuzz12", "hcheck", "handler.s19"],
+        reads: &["handler.s19"],
+        writes: false,
+        lines: &["handler instructions 2\n"],
+        start: "han",
     },
     Accepted {
         line: &[
