@@ -33,8 +33,7 @@ impl<M: Mem> Model for Machine<M> {
 
     ghost Value = { Whole };
 
-    ghost view =
-        { λ a. record { state = record { regs = a.regs; temps = a.temps; mem = M.bytes a.mem }; flags = a.flags } };
+    ghost view = { λ a. record { state = record { regs = a.regs; temps = a.temps; mem = M.bytes a.mem }; flags = a.flags } };
 }
 
 /// The kind of a step by a part.

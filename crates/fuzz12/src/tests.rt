@@ -13,6 +13,7 @@ mod debug;
 mod exec;
 mod failures;
 mod generate;
+mod hcheck;
 mod images;
 mod malicious;
 mod reads;

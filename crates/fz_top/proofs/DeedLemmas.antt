@@ -51,6 +51,8 @@ use Rattle.fz_top.specs.Check.{check_in, check_refusals}
 use Rattle.fz_top.proofs.CertLemmas.{cert_apart}
 use Rattle.fz_top.specs.Firmwares.{GivesFirmware, RefusesText, text_refusals}
 use Rattle.fz_top.specs.CertifiedRun.{CertifiedRun, Files, Report}
+use Rattle.handler_check.specs.Images.{HandlersHaveNoFault}
+use Rattle.fz_top.specs.Hcheck.{HcheckGives, hcheck_refusals}
 use Rattle.fz_top.specs.Run.{run_refusals}
 use Rattle.fz_top.specs.declared.run.Run.{Run}
 use Rattle.fz_top.specs.Debug.{DebugFiles, DebugGives, debug_refusals}
@@ -80,7 +82,8 @@ module _ (first : FirstFaultsAreOne) (load : LoadFaultsAreOne) (alike : SpelledB
     (images : ImagesAreOne) (good : ImagesHaveNoFault) (loads : ImagesLoadAlike) (ends : RunsEndOnce)
     (certs : TextAnswersAreOne) (blocks : SameBlocksAnswerAlike)
     (firmwares : FirmwaresAreOne) (plans : SpelledPlansHaveNoFault)
-    (halvings : AnswersAreOne) (stop_alike : SameBlocksStopAlike) (drawn_alike : DrawnBlocksAreOne) where
+    (halvings : AnswersAreOne) (stop_alike : SameBlocksStopAlike) (drawn_alike : DrawnBlocksAreOne)
+    (handlers : HandlersHaveNoFault) where
   -- a text that gives firmware is not refused
   text_apart : (text : List ℕ) (block : Block) → SpellsBlock text block → IsWithinLimits block
       → (f : FclFault) → CarriesNoMemory (status.Fcl f) → RefusesText text f → ⊥
@@ -218,6 +221,12 @@ module _ (first : FirstFaultsAreOne) (load : LoadFaultsAreOne) (alike : SpelledB
       let same = ends_alike exec text (end.Arrived gives.steps) (end.Budget n) gives.last last gives.arrives ends_so in cc
   exec_stands exec text deed gives s is = is.1
 
+  hcheck_stands : (text : List ℕ) (deed : Deed) → HcheckGives text deed → NoneRefuses (hcheck_refusals text)
+  hcheck_stands text deed gives (status.Image f) is = records_apart text gives.image gives.spelled f is.0 is.1
+  hcheck_stands text deed gives (status.Handler f) (carries, (other, spelled, fault)) =
+      handlers gives.image.bytes other.bytes gives.instrs f (images text gives.image other gives.spelled spelled).1 gives.handler fault
+  hcheck_stands text deed gives s is = is.1
+
   pub apart : DeedsHaveNoFault
   unfolding Makes
   apart command.Asm contents deed s makes fault = source_stands _ deed makes s fault
@@ -229,6 +238,7 @@ module _ (first : FirstFaultsAreOne) (load : LoadFaultsAreOne) (alike : SpelledB
   apart (command.Debug debug) contents deed s makes fault = debug_stands debug _ deed makes s fault
   apart (command.Exec exec) contents deed s makes fault = exec_stands exec _ deed makes s fault
   apart (command.Generate generate) contents deed s makes fault = generate_stands generate.number deed makes s fault
+  apart command.Hcheck contents deed s makes fault = hcheck_stands _ deed makes s fault
   apart command.Mcompile contents deed s makes fault =
       text_stands _ makes.block makes.gives.spelled makes.gives.limits s fault
   apart (command.Run run) contents deed s makes fault = run_stands run _ makes.report makes.certified s fault
@@ -247,6 +257,7 @@ faults_carry (command.Compile compile) contents s makes = makes.0
 faults_carry (command.Debug debug) contents s makes = makes.0
 faults_carry (command.Exec exec) contents s makes = makes.0
 faults_carry (command.Generate generate) contents s makes = makes.0
+faults_carry command.Hcheck contents s makes = makes.0
 faults_carry command.Mcompile contents s makes = makes.0
 faults_carry (command.Run run) contents s makes = makes.0
 faults_carry command.Scompile contents s makes = makes.0

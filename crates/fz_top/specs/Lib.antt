@@ -13,6 +13,7 @@ pub mod Deeds
 pub mod Exec
 pub mod Firmwares
 pub mod Generate
+pub mod Hcheck
 pub mod Images
 pub mod Lines
 pub mod Mcompile

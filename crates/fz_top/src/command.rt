@@ -20,7 +20,7 @@ use crate::generate::{self, Generate};
 use crate::reading::content;
 use crate::run::{self, Run};
 use crate::work::Work;
-use crate::{asm, mcompile, scompile};
+use crate::{asm, hcheck, mcompile, scompile};
 use codegen::Width;
 use fz_status::Status;
 use fz_words::Refusal;
@@ -39,6 +39,7 @@ pub(crate) enum Name {
     Debug,
     Exec,
     Generate,
+    Hcheck,
     Mcompile,
     Run,
     Run16,
@@ -46,7 +47,7 @@ pub(crate) enum Name {
 }
 
 /// The commands by their names on the command line, each with the number of words that follow.
-static COMMANDS: [(&str, usize, Name); 14] = [
+static COMMANDS: [(&str, usize, Name); 15] = [
     ("asm", 2, Name::Asm),
     ("certify", 3, Name::Certify),
     ("certify16", 3, Name::Certify16),
@@ -57,6 +58,7 @@ static COMMANDS: [(&str, usize, Name); 14] = [
     ("debug", 6, Name::Debug),
     ("exec", 3, Name::Exec),
     ("gen", 1, Name::Generate),
+    ("hcheck", 1, Name::Hcheck),
     ("mcompile", 2, Name::Mcompile),
     ("run", 6, Name::Run),
     ("run16", 6, Name::Run16),
@@ -80,6 +82,8 @@ pub enum Command {
     Exec(Exec),
     /// `gen NUMBER`
     Generate(Generate),
+    /// `hcheck HANDLER`
+    Hcheck,
     /// `mcompile FCL OUT`
     Mcompile,
     /// `run FCL IMAGE CERT TRACE PLAN FLAGS`, and `run16 ..`
@@ -104,6 +108,7 @@ fn formed(name: Name, words: &[String]) -> Option<Command>
         Name::Debug => DebugRun::of(words).map(Command::Debug),
         Name::Exec => Exec::of(words).map(Command::Exec),
         Name::Generate => Generate::of(words).map(Command::Generate),
+        Name::Hcheck => Some(Command::Hcheck),
         Name::Mcompile => Some(Command::Mcompile),
         Name::Run => Run::of(Width::Byte, words).map(Command::Run),
         Name::Run16 => Run::of(Width::Word, words).map(Command::Run),
@@ -125,6 +130,7 @@ impl Command {
             Command::Debug(_) => debug::INPUTS.as_slice(),
             Command::Exec(_) => exec::INPUTS.as_slice(),
             Command::Generate(_) => generate::INPUTS.as_slice(),
+            Command::Hcheck => hcheck::INPUTS.as_slice(),
             Command::Mcompile => compile::INPUTS.as_slice(),
             Command::Run(_) => run::INPUTS.as_slice(),
             Command::Scompile => scompile::INPUTS.as_slice(),
@@ -145,6 +151,7 @@ impl Command {
             Command::Debug(debug) => debug.work(alloc, contents),
             Command::Exec(exec) => exec.work(alloc, content(contents, 0)),
             Command::Generate(generate) => generate.work(alloc),
+            Command::Hcheck => hcheck::work(alloc, content(contents, 0)),
             Command::Mcompile => mcompile::work(alloc, content(contents, 0)),
             Command::Run(run) => run.work(alloc, contents),
             Command::Scompile => scompile::work(alloc, content(contents, 0)),

@@ -7,6 +7,7 @@ use cpu12_emul::laws::{images_load_alike, runs_end_once};
 use error_certifier::{answers_are_one, same_blocks_stop_alike};
 use fcl_check::{load_faults_are_one, spelled_blocks_are_one};
 use fcl_syntax::first_faults_are_one;
+use handler_check::laws::handlers_have_no_fault;
 use interrupt_plan::spelled_plans_have_no_fault;
 use rule_layout::{layouts_are_one, limits_have_no_fault};
 use srecord::images_are_one;
@@ -31,6 +32,7 @@ pub(crate) fn deeds_have_no_fault()
     answers_are_one();
     same_blocks_stop_alike();
     drawn_blocks_are_one();
+    handlers_have_no_fault();
     spelled_plans_have_no_fault();
     spelled_traces_have_no_fault()
 }

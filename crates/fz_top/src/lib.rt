@@ -20,6 +20,7 @@ mod delivery;
 mod exec;
 mod firmware;
 mod generate;
+mod hcheck;
 mod images;
 mod laws;
 mod lines;

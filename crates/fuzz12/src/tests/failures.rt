@@ -20,6 +20,8 @@ static FILES: [(&str, &[&str]); 9] = [
     ("script", &["step 1\nregs\n"]),
     ("small.asm", &[SOURCE]),
     ("small.s19", &[SOURCE_RECORDS]),
+    // INC $1800; RTI
+    ("handler.s19", &["S10740007218000B23\nS9030000FC\n"]),
 ];
 
 /// A command whose files are accepted.
@@ -34,7 +36,7 @@ struct Accepted {
     start: &'static str,
 }
 
-static COMMANDS: [Accepted; 13] = [
+static COMMANDS: [Accepted; 14] = [
     Accepted {
         line: &["fuzz12", "asm", "small.asm", "out"],
         reads: &["small.asm"],
@@ -76,6 +78,13 @@ static COMMANDS: [Accepted; 13] = [
         writes: false,
         lines: &["pc C003 a FA b 00 x 0000 y 0000 sp 0000 ccr D9 steps 2\n"],
         start: "pc ",
+    },
+    Accepted {
+        line: &["fuzz12", "hcheck", "handler.s19"],
+        reads: &["handler.s19"],
+        writes: false,
+        lines: &["handler instructions 2\n"],
+        start: "han",
     },
     Accepted {
         line: &["fuzz12", "mcompile", "a.fcl", "out"],

@@ -1,0 +1,45 @@
+//! The command `hcheck HANDLER`.
+ghost use Rattle.std.specs.Prelude.{◌≡◌, ◌≤◌, codes, length, IfOk};
+ghost use Rattle.fz_shelf.specs.Lines.{text_of};
+ghost use Rattle.fz_top.specs.Deeds.{IsResultOf};
+ghost use Rattle.fz_top.specs.Hcheck.{HcheckMakes};
+ghost use Rattle.fz_top.specs.Lines.{line};
+
+use crate::images::image_of;
+use crate::lines::labelled;
+use crate::work::Work;
+use fz_status::Status;
+use handler_check::{Handler, HandlerFault, check_handler};
+use std::alloc::{AllocError, Global};
+
+/// The word HANDLER.
+pub(crate) static INPUTS: [u32; 1] = [2];
+
+/// Checks the handler that the records give, and writes down how many instructions its longest path has.
+pub(crate) fn work(alloc: Global, records: &[u8]) -> Result<Work, Status>
+    requires { length records.now ≤ 1048576 }
+    ensures { IsResultOf (HcheckMakes records.now) result }
+{
+    let image = match image_of(alloc, records) {
+        Ok(image) => image,
+        Err(status) => return Err(status),
+    };
+    let handler = match check_handler(alloc, &image) {
+        Ok(handler) => handler,
+        Err(HandlerFault::Memory) => return Err(Status::Memory),
+        Err(fault) => return Err(Status::Handler(fault)),
+    };
+    match lines(alloc, handler) {
+        Ok(lines) => Ok(Work { lines, file: None }),
+        Err(_) => Err(Status::Memory),
+    }
+}
+
+/// The greatest number of instructions on a path of the handler.
+fn lines(alloc: Global, handler: Handler) -> Result<Vec<String>, AllocError>
+    ensures { IfOk result (λ lines. text_of lines.items ≡ line (codes "handler instructions ") handler.instrs) }
+{
+    let mut lines = Vec::new(alloc);
+    lines.push(labelled(alloc, "handler instructions ", u64::from(handler.instrs))?)?;
+    Ok(lines)
+}
