@@ -10,7 +10,7 @@ use std::process::Abort;
 use std::test::Fail;
 
 // The files, but for OUT and the records of 16 bits.
-static FILES: [(&str, &[&str]); 9] = [
+static FILES: [(&str, &[&str]); 10] = [
     ("a.fcl", &[BLOCK]),
     ("a.s19", &[RECORDS]),
     ("a.cert", &["FZC 1\nclaim 19609\n", HALVES]),
