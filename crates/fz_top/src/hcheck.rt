@@ -40,6 +40,6 @@ fn lines(alloc: Global, handler: Handler) -> Result<Vec<String>, AllocError>
     ensures { IfOk result (λ lines. text_of lines.items ≡ line (codes "handler instructions ") handler.instrs) }
 {
     let mut lines = Vec::new(alloc);
-    lines.push(labelled(alloc, "handler instructions ", u64::from(handler.instrs))?)?;
+    lines.push(labelled(alloc, "handler instructions ", u128::from(handler.instrs))?)?;
     Ok(lines)
 }
