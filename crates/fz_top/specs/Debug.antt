@@ -113,11 +113,6 @@ pub record DebugGives (debug : DebugRun) (files : DebugFiles) (deed : Deed) : Ty
     file = None;
   }
 
--- the line of a script that is of no form
-abbrev pub script_refusals : List ℕ → Refusals
-script_refusals text (status.Script n) = script_of text ≡ Err n
-script_refusals text s = ⊥
-
 -- why FCL is refused; why IMAGE is, FCL giving firmware; why a trace is, IMAGE holding its image; why a plan is, the
 -- trace spelling samples beside; and why a script is, the plan being one beside
 abbrev pub debug_refusals : DebugRun → DebugFiles → Refusals

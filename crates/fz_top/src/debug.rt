@@ -1,11 +1,10 @@
 //! The command `debug FCL IMAGE TRACE PLAN FLAGS SCRIPT`: what a script shows of a run, and the run.
-ghost use Rattle.std.specs.Prelude.{◌≡◌, ◌≤◌, length, Ok, IfOk, IfErr};
+ghost use Rattle.std.specs.Prelude.{◌≡◌, ◌≤◌, length, IfOk, IfErr};
 ghost use Rattle.std.specs.List.{All};
-ghost use Rattle.debug_script.specs.Scripts.{script_of};
 ghost use Rattle.fz_status.specs.Refusals.{IsRefusal};
 ghost use Rattle.fz_status.specs.Words.{texts_of};
 ghost use Rattle.fz_top.specs.Contents.{bytes_of};
-ghost use Rattle.fz_top.specs.Debug.{DebugMakes, Debugs, debug_files, debug_in, debug_refusals, script_refusals};
+ghost use Rattle.fz_top.specs.Debug.{DebugMakes, Debugs, debug_files, debug_in, debug_refusals};
 ghost use Rattle.fz_top.specs.Deeds.{IsResultOf};
 
 use crate::firmware::{Compiled, firmware_of};
@@ -102,27 +101,15 @@ impl DebugRun {
             Ok(plan) => plan,
             Err(status) => return Err(status),
         };
-        match script_in(alloc, content(contents, 4)) {
+        match read_script(alloc, content(contents, 4)) {
             Ok(script) => Ok(Accepted {
                 compiled,
                 samples,
                 plan,
                 script,
             }),
-            Err(status) => Err(status),
+            Err(ScriptFault::Memory) => Err(Status::Memory),
+            Err(ScriptFault::Line(line)) => Err(Status::Script(line)),
         }
-    }
-}
-
-/// The script that a text spells.
-fn script_in(alloc: Global, text: &[u8]) -> Result<Script, Status>
-    requires { length text.now ≤ 1048576 }
-    ensures script { IfOk result (λ script. script_of text.now ≡ Ok script) }
-    ensures fault { IfErr result (IsRefusal (script_refusals text.now)) }
-{
-    match read_script(alloc, text) {
-        Ok(script) => Ok(script),
-        Err(ScriptFault::Memory) => Err(Status::Memory),
-        Err(ScriptFault::Line(line)) => Err(Status::Script(line)),
     }
 }
