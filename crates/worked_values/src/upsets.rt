@@ -1,6 +1,6 @@
 //! Upsets and their first faults.
 use cpu12_asm::{ByteMap, Image};
-use interrupt_plan::{UpsetFault, read_upsets};
+use interrupt_plan::{Upset, UpsetFault, read_upsets};
 use std::alloc::{AllocError, Global};
 use std::test::Fail;
 
