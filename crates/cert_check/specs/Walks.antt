@@ -56,9 +56,8 @@ pub record IsGreatestSoFar (b : Block) (o : ℕ) (x : Output) (h : ℕ) (parts :
   pub each : All (λ p. (n : ℕ) × HasBound b o x h p n × (n ≤ e)) parts
   pub some : 1 ≤ e → Any (λ p. HasBound b o x h p e) parts
 
--- behind these nodes, whose leaves hold, these boxes are open and these the errors so far: with a tree for each of the
--- boxes
--- the nodes are a tree over all bytes
+-- behind these nodes, whose leaves hold, these boxes are open and these the errors so far: with a tree for each of
+-- the boxes the nodes are a tree over all bytes
 pub record HasWalked (b : Block) (h : ℕ) (nodes : List Node) (boxes : List (List Interval))
     (errors : List ℕ) : Type 0 where
   pub are_boxes : All (IsBoxOf b) boxes

@@ -36,8 +36,7 @@ abbrev pub given : Layout → List ℕ → State → State
 given l bytes s = record s { mem = slice_set (put s.mem l.samples bytes) l.ready 1 }
 
 -- From there at most so many whole instructions lead to where the code waits again, with the answers after those
--- before,
--- and no more steps than that says.
+-- before, and no more steps than that says.
 pub record IsAnswered (l : Layout) (b : Block) (w : Width) (most : ℕ) (image : List ℕ) (flags : ℕ) (before : ℕ → ℕ)
     (bytes : List ℕ) (s t : State) : Type 0 where
   pub ds : List ℕ

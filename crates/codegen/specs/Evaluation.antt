@@ -67,9 +67,8 @@ pub record IsAtEval (l : Layout) (b : Block) (w : Width) (bytes : List ℕ) (bef
   pub inputs : HasBytes s.mem l.inputs bytes
   pub outputs : HasAnswers l b w before s.mem
 
--- EVAL leads behind its code with the answers. Outside their bytes and the slots memory is as it was. Around it, from a
--- call
--- to the return and what follows, six instructions have room in the bounds.
+-- EVAL leads behind its code with the answers. Outside their bytes and the slots memory is as it was. Around it, from
+-- a call to the return and what follows, six instructions have room in the bounds.
 pub record IsEvaluated (l : Layout) (b : Block) (w : Width) (flags : ℕ) (bytes : List ℕ) (before : ℕ → ℕ)
     (s t : State) : Type 0 where
   pub ds : List ℕ

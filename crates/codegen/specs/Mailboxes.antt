@@ -40,8 +40,7 @@ abbrev pub call_code : Layout → ℕ → List Instr
 call_code l n = ClrExtended l.ready ∷ Andcc 0xEF ∷ JsrExtended l.eval ∷ Bra (239 - 6 * n) ∷ Rti ∷ []
 
 -- the code before EVAL: the stack is set up, POSTED cleared and interrupts let in; then, wherever POSTED is not 0,
--- interrupts are
--- kept out, and MAIL is copied to the inputs
+-- interrupts are kept out, and MAIL is copied to the inputs
 abbrev pub mailbox_code : Layout → ℕ → List Instr
 mailbox_code l n =
     LdsImmediate 0x2000 ∷ ClrExtended l.ready ∷ Andcc 0xEF

@@ -68,9 +68,8 @@ pub record IsCopied (l : Layout) (n : ℕ) (image : List ℕ) (flags : ℕ) (s t
   pub elsewhere : (at : ℕ) → (at < l.inputs) ⊎ (l.inputs + n ≤ at) → at ≢ l.ready
       → slice_index t.mem at ≡ slice_index s.mem at
 
--- From there whole instructions lead to where the code waits again, with the answers after those before. None reads or
--- writes the
--- mailbox, which stays as it is. The n + 5 instructions up to the call have room in the bound.
+-- From there whole instructions lead to where the code waits again, with the answers after those before. None reads
+-- or writes the mailbox, which stays as it is. The n + 5 instructions up to the call have room in the bound.
 pub record IsTurned (l : Layout) (b : Block) (w : Width) (most : ℕ) (image : List ℕ) (flags : ℕ) (before : ℕ → ℕ)
     (bytes : List ℕ) (s t : State) : Type 0 where
   pub ds : List ℕ

@@ -124,8 +124,7 @@ AreWatchAnswered l b most image flags before (x ∷ xs) s =
     × AreWatchAnswered l b most image flags (λ o. watched_answer b image x o (before o)) xs (restored image x.change t))
 
 -- A firmware answers every list of samples so from reset, whatever the open flags are, with a byte of its tables
--- changed
--- in each of them or in none.
+-- changed in each of them or in none.
 abbrev pub AnswersWatched : Block → Firmware → Type 0
 AnswersWatched b f =
     (flags : ℕ) (samples : List Watched) → flags < 2 ^ 8 → All (IsGoodSample b f.layout f.image.bytes) samples

@@ -42,8 +42,7 @@ pub record Parked (open_to : ℕ → Bool) (w s : State) : Type 0 where
   pub mem : Agree (is_hidden open_to s.regs.sp) w.mem s.mem
 
 -- The state w of a run under interrupts simulates the state s of the run without: it is the same, or an interrupt has
--- put
--- the sums that run in s on the stack.
+-- put the sums that run in s on the stack.
 abbrev pub Simulates : (ℕ → Bool) → State → State → Type 0
 Simulates open_to w s = Same open_to w s ⊎ Parked open_to w s
 
@@ -80,8 +79,7 @@ pub record StepsAlike (open_to : ℕ → Bool) (flags : ℕ) (s t : State) : Typ
   pub same : Same open_to next.state goal.state
 
 -- Two states that agree outside hidden bytes step alike, where what is read is shown; less may be hidden after the
--- step,
--- if it writes what is hidden no more.
+-- step, if it writes what is hidden no more.
 abbrev pub StepAgrees : Type 0
 StepAgrees = (flags : ℕ) (r : Regs) (t : Temps) (m n : List ℕ) (l : Left) (hidden later : ℕ → Bool) → Agree hidden m n
     → AllShown hidden (read_by (step_act flags r t) n) → outcome (step_act flags r t) n ≡ Ok l

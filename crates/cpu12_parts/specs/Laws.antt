@@ -71,8 +71,7 @@ pub record IsSteady (k : Kind) (kept : Temps → Type 0) : Type 0 where
   pub temps : (flags : ℕ) (s : State) → (part_of k flags s).end ≡ More → kept (part_of k flags s).temps
 
 -- Cuts at any boundaries, by suspend and then resume: the parts come to the same end, but for the six bytes below SP,
--- if
--- no byte that is read is one of them.
+-- if no byte that is read is one of them.
 abbrev pub CutsChangeNothing : Kind → Type 0
 CutsChangeNothing k =
     (flags : ℕ) (unwritten : ℕ → Bool) (d : ℕ) (s t : State) → length s.mem ≡ 65536 → s.regs.sp < 2 ^ 16

@@ -1,8 +1,7 @@
 //! Conditions without chains of NOT, for many boxes.
 //!
 //! AND and OR spread into the rule list, which has little room, but each literal may stand behind a chain of NOTs: a
-//! text
-//! has room for some sixty times as many NOTs as the list has for literals.
+//! text has room for some sixty times as many NOTs as the list has for literals.
 ghost use Rattle.std.specs.Prelude.{◌≡◌, IfOk, map, false};
 ghost use Rattle.fuzzy_meaning.specs.Conditions.{condition_of};
 ghost use Rattle.error_bound.specs.Shortening.{under as under_of, shortened as shortened_of, ShorteningKeepsReaches};

@@ -33,9 +33,8 @@ pub record AnswerBlock (b : Block) (f : Firmware) (flags : ℕ) (samples : List 
   pub steps : All (λ r. r.steps ≤ step_bound (width_of f.wide) b) rows
 
 -- What a block's firmware gives under a plan: rows that are the block's answers; the run without interrupts from the
--- first arrival answers all samples, and its states keep the facts, those in which it waits too; the rows are read off
--- it; and the run under the
--- plan follows it.
+-- first arrival answers all samples, and its states keep the facts, those in which it waits too; the rows are read
+-- off it; and the run under the plan follows it.
 pub record AnswersUnder (b : Block) (f : Firmware) (flags : ℕ) (samples : List (List ℕ)) (plan : List Request)
     (rows : List (RowSeen (List ℕ))) : Type 0 where
   pub answers : AnswerBlock b f flags samples rows

@@ -40,10 +40,8 @@ left_of memory = sum (take (stack_end - free_start) (drop free_start memory))
 
 -- What a block's firmware does to samples under a plan, where a certificate is accepted with the report's errors: the
 -- emulated image answers each sample as it does without interrupts, within the printed error of FCL's exact fraction,
--- in
--- at most the printed number of instructions; and its steps, the boundaries inside REV, REVW and WAV at which it goes
--- on
--- once interrupted, and its frames are read off its run without interrupts.
+-- in at most the printed number of instructions; and its steps, the boundaries inside REV, REVW and WAV at which it
+-- goes on once interrupted, and its frames are read off its run without interrupts.
 pub record IsReportOf (width : Width) (flags : ℕ) (block : Block) (firmware : Firmware) (samples : List Sample)
     (plan : List Request) (report : Report) : Type 0 where
   pub ran : report.rows ≡ (firmware_rows firmware (map input_bytes samples) plan flags).rows
@@ -56,9 +54,8 @@ pub record IsReportOf (width : Width) (flags : ℕ) (block : Block) (firmware : 
   pub left : report.left ≡ left_of (firmware_rows firmware (map input_bytes samples) plan flags).state.mem
 
 -- Compile accepts the FCL text, IMAGE holds exactly its firmware's image, the checker accepts the certificate, the
--- trace
--- spells samples within their inputs' ranges, and the plan interrupts that write only free bytes. The report is of
--- that.
+-- trace spells samples within their inputs' ranges, and the plan interrupts that write only free bytes. The report is
+-- of that.
 pub record CertifiedRun (width : Width) (flags : ℕ) (files : Files) (report : Report) : Type 0 where
   pub block : Block
   pub firmware : Firmware

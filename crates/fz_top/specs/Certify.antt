@@ -39,9 +39,8 @@ certify_lines errors leaves = counted error_line 1 errors ++ line (codes "leaves
 
 -- ---- what it makes of its file
 
--- the text gives firmware with answers of this width, the certificate is that of the halving of its block, with errors
--- of
--- at most the target, and OUT is to hold the certificate's text
+-- the text gives firmware with answers of this width, the certificate is that of the halving of its block, with
+-- errors of at most the target, and OUT is to hold the certificate's text
 pub record CertifyGives (certify : Certify) (text : List ℕ) (deed : Deed) : Type 0 where
   pub block : Block
   pub firmware : Firmware

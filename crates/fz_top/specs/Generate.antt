@@ -63,11 +63,9 @@ abbrev pub generated_target : ℕ
 generated_target = 400000
 
 -- The texts spell what the number draws: a block, samples and interrupts. The block has this firmware, whose answers
--- have
--- a byte, and the certificate is that of its halving, accepted with its claims as errors. The report is of the
--- firmware's
--- run over the samples under the interrupts, with FLAGS 00: as `run` reports it of these texts, of the image's records
--- and of the certificate's text.
+-- have a byte, and the certificate is that of its halving, accepted with its claims as errors. The report is of the
+-- firmware's run over the samples under the interrupts, with FLAGS 00: as `run` reports it of these texts, of the
+-- image's records and of the certificate's text.
 pub record GenerateGives (number : ℕ) (deed : Deed) : Type 0 where
   pub text : List ℕ
   pub trace : List ℕ

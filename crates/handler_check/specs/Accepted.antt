@@ -14,8 +14,7 @@ pub record May (i : Instr) (h : ℕ) : Type 0 where
   pub height : FitsHeight i h
 
 -- Code that is accepted, and the greatest number of instructions on a path to its end: each instruction is reached,
--- with
--- one height, and may stand there; wherever a path leads an instruction stands; and some path is the longest.
+-- with one height, and may stand there; wherever a path leads an instruction stands; and some path is the longest.
 pub record IsAccepted (is : List Instr) (instrs : ℕ) : Type 0 where
   pub fits : AllFit is
   pub ends : code_end is ≤ code_limit

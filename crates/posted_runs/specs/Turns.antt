@@ -21,12 +21,10 @@ abbrev pub taken_from : ℕ → List Post → List (ℕ × Post)
 taken_from m posts = map (λ p. (max m p.moment, p)) posts
 
 -- Boundaries are counted over the whole run. A turn begins at boundary g, where sample w waits, or none, after those
--- that are
--- done; the code has n inputs, and a turn that answers takes as many steps as `steps` says of the samples up to its
--- own. A turn
--- looks at POSTED at its first boundary, so what is posted up to there decides it. `taken` has the posts that are left
--- with the
--- boundaries at which they are taken, and `answered` the samples with the boundaries at which their turns end.
+-- that are done; the code has n inputs, and a turn that answers takes as many steps as `steps` says of the samples up
+-- to its own. A turn looks at POSTED at its first boundary, so what is posted up to there decides it. `taken` has the
+-- posts that are left with the boundaries at which they are taken, and `answered` the samples with the boundaries at
+-- which their turns end.
 pub data AreTurns (n : ℕ) (steps : List ℕ → ℕ) : ℕ → ℕ → List ℕ → List Post → List (ℕ × Post) → List (ℕ × ℕ)
     → Type 0 where
   -- no sample waits and no post is left

@@ -38,8 +38,7 @@ pub record Follows {S A B : Type 0} (open_to : ℕ → Bool) (f : Form S A B) (O
   pub own : Own (onto r.told done) r.state
 
 -- The run of one sample from any boundary m on follows the run without interrupts from s, the state at boundary 0,
--- where
--- none of its good requests is taken before m.
+-- where none of its good requests is taken before m.
 abbrev pub RunFollows : {S A B : Type 0} → (ℕ → Bool) → Form S A B → (State → Type 0) → (A → Type 0)
     → (List (A × B) → State → Type 0) → Type 0
 RunFollows {S = S} {A = A} {B = B} open_to f P Good Own =
@@ -117,8 +116,7 @@ pub record AllFollow {S A B : Type 0} (open_to : ℕ → Bool) (f : Form S A B) 
   pub own : Own (all_onto all.told done) all.state
 
 -- The runs of a list of samples follow the runs without interrupts, whatever good requests `asks` gives each, where
--- these
--- ascend and no sample takes more steps than `most`.
+-- these ascend and no sample takes more steps than `most`.
 abbrev pub RunsFollow : {S A B : Type 0} → (ℕ → Bool) → Form S A B → (State → Type 0) → (A → Type 0)
     → (List (A × B) → State → Type 0) → Type 0
 RunsFollow {S = S} {A = A} {B = B} open_to f P Good Own =

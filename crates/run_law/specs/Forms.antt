@@ -7,11 +7,10 @@ use Rattle.cpu12_emul.specs.declared.ends.Stepped.TheVariants.{Plain, Part, Last
 use Rattle.cpu12_emul.specs.Step.{Next, next_of}
 use Rattle.cpu12_emul.specs.Take.{FrameSeen, frame_of, may_interrupt}
 
--- A firmware that is given samples S and serves requests A, each of which tells a B: the byte from which open flags are
--- taken; how a
--- sample is given, and taken away again at its end; when it ends, by the moment and the state; what it answers there;
--- the least
--- boundary of a request; and what its handler does and tells, from a state in which no sums run, up to the return.
+-- A firmware that is given samples S and serves requests A, each of which tells a B: the byte from which open flags
+-- are taken; how a sample is given, and taken away again at its end; when it ends, by the moment and the state; what
+-- it answers there; the least boundary of a request; and what its handler does and tells, from a state in which no
+-- sums run, up to the return.
 pub record Form (S A B : Type 0) : Type 0 where
   pub flags : ℕ
   pub give : S → State → State
@@ -44,8 +43,7 @@ is_empty [] = true
 is_empty (x ∷ xs) = false
 
 -- What is taken at a boundary: the state after it, the frames with their boundary, the requests with what they tell,
--- and those that
--- are left.
+-- and those that are left.
 pub record Taking (A B : Type 0) : Type 0 where
   pub state : State
   pub frames : List (ℕ × FrameSeen)
@@ -63,10 +61,8 @@ takes f m (q ∷ qs) s =
     else record { state = s; frames = []; told = []; left = q ∷ qs }
 
 -- A run to its end: whether it arrived there; the last state; the state at each boundary, after what was taken there;
--- how many
--- steps were plain or last parts; how many there were; at how many boundaries an interrupt was taken inside an
--- instruction; each
--- frame with its boundary; what was told; and the requests that are left.
+-- how many steps were plain or last parts; how many there were; at how many boundaries an interrupt was taken inside
+-- an instruction; each frame with its boundary; what was told; and the requests that are left.
 pub record Ran (A B : Type 0) : Type 0 where
   pub arrived : Bool
   pub state : State
@@ -129,8 +125,7 @@ then_rest inside b rest (Ok next) = before_rest inside b next.kind (rest (is_par
 then_rest inside b rest (Err byte) = stuck inside b
 
 -- From boundary m on, with these requests left, where the step before was a part and not the last or it was not: at
--- most n steps
--- to the end. The run ends where it stands if no step is defined there, or if n steps are done.
+-- most n steps to the end. The run ends where it stands if no step is defined there, or if n steps are done.
 unfoldable pub run_from : {S A B : Type 0} → Form S A B → ℕ → ℕ → Bool → List A → State → Ran A B
 run_from f zero m inside qs s = ended (f.ends m s) qs s
 run_from f (suc n) m inside qs s =

@@ -50,8 +50,7 @@ pub record Quiet (open_to : ℕ → Bool) (u v s : State) : Type 0 where
   pub mem : Agree (is_hidden open_to v.regs.sp) u.mem v.mem
 
 -- The open bytes belong to the handlers: Own says what stands there after these requests, the last first, with what
--- they
--- told. Samples, steps and the push of the sums leave it.
+-- they told. Samples, steps and the push of the sums leave it.
 pub record LeavesOpen {S A B : Type 0} (open_to : ℕ → Bool) (f : Form S A B) (P : State → Type 0)
     (Own : List (A × B) → State → Type 0) : Type 0 where
   pub gives : (done : List (A × B)) (x : S) (w : State) → Own done w → Own done (f.give x w)
@@ -62,8 +61,7 @@ pub record LeavesOpen {S A B : Type 0} (open_to : ℕ → Bool) (f : Form S A B)
       → Own done (stepped f.flags w)
 
 -- A form is sound beside runs without interrupts whose states keep P: a step reads and writes what is shown; samples
--- are
--- given, taken away and answered alike, and the end looks the same; and where I is 0 a good request is quiet.
+-- are given, taken away and answered alike, and the end looks the same; and where I is 0 a good request is quiet.
 pub record Sound {S A B : Type 0} (open_to : ℕ → Bool) (f : Form S A B) (P : State → Type 0) (Good : A → Type 0)
     (Own : List (A × B) → State → Type 0) : Type 0 where
   pub apart : LeavesStack open_to
