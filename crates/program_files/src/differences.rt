@@ -1,7 +1,10 @@
 //! What is told of a call that leaves something else than is wanted.
+use fz_shelf::MemShelf;
 use program_calls::{
-    BEFORE, Left, NONE, call, call_over, file_holds, push_file, push_room, reads_are, shelf_of,
+    BEFORE, Difference, Left, NONE, call, call_over, file_holds, push_file, push_room, reads_are,
+    shelf_of,
 };
+use std::alloc::Global;
 use std::test::Fail;
 use worked_texts::{SOURCE, SOURCE_RECORDS};
 
@@ -29,19 +32,30 @@ fn another_outcome_is_told(rt: HostRuntime) -> Result<(), Fail> {
     Ok(())
 }
 
-#[test]
-fn another_file_is_told(rt: HostRuntime) -> Result<(), Fail> {
-    let alloc = rt.alloc();
+/// The shelf behind a call that assembles [`SOURCE`].
+fn assembled(alloc: Global) -> Result<MemShelf, Difference> {
     let mut files = Vec::new(alloc);
     push_file(alloc, &mut files, "in", &[SOURCE])?;
     push_room(alloc, &mut files, "out")?;
     let mut shelf = shelf_of(alloc, files, &NONE)?;
     let line = ["fuzz12", "asm", "in", "out"];
     call(alloc, &line, &mut shelf, &NONE, &Left::Lines("bytes 7\n"))?;
-    reads_are(&shelf, 1)?;
+    Ok(shelf)
+}
+
+/// Whether a file holds a text.
+fn holds(alloc: Global, shelf: &mut MemShelf, name: &str, text: &str) -> bool {
+    file_holds(alloc, shelf, name, text.as_bytes()).is_ok()
+}
+
+#[test]
+fn another_file_is_told(rt: HostRuntime) -> Result<(), Fail> {
+    let alloc = rt.alloc();
+    let mut shelf = assembled(alloc)?;
+    assert!(rt; reads_are(&shelf, 1).is_ok());
     assert!(rt; reads_are(&shelf, 0).is_err());
-    file_holds(alloc, &mut shelf, "out", SOURCE_RECORDS.as_bytes())?;
-    assert!(rt; file_holds(alloc, &mut shelf, "out", BEFORE.as_bytes()).is_err());
-    assert!(rt; file_holds(alloc, &mut shelf, "none", b"").is_err());
+    assert!(rt; holds(alloc, &mut shelf, "out", SOURCE_RECORDS));
+    assert!(rt; !holds(alloc, &mut shelf, "out", BEFORE));
+    assert!(rt; !holds(alloc, &mut shelf, "none", ""));
     Ok(())
 }
