@@ -9,4 +9,5 @@ pub mod Facts
 pub mod Following
 pub mod SoundAlone
 pub mod Answering
+pub mod Showing
 pub mod Arrival
