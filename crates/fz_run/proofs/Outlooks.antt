@@ -1,6 +1,6 @@
 -- What is ahead of a run, by its next position.
 use Rattle.std.proofs.Common.{◌≡◌, ◌≤◌, ◌<◌, ℕ, zero, suc, ◌+◌, ◌-◌, ◌*◌, Bool, true, false, Result, Ok, Err, List, [], ◌∷◌, ◌++◌, length, drop, refl, ap, ap₂, sym, ◌∙◌, subst, vec_len, vec_capacity, arith, append_assoc, append-nil}
-use Rattle.std.specs.Prelude.{if◌then◌else◌, Option, Some, None, slice_get, Vec}
+use Rattle.std.specs.Prelude.{if◌then◌else◌, Option, Some, slice_get, Vec}
 use Rattle.std.specs.Global.{Global}
 use Rattle.cpu12_parts.specs.State.{State}
 use Rattle.cpu12_emul.specs.declared.ends.Frame.{Frame}

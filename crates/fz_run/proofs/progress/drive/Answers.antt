@@ -1,4 +1,4 @@
-use Rattle.std.proofs.Common.{◌≡◌, ◌∙◌, ℕ, [], ap, ap₂, sym, subst}
+use Rattle.std.proofs.Common.{◌≡◌, ◌∙◌, ℕ, ap, ap₂, sym, subst}
 use Rattle.fz_run.specs.Outlooks.{Outlook, at_position, from_here, outlook_at, rows_here, state_here}
 use Rattle.fz_run.proofs.progress.drive.Goals as goal
 

@@ -1,4 +1,4 @@
-use Rattle.std.proofs.Common.{◌≡◌, ◌∙◌, ℕ, List, ap}
+use Rattle.std.proofs.Common.{◌∙◌, ℕ, List, ap}
 use Rattle.cpu12_parts.specs.State.{State}
 use Rattle.interrupt_plan.specs.declared.Request.{Request}
 use Rattle.fz_run.specs.Outlooks.{Ahead, outlook_at}
