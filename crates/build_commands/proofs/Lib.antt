@@ -3,3 +3,4 @@ pub mod CertLemmas
 pub mod ImageLemmas
 pub mod LineLemmas
 pub mod NumberLemmas
+pub mod WrittenLemmas

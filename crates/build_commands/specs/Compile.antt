@@ -25,6 +25,17 @@ abbrev pub compile_lines : ℕ → ℕ → ℕ → List ℕ
 compile_lines instructions steps bytes =
     line (codes "instructions ") instructions ++ (line (codes "steps ") steps ++ line (codes "bytes ") bytes)
 
+-- ---- what it writes of firmware
+
+-- OUT is to hold the records of the firmware's image, and the lines are of its bounds and its bytes
+pub record WritesFirmware (firmware : Firmware) (deed : Deed) : Type 0 where
+  pub records : List ℕ
+  pub image : ImageText firmware.image.bytes firmware.image.start records
+  pub deed_is : deed ≡ record {
+    text = compile_lines firmware.instr_bound firmware.step_bound (length firmware.image.bytes);
+    file = Some (3, records);
+  }
+
 -- ---- what it makes of its file
 
 -- the text gives firmware with answers of this width, and OUT is to hold the records of its image

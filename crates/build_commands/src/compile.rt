@@ -1,8 +1,8 @@
 //! The commands `compile FCL OUT` and `compile16 FCL OUT`.
-ghost use Rattle.std.specs.Prelude.{◌≡◌, ◌≤◌, length, IfOk, List, ℕ};
+ghost use Rattle.std.specs.Prelude.{◌≡◌, ◌≤◌, length, IfErr, IfOk, List, ℕ};
 ghost use Rattle.fz_shelf.specs.Lines.{text_of};
-ghost use Rattle.build_commands.specs.Deeds.{DeedHasNoFault, IsResultOf};
-ghost use Rattle.build_commands.specs.Compile.{CompileMakes, compile_lines};
+ghost use Rattle.build_commands.specs.Deeds.{DeedHasNoFault, IsResultOf, deed_of};
+ghost use Rattle.build_commands.specs.Compile.{CompileMakes, WritesFirmware, compile_lines};
 ghost use Rattle.build_commands.specs.declared.compile.Compile.{Compile as TheCompile};
 
 use crate::firmware::{firmware_of, spelled_texts_have_no_fault};
@@ -23,7 +23,7 @@ pub struct Compile {
 pub static INPUTS: [u32; 1] = [2];
 
 /// The place of the word OUT.
-pub(crate) const OUT: u32 = 3;
+const OUT: u32 = 3;
 
 impl Compile {
     /// Compiles the text, and writes down the records of the image and its bounds.
@@ -35,23 +35,30 @@ impl Compile {
             Ok(compiled) => compiled,
             Err(status) => return Err(status),
         };
-        let firmware = &compiled.firmware;
-        let records = match srecord::write(alloc, &firmware.image) {
-            Ok(records) => records,
-            Err(_) => return Err(Status::Memory),
-        };
-        match lines(alloc, firmware) {
-            Ok(lines) => Ok(Work {
-                lines,
-                file: Some((OUT, records)),
-            }),
-            Err(_) => Err(Status::Memory),
-        }
+        written(alloc, &compiled.firmware)
+    }
+}
+
+/// The records of the firmware's image, for OUT, and its lines.
+pub(crate) fn written(alloc: Global, firmware: &Firmware) -> Result<Work, Status>
+    ensures writes { IfOk result (λ work. WritesFirmware firmware.now (deed_of work)) }
+    ensures memory { IfErr result (λ status. status ≡ Status.Memory) }
+{
+    let records = match srecord::write(alloc, &firmware.image) {
+        Ok(records) => records,
+        Err(_) => return Err(Status::Memory),
+    };
+    match lines(alloc, firmware) {
+        Ok(lines) => Ok(Work {
+            lines,
+            file: Some((OUT, records)),
+        }),
+        Err(_) => Err(Status::Memory),
     }
 }
 
 /// The bounds on instructions and steps, and how many bytes the image has.
-pub(crate) fn lines(alloc: Global, firmware: &Firmware) -> Result<Vec<String>, AllocError>
+fn lines(alloc: Global, firmware: &Firmware) -> Result<Vec<String>, AllocError>
     ensures { IfOk result (λ lines. text_of lines.items ≡
         compile_lines firmware.now.instr_bound firmware.now.step_bound (length firmware.now.image.bytes)) }
 {

@@ -3,7 +3,7 @@ ghost use Rattle.std.specs.Prelude.{◌≤◌, length, List, ℕ};
 ghost use Rattle.build_commands.specs.Deeds.{DeedHasNoFault, IsResultOf};
 ghost use Rattle.build_commands.specs.Mcompile.{McompileMakes};
 
-use crate::compile::{OUT, lines};
+use crate::compile::written;
 use crate::firmware::{mailbox_of, spelled_texts_have_no_fault};
 use crate::work::Work;
 use fz_status::Status;
@@ -18,18 +18,7 @@ pub fn work(alloc: Global, fcl: &[u8]) -> Result<Work, Status>
         Ok(compiled) => compiled,
         Err(status) => return Err(status),
     };
-    let firmware = &compiled.firmware;
-    let records = match srecord::write(alloc, &firmware.image) {
-        Ok(records) => records,
-        Err(_) => return Err(Status::Memory),
-    };
-    match lines(alloc, firmware) {
-        Ok(lines) => Ok(Work {
-            lines,
-            file: Some((OUT, records)),
-        }),
-        Err(_) => Err(Status::Memory),
-    }
+    written(alloc, &compiled.firmware)
 }
 
 /// A text that makes a deed makes no fault.

@@ -3,7 +3,7 @@ ghost use Rattle.std.specs.Prelude.{◌≤◌, length, List, ℕ};
 ghost use Rattle.build_commands.specs.Deeds.{DeedHasNoFault, IsResultOf};
 ghost use Rattle.build_commands.specs.Scompile.{ScompileMakes};
 
-use crate::compile::lines;
+use crate::compile::written;
 use crate::firmware::{spelled_texts_have_no_fault, watched_firmware_of};
 use crate::work::Work;
 use fz_status::Status;
@@ -11,9 +11,6 @@ use std::alloc::Global;
 
 /// The word FCL.
 pub static INPUTS: [u32; 1] = [2];
-
-/// The place of the word OUT.
-const OUT: u32 = 3;
 
 /// Compiles the text to firmware that watches its tables, and writes down the records of its image and
 /// its bounds.
@@ -25,18 +22,7 @@ pub fn work(alloc: Global, fcl: &[u8]) -> Result<Work, Status>
         Ok(compiled) => compiled,
         Err(status) => return Err(status),
     };
-    let firmware = &compiled.firmware;
-    let records = match srecord::write(alloc, &firmware.image) {
-        Ok(records) => records,
-        Err(_) => return Err(Status::Memory),
-    };
-    match lines(alloc, firmware) {
-        Ok(lines) => Ok(Work {
-            lines,
-            file: Some((OUT, records)),
-        }),
-        Err(_) => Err(Status::Memory),
-    }
+    written(alloc, &compiled.firmware)
 }
 
 /// A text that makes a deed makes no fault.
