@@ -3,13 +3,13 @@ use Rattle.std.proofs.Common.{◌≡◌, ℕ, suc, ◌-◌, ◌<◌, ◌≤◌, 
 use Rattle.std.proofs.Math.Seq.{drop-cons}
 use Rattle.fuzzy_meaning.specs.declared.block.Block.{Block}
 use Rattle.fuzzy_meaning.specs.declared.block.Cond.{Cond}
-use Rattle.fuzzy_meaning.specs.Conditions.{Condition, is, condition_of, Conditions, also, conditions}
+use Rattle.fuzzy_meaning.specs.Conditions.{condition_of, Conditions, also, conditions}
 use Rattle.error_bound.specs.declared.boxes.Interval.{Interval}
 use Rattle.error_bound.specs.declared.reaches.Reach.{Reach}
 use Rattle.error_bound.specs.Spans.{least_span, greatest_span, least_byte_span, greatest_byte_span, greatest_among, lesser_span, greater_span, lesser_bytes, greater_bytes}
 use Rattle.error_bound.specs.Boxes.{literal_span, literal_byte_span}
 use Rattle.error_bound.specs.CellErrors.{term_errors}
-use Rattle.error_bound.specs.Reaches.{span_of, byte_span_of, IsSmall, IsReachOfLiteral, IsReachOfCondition}
+use Rattle.error_bound.specs.Reaches.{span_of, byte_span_of, IsSmall, IsReachOfCondition}
 
 -- of all of the conditions, and of any of them
 pub record IsReachOfAll (b : Block) (box : List Interval) (cs : Conditions) (r : Reach) : Type 0 where
@@ -23,9 +23,6 @@ pub record IsReachOfAny (b : Block) (box : List Interval) (cs : Conditions) (r :
   pub bytes : byte_span_of r ≡ greatest_byte_span (literal_byte_span b box) cs
   pub error : r.error ≡ greatest_among (term_errors b box) cs
   pub small : IsSmall r
-
-pub literal_is : (b : Block) (box : List Interval) (i t : ℕ) (c : Condition) (r : Reach) → c ≡ is i t → IsReachOfLiteral b box i t r → IsReachOfCondition b box c r
-literal_is b box i t c r e h = subst (λ d. IsReachOfCondition b box d r) (sym e) (record { value = h.value; bytes = h.bytes; error = h.error; small = h.small })
 
 -- the conditions from a place on: that of the place, and those behind
 from_place : (parts : List Cond) (k : ℕ) (part : Cond) → 1 ≤ k → k ≤ length parts → part ≡ get_or parts (k - 1) part → conditions (map condition_of (drop (k - 1) parts)) ≡ also (condition_of part) (conditions (map condition_of (drop k parts)))

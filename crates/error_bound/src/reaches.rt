@@ -1,11 +1,12 @@
 //! How far truths reach over a box.
-ghost use Rattle.std.specs.Prelude.{◌≡◌, max, map};
+ghost use Rattle.std.specs.Prelude.{◌≡◌, max, map, IfSome};
 ghost use Rattle.fuzzy_meaning.specs.Blocks.{IsValid, IsValidCondition, AreValidConditions, HasTerm};
-ghost use Rattle.fuzzy_meaning.specs.Conditions.{condition_of, conditions};
+ghost use Rattle.fuzzy_meaning.specs.Conditions.{condition_of, conditions, is};
 ghost use Rattle.error_bound.specs.Spans.{span, least_span, greatest_span, byte_span, least_byte_span, greatest_byte_span, greatest_literal, greatest_among, one_minus_span, lesser_span, greater_span, one_minus_bytes, lesser_bytes, greater_bytes};
 ghost use Rattle.error_bound.specs.Boxes.{literal_span, literal_byte_span};
 ghost use Rattle.error_bound.specs.CellErrors.{term_errors};
-ghost use Rattle.error_bound.specs.Reaches.{span_of, byte_span_of, IsSmall, AreBoxTerms, IsReachOfLiteral};
+ghost use Rattle.error_bound.specs.Reaches.{span_of, byte_span_of, IsSmall, AreBoxTerms, IsReachOfLiteral, IsReachOfCondition};
+ghost use Rattle.error_bound.specs.Shortening.{under};
 
 use crate::degrees::Degrees;
 use crate::ratio::Ratio;
@@ -115,7 +116,7 @@ pub(crate) fn reach_of(cond: &Cond, block: &Block, terms: &BoxTerms) -> Reach
     }
 }
 
-/// The reach of the least of the parts of an AND. A literal, which most parts are, takes no call.
+/// The reach of the least of the parts of an AND. Most parts are literals, which take no further call.
 #[cycle(reaches)]
 fn least_of(parts: &[Cond], block: &Block, terms: &BoxTerms) -> Reach
     requires parts { AreValidConditions block.now (conditions (map condition_of parts.now)) }
@@ -132,9 +133,10 @@ fn least_of(parts: &[Cond], block: &Block, terms: &BoxTerms) -> Reach
     parts_are_valid();
     let mut least = ALL;
     for k in (0..parts.len()).rev() {
-        let reach = match &parts[k] {
-            Cond::Is(input, term) => of_literal(block, *input, *term, terms),
-            part => reach_of(part, block, terms),
+        let part = &parts[k];
+        let reach = match literal_in(part) {
+            Some(literal) => reach_of_literal(literal, block, terms),
+            None => reach_of(part, block, terms),
         };
         least = reach.min(least);
     }
@@ -158,13 +160,59 @@ fn greatest_of(parts: &[Cond], block: &Block, terms: &BoxTerms) -> Reach
     parts_are_valid();
     let mut greatest = NOTHING;
     for k in (0..parts.len()).rev() {
-        let reach = match &parts[k] {
-            Cond::Is(input, term) => of_literal(block, *input, *term, terms),
-            part => reach_of(part, block, terms),
+        let part = &parts[k];
+        let reach = match literal_in(part) {
+            Some(literal) => reach_of_literal(literal, block, terms),
+            None => reach_of(part, block, terms),
         };
         greatest = reach.max(greatest);
     }
     greatest
+}
+
+/// An input that is a term, or is not.
+#[derive(Clone, Copy)]
+struct Literal {
+    input: u8,
+    term: u8,
+    negated: bool,
+}
+
+/// The literal that a condition is, which may stand behind one NOT.
+fn literal_in(cond: &Cond) -> Option<Literal>
+    ensures { IfSome result (λ l. condition_of cond.now ≡ under l.negated (is l.input l.term)) }
+{
+    match cond {
+        Cond::Is(input, term) => Some(Literal {
+            input: *input,
+            term: *term,
+            negated: false,
+        }),
+        Cond::Not(inner) => match &**inner {
+            Cond::Is(input, term) => Some(Literal {
+                input: *input,
+                term: *term,
+                negated: true,
+            }),
+            _ => None,
+        },
+        _ => None,
+    }
+}
+
+fn reach_of_literal(literal: Literal, block: &Block, terms: &BoxTerms) -> Reach
+    requires literal { IsValidCondition block.now (under literal.negated (is literal.input literal.term)) }
+    requires block { IsValid block.now }
+    requires terms { AreBoxTerms block.now terms.now }
+    ensures { IsReachOfCondition block.now terms.now.bytes.0.items
+        (under literal.negated (is literal.input literal.term)) result }
+{
+    let reach = of_literal(block, literal.input, literal.term, terms);
+    if literal.negated {
+        reach.one_minus()
+    } else {
+        reach
+    }
 }
 
 fn of_literal(block: &Block, input: u8, term: u8, terms: &BoxTerms) -> Reach

@@ -1,34 +1,31 @@
-use Rattle.std.proofs.Common.{◌≡◌, ◌-◌, ◌<◌, ◌≤◌, length, map, refl, sym, subst, arith, rules}
-use Rattle.std.specs.Prelude.{slice_get, Some}
+use Rattle.std.proofs.Common.{◌≡◌, ◌-◌, ◌<◌, length, map, refl, sym, subst, rules}
 use Rattle.std.proofs.lemmas.Option.{slice_get_read}
 use Rattle.fuzzy_meaning.specs.declared.block.Cond.{the_lemmas}
 use Rattle.fuzzy_meaning.specs.Blocks.{IsValidCondition}
-use Rattle.fuzzy_meaning.specs.Conditions.{is, all, any, conditions, condition_of}
+use Rattle.fuzzy_meaning.specs.Conditions.{all, any, conditions, condition_of}
 use Rattle.error_bound.specs.Reaches.{IsReachOfCondition}
-use Rattle.error_bound.proofs.ReachLemmas.{IsReachOfAll, IsReachOfAny, literal_is, all_from, any_from}
+use Rattle.error_bound.proofs.ReachLemmas.{all_from, any_from}
 use Rattle.error_bound.proofs.reaches.+reaches.Goals as goal
-use Rattle.error_bound.proofs.reaches.+reaches.Goals.{least_of-in-Is, least_of-in_default, greatest_of-in-Is, greatest_of-in_default}
+use Rattle.error_bound.proofs.reaches.+reaches.Goals.{least_of-in-Some, least_of-in-None, greatest_of-in-Some, greatest_of-in-None}
 
-pub least_of-of_literal-reach-requires-clause-term : goal.least_of-of_literal-reach-requires-clause-term
-least_of-of_literal-reach-requires-clause-term t c =
+pub least_of-reach_of_literal-reach-requires-clause-literal : goal.least_of-reach_of_literal-reach-requires-clause-literal
+least_of-reach_of_literal-reach-requires-clause-literal t c =
     let b = c.args.block.now in
     let items = c.args.parts.now in
     let part = c.index-parts-k.result in
     let within : c.loop-k.k - 1 < length items = search rules in
     let found = slice_get_read items (length items) (c.loop-k.k - 1) part refl within c.index-parts-k.is in
-    let same : condition_of part ≡ is c.in-Is.input c.in-Is.term = search (rules, the_lemmas) in
-    subst (λ x. IsValidCondition b x) same (c.parts_are_valid.ensures b items (c.loop-k.k - 1) part c.requires.parts found)
+    subst (λ x. IsValidCondition b x) c.in-Some.ensures (c.parts_are_valid.ensures b items (c.loop-k.k - 1) part c.requires.parts found)
 
-pub greatest_of-of_literal-reach-requires-clause-term :
-    goal.greatest_of-of_literal-reach-requires-clause-term
-greatest_of-of_literal-reach-requires-clause-term t c =
+pub greatest_of-reach_of_literal-reach-requires-clause-literal :
+    goal.greatest_of-reach_of_literal-reach-requires-clause-literal
+greatest_of-reach_of_literal-reach-requires-clause-literal t c =
     let b = c.args.block.now in
     let items = c.args.parts.now in
     let part = c.index-parts-k.result in
     let within : c.loop-k.k - 1 < length items = search rules in
     let found = slice_get_read items (length items) (c.loop-k.k - 1) part refl within c.index-parts-k.is in
-    let same : condition_of part ≡ is c.in-Is.input c.in-Is.term = search (rules, the_lemmas) in
-    subst (λ x. IsValidCondition b x) same (c.parts_are_valid.ensures b items (c.loop-k.k - 1) part c.requires.parts found)
+    subst (λ x. IsValidCondition b x) c.in-Some.ensures (c.parts_are_valid.ensures b items (c.loop-k.k - 1) part c.requires.parts found)
 
 pub least_of-reach_of-reach-requires : goal.least_of-reach_of-reach-requires
 least_of-reach_of-reach-requires t c =
@@ -53,11 +50,11 @@ least_of-loop-k-preserved t c =
     let b = c.args.block.now in
     let box = c.args.terms.now.bytes.0.items in
     let part = c.index-parts-k.result in
-    let q = c.match-parts-k.reach in
-    let made : IsReachOfCondition b box (condition_of part) q = elim c.match-parts-k.branch [
-      | least_of-in-Is w ↦ subst (IsReachOfCondition b box (condition_of part)) (sym w.reach-is)
-          (literal_is b box w.in-Is.input w.in-Is.term (condition_of part) w.of_literal-reach.result (search (rules, the_lemmas)) w.of_literal-reach.ensures)
-      | least_of-in_default w ↦ subst (IsReachOfCondition b box (condition_of part)) (sym w.reach-is)
+    let q = c.match-literal_in.reach in
+    let made : IsReachOfCondition b box (condition_of part) q = elim c.match-literal_in.branch [
+      | least_of-in-Some w ↦ subst (IsReachOfCondition b box (condition_of part)) (sym w.reach-is)
+          (subst (λ x. IsReachOfCondition b box x w.reach_of_literal-reach.result) (sym w.in-Some.ensures) w.reach_of_literal-reach.ensures)
+      | least_of-in-None w ↦ subst (IsReachOfCondition b box (condition_of part)) (sym w.reach-is)
           (record { value = w.reach_of-reach.ensures.value; bytes = w.reach_of-reach.ensures.bytes; error = w.reach_of-reach.ensures.error; small = w.reach_of-reach.ensures.small })
     ] in
     let m = c.min-least.ensures in
@@ -68,11 +65,11 @@ greatest_of-loop-k-preserved t c =
     let b = c.args.block.now in
     let box = c.args.terms.now.bytes.0.items in
     let part = c.index-parts-k.result in
-    let q = c.match-parts-k.reach in
-    let made : IsReachOfCondition b box (condition_of part) q = elim c.match-parts-k.branch [
-      | greatest_of-in-Is w ↦ subst (IsReachOfCondition b box (condition_of part)) (sym w.reach-is)
-          (literal_is b box w.in-Is.input w.in-Is.term (condition_of part) w.of_literal-reach.result (search (rules, the_lemmas)) w.of_literal-reach.ensures)
-      | greatest_of-in_default w ↦ subst (IsReachOfCondition b box (condition_of part)) (sym w.reach-is)
+    let q = c.match-literal_in.reach in
+    let made : IsReachOfCondition b box (condition_of part) q = elim c.match-literal_in.branch [
+      | greatest_of-in-Some w ↦ subst (IsReachOfCondition b box (condition_of part)) (sym w.reach-is)
+          (subst (λ x. IsReachOfCondition b box x w.reach_of_literal-reach.result) (sym w.in-Some.ensures) w.reach_of_literal-reach.ensures)
+      | greatest_of-in-None w ↦ subst (IsReachOfCondition b box (condition_of part)) (sym w.reach-is)
           (record { value = w.reach_of-reach.ensures.value; bytes = w.reach_of-reach.ensures.bytes; error = w.reach_of-reach.ensures.error; small = w.reach_of-reach.ensures.small })
     ] in
     let m = c.max-greatest.ensures in
