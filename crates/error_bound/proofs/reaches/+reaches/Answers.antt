@@ -15,7 +15,8 @@ least_of-reach_of_literal-reach-requires-clause-literal t c =
     let part = c.index-parts-k.result in
     let within : c.loop-k.k - 1 < length items = search rules in
     let found = slice_get_read items (length items) (c.loop-k.k - 1) part refl within c.index-parts-k.is in
-    subst (λ x. IsValidCondition b x) c.in-Some.ensures (c.parts_are_valid.ensures b items (c.loop-k.k - 1) part c.requires.parts found)
+    subst (λ x. IsValidCondition b x) c.in-Some.ensures
+    (c.parts_are_valid.ensures b items (c.loop-k.k - 1) part c.requires.parts found)
 
 pub greatest_of-reach_of_literal-reach-requires-clause-literal :
     goal.greatest_of-reach_of_literal-reach-requires-clause-literal
@@ -25,7 +26,8 @@ greatest_of-reach_of_literal-reach-requires-clause-literal t c =
     let part = c.index-parts-k.result in
     let within : c.loop-k.k - 1 < length items = search rules in
     let found = slice_get_read items (length items) (c.loop-k.k - 1) part refl within c.index-parts-k.is in
-    subst (λ x. IsValidCondition b x) c.in-Some.ensures (c.parts_are_valid.ensures b items (c.loop-k.k - 1) part c.requires.parts found)
+    subst (λ x. IsValidCondition b x) c.in-Some.ensures
+    (c.parts_are_valid.ensures b items (c.loop-k.k - 1) part c.requires.parts found)
 
 pub least_of-reach_of-reach-requires : goal.least_of-reach_of-reach-requires
 least_of-reach_of-reach-requires t c =
@@ -34,7 +36,8 @@ least_of-reach_of-reach-requires t c =
     let part = c.index-parts-k.result in
     let within : c.loop-k.k - 1 < length items = search rules in
     let found = slice_get_read items (length items) (c.loop-k.k - 1) part refl within c.index-parts-k.is in
-    (search (rules, the_lemmas), (c.parts_are_valid.ensures b items (c.loop-k.k - 1) part c.requires.parts found, (c.requires.block, c.requires.terms)))
+    let valid = c.parts_are_valid.ensures b items (c.loop-k.k - 1) part c.requires.parts found in
+    (search (rules, the_lemmas), (valid, (c.requires.block, c.requires.terms)))
 
 pub greatest_of-reach_of-reach-requires : goal.greatest_of-reach_of-reach-requires
 greatest_of-reach_of-reach-requires t c =
@@ -43,7 +46,8 @@ greatest_of-reach_of-reach-requires t c =
     let part = c.index-parts-k.result in
     let within : c.loop-k.k - 1 < length items = search rules in
     let found = slice_get_read items (length items) (c.loop-k.k - 1) part refl within c.index-parts-k.is in
-    (search (rules, the_lemmas), (c.parts_are_valid.ensures b items (c.loop-k.k - 1) part c.requires.parts found, (c.requires.block, c.requires.terms)))
+    let valid = c.parts_are_valid.ensures b items (c.loop-k.k - 1) part c.requires.parts found in
+    (search (rules, the_lemmas), (valid, (c.requires.block, c.requires.terms)))
 
 pub least_of-loop-k-preserved : goal.least_of-loop-k-preserved
 least_of-loop-k-preserved t c =
@@ -53,12 +57,19 @@ least_of-loop-k-preserved t c =
     let q = c.match-literal_in.reach in
     let made : IsReachOfCondition b box (condition_of part) q = elim c.match-literal_in.branch [
       | least_of-in-Some w ↦ subst (IsReachOfCondition b box (condition_of part)) (sym w.reach-is)
-          (subst (λ x. IsReachOfCondition b box x w.reach_of_literal-reach.result) (sym w.in-Some.ensures) w.reach_of_literal-reach.ensures)
+          (subst (λ x. IsReachOfCondition b box x w.reach_of_literal-reach.result) (sym w.in-Some.ensures)
+          w.reach_of_literal-reach.ensures)
       | least_of-in-None w ↦ subst (IsReachOfCondition b box (condition_of part)) (sym w.reach-is)
-          (record { value = w.reach_of-reach.ensures.value; bytes = w.reach_of-reach.ensures.bytes; error = w.reach_of-reach.ensures.error; small = w.reach_of-reach.ensures.small })
+          (record {
+            value = w.reach_of-reach.ensures.value;
+            bytes = w.reach_of-reach.ensures.bytes;
+            error = w.reach_of-reach.ensures.error;
+            small = w.reach_of-reach.ensures.small;
+          })
     ] in
     let m = c.min-least.ensures in
-    all_from b box c.args.parts.now c.loop-k.k part q c.loop-k.least c.min-least.result (search rules) (search rules) c.index-parts-k.is made c.loop-k.invariant m.value m.bytes m.error m.small
+    all_from b box c.args.parts.now c.loop-k.k part q c.loop-k.least c.min-least.result (search rules) (search rules)
+    c.index-parts-k.is made c.loop-k.invariant m.value m.bytes m.error m.small
 
 pub greatest_of-loop-k-preserved : goal.greatest_of-loop-k-preserved
 greatest_of-loop-k-preserved t c =
@@ -68,12 +79,19 @@ greatest_of-loop-k-preserved t c =
     let q = c.match-literal_in.reach in
     let made : IsReachOfCondition b box (condition_of part) q = elim c.match-literal_in.branch [
       | greatest_of-in-Some w ↦ subst (IsReachOfCondition b box (condition_of part)) (sym w.reach-is)
-          (subst (λ x. IsReachOfCondition b box x w.reach_of_literal-reach.result) (sym w.in-Some.ensures) w.reach_of_literal-reach.ensures)
+          (subst (λ x. IsReachOfCondition b box x w.reach_of_literal-reach.result) (sym w.in-Some.ensures)
+          w.reach_of_literal-reach.ensures)
       | greatest_of-in-None w ↦ subst (IsReachOfCondition b box (condition_of part)) (sym w.reach-is)
-          (record { value = w.reach_of-reach.ensures.value; bytes = w.reach_of-reach.ensures.bytes; error = w.reach_of-reach.ensures.error; small = w.reach_of-reach.ensures.small })
+          (record {
+            value = w.reach_of-reach.ensures.value;
+            bytes = w.reach_of-reach.ensures.bytes;
+            error = w.reach_of-reach.ensures.error;
+            small = w.reach_of-reach.ensures.small;
+          })
     ] in
     let m = c.max-greatest.ensures in
-    any_from b box c.args.parts.now c.loop-k.k part q c.loop-k.greatest c.max-greatest.result (search rules) (search rules) c.index-parts-k.is made c.loop-k.invariant m.value m.bytes m.error m.small
+    any_from b box c.args.parts.now c.loop-k.k part q c.loop-k.greatest c.max-greatest.result (search rules) (search rules)
+    c.index-parts-k.is made c.loop-k.invariant m.value m.bytes m.error m.small
 
 pub reach_of-least_of-requires : goal.reach_of-least_of-requires
 reach_of-least_of-requires t c =

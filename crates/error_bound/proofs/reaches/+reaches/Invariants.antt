@@ -1,4 +1,4 @@
-use Rattle.std.proofs.Common.{◌≤◌, length, map, drop}
+use Rattle.std.proofs.Common.{map, drop}
 use Rattle.fuzzy_meaning.specs.Conditions.{condition_of, conditions}
 use Rattle.error_bound.proofs.ReachLemmas.{IsReachOfAll, IsReachOfAny}
 use Rattle.error_bound.proofs.reaches.+reaches.Given as goal
