@@ -10,3 +10,5 @@ pub mod Following
 pub mod SoundAlone
 pub mod Answering
 pub mod Arrival
+pub mod Instructions
+pub mod Given
