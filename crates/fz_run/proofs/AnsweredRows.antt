@@ -35,8 +35,7 @@ use Rattle.fz_run.specs.Facts.{FactsAlone, WaitsAlone}
 use Rattle.fz_run.specs.Instructions.{AreSteps, IsServing}
 use Rattle.fz_run.specs.Following.{row_of_sample, rows_of_samples, IsLow, FollowsAlone, AllWait}
 use Rattle.fz_run.specs.Answering.{answer_of_row, AnswersItsBlock, AnswersUnder, AnswersUnderPlans}
-use Rattle.fz_run.proofs.Algebra.{before_at, before_weaker}
-use Rattle.fz_run.proofs.Serving.{at_stack}
+use Rattle.fz_run.proofs.Algebra.{before_at, before_weaker, at_stack}
 use Rattle.fz_run.proofs.UsedLaws.{Laws}
 
 -- a firmware at the layout that stands alone, with n answers

@@ -10,7 +10,7 @@ use Rattle.codegen.specs.declared.layout.Layout.{Layout}
 use Rattle.codegen.specs.Interruptible.{is_idle, IsInterruptible, IsShownInstruction, IsInterruptibleStep}
 use Rattle.fz_run.specs.Facts.{IsStackOfOneCall}
 use Rattle.fz_run.specs.Instructions.{IsServing, InstructionsAreSteps}
-use Rattle.fz_run.proofs.Algebra.{before_weaker}
+use Rattle.fz_run.proofs.Algebra.{before_weaker, at_stack}
 use Rattle.fz_run.proofs.Stretches.{Stretch, Kept, SameAbove, AtInstruction, StepLaws}
 use Rattle.fz_run.proofs.Stretching.{all_stretches}
 use Rattle.fz_run.proofs.PlainSteps.{plain_step}
@@ -19,10 +19,6 @@ use Rattle.fz_run.proofs.WholeSteps.{Inside, rev_step, revw_step, average_step}
 -- it does not wait, SP is one of two, and memory is the image's from the stack's end on
 On : Layout → List ℕ → State → Type 0
 On l image u = (is_idle l u ≡ false) × IsStackOfOneCall u.regs.sp × SameAbove image u.mem
-
-pub at_stack : (sp : ℕ) → (sp ≡ 0x1FFE) ⊎ (sp ≡ 0x2000) → IsStackOfOneCall sp
-at_stack sp (inl e) = inl (omega arith)
-at_stack sp (inr e) = inr e
 
 off_loop : (l : Layout) (v : State) → (v.regs.pc ≡ l.wait → ⊥) → is_idle l v ≡ false
 off_loop l v h = let t : (v.regs.pc == l.wait) ≡ false = grind (arith, nat_tests) in rw t refl

@@ -1,0 +1,4 @@
+pub mod UsedLaws
+pub mod Answers
+pub mod Changes
+pub mod WatchedRows

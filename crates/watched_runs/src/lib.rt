@@ -1,0 +1,5 @@
+//! Runs of a firmware that watches its tables, with a byte of them upset while a sample is answered.
+#![tactic(auto)]
+
+pub mod laws;
+pub mod watched;
