@@ -1,5 +1,5 @@
 -- The rows of a trace with upsets, one after another.
-use Rattle.std.proofs.Common.{◌≡◌, ◌≢◌, ◌⊎◌, inl, inr, ◌<◌, ◌≤◌, ℕ, zero, suc, ◌+◌, ◌-◌, Bool, true, false, List, [], ◌∷◌, ◌++◌}
+use Rattle.std.proofs.Common.{◌≡◌, ◌≢◌, ◌⊎◌, inl, inr, ◌<◌, ◌≤◌, ℕ, zero, suc, ◌+◌, ◌-◌, ◌*◌, Bool, true, false, List, [], ◌∷◌, ◌++◌}
 use Rattle.std.proofs.Common.{length, take, refl, ap, sym, ◌∙◌, subst, arith, append_assoc}
 use Rattle.std.specs.Prelude.{All, map, if◌then◌else◌, Option, Some, None, slice_get, slice_index}
 use Rattle.std.specs.Option.{option_map_or}
@@ -29,7 +29,7 @@ use Rattle.certified_run.proofs.RowLemmas.{bytes_read, are_inputs, answer_to_nex
 
 -- ---- an answer where FAULT is 0
 
-not_upset : (u : Bool) → (if u then 1 else 0) ≡ 0 → u ≡ false
+not_upset : (u : Bool) → ◌≡◌ {A = ℕ} (if u then 1 else 0) 0 → u ≡ false
 not_upset true e = absurd (omega (arith, e))
 not_upset false e = refl
 

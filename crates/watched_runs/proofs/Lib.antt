@@ -2,3 +2,5 @@ pub mod UsedLaws
 pub mod Answers
 pub mod Changes
 pub mod WatchedRows
+pub mod Places
+pub mod Samples

@@ -3,6 +3,11 @@ use Rattle.std.specs.Prelude.{ℕ, suc, ◌==◌, if◌then◌else◌, Option, S
 use Rattle.interrupt_plan.specs.declared.upsets.Upset.{Upset}
 use Rattle.codegen.specs.Watched.{Change, Watched}
 
+-- what an upset changes
+abbrev pub change_in : Option Upset → Option Change
+change_in None = None
+change_in (Some u) = Some (u.at, u.value)
+
 -- the change of sample k, which is that of the upset with its number
 abbrev pub change_of : ℕ → List Upset → Option Change
 change_of k [] = None
