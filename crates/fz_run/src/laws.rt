@@ -4,8 +4,10 @@ ghost use Rattle.fz_run.specs.Arrival.{ArrivesPlainly};
 ghost use Rattle.fz_run.specs.Following.{RunsFollowAlone};
 ghost use Rattle.fz_run.specs.Given.{GivenIsPut, RequestsAreGood};
 ghost use Rattle.fz_run.specs.Instructions.{InstructionsAreSteps};
+ghost use Rattle.fz_run.specs.Showing.{RowsAreShown};
 
 use crate::alone::StandAlone;
+use crate::form::RunForm;
 use codegen::laws::{answered_are_uninterrupted, firmware_answers};
 use cpu12_emul::laws::{plain_is_step, rev_is_step, revw_is_step, sums_are_step, wav_is_step};
 use cpu12_isa::laws::{bytes_stay, decoded_has_opcode, writes_stay};
@@ -86,4 +88,10 @@ pub fn given_is_put()
 /// The requests of each sample of a good plan are good, and their moments ascend.
 pub fn requests_are_good()
     ensures { RequestsAreGood }
+{}
+
+/// Where what a form shows of a row and of its handlers' steps has both, what is shown of its runs has the
+/// rows, and the sums of what was told.
+pub fn rows_are_shown<R, F: RunForm<R>>()
+    ensures { RowsAreShown R F.Given F.Shown }
 {}

@@ -4,3 +4,4 @@ pub mod Changes
 pub mod WatchedRows
 pub mod Places
 pub mod Samples
+pub mod Shown

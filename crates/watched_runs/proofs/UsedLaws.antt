@@ -6,15 +6,15 @@ use Rattle.interrupt_plan.specs.Plans.{IsGoodRequest}
 use Rattle.codegen.specs.declared.firmware.Firmware.{Firmware}
 use Rattle.codegen.specs.Watched.{WatchedAnswers}
 use Rattle.fz_run.specs.Arrival.{ArrivesPlainly}
-use Rattle.fz_run.specs.Following.{IsLow}
+use Rattle.fz_run.specs.Following.{IsLow, Nothing}
 use Rattle.fz_run.specs.Given.{GivenIsPut, RequestsAreGood}
 use Rattle.fz_run.specs.Instructions.{InstructionsAreSteps}
-use Rattle.watched_runs.specs.Forms.{watched_form, FactsWatched, Untold}
+use Rattle.watched_runs.specs.Forms.{watched_form, FactsWatched}
 
 -- the law on runs at this form
 abbrev pub RunsFollowUpsets : Type 0
 RunsFollowUpsets = (flags : ℕ) (f : Firmware) → IsLow f
-    → RunsFollow is_free (watched_form flags f) (FactsWatched flags) IsGoodRequest Untold
+    → RunsFollow is_free (watched_form flags f) (FactsWatched flags) IsGoodRequest Nothing
 
 pub record Laws : Type 0 where
   pub steps : InstructionsAreSteps

@@ -29,11 +29,11 @@ use Rattle.run_law.specs.Following.{Completes, AllComplete, AllWithin, AllFollow
 use Rattle.fz_run.specs.Forms.{answer_size, answers_at, answers_in}
 use Rattle.fz_run.specs.Rows.{requests_of, first_state}
 use Rattle.fz_run.specs.Facts.{HasImageBytes, WaitsAlone}
-use Rattle.fz_run.specs.Following.{IsLow}
+use Rattle.fz_run.specs.Following.{IsLow, Nothing}
 use Rattle.fz_run.specs.Instructions.{AreSteps, IsServing}
 use Rattle.fz_run.proofs.Algebra.{before_at, before_weaker, at_stack}
 use Rattle.watched_runs.specs.Samples.{change_of, changes_from, with_upsets}
-use Rattle.watched_runs.specs.Forms.{given_changed, watched_form, FactsWatched, Untold}
+use Rattle.watched_runs.specs.Forms.{given_changed, watched_form, FactsWatched}
 use Rattle.watched_runs.specs.Rows.{FaultSeen, fault_seen, upset_rows, faults_of}
 use Rattle.watched_runs.specs.Answering.{IsWatchedRow, AreWatchedRows, HoldsChange, AllHoldChanges, AnswersUnderUpsets}
 use Rattle.watched_runs.specs.Answering.{AnswersUnderAllUpsets}
@@ -283,12 +283,12 @@ under laws b f p flags samples plan upsets s hf good ready a answered =
     let c = a.interruptible in
     let waits : WaitsAlone f s =
     record { image = c.same; stack = at_stack s.regs.sp c.stack; unmasked = c.mask; sums = c.temps } in
-    let runs : AllFollow is_free g Untold [] asks 1 ns xs s (rows_from g f.step_bound asks 1 xs s) =
+    let runs : AllFollow is_free g Nothing [] asks 1 ns xs s (rows_from g f.step_bound asks 1 xs s) =
     laws.runs_follow flags f p.low asks (laws.requests_are_good plan good) [] 1 f.step_bound ns xs s s bounded complete
     (record { regs = refl; temps = refl; mem = agree_self (is_hidden is_free s.regs.sp) s.mem }) tt in
-    let follows : AllFollow is_free g Untold [] asks 1 ns xs (first_state f flags)
+    let follows : AllFollow is_free g Nothing [] asks 1 ns xs (first_state f flags)
     (upset_rows f samples plan upsets flags) =
-    subst (λ (u : State). AllFollow is_free g Untold [] asks 1 ns xs u (rows_from g f.step_bound asks 1 xs u))
+    subst (λ (u : State). AllFollow is_free g Nothing [] asks 1 ns xs u (rows_from g f.step_bound asks 1 xs u))
     (sym first) runs in
     let expected : State → List FaultSeen = λ u. map (fault_seen f.outputs) (expected_rows g asks 1 ns xs u) in
     let rows_are : faults_of f (upset_rows f samples plan upsets flags) ≡ expected (first_state f flags) =

@@ -16,9 +16,10 @@ use Rattle.codegen.specs.Watched.{Watched, changed, restored, watched_answer, wa
 use Rattle.run_law.specs.Uninterrupted.{uninterrupted}
 use Rattle.run_law.specs.Following.{AllComplete, AllFollow, expected_rows}
 use Rattle.fz_run.specs.Facts.{HasImageBytes, WaitsAlone}
+use Rattle.fz_run.specs.Following.{Nothing}
 use Rattle.fz_run.specs.Rows.{requests_of, first_state}
 use Rattle.watched_runs.specs.Samples.{with_upsets}
-use Rattle.watched_runs.specs.Forms.{given_changed, watched_form, FactsWatched, Untold}
+use Rattle.watched_runs.specs.Forms.{given_changed, watched_form, FactsWatched}
 use Rattle.watched_runs.specs.Rows.{FaultSeen, fault_seen, upset_rows, faults_of}
 
 -- A row is a sample's: its answers are the block's after those before, but where a byte is upset the defaults, and
@@ -68,7 +69,7 @@ pub record AnswersUnderUpsets (b : Block) (f : Firmware) (flags : ℕ) (samples 
   pub changes : AllHoldChanges flags f ns (with_upsets upsets samples) (first_state f flags)
   pub rows_are : rows ≡ map (fault_seen f.outputs) (expected_rows (watched_form flags f)
       (λ k. requests_of k plan) 1 ns (with_upsets upsets samples) (first_state f flags))
-  pub follows : AllFollow is_free (watched_form flags f) Untold [] (λ k. requests_of k plan) 1 ns
+  pub follows : AllFollow is_free (watched_form flags f) Nothing [] (λ k. requests_of k plan) 1 ns
       (with_upsets upsets samples) (first_state f flags) (upset_rows f samples plan upsets flags)
 
 -- so are rows, where the firmware is one of a valid block with watched tables

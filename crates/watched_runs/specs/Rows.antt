@@ -5,9 +5,13 @@ use Rattle.interrupt_plan.specs.declared.Request.{Request}
 use Rattle.interrupt_plan.specs.declared.upsets.Upset.{Upset}
 use Rattle.codegen.specs.declared.firmware.Firmware.{Firmware}
 use Rattle.codegen.specs.Watched.{Watched}
-use Rattle.fz_run.specs.Rows.{requests_of, first_state}
+use Rattle.trace_io.specs.declared.sample.Sample.{Sample}
+use Rattle.fz_run.specs.Forms.{Harness}
+use Rattle.fz_run.specs.Rows as rows
+use Rattle.fz_run.specs.Rows.{requests_of, first_state, input_bytes}
 use Rattle.watched_runs.specs.Samples.{with_upsets}
-use Rattle.watched_runs.specs.Forms.{watched_form}
+use Rattle.watched_runs.specs.declared.form.WatchedRow as declared
+use Rattle.watched_runs.specs.Forms.{watched_parts, watched_form}
 
 -- a row of a sample's bytes, and what FAULT held at its end
 pub record FaultSeen : Type 0 where
@@ -37,3 +41,16 @@ upset_rows f samples plan upsets flags =
 -- its rows
 abbrev pub faults_of : Firmware → Rows Watched Request ℕ → List FaultSeen
 faults_of f all = map (fault_seen f.outputs) all.rows
+
+-- a row of the code, as it is seen
+abbrev pub row_seen : declared.WatchedRow → FaultSeen
+row_seen r = record { row = rows.row_seen r.row; fault = r.fault }
+
+-- a firmware with a trace and upsets: its rows do not tell of handlers' steps
+abbrev pub watched_harness : Firmware → List Sample → List Upset → Harness declared.WatchedRow Watched FaultSeen
+watched_harness f samples upsets = record {
+  samples = with_upsets upsets (map input_bytes samples);
+  parts = watched_parts f;
+  shows = λ row steps. fault_seen f.outputs row;
+  seen = row_seen;
+}

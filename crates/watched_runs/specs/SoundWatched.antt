@@ -11,11 +11,11 @@ use Rattle.interrupt_plan.specs.Plans.{IsGoodRequest}
 use Rattle.codegen.specs.declared.firmware.Firmware.{Firmware}
 use Rattle.codegen.specs.Watched.{Change, changed, restored}
 use Rattle.codegen.specs.WatchedCode.{fault_at}
-use Rattle.fz_run.specs.Following.{IsLow}
+use Rattle.fz_run.specs.Following.{IsLow, Nothing}
 use Rattle.fz_run.specs.Forms.{given}
 use Rattle.fz_run.specs.SoundAlone as alone
 use Rattle.fz_run.specs.SoundAlone.{leaves_stack, low_shown, all_open}
-use Rattle.watched_runs.specs.Forms.{watched_form, FactsWatched, Untold}
+use Rattle.watched_runs.specs.Forms.{watched_form, FactsWatched}
 
 -- one byte more is written alike
 same_set : WritesAgree → (at v : ℕ) (w s : State) → Same is_free w s
@@ -35,7 +35,7 @@ same_restored agree image None w s l = l
 same_restored agree image (Some c) w s l = same_set agree c.0 (slice_index image c.0) w s l
 
 pub sound : (flags : ℕ) (f : Firmware) → IsLow f → WritesAgree → WritesAreQuiet
-    → Sound is_free (watched_form flags f) (FactsWatched flags) IsGoodRequest Untold
+    → Sound is_free (watched_form flags f) (FactsWatched flags) IsGoodRequest Nothing
 sound flags f low agree quiet =
     let beside = alone.sound flags f low agree quiet in
     record {

@@ -4,8 +4,8 @@ ghost use Rattle.cpu12_isa.specs.Regions.{is_free};
 ghost use Rattle.interrupt_plan.specs.Plans.{IsGoodRequest};
 ghost use Rattle.interrupt_plan.specs.declared.Request as plan;
 ghost use Rattle.codegen.specs.Watched as tables;
-ghost use Rattle.fz_run.specs.Following.{Alone};
-ghost use Rattle.watched_runs.specs.Forms.{watched_form, FactsWatched, Untold};
+ghost use Rattle.fz_run.specs.Following.{Alone, Nothing};
+ghost use Rattle.watched_runs.specs.Forms.{watched_form, FactsWatched};
 ghost use Rattle.watched_runs.specs.SoundWatched.{sound};
 
 use run_law::laws::SoundForm;
@@ -31,7 +31,7 @@ impl SoundForm for WatchedTables {
 
     ghost good = { λ _. IsGoodRequest };
 
-    ghost own = { λ _. Untold };
+    ghost own = { λ _. Nothing };
 
     ghost sound = { λ x agree quiet. sound x.flags x.firmware x.low agree quiet };
 }

@@ -2,7 +2,7 @@ use Rattle.std.proofs.Common.{◌∙◌, ◌-◌, ℕ, ap, sym, arith}
 use Rattle.cpu12_emul.specs.Step.{Next}
 use Rattle.fz_run.specs.Rows.{arrival}
 use Rattle.fz_run.proofs.Arrivals.{arrives, arrives_later, arrives_never, arrives_spent}
-use Rattle.fz_run.proofs.rows.arrive.Goals as goal
+use Rattle.fz_run.proofs.runs.arrive.Goals as goal
 
 pub returns-then-regs-loop_at-clause-state : goal.returns-then-regs-loop_at-clause-state
 returns-then-regs-loop_at-clause-state g c =

@@ -1,6 +1,6 @@
 use Rattle.std.proofs.Common.{◌≡◌}
 use Rattle.fz_run.specs.Rows.{arrival}
-use Rattle.fz_run.proofs.rows.arrive.Given as goal
+use Rattle.fz_run.proofs.runs.arrive.Given as goal
 
 -- what is left of the way leads to the same state as all of it
 abbrev pub invariant-loop-left : goal.invariant-loop-left

@@ -5,7 +5,7 @@ use Rattle.cpu12_emul.specs.declared.ends.Frame.{Frame}
 use Rattle.interrupt_plan.specs.declared.Request.{Request}
 use Rattle.fz_run.specs.Slices.{HasRoom, HaveRoom, requests_first, requests_after}
 use Rattle.fz_run.proofs.PlanSlices.{first_few, after_more, room_more, rest_further, count_there}
-use Rattle.fz_run.proofs.rows.make_rooms.Goals as goal
+use Rattle.fz_run.proofs.runs.make_rooms.Goals as goal
 
 pub loop-next-preserved : goal.loop-next-preserved
 loop-next-preserved c =

@@ -1,6 +1,6 @@
 use Rattle.std.proofs.Common.{◌≡◌, ◌+◌, length, drop}
 use Rattle.fz_run.specs.Slices.{requests_first}
-use Rattle.fz_run.proofs.rows.count_of.Given as goal
+use Rattle.fz_run.proofs.runs.count_of.Given as goal
 
 -- those before are of the sample
 abbrev pub invariant-loop-request : goal.invariant-loop-request

@@ -1,6 +1,6 @@
 use Rattle.std.proofs.Common.{◌≡◌, ◌≤◌, ◌-◌, length, drop}
 use Rattle.fz_run.specs.Slices.{HaveRoom, requests_after}
-use Rattle.fz_run.proofs.rows.make_rooms.Given as goal
+use Rattle.fz_run.proofs.runs.make_rooms.Given as goal
 
 -- there is a room for each of the first samples, and the rest of the plan is that of the others
 abbrev pub invariant-loop-next : goal.invariant-loop-next
