@@ -8,25 +8,23 @@ use Rattle.std.proofs.lemmas.Bool.Decides.{nat_tests}
 use Rattle.std.proofs.lemmas.Cmp.{ranked}
 use Rattle.interrupt_plan.specs.declared.upsets.Upset.{Upset}
 use Rattle.interrupt_plan.specs.Upsets.{SamplesAscend}
-use Rattle.watched_runs.specs.Samples.{change_in, change_of}
+use Rattle.watched_runs.specs.Samples.{AscendThroughout, change_in, change_of}
 
 -- the sample of upset i
 sample_at : List Upset → Upset → ℕ → ℕ
 sample_at us d i = let u = slice_index_or us i d in u.sample
 
 -- they rise
-rise : (us : List Upset) (d : Upset) → SamplesAscend us → (i j : ℕ) → i < j → j < length us
-    → sample_at us d i < sample_at us d j
-unfolding sample_at
-rise [] d h i j lt l = absurd (omega arith)
-rise (a ∷ []) d h i j lt l = absurd (omega arith)
-rise (a ∷ b ∷ rest) d h i zero lt l = absurd (omega arith)
-rise (a ∷ b ∷ rest) d h zero (suc zero) lt l = h.0
-rise (a ∷ b ∷ rest) d h zero (suc (suc j)) lt l =
+pub rise : (us : List Upset) → SamplesAscend us → AscendThroughout us
+rise [] h i j d lt l = absurd (omega arith)
+rise (a ∷ []) h i j d lt l = absurd (omega arith)
+rise (a ∷ b ∷ rest) h i zero d lt l = absurd (omega arith)
+rise (a ∷ b ∷ rest) h zero (suc zero) d lt l = h.0
+rise (a ∷ b ∷ rest) h zero (suc (suc j)) d lt l =
     let first = h.0 in
-    let more = rise (b ∷ rest) d h.1 0 (suc j) (omega arith) (omega arith) in
+    let more = rise (b ∷ rest) h.1 0 (suc j) d (omega arith) (omega arith) in
     omega (arith, first, more)
-rise (a ∷ b ∷ rest) d h (suc i) (suc j) lt l = rise (b ∷ rest) d h.1 i j (omega arith) (omega arith)
+rise (a ∷ b ∷ rest) h (suc i) (suc j) d lt l = rise (b ∷ rest) h.1 i j d (omega arith) (omega arith)
 
 is_sample : (u : Upset) (k : ℕ) → u.sample ≡ k → (u.sample == k) ≡ true
 is_sample u k e = grind (arith, nat_tests)
@@ -54,14 +52,14 @@ no_change (u ∷ us) d k none =
     rw t (no_change us d k (λ j l. none (suc j) (omega arith)))
 
 -- what a search for a sample finds
-pub placed : (us : List Upset) (k : ℕ) (r : Result ℕ ℕ) → SamplesAscend us → IsSearchInRange r (length us)
+pub placed : (us : List Upset) (k : ℕ) (r : Result ℕ ℕ) → AscendThroughout us → IsSearchInRange r (length us)
     → IsBinarySearchResult (λ (u : Upset). nat_cmp u.sample k) us r
     → MatchResult r (λ i. change_in (slice_get us i) ≡ change_of k us) (λ i. change_of k us ≡ None)
 unfolding sample_at
 placed us k (Ok i) ascend within equal =
     let d : Upset = record { sample = 0; at = 0; value = 0 } in
     let here : sample_at us d i ≡ k = ranked _ k _ (sym (equal d)) in
-    change_at us d k i within here (λ j l e. (let less = rise us d ascend j i l within in omega (arith, less, here, e)))
+    change_at us d k i within here (λ j l e. (let less = ascend j i d l within in omega (arith, less, here, e)))
 placed us k (Err i) ascend within parted =
     let d : Upset = record { sample = 0; at = 0; value = 0 } in
     no_change us d k (λ j l e. absurd (apart j l e))
@@ -74,7 +72,7 @@ placed us k (Err i) ascend within parted =
 
         by : (a < b) ⊎ (a ≡ b)
             → ordering_index (nat_cmp (sample_at us d a) k) ≤ ordering_index (nat_cmp (sample_at us d b) k)
-        by (inl lt) = let less = rise us d ascend a b lt l in grind (arith, nat_tests)
+        by (inl lt) = let less = ascend a b d lt l in grind (arith, nat_tests)
         by (inr e) = grind (arith, nat_tests, ap (sample_at us d) e)
 
     apart : (j : ℕ) → j < length us → sample_at us (record { sample = 0; at = 0; value = 0 }) j ≢ k

@@ -1,7 +1,12 @@
 -- The samples of a trace, each with what is upset while it is answered.
-use Rattle.std.specs.Prelude.{ℕ, suc, ◌==◌, if◌then◌else◌, Option, Some, None, List, [], ◌∷◌}
+use Rattle.std.specs.Prelude.{ℕ, suc, ◌<◌, ◌==◌, if◌then◌else◌, Option, Some, None, List, [], ◌∷◌, length, slice_index_or}
 use Rattle.interrupt_plan.specs.declared.upsets.Upset.{Upset}
 use Rattle.codegen.specs.Watched.{Change, Watched}
+
+-- each sample of upsets is above all before it
+abbrev pub AscendThroughout : List Upset → Type 0
+AscendThroughout us = (i j : ℕ) (d : Upset) → i < j → j < length us
+    → (slice_index_or us i d).sample < (slice_index_or us j d).sample
 
 -- what an upset changes
 abbrev pub change_in : Option Upset → Option Change

@@ -1,8 +1,9 @@
 //! A firmware with watched tables, as a form of runs.
-ghost use Rattle.std.specs.Prelude.{ℕ, ◌≤◌};
-ghost use Rattle.interrupt_plan.specs.Upsets.{SamplesAscend};
+ghost use Rattle.std.specs.Prelude.{ℕ, ◌≡◌, ◌<◌, ◌≤◌, ◌+◌, List, Some, length, map, slice_get};
+ghost use Rattle.fz_run.specs.Rows.{input_bytes};
 ghost use Rattle.codegen.specs.Watched as tables;
 ghost use Rattle.watched_runs.specs.Rows.{FaultSeen, watched_harness};
+ghost use Rattle.watched_runs.specs.Samples.{AscendThroughout};
 
 use crate::upsets::{change, restore, upset_of};
 use codegen::Firmware;
@@ -38,7 +39,24 @@ pub struct WithUpsets<'a> {
     /// What is upset in its samples, one byte at most in each.
     pub upsets: &'a [Upset],
     ghost outputs: { firmware.now.outputs ≤ 4 },
-    ghost ascend: { SamplesAscend upsets.now },
+    ghost ascend: { AscendThroughout upsets.now },
+}
+
+/// The bytes of a sample, of which there are at most eight.
+fn bytes_of(samples: &[Sample], k: usize) -> &[u8]
+    requires { k < length samples.now }
+    ensures bytes { (bytes : List ℕ) → slice_get (map input_bytes samples.now) k ≡ Some bytes → result.now ≡ bytes }
+    ensures few { length result.now ≤ 8 }
+{
+    samples[k].bytes.as_slice()
+}
+
+/// The number of sample `k`, counted from 1.
+fn number_of(samples: &[Sample], k: usize) -> usize
+    requires { k < length samples.now }
+    ensures { result ≡ k + 1 }
+{
+    k + 1
 }
 
 impl<'a> RunForm<WatchedRow> for WithUpsets<'a> {
@@ -53,16 +71,16 @@ impl<'a> RunForm<WatchedRow> for WithUpsets<'a> {
     }
 
     fn give<M: Mem>(&self, m: &mut Machine<M>, k: usize) {
-        give(
-            &self.firmware.layout,
-            m,
-            self.samples[k].bytes.as_slice(),
-        );
-        change(m, upset_of(self.upsets, k + 1));
+        give(&self.firmware.layout, m, bytes_of(self.samples, k));
+        change(m, upset_of(self.upsets, number_of(self.samples, k)));
     }
 
     fn leave<M: Mem>(&self, m: &mut Machine<M>, k: usize) {
-        restore(m, &self.firmware.image, upset_of(self.upsets, k + 1));
+        restore(
+            m,
+            &self.firmware.image,
+            upset_of(self.upsets, number_of(self.samples, k)),
+        );
     }
 
     fn ends<M: Mem>(&self, m: &Machine<M>) -> bool {
@@ -74,9 +92,9 @@ impl<'a> RunForm<WatchedRow> for WithUpsets<'a> {
     }
 
     fn row<M: Mem>(&self, m: &Machine<M>, k: usize, tally: Tally) -> WatchedRow {
-        let bytes = self.samples[k].bytes.as_slice();
+        let answers = answers(self.firmware, m);
         WatchedRow {
-            row: row_of(bytes, answers(self.firmware, m), tally),
+            row: row_of(bytes_of(self.samples, k), answers, tally),
             fault: m.peek(FAULT),
         }
     }

@@ -3,17 +3,26 @@ ghost use Rattle.std.specs.Prelude.{ℕ, ◌≡◌, ◌<◌, ◌^◌, All, Match
 ghost use Rattle.cpu12_emul.specs.Image.{image_memory};
 ghost use Rattle.interrupt_plan.specs.Upsets.{SamplesAscend};
 ghost use Rattle.codegen.specs.Watched.{changed, restored};
-ghost use Rattle.watched_runs.specs.Samples.{change_of, change_in};
+ghost use Rattle.watched_runs.specs.Samples.{AscendThroughout, change_of, change_in};
 
 use cpu12_asm::Image;
 use cpu12_emul::laws::holds_image;
 use cpu12_emul::machine::Machine;
 use cpu12_isa::mem::Mem;
-use interrupt_plan::Upset;
+use interrupt_plan::{Upset, Upsets};
+
+/// Upsets, whose samples ascend.
+pub(crate) fn ascending(upsets: &Upsets) -> &[Upset]
+    requires { SamplesAscend upsets.now }
+    ensures same { result.now ≡ upsets.now }
+    ensures ascend { AscendThroughout result.now }
+{
+    upsets.as_slice()
+}
 
 /// Where the upset of a sample stands, or would stand.
 fn place_of(upsets: &[Upset], number: usize) -> Result<usize, usize>
-    requires { SamplesAscend upsets.now }
+    requires { AscendThroughout upsets.now }
     ensures { MatchResult result (λ i. change_in (slice_get upsets.now i) ≡ change_of number upsets.now)
         (λ i. change_of number upsets.now ≡ None) }
 {
@@ -22,7 +31,7 @@ fn place_of(upsets: &[Upset], number: usize) -> Result<usize, usize>
 
 /// The upset of a sample, counted from 1.
 pub(crate) fn upset_of(upsets: &[Upset], number: usize) -> Option<Upset>
-    requires { SamplesAscend upsets.now }
+    requires { AscendThroughout upsets.now }
     ensures { change_in result ≡ change_of number upsets.now }
 {
     match place_of(upsets, number) {
