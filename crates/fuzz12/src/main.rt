@@ -30,6 +30,3 @@ fn main(rt: HostRuntime) -> anyhow::Result<ExitCode> {
     let status = fuzz12(alloc, words.as_slice(), &mut shelf, &mut out, &mut err);
     Ok(ExitCode::from(status.code()))
 }
-
-#[cfg(test)]
-mod tests;

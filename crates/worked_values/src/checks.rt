@@ -24,9 +24,9 @@ fn answer(alloc: Global, text: &[u8]) -> Result<Result<Option<u32>, TextFault>, 
 
 #[test]
 fn an_accepted_certificate_tells_the_error(rt: HostRuntime) -> Result<(), Fail> {
-    assert_eq!(rt; answer(rt.alloc(), HEATER)?, Ok(Some(19609)));
+    assert!(rt; answer(rt.alloc(), HEATER)? == Ok(Some(19609)));
     let more = b"FZC 1\nclaim 20000\nsplit 1 128\nleaf 1 127\nleaf 2 127\n";
-    assert_eq!(rt; answer(rt.alloc(), more)?, Ok(Some(19609)));
+    assert!(rt; answer(rt.alloc(), more)? == Ok(Some(19609)));
     Ok(())
 }
 
@@ -35,10 +35,10 @@ fn sixteen_bits_have_a_smaller_error(rt: HostRuntime) -> Result<(), Fail> {
     let block = heater(rt.alloc())?;
     let cert = read(rt.alloc(), HEATER)?;
     let errors = check16(rt.alloc(), &block, &cert)?;
-    assert_eq!(rt; errors.as_slice(), [15702].as_slice());
+    assert!(rt; errors.as_slice() == [15702].as_slice());
     let text = b"FZC 2\nclaim 15702\nsplit 1 128\nleaf 1 127\nleaf 2 127\n";
     let errors = check_text16(rt.alloc(), &block, text)?;
-    assert_eq!(rt; errors.as_slice(), [15702].as_slice());
+    assert!(rt; errors.as_slice() == [15702].as_slice());
     Ok(())
 }
 
@@ -82,7 +82,7 @@ const REFUSED: [(&[u8], CheckFault); 8] = [
 fn the_first_fault_of_a_certificate_is_told(rt: HostRuntime) -> Result<(), Fail> {
     for (text, fault) in REFUSED {
         assert!(rt; text.len() <= 1_048_576);
-        assert_eq!(rt; answer(rt.alloc(), text)?, Err(TextFault::Check(fault)));
+        assert!(rt; answer(rt.alloc(), text)? == Err(TextFault::Check(fault)));
         let cert = read(rt.alloc(), text)?;
         let block = heater(rt.alloc())?;
         assert!(rt; check(rt.alloc(), &block, &cert).err() == Some(fault));
@@ -115,7 +115,7 @@ const FAULTY: [(&[u8], CertFault); 5] = [
 fn a_fault_of_the_text_comes_first(rt: HostRuntime) -> Result<(), Fail> {
     for (text, fault) in FAULTY {
         assert!(rt; text.len() <= 1_048_576);
-        assert_eq!(rt; answer(rt.alloc(), text)?, Err(TextFault::Text(fault)));
+        assert!(rt; answer(rt.alloc(), text)? == Err(TextFault::Text(fault)));
     }
     Ok(())
 }

@@ -59,7 +59,7 @@ fn list_is(
     match flat.form {
         Form::Rev => {
             let bytes = flat.bytes(alloc)?;
-            assert_eq!(rt; bytes.len(), length);
+            assert!(rt; bytes.len() == length);
             assert!(rt; bytes.starts_with(ends.0));
             assert!(rt; bytes.ends_with(ends.1));
         }
@@ -82,13 +82,13 @@ fn spreads_an_or_under_an_and(rt: HostRuntime) -> Result<(), Fail> {
         Slot::Complement(1, 3),
         Slot::Out(1, 1),
     ];
-    assert_eq!(rt; flat.slots.as_slice(), slots.as_slice());
-    assert_eq!(rt; flat.weights.as_slice(), [255, 255].as_slice());
+    assert!(rt; flat.slots.as_slice() == slots.as_slice());
+    assert!(rt; flat.weights.as_slice() == [255, 255].as_slice());
     let words = flat.words(alloc)?;
     let wanted = [
         0x1100, 0x1103, 0xFFFE, 0x1104, 0xFFFE, 0x1101, 0x1103, 0xFFFE, 0x1104, 0xFFFF,
     ];
-    assert_eq!(rt; words.as_slice(), wanted.as_slice());
+    assert!(rt; words.as_slice() == wanted.as_slice());
     let list = [0, 3, 0xFE, 4, 0xFE, 1, 3, 0xFE, 4, 0xFF];
     list_is(&rt, alloc, &flat, 10, (list.as_slice(), list.as_slice()))
 }
@@ -101,16 +101,16 @@ fn spreads_nine_factors_and_no_more(rt: HostRuntime) -> Result<(), Fail> {
     let Ok(flat) = spread(alloc, &ruled(alloc, EITHER, 9, b"")?) else {
         panic!(rt; "a fault");
     };
-    assert_eq!(rt; flat.conjunctions.len(), 512);
+    assert!(rt; flat.conjunctions.len() == 512);
     let first = [
         0, 0, 0, 0, 0, 0, 0, 0, 0, 0xFE, 3, 0xFE, 0, 0, 0, 0, 0, 0, 0, 0, 1,
     ];
     let last = [1, 1, 1, 1, 1, 1, 1, 1, 1, 0xFE, 3, 0xFF];
     list_is(&rt, alloc, &flat, 6144, (first.as_slice(), last.as_slice()))?;
     let too_long = spread(alloc, &ruled(alloc, EITHER, 9, b"WITH 0.5")?).err();
-    assert_eq!(rt; too_long, Some(LayoutFault::ListTooLong(12288)));
+    assert!(rt; too_long == Some(LayoutFault::ListTooLong(12288)));
     let too_many = spread(alloc, &ruled(alloc, EITHER, 10, b"")?).err();
-    assert_eq!(rt; too_many, Some(LayoutFault::TooManyRules(1)));
+    assert!(rt; too_many == Some(LayoutFault::TooManyRules(1)));
     Ok(())
 }
 
@@ -182,7 +182,7 @@ fn widest(alloc: Global, outs: u8) -> Result<Block, Fail>
 
 /// Fails where the terms, their complements and the output's terms do not stand in this order.
 fn in_order(rt: &impl Abort, slots: &[Slot], last: u8) {
-    assert_eq!(rt; slots.len(), 240 + usize::from(last));
+    assert!(rt; slots.len() == 240 + usize::from(last));
     for (number, slot) in [
         (0, Slot::Term(1, 1)),
         (119, Slot::Term(8, 15)),
@@ -191,7 +191,7 @@ fn in_order(rt: &impl Abort, slots: &[Slot], last: u8) {
         (240, Slot::Out(1, 1)),
         (239 + usize::from(last), Slot::Out(1, last)),
     ] {
-        assert_eq!(rt; slots.get(number).copied(), Some(slot), "slot {number}");
+        assert!(rt; slots.get(number).copied() == Some(slot), "slot {number}");
     }
 }
 
@@ -216,12 +216,12 @@ fn words_number_255_slots(rt: HostRuntime) -> Result<(), Fail> {
         panic!(rt; "a fault");
     };
     in_order(&rt, flat.slots.as_slice(), 15);
-    assert_eq!(rt; flat.form, Form::Revw);
+    assert!(rt; flat.form == Form::Revw);
     let words = flat.words(alloc)?;
-    assert_eq!(rt; words.len(), 480);
+    assert!(rt; words.len() == 480);
     assert!(rt; words.starts_with(&[0x1178, 0xFFFE, 0x11FE, 0xFFFE, 0x1179]));
     assert!(rt; words.ends_with(&[0x11EF, 0xFFFE, 0x11FE, 0xFFFF]));
     let unscaled = [255; 120];
-    assert_eq!(rt; flat.weights.as_slice(), unscaled.as_slice());
+    assert!(rt; flat.weights.as_slice() == unscaled.as_slice());
     Ok(())
 }

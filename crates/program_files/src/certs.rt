@@ -1,0 +1,194 @@
+//! Certificates from files: worked errors and faults.
+ghost use Rattle.std.specs.Prelude.{◌≤◌};
+
+use program_calls::{Left, call_over};
+use std::alloc::{AllocError, Global};
+use std::test::Fail;
+use worked_texts::{BLOCK, HALF_WEIGHT, HALVES, LATCH, NODES_OF_THE_LATCH};
+
+/// A command over the parts of a text and those of a certificate, and what it leaves.
+#[derive(Clone, Copy)]
+struct Certificate {
+    command: &'static str,
+    fcl: &'static [&'static str],
+    cert: &'static [&'static str],
+    left: Left<'static>,
+}
+
+const CERTIFIED: Left<'static> = Left::Lines("error 1 19609\ninstructions 28\n");
+
+/// The heater's certificate.
+const HEATER: Certificate = Certificate {
+    command: "check",
+    fcl: &[BLOCK],
+    cert: &["FZC 1\nclaim 19609\n", HALVES],
+    left: CERTIFIED,
+};
+
+static CERTIFICATES: [Certificate; 17] = [
+    HEATER,
+    Certificate {
+        cert: &["FZC 1\nclaim 20000\n", HALVES],
+        ..HEATER
+    },
+    Certificate {
+        cert: &["FZC 1\nclaim 19608\n", HALVES],
+        left: Left::Refused(6, "cert: output 1 claims 19608, computed 19609\n"),
+        ..HEATER
+    },
+    Certificate {
+        cert: &["FZC 1\nclaim 19609\nsplit 1 128\n"],
+        left: Left::Refused(6, "cert: early\n"),
+        ..HEATER
+    },
+    Certificate {
+        cert: &["FZC 1\nclaim 19609\nsplit 1 128\nleaf 1 128\nleaf 2 127\n"],
+        left: Left::Refused(6, "cert: line 4: weak rule 1 k 128 low 500000000\n"),
+        ..HEATER
+    },
+    Certificate {
+        cert: &["FZC 1\nclaim 19609\nsplit 1 0\nleaf 1 127\nleaf 2 127\n"],
+        left: Left::Refused(6, "cert: line 3: bad cut\n"),
+        ..HEATER
+    },
+    Certificate {
+        cert: &["FZC 1\nclaim 19609\nsplit 1 128\nleaf 2 127\nleaf 2 127\n"],
+        left: Left::Refused(6, "cert: line 4: weak rule 2 k 127 low 0\n"),
+        ..HEATER
+    },
+    Certificate {
+        cert: &["FZC 1\nclaim 19609\nsplit 1 128\nleaf 0 0\nleaf 2 127\n"],
+        left: Left::Refused(6, "cert: line 4: silent rule 1 high 1000000000\n"),
+        ..HEATER
+    },
+    Certificate {
+        cert: &["FZC 1\nclaim 19609\n", HALVES, "leaf 0 0\n"],
+        left: Left::Refused(6, "cert: line 6: late\n"),
+        ..HEATER
+    },
+    Certificate {
+        cert: &["FZC 1\nclaim 1 1\nleaf 0 0 0 0\n"],
+        left: Left::Refused(6, "cert: outputs 2 1\n"),
+        ..HEATER
+    },
+    Certificate {
+        command: "check16",
+        cert: &["FZC 2\nclaim 15702\n", HALVES],
+        left: Left::Lines("error 1 15702\ninstructions 31\n"),
+        ..HEATER
+    },
+    Certificate {
+        command: "check16",
+        cert: &["FZC 1\nclaim 19609\n", HALVES],
+        left: Left::Refused(6, "cert: line 1: bad line\n"),
+        ..HEATER
+    },
+    Certificate {
+        fcl: &HALF_WEIGHT,
+        cert: &["FZC 1\nclaim 51417\nsplit 1 128\nleaf 1 63\nleaf 2 127\n"],
+        left: Left::Lines("error 1 51417\ninstructions 29\n"),
+        ..HEATER
+    },
+    Certificate {
+        fcl: &HALF_WEIGHT,
+        cert: &["FZC 1\nclaim 51417\nsplit 1 128\nleaf 1 64\nleaf 2 127\n"],
+        left: Left::Refused(6, "cert: line 4: weak rule 1 k 64 low 250000000\n"),
+        ..HEATER
+    },
+    Certificate {
+        fcl: &[LATCH],
+        cert: &["FZC 1\nclaim 3922\n", NODES_OF_THE_LATCH],
+        left: Left::Lines("error 1 3922\ninstructions 30\n"),
+        ..HEATER
+    },
+    Certificate {
+        fcl: &[LATCH],
+        cert: &["FZC 1\nclaim 19609\n", HALVES],
+        left: Left::Refused(6, "cert: line 4: weak rule 1 k 127 low 0\n"),
+        ..HEATER
+    },
+    Certificate {
+        fcl: &[],
+        cert: &["FZC 3\n"],
+        left: Left::Refused(4, "fcl: at 0: expected\n"),
+        ..HEATER
+    },
+];
+
+#[test]
+fn certificates(rt: HostRuntime) -> Result<(), Fail> {
+    for row in CERTIFICATES.iter() {
+        let line = ["fuzz12", row.command, "first", "second"];
+        call_over(rt.alloc(), &line, row.fcl, row.cert, &row.left)?;
+    }
+    Ok(())
+}
+
+static CHECK: [&str; 4] = ["fuzz12", "check", "first", "second"];
+
+/// A cut of the only input, and the end of the line.
+fn push_cut(alloc: Global, text: &mut String, cut: u32) -> Result<(), AllocError> {
+    text.push_str(&format!(in alloc; "split 1 {cut}\n")?)
+}
+
+/// A leaf for a byte, by the rule that is stronger there.
+fn push_leaf(alloc: Global, text: &mut String, byte: u32) -> Result<(), AllocError>
+    requires { byte ≤ 255 }
+{
+    let (rule, part) = if byte < 128 {
+        (1, 254 - byte)
+    } else {
+        (2, byte - 1)
+    };
+    text.push_str(&format!(in alloc; "leaf {rule} {part}\n")?)
+}
+
+/// The heater's certificate with a leaf for each byte, cut from the last byte down, but for the
+/// first cut and how many leaves there are.
+fn each_byte(alloc: Global, first: u32, leaves: u32) -> Result<String, AllocError>
+    requires { leaves ≤ 256 }
+{
+    let mut text = String::from_str(alloc, "FZC 1\nclaim 11796\n")?;
+    push_cut(alloc, &mut text, first)?;
+    for cut in (1..255u32).rev() {
+        push_cut(alloc, &mut text, cut)?;
+    }
+    for byte in 0..leaves {
+        push_leaf(alloc, &mut text, byte)?;
+    }
+    Ok(text)
+}
+
+#[test]
+fn a_leaf_for_each_byte(rt: HostRuntime) -> Result<(), Fail> {
+    let text = each_byte(rt.alloc(), 255, 256)?;
+    let left = Left::Lines("error 1 11796\ninstructions 28\n");
+    call_over(rt.alloc(), &CHECK, &[BLOCK], &[text.as_str()], &left)?;
+    Ok(())
+}
+
+#[test]
+fn a_leaf_too_few(rt: HostRuntime) -> Result<(), Fail> {
+    let text = each_byte(rt.alloc(), 0, 255)?;
+    let left = Left::Refused(6, "cert: early\n");
+    call_over(rt.alloc(), &CHECK, &[BLOCK], &[text.as_str()], &left)?;
+    Ok(())
+}
+
+/// As many leaves as there may be, each behind a cut, and one more.
+fn a_leaf_more(alloc: Global) -> Result<String, AllocError> {
+    let mut text = String::from_str(alloc, "FZC 1\nclaim 0\n")?;
+    for _ in 0..4096u32 {
+        text.push_str("split 1 1\nleaf 0 0\n")?;
+    }
+    text.push_str("leaf 0 0\n")?;
+    Ok(text)
+}
+
+#[test]
+fn a_leaf_too_many(rt: HostRuntime) -> Result<(), Fail> {
+    let text = a_leaf_more(rt.alloc())?;
+    let left = Left::Refused(6, "cert: line 8195: too many leaves\n");
+    call_over(rt.alloc(), &CHECK, &[BLOCK], &[text.as_str()], &left)?;
+    Ok(())
+}

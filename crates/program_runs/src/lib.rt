@@ -1,0 +1,14 @@
+//! Tests of the program's runs: of the heater under plans, from files that are read in order, under a debugger's
+//! script, and of workloads.
+#![tactic(auto)]
+
+#[cfg(test)]
+mod debug;
+#[cfg(test)]
+mod generate;
+#[cfg(test)]
+mod reads;
+#[cfg(test)]
+mod runs;
+#[cfg(test)]
+mod words;

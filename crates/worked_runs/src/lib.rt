@@ -1,0 +1,16 @@
+//! Worked values of firmware and its runs, as tests: code byte by byte, samples with and without
+//! interrupts, and scripts.
+//!
+//! Each expected value was worked out by hand from the public standards, or by a program of its own.
+#![tactic(auto)]
+
+#[cfg(test)]
+mod blocks;
+#[cfg(test)]
+mod firmware;
+#[cfg(test)]
+mod mailboxes;
+#[cfg(test)]
+mod runs;
+#[cfg(test)]
+mod scripts;
