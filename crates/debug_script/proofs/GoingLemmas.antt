@@ -23,27 +23,27 @@ use Rattle.debug_script.proofs.PlaceLemmas.{go_more, go_stops, on_last, on_more,
 
 -- ---- one position on
 
-pub place_more : (old new : Outlook) → old ≡ at_position old.here (from_here new) → place_of old ≡ old.here ∷ place_of new
-place_more old new e = ap (λ (o : Outlook). o.here ∷ o.later) e
+pub place_more : {T : Type 0} (old new : Outlook T) → old ≡ at_position old.here (from_here new) → place_of old ≡ old.here ∷ place_of new
+place_more {T = T} old new e = ap (λ (o : Outlook T). o.here ∷ o.later) e
 
-pub stays : (o : Outlook) → Leads o o
+pub stays : {T : Type 0} (o : Outlook T) → Leads o o
 stays o = record { rows = refl; state = refl }
 
-pub leads_more : (first old new : Outlook) → old ≡ at_position old.here (from_here new) → Leads first old
+pub leads_more : {T : Type 0} (first old new : Outlook T) → old ≡ at_position old.here (from_here new) → Leads first old
     → Leads first new
-leads_more first old new e l = record {
-  rows = sym (ap (λ (o : Outlook). o.rows) e) ∙ l.rows;
-  state = sym (ap (λ (o : Outlook). o.state) e) ∙ l.state;
+leads_more {T = T} first old new e l = record {
+  rows = sym (ap (λ (o : Outlook T). o.rows) e) ∙ l.rows;
+  state = sym (ap (λ (o : Outlook T). o.state) e) ∙ l.state;
 }
 
-pub step_more : (old new : Outlook) (left : ℕ) → old ≡ at_position old.here (from_here new) → 0 < left
+pub step_more : {T : Type 0} (old new : Outlook T) (left : ℕ) → old ≡ at_position old.here (from_here new) → 0 < left
     → on left (place_of old) ≡ on (left - 1) (place_of new)
 step_more old new left e some =
     let n : left ≡ left - 1 + 1 = omega arith in
     ap₂ (λ (k : ℕ) (ps : List Position). on k ps) n (place_more old new e) ∙ on_more (left - 1) old.here new.here new.later
 
 -- at the last position
-pub last_place : (o : Outlook) (n : ℕ) → o.later ≡ [] → on n (place_of o) ≡ place_of o
+pub last_place : {T : Type 0} (o : Outlook T) (n : ℕ) → o.later ≡ [] → on n (place_of o) ≡ place_of o
 last_place o n e =
     ap (λ (ps : List Position). on n (o.here ∷ ps)) e ∙ on_last n o.here ∙ ap (λ (ps : List Position). o.here ∷ ps) (sym e)
 
@@ -82,14 +82,14 @@ bytes_stay marks p q bytes e off =
 
 -- ---- how far `go` leads
 
-pub stopped_place : (marks : Marks) (old new : Outlook) → old ≡ at_position old.here (from_here new)
+pub stopped_place : {T : Type 0} (marks : Marks) (old new : Outlook T) → old ≡ at_position old.here (from_here new)
     → stops marks old.here new.here ≡ true
     → on (distance (stops marks) (place_of old)) (place_of old) ≡ place_of new
 stopped_place marks old new e is =
     ap (λ (ps : List Position). on (distance (stops marks) ps) ps) (place_more old new e)
     ∙ go_stops (stops marks) old.here new.here new.later is
 
-pub further_place : (marks : Marks) (old new : Outlook) → old ≡ at_position old.here (from_here new)
+pub further_place : {T : Type 0} (marks : Marks) (old new : Outlook T) → old ≡ at_position old.here (from_here new)
     → stops marks old.here new.here ≡ false
     → on (distance (stops marks) (place_of old)) (place_of old) ≡ on (distance (stops marks) (place_of new)) (place_of new)
 further_place marks old new e is =

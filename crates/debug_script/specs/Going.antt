@@ -5,11 +5,11 @@ use Rattle.fz_run.specs.Outlooks.{Outlook, from_here}
 use Rattle.fz_run.specs.Positions.{Position}
 
 -- the positions from where a session stands on
-abbrev pub place_of : Outlook → List Position
+abbrev pub place_of : {T : Type 0} → Outlook T → List Position
 place_of o = (from_here o).left
 
 -- the rows of the whole run and its last state are the same
-pub record Leads (old new : Outlook) : Type 0 where
+pub record Leads {T : Type 0} (old new : Outlook T) : Type 0 where
   pub rows : new.rows ≡ old.rows
   pub state : new.state ≡ old.state
 

@@ -19,6 +19,7 @@ pub mod WideLemmas
 pub mod Nested
 pub mod NestedBounds
 pub mod TableLemmas
+pub mod ReachLemmas
 pub mod ConclusionLemmas
 pub mod PairLemmas
 pub mod FaultLemmas

@@ -1,6 +1,6 @@
 -- What a table has of a literal.
 use Rattle.std.proofs.Common.{◌≡◌, ℕ, ◌-◌, ◌<◌, ◌≤◌, List, length, get_or, Some, sym, ap, ◌∙◌, subst, arith}
-use Rattle.std.specs.Prelude.{pos, slice_get}
+use Rattle.std.specs.Prelude.{slice_get}
 use Rattle.std.proofs.lemmas.Option.{get_or_from_slice_get}
 use Rattle.fuzzy_meaning.specs.declared.block.Block.{Block}
 use Rattle.fuzzy_meaning.specs.declared.block.Input.{Input}
@@ -36,7 +36,7 @@ literal_reach b terms i t row reach has table =
 
 -- what a table has of a rule
 abbrev pub no_reach : Reach
-no_reach = record { degrees = record { low = record { num = pos 0; den = pos 0 }; high = record { num = pos 0; den = pos 0 } }; least = 0; greatest = 0; error = 0 }
+no_reach = record { degrees = record { low = record { num = 0; den = 0 }; high = record { num = 0; den = 0 } }; least = 0; greatest = 0; error = 0 }
 
 pub rule_reach : (b : Block) (t : BoxTable) (n : ℕ) (r : Rule) → IsTable b t → slice_get b.rules n ≡ Some r → IsReachOfRule b t.bytes.0.items r (get_or t.rules n no_reach)
 rule_reach b t n r table e =

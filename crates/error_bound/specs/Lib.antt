@@ -10,5 +10,6 @@ pub mod Answers
 pub mod Laws
 pub mod CellErrors
 pub mod Shortening
+pub mod Ratios
 pub mod Reaches
 pub mod BestLeaves

@@ -1,7 +1,6 @@
 -- What the code's reaches stand for.
 use Rattle.std.specs.Prelude.{◌≡◌, ℕ, ◌≤◌, List, length, Some, slice_get, slice_index}
 use Rattle.fz_num.specs.Decimals.{distance}
-use Rattle.fz_num.specs.Fracs.{fraction_of, IsTruth}
 use Rattle.fuzzy_meaning.specs.declared.block.Block.{Block}
 use Rattle.fuzzy_meaning.specs.declared.block.Input.{Input}
 use Rattle.fuzzy_meaning.specs.declared.block.Rule.{Rule}
@@ -19,6 +18,7 @@ use Rattle.error_bound.specs.declared.tables.BlockTable.{BlockTable}
 use Rattle.error_bound.specs.declared.tables.Row.{Row}
 use Rattle.error_bound.specs.declared.tables.BoxTerms.{BoxTerms}
 use Rattle.error_bound.specs.declared.rules.BoxTable.{BoxTable}
+use Rattle.error_bound.specs.Ratios.{value_of, IsRatio}
 use Rattle.error_bound.specs.Spans.{Span, ByteSpan, span, byte_span, greatest_literal}
 use Rattle.error_bound.specs.Boxes.{IsBoxOf, degrees_over, grades_over, literal_span, literal_byte_span, rule_span, rule_byte_span}
 use Rattle.error_bound.specs.Errors.{billion, rule_error}
@@ -26,7 +26,7 @@ use Rattle.error_bound.specs.Shortening.{ReachesAlike}
 use Rattle.error_bound.specs.CellErrors.{cell_error, term_error, term_errors}
 
 abbrev pub span_of : Degrees → Span
-span_of d = record { low = fraction_of d.low; high = fraction_of d.high }
+span_of d = record { low = value_of d.low; high = value_of d.high }
 
 abbrev pub byte_span_of : Reach → ByteSpan
 byte_span_of r = record { low = r.least; high = r.greatest }
@@ -68,8 +68,8 @@ pub record IsBlockTable (b : Block) (table : BlockTable) : Type 0 where
 
 -- fractions of small denominators
 pub record AreTruths (d : Degrees) : Type 0 where
-  pub low : IsTruth 1000000000000 d.low
-  pub high : IsTruth 1000000000000 d.high
+  pub low : IsRatio 1000000000000 d.low
+  pub high : IsRatio 1000000000000 d.high
 
 pub record IsSmall (r : Reach) : Type 0 where
   pub degrees : AreTruths r.degrees
@@ -110,8 +110,8 @@ pub record IsReachOfCondition (b : Block) (box : List Interval) (c : Condition) 
   pub small : IsSmall r
 
 pub record HasSmallTruths (q : Reach) : Type 0 where
-  pub low : IsTruth 10000000000000000 q.degrees.low
-  pub high : IsTruth 10000000000000000 q.degrees.high
+  pub low : IsRatio 10000000000000000 q.degrees.low
+  pub high : IsRatio 10000000000000000 q.degrees.high
 
 -- the reach of a rule's strength
 pub record IsReachOfRule (b : Block) (box : List Interval) (r : Rule) (q : Reach) : Type 0 where

@@ -116,7 +116,7 @@ fn error_of_cell(input: &Input, term: &Trapezoid, table: [u8; 4], b: u8) -> u64
 {
     let degrees = degrees_of(input, term, Interval { from: b, to: b });
     let g = grade(table, b);
-    Frac::gap(g, degrees.low)
+    Frac::gap(g, degrees.low.wide())
         .0
-        .max(Frac::gap(g, degrees.high).0)
+        .max(Frac::gap(g, degrees.high.wide()).0)
 }

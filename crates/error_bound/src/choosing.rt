@@ -86,6 +86,5 @@ fn part_of(reach: Reach) -> u8
     if reach.least == 0 {
         return 0;
     }
-    let low = reach.degrees.low;
-    (255 * low.num as u128 / low.den as u128) as u8
+    reach.degrees.low.floor_255()
 }

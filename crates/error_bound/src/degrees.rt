@@ -1,28 +1,25 @@
 //! From the least to the greatest degree.
 ghost use Rattle.std.specs.Prelude.{◌≡◌, ◌+◌, ◌*◌, ◌==◌, ◌≤◌, IfSome, ◌≤ℤ◌, option_map};
 ghost use Rattle.fz_num.specs.Fractions.{over};
-ghost use Rattle.fz_num.specs.Fracs.{fraction_of, IsTruth};
 ghost use Rattle.fz_num.specs.Decimals.{distance};
 ghost use Rattle.fuzzy_meaning.specs.Blocks.{IsValidInput, IsValidTerm};
 ghost use Rattle.fuzzy_meaning.specs.Places.{rise_at, fall_at};
 ghost use Rattle.error_bound.specs.Places.{rise_end};
+ghost use Rattle.error_bound.specs.Ratios.{value_of, IsRatio};
 ghost use Rattle.error_bound.specs.Spans.{one_minus_span, lesser_span, greater_span};
 ghost use Rattle.error_bound.specs.Boxes.{degrees_over};
 ghost use Rattle.error_bound.specs.Reaches.{span_of, AreTruths};
 
 use crate::boxes::Interval;
+use crate::ratio::Ratio;
 use fuzzy_meaning::{Input, Trapezoid};
-use fz_num::{Dec, Frac};
-
-pub(crate) const ONE: Frac = Frac { num: 1, den: 1 };
-
-pub(crate) const NONE: Frac = Frac { num: 0, den: 1 };
+use fz_num::Dec;
 
 /// From the least to the greatest degree.
 #[derive(Clone, Copy)]
 pub(crate) struct Degrees {
-    pub(crate) low: Frac,
-    pub(crate) high: Frac,
+    pub(crate) low: Ratio,
+    pub(crate) high: Ratio,
 }
 
 impl Degrees {
@@ -83,47 +80,53 @@ pub(crate) fn degrees_of(input: &Input, term: &Trapezoid, bytes: Interval) -> De
 }
 
 /// The rising side at n/256, or its limit from below where the end is open.
-fn rising(lo: Dec, a: Option<Dec>, b: Dec, n: u64, closed: bool) -> Frac
+fn rising(lo: Dec, a: Option<Dec>, b: Dec, n: u64, closed: bool) -> Ratio
     requires a { IfSome a (λ p. (lo.0 ≤ℤ p.0) × (p.0 ≤ℤ b.0)) }
     requires b { lo.0 ≤ℤ b.0 }
     requires width { distance lo b ≤ 2000000000 }
     requires n { n ≤ 600000000000 }
-    ensures value { fraction_of result ≡ rise_end closed (option_map (distance lo) a) (distance lo b) (over n 256) }
-    ensures truth { IsTruth 1000000000000 result }
+    ensures value { value_of result ≡ rise_end closed (option_map (distance lo) a) (distance lo b) (over n 256) }
+    ensures truth { IsRatio 1000000000000 result }
 {
     let Some(a) = a else {
-        return ONE;
+        return Ratio::ONE;
     };
     let a = a.above(lo);
     let b = b.above(lo);
     if b * 256 < n || (closed && b * 256 == n) {
-        ONE
+        Ratio::ONE
     } else if n <= a * 256 {
-        NONE
+        Ratio::NONE
     } else {
-        Frac::over(n - a * 256, (b - a) * 256)
+        Ratio {
+            num: n - a * 256,
+            den: (b - a) * 256,
+        }
     }
 }
 
 /// The falling side at n/256.
-fn falling(lo: Dec, c: Dec, d: Option<Dec>, n: u64) -> Frac
+fn falling(lo: Dec, c: Dec, d: Option<Dec>, n: u64) -> Ratio
     requires c { lo.0 ≤ℤ c.0 }
     requires d { IfSome d (λ p. (c.0 ≤ℤ p.0) × (distance lo p ≤ 2000000000)) }
     requires width { distance lo c ≤ 2000000000 }
     requires n { n ≤ 600000000000 }
-    ensures value { fraction_of result ≡ fall_at (distance lo c) (option_map (distance lo) d) (over n 256) }
-    ensures truth { IsTruth 1000000000000 result }
+    ensures value { value_of result ≡ fall_at (distance lo c) (option_map (distance lo) d) (over n 256) }
+    ensures truth { IsRatio 1000000000000 result }
 {
     let Some(d) = d else {
-        return ONE;
+        return Ratio::ONE;
     };
     let c = c.above(lo);
     let d = d.above(lo);
     if n <= c * 256 {
-        ONE
+        Ratio::ONE
     } else if d * 256 <= n {
-        NONE
+        Ratio::NONE
     } else {
-        Frac::over(d * 256 - n, (d - c) * 256)
+        Ratio {
+            num: d * 256 - n,
+            den: (d - c) * 256,
+        }
     }
 }

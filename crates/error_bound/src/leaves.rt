@@ -1,13 +1,12 @@
 //! Leaves: whether they hold on a box, with which Bound, and the best one of a box.
 ghost use Rattle.std.specs.Prelude.{◌≡◌, ◌↔◌, ◌≤◌, ◌<◌, ◌*◌, ◌/◌, ℕ, IsTrue, IfOk, IfErr, OnOk, All, IfSome, IfNone, Some, length};
-ghost use Rattle.fz_num.specs.Fractions.{over, AtMost, IsBelow};
-ghost use Rattle.fz_num.specs.Fracs.{fraction_of, IsTruth};
+ghost use Rattle.fz_num.specs.Fractions.{over, AtMost};
 ghost use Rattle.fuzzy_meaning.specs.declared.block.Rule.{Rule as TheRule};
 ghost use Rattle.fuzzy_meaning.specs.Blocks.{IsValid, output_at};
 ghost use Rattle.fuzzy_meaning.specs.Rules.{concludes as concludes_it};
 ghost use Rattle.error_bound.specs.Boxes.{IsBoxOf};
 ghost use Rattle.error_bound.specs.Bounds.{IsBound};
-ghost use Rattle.error_bound.specs.Faults.{HasLeafFault, IsStrongFault, IsSilentFault, parts_up};
+ghost use Rattle.error_bound.specs.Faults.{HasLeafFault, IsStrongFault, IsSilentFault};
 ghost use Rattle.error_bound.specs.Leaves.{rule_at, Holds, IsStill, concludes_some as concludes_any, IsPairFor};
 ghost use Rattle.error_bound.specs.Reaches.{span_of, byte_span_of, HasSmallTruths, IsTable};
 
@@ -16,7 +15,6 @@ use crate::boxes::{ByteBox, Leaf, LeafFault};
 use crate::reaches::Reach;
 use crate::rules::BoxTable;
 use fuzzy_meaning::{Block, Rule};
-use fz_num::{Frac, Nano};
 
 /// The Bound of a leaf's pair for an output on a box, in millionths of the output's range, or its
 /// first fault, for answers that are bytes. Outputs count from 1.
@@ -108,7 +106,7 @@ fn strong_fault(reach: Reach, leaf: Leaf) -> Option<LeafFault>
     ensures fault { IfSome result (IsStrongFault leaf (span_of reach.degrees) (byte_span_of reach)) }
 {
     let low = reach.degrees.low;
-    if is_below(low, leaf.k) {
+    if low.is_below(leaf.k) {
         Some(LeafFault::Weak(leaf.rule, leaf.k, low.floor_nano()))
     } else if reach.least == 0 {
         Some(LeafFault::Still(leaf.rule))
@@ -126,29 +124,12 @@ fn firing_fault(reach: Reach, n: u16) -> Option<LeafFault>
 {
     let high = reach.degrees.high;
     if high.num > 0 {
-        Some(LeafFault::Silent(n, up_nano(high)))
+        Some(LeafFault::Silent(n, high.up_nano()))
     } else if reach.greatest > 0 {
         Some(LeafFault::Loud(n, reach.greatest))
     } else {
         None
     }
-}
-
-/// Whether a fraction is below k/255.
-fn is_below(f: Frac, k: u8) -> bool
-    requires { IsTruth 10000000000000000 f }
-    ensures { IsTrue result ↔ IsBelow (fraction_of f) (over k 255) }
-{
-    f.num as u128 * 255 < u128::from(k) * f.den as u128
-}
-
-/// A fraction in parts of 10^9, rounded up.
-fn up_nano(f: Frac) -> Nano
-    requires { IsTruth 10000000000000000 f }
-    ensures { result.0 ≡ parts_up (fraction_of f) }
-{
-    let den = f.den as u128;
-    Nano(((f.num as u128 * 1_000_000_000 + (den - 1)) / den) as u64)
 }
 
 /// Whether a pair may stand for an output: both of its numbers are 0, or it names a rule that

@@ -15,6 +15,7 @@ mod choosing;
 mod degrees;
 mod laws;
 mod leaves;
+mod ratio;
 mod reaches;
 mod rules;
 mod shortening;

@@ -1,13 +1,15 @@
 //! How far truths reach over a box.
-ghost use Rattle.std.specs.Prelude.{◌≡◌, max};
-ghost use Rattle.fuzzy_meaning.specs.Blocks.{IsValid, IsValidCondition, HasTerm};
-ghost use Rattle.fuzzy_meaning.specs.Conditions.{condition_of};
-ghost use Rattle.error_bound.specs.Spans.{span, byte_span, greatest_literal, one_minus_span, lesser_span, greater_span, one_minus_bytes, lesser_bytes, greater_bytes};
+ghost use Rattle.std.specs.Prelude.{◌≡◌, max, map, IfSome};
+ghost use Rattle.fuzzy_meaning.specs.Blocks.{IsValid, IsValidCondition, AreValidConditions, HasTerm};
+ghost use Rattle.fuzzy_meaning.specs.Conditions.{condition_of, conditions, is};
+ghost use Rattle.error_bound.specs.Spans.{span, least_span, greatest_span, byte_span, least_byte_span, greatest_byte_span, greatest_literal, greatest_among, one_minus_span, lesser_span, greater_span, one_minus_bytes, lesser_bytes, greater_bytes};
 ghost use Rattle.error_bound.specs.Boxes.{literal_span, literal_byte_span};
 ghost use Rattle.error_bound.specs.CellErrors.{term_errors};
-ghost use Rattle.error_bound.specs.Reaches.{span_of, byte_span_of, IsSmall, AreBoxTerms, IsReachOfLiteral};
+ghost use Rattle.error_bound.specs.Reaches.{span_of, byte_span_of, IsSmall, AreBoxTerms, IsReachOfLiteral, IsReachOfCondition};
+ghost use Rattle.error_bound.specs.Shortening.{under};
 
-use crate::degrees::{Degrees, NONE, ONE};
+use crate::degrees::Degrees;
+use crate::ratio::Ratio;
 use crate::tables::BoxTerms;
 use fuzzy_meaning::{Block, Cond, parts_are_valid};
 
@@ -24,8 +26,8 @@ pub(crate) struct Reach {
 /// The reach of the least of no truths.
 const ALL: Reach = Reach {
     degrees: Degrees {
-        low: ONE,
-        high: ONE,
+        low: Ratio::ONE,
+        high: Ratio::ONE,
     },
     least: 255,
     greatest: 255,
@@ -35,8 +37,8 @@ const ALL: Reach = Reach {
 /// The reach of the greatest of no truths.
 pub(crate) const NOTHING: Reach = Reach {
     degrees: Degrees {
-        low: NONE,
-        high: NONE,
+        low: Ratio::NONE,
+        high: Ratio::NONE,
     },
     least: 0,
     greatest: 0,
@@ -93,6 +95,7 @@ impl Reach {
 }
 
 /// The reach of a condition over a box.
+#[cycle(reaches)]
 pub(crate) fn reach_of(cond: &Cond, block: &Block, terms: &BoxTerms) -> Reach
     requires cond { IsValidCondition block.now (condition_of cond.now) }
     requires block { IsValid block.now }
@@ -105,24 +108,110 @@ pub(crate) fn reach_of(cond: &Cond, block: &Block, terms: &BoxTerms) -> Reach
         ≡ greatest_literal (term_errors block.now terms.now.bytes.0.items) (condition_of cond.now) }
     ensures small { IsSmall result }
 {
-    parts_are_valid();
     match cond {
         Cond::Is(input, term) => of_literal(block, *input, *term, terms),
         Cond::Not(inner) => reach_of(inner, block, terms).one_minus(),
-        Cond::And(parts) => {
-            let mut least = ALL;
-            for k in (0..parts.len()).rev() {
-                least = reach_of(&parts[k], block, terms).min(least);
-            }
-            least
-        }
-        Cond::Or(parts) => {
-            let mut greatest = NOTHING;
-            for k in (0..parts.len()).rev() {
-                greatest = reach_of(&parts[k], block, terms).max(greatest);
-            }
-            greatest
-        }
+        Cond::And(parts) => least_of(parts.as_slice(), block, terms),
+        Cond::Or(parts) => greatest_of(parts.as_slice(), block, terms),
+    }
+}
+
+/// The reach of the least of the parts of an AND. Most parts are literals, which take no further call.
+#[cycle(reaches)]
+fn least_of(parts: &[Cond], block: &Block, terms: &BoxTerms) -> Reach
+    requires parts { AreValidConditions block.now (conditions (map condition_of parts.now)) }
+    requires block { IsValid block.now }
+    requires terms { AreBoxTerms block.now terms.now }
+    ensures value { span_of result.degrees
+        ≡ least_span (literal_span block.now terms.now.bytes.0.items) (conditions (map condition_of parts.now)) }
+    ensures bytes { byte_span_of result ≡ least_byte_span
+        (literal_byte_span block.now terms.now.bytes.0.items) (conditions (map condition_of parts.now)) }
+    ensures error { result.error
+        ≡ greatest_among (term_errors block.now terms.now.bytes.0.items) (conditions (map condition_of parts.now)) }
+    ensures small { IsSmall result }
+{
+    parts_are_valid();
+    let mut least = ALL;
+    for k in (0..parts.len()).rev() {
+        let part = &parts[k];
+        let reach = match literal_in(part) {
+            Some(literal) => reach_of_literal(literal, block, terms),
+            None => reach_of(part, block, terms),
+        };
+        least = reach.min(least);
+    }
+    least
+}
+
+/// The reach of the greatest of the parts of an OR.
+#[cycle(reaches)]
+fn greatest_of(parts: &[Cond], block: &Block, terms: &BoxTerms) -> Reach
+    requires parts { AreValidConditions block.now (conditions (map condition_of parts.now)) }
+    requires block { IsValid block.now }
+    requires terms { AreBoxTerms block.now terms.now }
+    ensures value { span_of result.degrees
+        ≡ greatest_span (literal_span block.now terms.now.bytes.0.items) (conditions (map condition_of parts.now)) }
+    ensures bytes { byte_span_of result ≡ greatest_byte_span
+        (literal_byte_span block.now terms.now.bytes.0.items) (conditions (map condition_of parts.now)) }
+    ensures error { result.error
+        ≡ greatest_among (term_errors block.now terms.now.bytes.0.items) (conditions (map condition_of parts.now)) }
+    ensures small { IsSmall result }
+{
+    parts_are_valid();
+    let mut greatest = NOTHING;
+    for k in (0..parts.len()).rev() {
+        let part = &parts[k];
+        let reach = match literal_in(part) {
+            Some(literal) => reach_of_literal(literal, block, terms),
+            None => reach_of(part, block, terms),
+        };
+        greatest = reach.max(greatest);
+    }
+    greatest
+}
+
+/// An input that is a term, or is not.
+#[derive(Clone, Copy)]
+struct Literal {
+    input: u8,
+    term: u8,
+    negated: bool,
+}
+
+/// The literal that a condition is, which may stand behind one NOT.
+fn literal_in(cond: &Cond) -> Option<Literal>
+    ensures { IfSome result (λ l. condition_of cond.now ≡ under l.negated (is l.input l.term)) }
+{
+    match cond {
+        Cond::Is(input, term) => Some(Literal {
+            input: *input,
+            term: *term,
+            negated: false,
+        }),
+        Cond::Not(inner) => match &**inner {
+            Cond::Is(input, term) => Some(Literal {
+                input: *input,
+                term: *term,
+                negated: true,
+            }),
+            _ => None,
+        },
+        _ => None,
+    }
+}
+
+fn reach_of_literal(literal: Literal, block: &Block, terms: &BoxTerms) -> Reach
+    requires literal { IsValidCondition block.now (under literal.negated (is literal.input literal.term)) }
+    requires block { IsValid block.now }
+    requires terms { AreBoxTerms block.now terms.now }
+    ensures { IsReachOfCondition block.now terms.now.bytes.0.items
+        (under literal.negated (is literal.input literal.term)) result }
+{
+    let reach = of_literal(block, literal.input, literal.term, terms);
+    if literal.negated {
+        reach.one_minus()
+    } else {
+        reach
     }
 }
 

@@ -145,3 +145,15 @@ rest_further k first count plan e = sym (drop-drop count first plan) ∙ ap (λ 
 pub count_there : (k first count : ℕ) (plan : List Request) → count ≡ length (requests_first k (take (length plan - first) (drop first plan))) → count ≡ length (requests_first k (drop first plan))
 count_there k first count plan e =
     e ∙ ap (λ (l : List Request). length (requests_first k l)) (ap (λ (n : ℕ). take n (drop first plan)) (sym (length-drop first plan)) ∙ take-length (drop first plan))
+
+-- requests of a plan are no more than those of all of it
+few_taken : {A : Type 0} (j : ℕ) (l : List A) → length (take j l) ≤ length l
+few_taken zero l = omega arith
+few_taken (suc j) [] = omega arith
+few_taken (suc j) (x ∷ l) = let r = few_taken j l in omega (arith, r)
+
+pub few_there : (plan : List Request) (i j : ℕ) → length plan ≤ 10000 → length (take j (drop i plan)) ≤ 10000
+few_there plan i j few =
+    let taken = few_taken j (drop i plan) in
+    let left = length-drop i plan in
+    omega (arith, taken, left, few)

@@ -4,7 +4,7 @@ use Rattle.cpu12_isa.specs.Act.{write_all}
 use Rattle.cpu12_isa.specs.Memory.{plus, placed, word_of}
 use Rattle.cpu12_parts.specs.State.{State}
 use Rattle.cpu12_emul.specs.Take.{framed}
-use Rattle.run_law.specs.Forms.{Form}
+use Rattle.run_law.specs.Forms.{Form, RowSeen}
 use Rattle.interrupt_plan.specs.declared.Request.{Request}
 use Rattle.codegen.specs.declared.firmware.Firmware.{Firmware}
 use Rattle.codegen.specs.declared.layout.Layout.{Layout}
@@ -31,20 +31,59 @@ answers_at wide (suc n) at mem = answer_at wide at mem ∷ answers_at wide n (pl
 abbrev pub answers_in : Firmware → State → List ℕ
 answers_in f s = answers_at f.wide f.outputs f.layout.outputs s.mem
 
--- A run of a firmware that stands alone ends where the firmware waits with READY 0. Requests have a moment and a
--- handler.
-abbrev pub stand_alone : {A : Type 0} → ℕ → Firmware → (A → ℕ) → (A → State → State) → Form (List ℕ) A (Unit {0})
-stand_alone flags f moment handle = record {
+-- a form that serves the requests of a plan, each handler of which tells the number of its steps
+abbrev pub PlanForm : Type 0 → Type 0
+PlanForm S = Form S Request ℕ
+
+abbrev pub moment_of : Request → ℕ
+moment_of r = r.moment
+
+-- The parts of such a form, whatever the open flags are: how a sample is given, and taken away again at its end; when
+-- it ends; what it answers there; and, by the byte from which open flags are taken, what a request's handler does to a
+-- state in which no sums run, from the push of the frame up to the return, and how many steps it does.
+pub record FormParts (S : Type 0) : Type 0 where
+  pub give : S → State → State
+  pub leave : S → State → State
+  pub ends : State → Bool
+  pub answers : State → List ℕ
+  pub handle : ℕ → Request → State → State
+  pub steps : ℕ → Request → State → ℕ
+
+-- the form of these parts, where a request is due from its moment on
+abbrev pub plan_form : {S : Type 0} → ℕ → FormParts S → PlanForm S
+plan_form flags parts = record {
   flags = flags;
-  give = given f.layout;
-  leave = λ x s. s;
-  ends = λ m s. is_idle f.layout s;
-  answers = answers_in f;
-  moment = moment;
-  handle = handle;
-  tells = λ a s. tt;
+  give = parts.give;
+  leave = parts.leave;
+  ends = λ m s. parts.ends s;
+  answers = parts.answers;
+  moment = λ r. r.moment;
+  handle = parts.handle flags;
+  tells = parts.steps flags;
 }
 
--- a request is due from its moment on, and its handler does its writes
-abbrev pub with_writes : ℕ → Firmware → Form (List ℕ) Request (Unit {0})
-with_writes flags f = stand_alone flags f (λ r. r.moment) (λ r. framed r.writes)
+-- A run of a firmware that stands alone ends where the firmware waits with READY 0.
+abbrev pub stand_alone : Firmware → (ℕ → Request → State → State) → (ℕ → Request → State → ℕ) → FormParts (List ℕ)
+stand_alone f handle steps = record {
+  give = given f.layout;
+  leave = λ x s. s;
+  ends = λ s. is_idle f.layout s;
+  answers = answers_in f;
+  handle = handle;
+  steps = steps;
+}
+
+-- a handler does its request's writes, in no step of the machine
+abbrev pub listed_writes : Firmware → FormParts (List ℕ)
+listed_writes f = stand_alone f (λ flags r. framed r.writes) (λ flags r s. 0)
+
+abbrev pub with_writes : ℕ → Firmware → PlanForm (List ℕ)
+with_writes flags f = plan_form flags (listed_writes f)
+
+-- What a run in Rust is of, whose rows are of type R: the samples; the form's parts; what a row is to show of the run
+-- of its sample and of the steps of all its handlers; and what a row shows.
+pub record Harness (R S T : Type 0) : Type 0 where
+  pub samples : List S
+  pub parts : FormParts S
+  pub shows : RowSeen S → ℕ → T
+  pub seen : R → T

@@ -9,4 +9,7 @@ pub mod Facts
 pub mod Following
 pub mod SoundAlone
 pub mod Answering
+pub mod Showing
 pub mod Arrival
+pub mod Instructions
+pub mod Given

@@ -20,7 +20,7 @@ impl SoundForm for StandAlone {
 
     ghost Request = { plan.Request };
 
-    ghost Told = { Unit {0} };
+    ghost Told = { ℕ };
 
     ghost form = { λ x. with_writes x.flags x.firmware };
 

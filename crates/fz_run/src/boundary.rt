@@ -1,14 +1,15 @@
 // A boundary of a sample: what is taken there, and the step after it. What is done at each is inlined into the loop
 // over all of them, what is seldom done is not.
-ghost use Rattle.std.specs.Prelude.{ℕ, ◌≡◌, ◌≤◌, ◌<◌, ◌+◌, ◌-◌, ◌^◌, true, false, length, vec_len, vec_capacity, List};
-ghost use Rattle.interrupt_plan.specs.declared.Request.{Request as Asked};
-ghost use Rattle.fz_run.specs.Forms.{stand_alone};
-ghost use Rattle.fz_run.specs.Sessions.{PlanForm, before_takes, after_takes, after_state, at_end, IsSteady};
+ghost use Rattle.std.specs.Prelude.{ℕ, ◌≡◌, ◌≤◌, ◌<◌, ◌+◌, ◌-◌, ◌*◌};
+ghost use Rattle.std.specs.Prelude.{◌^◌, true, false, Ok, Err, length, vec_len, vec_capacity};
+ghost use Rattle.cpu12_emul.specs.declared.ends.Stepped.{Stepped as Kind};
+ghost use Rattle.cpu12_emul.specs.Step.{next_of};
+ghost use Rattle.run_law.specs.Forms.{is_part};
+ghost use Rattle.fz_run.specs.Forms.{plan_form};
+ghost use Rattle.fz_run.specs.Sessions.{before_takes, after_takes, after_state, at_end, stepped_tally, IsSteady};
 
-use crate::handler::Handler;
-use crate::ports::is_idle;
+use crate::form::RunForm;
 use crate::sample::{Tally, both, count, is_part, less, one_if, take_due};
-use codegen::Firmware;
 use cpu12_emul::machine::Machine;
 use cpu12_isa::mem::Mem;
 use interrupt_plan::Request;
@@ -27,10 +28,9 @@ pub struct Stand {
 /// Comes to a boundary: the sample is over where the firmware waits or no step is left, else what is
 /// due is taken.
 #[inline(always)]
-pub(crate) fn come<M: Mem, H: Handler<Request>>(
+pub(crate) fn come<M: Mem, R, F: RunForm<R>>(
     m: &mut Machine<M>,
-    h: &H,
-    firmware: &Firmware,
+    form: &F,
     requests: &[Request],
     st: &mut Stand,
 )
@@ -38,20 +38,20 @@ pub(crate) fn come<M: Mem, H: Handler<Request>>(
     requires room { vec_len st.old.tally.frames + (length requests.now - st.old.tally.next)
         ≤ vec_capacity st.old.tally.frames }
     requires counts { (st.old.tally.instrs ≤ st.old.tally.moment) × (st.old.tally.resumed ≤ st.old.tally.moment) }
+    requires handler { (length requests.now ≤ 10000) × (st.old.tally.handler ≤ 65535 * st.old.tally.next) }
     requires sum { st.old.tally.moment + st.old.left < 2 ^ 32 }
-    ensures coming { after_takes (stand_alone m.old.flags firmware.now (H.moment h.now)
-        (H.take h.now)) requests.now st.new m.new.state
-        ≡ before_takes (stand_alone m.old.flags firmware.now (H.moment h.now)
-        (H.take h.now)) requests.now st.old m.old.state }
+    ensures coming { after_takes (plan_form m.old.flags (F.harness form.now).parts) requests.now st.new m.new.state
+        ≡ before_takes (plan_form m.old.flags (F.harness form.now).parts) requests.now st.old m.old.state }
     ensures moment { st.new.tally.moment ≡ st.old.tally.moment }
     ensures room { vec_len st.new.tally.frames + (length requests.now - st.new.tally.next)
         ≤ vec_capacity st.new.tally.frames }
     ensures counts { (st.new.tally.instrs ≤ st.new.tally.moment) × (st.new.tally.resumed ≤ st.new.tally.moment + 1) }
+    ensures handler { st.new.tally.handler ≤ 65535 * st.new.tally.next }
     ensures on { st.new.over ≡ false → (st.new.tally.arrived ≡ false)
         × (st.new.tally.moment + st.new.left + 1 < 2 ^ 32) }
     ensures flags { m.new.flags ≡ m.old.flags }
 {
-    if is_idle(&firmware.layout, m) {
+    if form.ends(m) {
         st.tally.arrived = true;
         st.over = true;
         return;
@@ -61,7 +61,7 @@ pub(crate) fn come<M: Mem, H: Handler<Request>>(
         return;
     }
     let before = count(&st.tally.frames);
-    take_due(m, h, firmware, requests, &mut st.tally);
+    take_due(m, form, requests, &mut st.tally);
     let taken = less(before, count(&st.tally.frames));
     st.tally.resumed += one_if(both(st.tally.inside, taken));
     st.left -= 1;
@@ -72,10 +72,10 @@ pub(crate) fn come<M: Mem, H: Handler<Request>>(
 pub(crate) fn step_on<M: Mem>(m: &mut Machine<M>, st: &mut Stand) -> bool
     requires on { st.old.over ≡ false }
     requires counts { (st.old.tally.instrs ≤ st.old.tally.moment) × (st.old.tally.moment + 1 < 2 ^ 32) }
-    ensures goes { result ≡ true → (g : PlanForm) (qs : List Asked) → g.flags ≡ m.old.flags
-        → after_takes g qs st.old m.old.state ≡ after_state m.old.state (before_takes g qs st.new m.new.state) }
-    ensures stuck { result ≡ false → (g : PlanForm) (qs : List Asked) → g.flags ≡ m.old.flags
-        → after_takes g qs st.old m.old.state ≡ at_end st.old.tally m.old.state }
+    ensures goes { result ≡ true → (kind : Kind) × (next_of m.old.flags m.old.state
+        ≡ Ok (record { state = m.new.state; kind = kind }))
+        × (st.new ≡ record st.old { tally = stepped_tally st.old.tally (is_part kind) }) }
+    ensures stuck { result ≡ false → (byte : ℕ) × (next_of m.old.flags m.old.state ≡ Err byte) }
     ensures same { result ≡ false → (st.new ≡ st.old) × (m.new ≡ m.old) }
     ensures rest { result ≡ true
         → st.new
@@ -102,20 +102,20 @@ pub(crate) fn step_on<M: Mem>(m: &mut Machine<M>, st: &mut Stand) -> bool
 
 /// Goes on to the next boundary of the sample. Answers whether there is one.
 #[inline(always)]
-pub(crate) fn pass<M: Mem, H: Handler<Request>>(
+pub(crate) fn pass<M: Mem, R, F: RunForm<R>>(
     m: &mut Machine<M>,
-    h: &H,
-    firmware: &Firmware,
+    form: &F,
     requests: &[Request],
     st: &mut Stand,
 ) -> bool
     requires steady { IsSteady requests.now st.old }
-    ensures goes { result ≡ true → after_takes (stand_alone m.old.flags firmware.now (H.moment h.now)
-        (H.take h.now)) requests.now st.old m.old.state
-        ≡ after_state m.old.state (after_takes (stand_alone m.old.flags firmware.now (H.moment h.now)
-        (H.take h.now)) requests.now st.new m.new.state) }
-    ensures ends { result ≡ false → after_takes (stand_alone m.old.flags firmware.now (H.moment h.now)
-        (H.take h.now)) requests.now st.old m.old.state ≡ at_end st.old.tally m.old.state }
+    ensures goes { result ≡ true
+        → after_takes (plan_form m.old.flags (F.harness form.now).parts) requests.now st.old m.old.state
+        ≡ after_state m.old.state
+        (after_takes (plan_form m.old.flags (F.harness form.now).parts) requests.now st.new m.new.state) }
+    ensures ends { result ≡ false
+        → after_takes (plan_form m.old.flags (F.harness form.now).parts) requests.now st.old m.old.state
+        ≡ at_end st.old.tally m.old.state }
     ensures same { result ≡ false → (st.new ≡ st.old) × (m.new ≡ m.old) }
     ensures moment { result ≡ true → st.new.tally.moment ≡ st.old.tally.moment + 1 }
     ensures steady { IsSteady requests.now st.new }
@@ -127,6 +127,6 @@ pub(crate) fn pass<M: Mem, H: Handler<Request>>(
     if !step_on(m, st) {
         return false;
     }
-    come(m, h, firmware, requests, st);
+    come(m, form, requests, st);
     true
 }

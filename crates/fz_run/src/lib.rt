@@ -9,18 +9,24 @@
 //! interrupts, for every firmware, every list of samples and every good plan: a run that meets a
 //! byte that is no instruction, or that spends its bound on steps, ends where it stands. All memory
 //! is taken before the first step. [`run_on`] is a [`Session`] driven to its end: a run that stops at
-//! each boundary. What an interrupt does is its [`handler::Handler`].
+//! each boundary.
+//!
+//! Both are runs of one form of firmware, [`form::WithWrites`]. [`run_form`] runs any other
+//! [`form::RunForm`] by the same loop: its samples, its handler and its rows are its own.
 #![tactic(auto)]
 
 pub mod alone;
 mod boundary;
-pub mod handler;
+pub mod form;
 pub mod laws;
-mod ports;
+pub mod ports;
 mod progress;
 mod rows;
+mod runs;
 mod sample;
 mod session;
 
-pub use rows::{Row, run, run_on};
+pub use rows::{Row, row_of, run, run_on};
+pub use runs::{Start, run_form};
+pub use sample::Tally;
 pub use session::Session;

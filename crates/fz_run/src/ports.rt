@@ -1,5 +1,5 @@
-// How a firmware is given samples, and where its answers are read.
-ghost use Rattle.std.specs.Prelude.{ℕ, ◌≡◌, ◌≤◌, List};
+//! How a firmware is given samples, and where its answers are read.
+ghost use Rattle.std.specs.Prelude.{ℕ, ◌≡◌, ◌≤◌, List, length};
 ghost use Rattle.arrayvec.specs.ArrayVec.{array_vec_len};
 ghost use Rattle.codegen.specs.Interruptible.{is_idle};
 ghost use Rattle.fz_run.specs.Forms.{given, answer_size, answer_at, answers_in};
@@ -10,14 +10,14 @@ use cpu12_emul::machine::Machine;
 use cpu12_isa::mem::{Mem, word_of};
 
 /// Whether the firmware waits for a sample: PC is where it waits, and READY is 0.
-pub(crate) fn is_idle<M: Mem>(layout: &Layout, m: &Machine<M>) -> bool
+pub fn is_idle<M: Mem>(layout: &Layout, m: &Machine<M>) -> bool
     ensures { result ≡ is_idle layout.now m.now.state }
 {
     m.regs().pc == layout.wait && m.peek(layout.ready) == 0
 }
 
 /// Gives a sample: writes its bytes from the first input on, and 1 to READY.
-pub(crate) fn give<M: Mem>(layout: &Layout, m: &mut Machine<M>, bytes: &[u8])
+pub fn give<M: Mem>(layout: &Layout, m: &mut Machine<M>, bytes: &[u8])
     ensures state { m.new.state ≡ given layout.now bytes.now m.old.state }
     ensures flags { m.new.flags ≡ m.old.flags }
 {
@@ -48,8 +48,8 @@ fn answer_at<M: Mem>(m: &Machine<M>, wide: bool, at: u16) -> u16
     }
 }
 
-/// The answers, in the order of the outputs.
-pub(crate) fn answers<M: Mem>(firmware: &Firmware, m: &Machine<M>) -> ArrayVec<u16, 4>
+/// The answers, in the order of the outputs, of which there are at most four.
+pub fn answers<M: Mem>(firmware: &Firmware, m: &Machine<M>) -> ArrayVec<u16, 4>
     requires { firmware.now.outputs ≤ 4 }
     ensures { result.items ≡ answers_in firmware.now m.now.state }
 {
@@ -62,4 +62,14 @@ pub(crate) fn answers<M: Mem>(firmware: &Firmware, m: &Machine<M>) -> ArrayVec<u
         left -= 1;
     }
     answers
+}
+
+/// A copy of at most eight bytes.
+pub fn copy_of(bytes: &[u8]) -> ArrayVec<u8, 8>
+    requires { length bytes.now ≤ 8 }
+    ensures { result.items ≡ bytes.now }
+{
+    let mut copy = ArrayVec::new();
+    copy.try_extend_from_slice(bytes).unwrap();
+    copy
 }

@@ -1,48 +1,44 @@
 // A run under way, sample after sample.
-ghost use Rattle.std.specs.Prelude.{ℕ, ◌≡◌, ◌≤◌, ◌<◌, ◌+◌, ◌-◌, ◌^◌, List, [], true, false, length, map, drop, vec_len, vec_capacity};
+ghost use Rattle.std.specs.Prelude.{ℕ, ◌≡◌, ◌≤◌, ◌<◌, ◌+◌, ◌-◌, ◌^◌, List};
+ghost use Rattle.std.specs.Prelude.{[], true, false, length, map, drop, vec_len, vec_capacity};
 ghost use Rattle.cpu12_parts.specs.State.{State};
-ghost use Rattle.run_law.specs.Forms.{rows_from};
 ghost use Rattle.interrupt_plan.specs.Plans.{IsGood};
-ghost use Rattle.fz_run.specs.Forms.{with_writes};
-ghost use Rattle.fz_run.specs.Rest.{counted_at};
-ghost use Rattle.fz_run.specs.Rows.{row_seen, requests_of, input_bytes};
+ghost use Rattle.fz_run.specs.Forms.{plan_form};
+ghost use Rattle.fz_run.specs.Rest.{counted_at, shown_by};
+ghost use Rattle.fz_run.specs.Rows.{harness_rows};
 ghost use Rattle.fz_run.specs.Slices.{HaveRoom};
-ghost use Rattle.fz_run.specs.Outlooks.{ahead, at_position, from_here, of_run, outlook_at, rows_here, row_by, with_row, IsUnderWay};
+ghost use Rattle.fz_run.specs.Outlooks.{ahead, at_position, from_here, left_by, outlook_at};
+ghost use Rattle.fz_run.specs.Outlooks.{rows_here, sample_at, shown_run, state_here, with_row, IsUnderWay};
 
 use crate::boundary::{Stand, come, pass};
-use crate::handler::ListedWrites;
-use crate::ports::{answers, give};
-use crate::rows::{Row, copy_of, count_of};
+use crate::form::RunForm;
+use crate::runs::count_of;
 use crate::sample::Tally;
-use arrayvec::ArrayVec;
-use codegen::Firmware;
 use cpu12_emul::ends::Frame;
 use cpu12_emul::machine::Machine;
 use cpu12_isa::mem::Mem;
-use fz_list::List;
 use interrupt_plan::Request;
 use std::alloc::Global;
 use std::collections::VecDeque;
 use std::mem;
-use trace_io::Sample;
 
 /// What a run under way has done, and the room that is left.
 #[derive(Drop)]
-pub struct Progress {
+pub struct Progress<R> {
     /// Where the run of the last sample that was given stands.
     pub stand: Stand,
+    /// How many steps a sample may take at most.
+    pub most: u32,
     /// How many samples were given.
     pub number: usize,
-    /// The bytes of the last of them.
-    pub bytes: ArrayVec<u8, 8>,
-    /// Where its requests begin in the plan.
+    /// Where the requests of the last of them begin in the plan.
     pub first: usize,
     /// Where those of the next begin.
     pub behind: usize,
     /// Room for the frames of each sample that is left.
     pub rooms: VecDeque<Vec<(u32, Frame)>>,
     /// The rows of the samples before.
-    pub rows: Vec<Row>,
+    pub rows: Vec<R>,
 }
 
 /// Before the first boundary of a sample that may take `budget` steps.
@@ -54,6 +50,7 @@ fn fresh_stand(budget: u32, frames: Vec<(u32, Frame)>) -> Stand
       next = 0;
       instrs = 0;
       resumed = 0;
+      handler = 0;
       frames = frames;
     } }
     ensures left { result.left ≡ budget }
@@ -67,6 +64,7 @@ fn fresh_stand(budget: u32, frames: Vec<(u32, Frame)>) -> Stand
         next: 0,
         instrs: 0,
         resumed: 0,
+        handler: 0,
         frames,
     };
     Stand {
@@ -76,141 +74,124 @@ fn fresh_stand(budget: u32, frames: Vec<(u32, Frame)>) -> Stand
     }
 }
 
-/// The row of sample `number`, which ends here, behind those before. There is none of number 0.
-fn put_row<M: Mem>(
-    m: &Machine<M>,
-    firmware: &Firmware,
+/// Takes sample `number` away, which ends here, and puts its row behind those before. There is none of
+/// number 0.
+fn end_sample<M: Mem, R, F: RunForm<R>>(
+    m: &mut Machine<M>,
+    form: &F,
     number: usize,
-    bytes: &ArrayVec<u8, 8>,
     tally: Tally,
-    rows: &mut Vec<Row>,
+    rows: &mut Vec<R>,
 )
-    requires outputs { firmware.now.outputs ≤ 4 }
+    requires number { number ≤ length (F.harness form.now).samples }
     requires len { vec_len rows.old ≡ number - 1 }
     requires room { number ≤ vec_capacity rows.old }
-    ensures rows { (flags : ℕ)
-        → map row_seen rows.new.items
-        ≡ with_row number (map row_seen rows.old.items)
-        (row_by (with_writes flags firmware.now) bytes.now.items (counted_at tally m.now.state)) }
+    ensures rows { map (F.harness form.now).seen rows.new.items
+        ≡ with_row (map (F.harness form.now).seen rows.old.items)
+        (shown_by (F.harness form.now).shows (F.harness form.now).parts.answers (counted_at tally m.old.state))
+        (sample_at number (F.harness form.now).samples) }
+    ensures state { m.new.state ≡ left_by (F.harness form.now).parts.leave
+        (sample_at number (F.harness form.now).samples) m.old.state }
     ensures len { vec_len rows.new ≡ number }
     ensures room { vec_capacity rows.old ≤ vec_capacity rows.new }
+    ensures flags { m.new.flags ≡ m.old.flags }
 {
     if number == 0 {
         return;
     }
-    let row = Row {
-        bytes: copy_of(bytes.as_slice()),
-        answers: answers(firmware, m),
-        instrs: tally.instrs,
-        steps: tally.moment,
-        resumed: tally.resumed,
-        frames: List::new(tally.frames),
-    };
+    let row = form.row(m, number - 1, tally);
     rows.push(row).unwrap();
+    form.leave(m, number - 1);
 }
 
 /// Gives the next sample, and comes to its first boundary.
 #[inline(never)]
-fn give_next<M: Mem>(
+fn give_next<M: Mem, R, F: RunForm<R>>(
     m: &mut Machine<M>,
-    firmware: &Firmware,
-    samples: &[Sample],
+    form: &F,
     plan: &[Request],
-    p: &mut Progress,
+    p: &mut Progress<R>,
 )
-    requires way { IsUnderWay firmware.now samples.now plan.now p.old }
-    requires left { p.old.number < length samples.now }
-    ensures outlook { from_here (outlook_at m.old.flags firmware.now samples.now plan.now p.new m.new.state)
-        ≡ ahead (with_writes m.old.flags firmware.now) firmware.now.step_bound (p.old.number + 1)
-        (drop p.old.behind plan.now) (map input_bytes (drop p.old.number samples.now))
-        (rows_here m.old.flags firmware.now p.old m.old.state) m.old.state }
-    ensures way { IsUnderWay firmware.now samples.now plan.now p.new }
+    requires way { IsUnderWay (F.harness form.now) plan.now p.old }
+    requires left { p.old.number < length (F.harness form.now).samples }
+    ensures outlook { from_here (outlook_at m.old.flags (F.harness form.now) plan.now p.new m.new.state)
+        ≡ ahead (plan_form m.old.flags (F.harness form.now).parts) (F.harness form.now).shows p.old.most
+        (p.old.number + 1) (drop p.old.behind plan.now) (drop p.old.number (F.harness form.now).samples)
+        (rows_here (F.harness form.now) p.old m.old.state) (state_here (F.harness form.now) p.old m.old.state) }
+    ensures way { IsUnderWay (F.harness form.now) plan.now p.new }
     ensures flags { m.new.flags ≡ m.old.flags }
 {
     let Some(room) = p.rooms.pop_front() else {
         unreachable!()
     };
-    let stand = mem::replace(&mut p.stand, fresh_stand(firmware.step_bound, room));
-    put_row(m, firmware, p.number, &p.bytes, stand.tally, &mut p.rows);
-    p.bytes = copy_of(samples[p.number].bytes.as_slice());
+    let stand = mem::replace(&mut p.stand, fresh_stand(p.most, room));
+    end_sample(m, form, p.number, stand.tally, &mut p.rows);
+    form.give(m, p.number);
     p.number += 1;
     p.first = p.behind;
     p.behind += count_of(&plan[p.first..], p.number);
-    give(&firmware.layout, m, p.bytes.as_slice());
-    come(
-        m,
-        &ListedWrites,
-        firmware,
-        &plan[p.first..p.behind],
-        &mut p.stand,
-    );
+    come(m, form, &plan[p.first..p.behind], &mut p.stand);
 }
 
 /// Goes on to the next position of the run. Answers whether there is one.
 #[inline(always)]
-pub(crate) fn advance<M: Mem>(
+pub(crate) fn advance<M: Mem, R, F: RunForm<R>>(
     m: &mut Machine<M>,
-    firmware: &Firmware,
-    samples: &[Sample],
+    form: &F,
     plan: &[Request],
-    p: &mut Progress,
+    p: &mut Progress<R>,
 ) -> bool
-    requires way { IsUnderWay firmware.now samples.now plan.now p.old }
-    ensures goes { result ≡ true → outlook_at m.old.flags firmware.now samples.now plan.now p.old m.old.state
+    requires way { IsUnderWay (F.harness form.now) plan.now p.old }
+    ensures goes { result ≡ true → outlook_at m.old.flags (F.harness form.now) plan.now p.old m.old.state
         ≡ at_position (record { sample = p.old.number; moment = p.old.stand.tally.moment; state = m.old.state })
-        (from_here (outlook_at m.old.flags firmware.now samples.now plan.now p.new m.new.state)) }
-    ensures ends { result ≡ false → outlook_at m.old.flags firmware.now samples.now plan.now p.old m.old.state
+        (from_here (outlook_at m.old.flags (F.harness form.now) plan.now p.new m.new.state)) }
+    ensures ends { result ≡ false → outlook_at m.old.flags (F.harness form.now) plan.now p.old m.old.state
         ≡ record {
           here = record { sample = p.old.number; moment = p.old.stand.tally.moment; state = m.old.state };
           later = [];
-          rows = rows_here m.old.flags firmware.now p.old m.old.state;
-          state = m.old.state;
+          rows = rows_here (F.harness form.now) p.old m.old.state;
+          state = state_here (F.harness form.now) p.old m.old.state;
         } }
     ensures same { result ≡ false → (p.new ≡ p.old) × (m.new ≡ m.old) }
-    ensures way { IsUnderWay firmware.now samples.now plan.now p.new }
+    ensures way { IsUnderWay (F.harness form.now) plan.now p.new }
     ensures flags { m.new.flags ≡ m.old.flags }
 {
-    if pass(
-        m,
-        &ListedWrites,
-        firmware,
-        &plan[p.first..p.behind],
-        &mut p.stand,
-    ) {
+    if pass(m, form, &plan[p.first..p.behind], &mut p.stand) {
         return true;
     }
-    if p.number == samples.len() {
+    if p.number == form.count() {
         return false;
     }
-    give_next(m, firmware, samples, plan, p);
+    give_next(m, form, plan, p);
     true
 }
 
-/// Before the first sample.
-pub(crate) fn before_samples(
+/// Before the first sample of a run each of whose samples may take `most` steps.
+pub(crate) fn before_samples<R, F: RunForm<R>>(
     alloc: Global,
-    firmware: &Firmware,
-    samples: &[Sample],
+    form: &F,
+    most: u32,
     plan: &[Request],
     rooms: VecDeque<Vec<(u32, Frame)>>,
-    rows: Vec<Row>,
-) -> Progress
-    requires outputs { firmware.now.outputs ≤ 4 }
+    rows: Vec<R>,
+) -> Progress<R>
     requires plan { IsGood plan.now }
-    requires rooms { HaveRoom 1 (length samples.now) plan.now rooms.items }
+    requires rooms { HaveRoom 1 (length (F.harness form.now).samples) plan.now rooms.items }
     requires none { rows.items ≡ [] }
-    requires room { length samples.now ≤ vec_capacity rows }
-    ensures outlook { (flags : ℕ) (s : State) → outlook_at flags firmware.now samples.now plan.now result s
+    requires room { length (F.harness form.now).samples ≤ vec_capacity rows }
+    ensures outlook { (flags : ℕ) (s : State) → outlook_at flags (F.harness form.now) plan.now result s
         ≡ at_position (record { sample = 0; moment = 0; state = s })
-        (ahead (with_writes flags firmware.now) firmware.now.step_bound 1 plan.now (map input_bytes samples.now) [] s) }
-    ensures way { IsUnderWay firmware.now samples.now plan.now result }
+        (ahead (plan_form flags (F.harness form.now).parts) (F.harness form.now).shows most 1 plan.now
+        (F.harness form.now).samples [] s) }
+    ensures most { result.most ≡ most }
+    ensures way { IsUnderWay (F.harness form.now) plan.now result }
 {
     let mut stand = fresh_stand(0, Vec::new(alloc));
     stand.over = true;
     Progress {
         stand,
+        most,
         number: 0,
-        bytes: ArrayVec::new(),
         first: 0,
         behind: 0,
         rooms,
@@ -219,59 +200,64 @@ pub(crate) fn before_samples(
 }
 
 /// Comes to the first position of a run, from before the first sample.
-pub(crate) fn begin<M: Mem>(
+pub(crate) fn begin<M: Mem, R, F: RunForm<R>>(
     m: &mut Machine<M>,
-    firmware: &Firmware,
-    samples: &[Sample],
+    form: &F,
     plan: &[Request],
-    p: &mut Progress,
+    p: &mut Progress<R>,
 )
-    requires way { IsUnderWay firmware.now samples.now plan.now p.old }
-    requires before { outlook_at m.old.flags firmware.now samples.now plan.now p.old m.old.state
+    requires way { IsUnderWay (F.harness form.now) plan.now p.old }
+    requires before { outlook_at m.old.flags (F.harness form.now) plan.now p.old m.old.state
         ≡ at_position (record { sample = 0; moment = 0; state = m.old.state })
-        (ahead (with_writes m.old.flags firmware.now) firmware.now.step_bound 1 plan.now (map input_bytes samples.now) [] m.old.state) }
-    ensures first { from_here (outlook_at m.old.flags firmware.now samples.now plan.now p.new m.new.state)
-        ≡ of_run m.old.state (rows_from (with_writes m.old.flags firmware.now) firmware.now.step_bound
-        (λ k. requests_of k plan.now) 1 (map input_bytes samples.now) m.old.state) }
-    ensures way { IsUnderWay firmware.now samples.now plan.now p.new }
+        (ahead (plan_form m.old.flags (F.harness form.now).parts) (F.harness form.now).shows p.old.most 1 plan.now
+        (F.harness form.now).samples [] m.old.state) }
+    ensures first { from_here (outlook_at m.old.flags (F.harness form.now) plan.now p.new m.new.state)
+        ≡ shown_run (F.harness form.now).shows m.old.state
+        (harness_rows m.old.flags (F.harness form.now) p.old.most plan.now m.old.state) }
+    ensures way { IsUnderWay (F.harness form.now) plan.now p.new }
     ensures flags { m.new.flags ≡ m.old.flags }
 {
-    advance(m, firmware, samples, plan, p);
+    advance(m, form, plan, p);
 }
 
 /// Goes on to the last position.
-pub(crate) fn drive<M: Mem>(
+pub(crate) fn drive<M: Mem, R, F: RunForm<R>>(
     m: &mut Machine<M>,
-    firmware: &Firmware,
-    samples: &[Sample],
+    form: &F,
     plan: &[Request],
-    p: &mut Progress,
+    p: &mut Progress<R>,
 )
-    requires way { IsUnderWay firmware.now samples.now plan.now p.old }
-    ensures rows { rows_here m.old.flags firmware.now p.new m.new.state
-        ≡ (outlook_at m.old.flags firmware.now samples.now plan.now p.old m.old.state).rows }
-    ensures state { m.new.state ≡ (outlook_at m.old.flags firmware.now samples.now plan.now p.old m.old.state).state }
-    ensures way { IsUnderWay firmware.now samples.now plan.now p.new }
+    requires way { IsUnderWay (F.harness form.now) plan.now p.old }
+    ensures rows { rows_here (F.harness form.now) p.new m.new.state
+        ≡ (outlook_at m.old.flags (F.harness form.now) plan.now p.old m.old.state).rows }
+    ensures state { state_here (F.harness form.now) p.new m.new.state
+        ≡ (outlook_at m.old.flags (F.harness form.now) plan.now p.old m.old.state).state }
+    ensures way { IsUnderWay (F.harness form.now) plan.now p.new }
 {
-    while advance(m, firmware, samples, plan, p) {}
+    while advance(m, form, plan, p) {}
 }
 
-/// All rows of a run whose last sample ends here.
-pub(crate) fn into_rows<M: Mem>(m: &Machine<M>, firmware: &Firmware, p: Progress) -> Vec<Row>
-    requires outputs { firmware.now.outputs ≤ 4 }
+/// All rows of a run whose last sample ends here, and is taken away.
+pub(crate) fn into_rows<M: Mem, R, F: RunForm<R>>(
+    m: &mut Machine<M>,
+    form: &F,
+    p: Progress<R>,
+) -> Vec<R>
+    requires number { p.number ≤ length (F.harness form.now).samples }
     requires len { vec_len p.rows ≡ p.number - 1 }
     requires room { p.number ≤ vec_capacity p.rows }
-    ensures rows { (flags : ℕ) → map row_seen result.items ≡ rows_here flags firmware.now p m.now.state }
+    ensures rows { map (F.harness form.now).seen result.items ≡ rows_here (F.harness form.now) p m.old.state }
+    ensures state { m.new.state ≡ state_here (F.harness form.now) p m.old.state }
 {
     let Progress {
         stand,
+        most: _,
         number,
-        bytes,
         first: _,
         behind: _,
         rooms: _,
         mut rows,
     } = p;
-    put_row(m, firmware, number, &bytes, stand.tally, &mut rows);
+    end_sample(m, form, number, stand.tally, &mut rows);
     rows
 }

@@ -1,22 +1,21 @@
-//! A list of samples under a plan.
-ghost use Rattle.std.specs.Prelude.{ℕ, ◌≡◌, ◌≤◌, ◌+◌, length, map, IfOk};
+//! The rows of a firmware that stands alone, over a list of samples under a plan.
+ghost use Rattle.std.specs.Prelude.{ℕ, ◌≡◌, ◌≤◌, length, map, IfOk};
 ghost use Rattle.interrupt_plan.specs.Plans.{IsGood};
-ghost use Rattle.fz_run.specs.Rows.{row_seen, arrival, input_bytes, firmware_rows};
-ghost use Rattle.fz_run.specs.Slices.{HaveRoom, requests_first};
+ghost use Rattle.fz_run.specs.Rows.{row_seen, frames_seen, input_bytes, firmware_rows};
 ghost use Rattle.fz_run.specs.Answering.{AnswersItsBlock};
 
 use crate::laws::answers_under_plans;
+use crate::ports::copy_of;
+use crate::sample::Tally;
 use crate::session::Session;
 use arrayvec::ArrayVec;
 use codegen::Firmware;
 use cpu12_emul::ends::Frame;
-use cpu12_emul::machine::Machine;
 use cpu12_isa::mem::Mem;
 use cpu12_isa::pages::PageMem;
 use fz_list::{List, Memory};
-use interrupt_plan::{Plan, Request};
+use interrupt_plan::Plan;
 use std::alloc::Global;
-use std::collections::VecDeque;
 use trace_io::Sample;
 
 /// What a sample's run gave.
@@ -36,6 +35,28 @@ pub struct Row {
     pub resumed: u32,
     /// What each interrupt pushed, with its boundary: how many steps of the sample were done.
     pub frames: List<(u32, Frame)>,
+}
+
+/// The row of a sample of at most eight bytes, of which this was counted.
+pub fn row_of(bytes: &[u8], answers: ArrayVec<u16, 4>, tally: Tally) -> Row
+    requires { length bytes.now ≤ 8 }
+    ensures { row_seen result ≡ record {
+      sample = bytes.now;
+      answers = answers.items;
+      instrs = tally.instrs;
+      steps = tally.moment;
+      resumed = tally.resumed;
+      frames = frames_seen tally.frames.items;
+    } }
+{
+    Row {
+        bytes: copy_of(bytes),
+        answers,
+        instrs: tally.instrs,
+        steps: tally.moment,
+        resumed: tally.resumed,
+        frames: List::new(tally.frames),
+    }
 }
 
 /// Runs a firmware over a trace under a plan, and answers a row for each sample and the memory of
@@ -80,73 +101,4 @@ pub fn run(
 {
     let (rows, _memory): (Vec<Row>, PageMem) = run_on(alloc, firmware, samples, plan, flags)?;
     Ok(rows)
-}
-
-/// Does steps until PC is at LOOP, at most `budget` and as long as one is defined.
-pub(crate) fn arrive<M: Mem>(m: &mut Machine<M>, loop_at: u16, budget: u32)
-    ensures state { m.new.state ≡ arrival m.old.flags loop_at budget m.old.state }
-    ensures flags { m.new.flags ≡ m.old.flags }
-{
-    let mut left = budget;
-    while left > 0 {
-        if m.regs().pc == loop_at {
-            return;
-        }
-        match m.step() {
-            Ok(_) => left -= 1,
-            Err(_) => return,
-        }
-    }
-}
-
-/// How many of these requests, from the first on, are of sample `k`.
-pub(crate) fn count_of(requests: &[Request], k: usize) -> usize
-    ensures { result ≡ length (requests_first k requests.now) }
-{
-    let mut count = 0;
-    for request in requests {
-        if request.sample as usize != k {
-            return count;
-        }
-        count += 1;
-    }
-    count
-}
-
-/// Room for the frames of each sample.
-pub(crate) fn make_rooms(
-    alloc: Global,
-    samples: usize,
-    plan: &[Request],
-) -> Result<VecDeque<Vec<(u32, Frame)>>, Memory>
-    requires { IsGood plan.now }
-    ensures { IfOk result (λ rooms. HaveRoom 1 samples plan.now rooms.items) }
-{
-    let Ok(mut rooms) = VecDeque::with_capacity(alloc, samples) else {
-        return Err(Memory);
-    };
-    let mut next = 0;
-    let mut first = 0;
-    while next < samples {
-        next += 1;
-        let count = count_of(&plan[first..], next);
-        let Ok(room) = Vec::with_capacity(alloc, count) else {
-            return Err(Memory);
-        };
-        match rooms.push_back(room) {
-            Ok(()) => {}
-            Err(_) => return Err(Memory),
-        }
-        first += count;
-    }
-    Ok(rooms)
-}
-
-pub(crate) fn copy_of(bytes: &[u8]) -> ArrayVec<u8, 8>
-    requires { length bytes.now ≤ 8 }
-    ensures { result.items ≡ bytes.now }
-{
-    let mut copy = ArrayVec::new();
-    copy.try_extend_from_slice(bytes).unwrap();
-    copy
 }

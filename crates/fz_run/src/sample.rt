@@ -1,15 +1,16 @@
 // What is taken at a boundary, and what is counted.
-ghost use Rattle.std.specs.Prelude.{◌≡◌, ◌≤◌, ◌<◌, ◌+◌, ◌-◌, ◌&&◌, true, length, vec_len, vec_capacity, drop, nat_lt};
+ghost use Rattle.std.specs.Prelude.{◌≡◌, ◌≤◌, ◌<◌, ◌+◌, ◌-◌, ◌*◌};
+ghost use Rattle.std.specs.Prelude.{◌&&◌, true, length, vec_len, vec_capacity, drop, nat_lt};
 ghost use Rattle.run_law.specs.Forms.{takes, is_part, one_if};
-ghost use Rattle.fz_run.specs.Forms.{stand_alone};
+ghost use Rattle.fz_run.specs.Forms.{moment_of, plan_form};
 ghost use Rattle.fz_run.specs.Rows.{frames_seen};
-ghost use Rattle.fz_run.specs.Rest.{is_due, with_frames};
+ghost use Rattle.fz_run.specs.Rest.{is_due, with_before};
 
-use crate::handler::Handler;
-use codegen::Firmware;
+use crate::form::RunForm;
 use cpu12_emul::ends::{Frame, Stepped};
 use cpu12_emul::machine::Machine;
 use cpu12_isa::mem::Mem;
+use interrupt_plan::Request;
 
 /// What was counted of a sample's run.
 #[derive(Drop)]
@@ -26,6 +27,8 @@ pub struct Tally {
     pub instrs: u32,
     /// At how many boundaries inside an instruction an interrupt was taken.
     pub resumed: u32,
+    /// How many steps the handlers of the requests did.
+    pub handler: u32,
     /// What each interrupt pushed, with its boundary.
     pub frames: Vec<(u32, Frame)>,
 }
@@ -67,12 +70,12 @@ pub(crate) fn count(frames: &Vec<(u32, Frame)>) -> usize
 
 /// Whether the next request is due, and may be taken.
 #[inline(always)]
-fn is_due<M: Mem, R, H: Handler<R>>(m: &Machine<M>, h: &H, requests: &[R], t: &Tally) -> bool
-    ensures { result ≡ is_due (H.moment h.now) t.now.moment (drop t.now.next requests.now) m.now.state }
+fn is_due<M: Mem>(m: &Machine<M>, requests: &[Request], t: &Tally) -> bool
+    ensures { result ≡ is_due moment_of t.now.moment (drop t.now.next requests.now) m.now.state }
 {
     if t.next < requests.len() {
         if m.may_interrupt() {
-            h.moment(&requests[t.next]) <= t.moment
+            requests[t.next].moment <= t.moment
         } else {
             false
         }
@@ -83,51 +86,59 @@ fn is_due<M: Mem, R, H: Handler<R>>(m: &Machine<M>, h: &H, requests: &[R], t: &T
 
 /// Takes the next request.
 #[inline(never)]
-fn take_next<M: Mem, R, H: Handler<R>>(
+fn take_next<M: Mem, R, F: RunForm<R>>(
     m: &mut Machine<M>,
-    h: &H,
-    firmware: &Firmware,
-    requests: &[R],
+    form: &F,
+    requests: &[Request],
     t: &mut Tally,
 )
-    requires due { is_due (H.moment h.now) t.old.moment (drop t.old.next requests.now) m.old.state ≡ true }
+    requires due { is_due moment_of t.old.moment (drop t.old.next requests.now) m.old.state ≡ true }
     requires room { vec_len t.old.frames < vec_capacity t.old.frames }
-    ensures takes { with_frames (frames_seen t.old.frames.items)
-        (takes (stand_alone m.old.flags firmware.now (H.moment h.now)
-        (H.take h.now)) t.old.moment (drop t.old.next requests.now) m.old.state)
-        ≡ with_frames (frames_seen t.new.frames.items)
-        (takes (stand_alone m.old.flags firmware.now (H.moment h.now)
-        (H.take h.now)) t.old.moment (drop t.new.next requests.now) m.new.state) }
+    requires handler { (length requests.now ≤ 10000) × (t.old.handler ≤ 65535 * t.old.next) }
+    ensures takes { with_before (frames_seen t.old.frames.items) t.old.handler
+        (takes (plan_form m.old.flags (F.harness form.now).parts) t.old.moment
+        (drop t.old.next requests.now) m.old.state)
+        ≡ with_before (frames_seen t.new.frames.items) t.new.handler
+        (takes (plan_form m.old.flags (F.harness form.now).parts) t.old.moment
+        (drop t.new.next requests.now) m.new.state) }
     ensures next { t.new.next ≡ t.old.next + 1 }
+    ensures handler { t.new.handler ≤ 65535 * t.new.next }
     ensures len { vec_len t.new.frames ≡ vec_len t.old.frames + 1 }
     ensures capacity { vec_capacity t.old.frames ≤ vec_capacity t.new.frames }
-    ensures rest { t.new ≡ record t.old { next = t.new.next; frames = t.new.frames } }
+    ensures rest { t.new ≡ record t.old { next = t.new.next; handler = t.new.handler; frames = t.new.frames } }
     ensures flags { m.new.flags ≡ m.old.flags }
 {
-    let frame = h.take(m, &requests[t.next]);
+    let (frame, steps) = form.take(m, &requests[t.next]);
     t.frames.push((t.moment, frame)).unwrap();
+    t.handler += u32::from(steps);
     t.next += 1;
 }
 
 /// Takes all requests that are due.
 #[inline(always)]
-pub(crate) fn take_due<M: Mem, R, H: Handler<R>>(
+pub(crate) fn take_due<M: Mem, R, F: RunForm<R>>(
     m: &mut Machine<M>,
-    h: &H,
-    firmware: &Firmware,
-    requests: &[R],
+    form: &F,
+    requests: &[Request],
     t: &mut Tally,
 )
     requires room { vec_len t.old.frames + (length requests.now - t.old.next) ≤ vec_capacity t.old.frames }
-    ensures takes { with_frames (frames_seen t.old.frames.items)
-        (takes (stand_alone m.old.flags firmware.now (H.moment h.now)
-        (H.take h.now)) t.old.moment (drop t.old.next requests.now) m.old.state)
-        ≡ record { state = m.new.state; frames = frames_seen t.new.frames.items; left = drop t.new.next requests.now } }
+    requires handler { (length requests.now ≤ 10000) × (t.old.handler ≤ 65535 * t.old.next) }
+    ensures takes { with_before (frames_seen t.old.frames.items) t.old.handler
+        (takes (plan_form m.old.flags (F.harness form.now).parts) t.old.moment
+        (drop t.old.next requests.now) m.old.state)
+        ≡ record {
+          state = m.new.state;
+          frames = frames_seen t.new.frames.items;
+          handler = t.new.handler;
+          left = drop t.new.next requests.now;
+        } }
+    ensures handler { t.new.handler ≤ 65535 * t.new.next }
     ensures room { vec_len t.new.frames + (length requests.now - t.new.next) ≤ vec_capacity t.new.frames }
-    ensures rest { t.new ≡ record t.old { next = t.new.next; frames = t.new.frames } }
+    ensures rest { t.new ≡ record t.old { next = t.new.next; handler = t.new.handler; frames = t.new.frames } }
     ensures flags { m.new.flags ≡ m.old.flags }
 {
-    while is_due(m, h, requests, t) {
-        take_next(m, h, firmware, requests, t);
+    while is_due(m, requests, t) {
+        take_next(m, form, requests, t);
     }
 }

@@ -4,8 +4,10 @@ ghost use Rattle.interrupt_plan.specs.Plans.{IsGood};
 ghost use Rattle.fz_run.specs.Rows.{row_seen, input_bytes, first_state, firmware_rows};
 ghost use Rattle.fz_run.specs.Outlooks.{from_here, at_position, of_run};
 
-use crate::progress::{Progress, advance, before_samples, begin, drive, into_rows};
-use crate::rows::{Row, arrive, make_rooms};
+use crate::form::WithWrites;
+use crate::progress::{Progress, advance, drive, into_rows};
+use crate::rows::Row;
+use crate::runs::{Start, begun};
 use codegen::Firmware;
 use cpu12_emul::machine::Machine;
 use cpu12_isa::instr::Regs;
@@ -22,20 +24,23 @@ use trace_io::Sample;
 #[derive(Drop)]
 pub struct Session<'a, M: Mem> {
     machine: Machine<M>,
-    firmware: &'a Firmware,
-    samples: &'a [Sample],
+    form: WithWrites<'a>,
     plan: &'a Plan,
-    progress: Progress,
+    progress: Progress<Row>,
 }
 
 impl<'a, M: Mem> Model for Session<'a, M> {
+    ghost use Rattle.std.specs.Prelude.{ℕ, List};
+    ghost use Rattle.run_law.specs.Forms.{RowSeen};
+    ghost use Rattle.fz_run.specs.Rows.{writes_harness};
     ghost use Rattle.fz_run.specs.Outlooks.{Outlook, outlook_at, IsUnderWay};
 
-    ghost Value = { Outlook };
+    ghost Value = { Outlook (RowSeen (List ℕ)) };
 
-    ghost view = { λ a. outlook_at a.machine.flags a.firmware.now a.samples.now a.plan.now a.progress a.machine.state };
+    ghost view = { λ a. outlook_at a.machine.flags (writes_harness a.form.firmware.now a.form.samples.now)
+        a.plan.now a.progress a.machine.state };
 
-    ghost invariant = { λ a. IsUnderWay a.firmware.now a.samples.now a.plan.now a.progress };
+    ghost invariant = { λ a. IsUnderWay (writes_harness a.form.firmware.now a.form.samples.now) a.plan.now a.progress };
 }
 
 impl<'a, M: Mem> Session<'a, M> {
@@ -53,19 +58,16 @@ impl<'a, M: Mem> Session<'a, M> {
         ensures { IfOk result (λ s. from_here s ≡ of_run (first_state firmware.now flags)
             (firmware_rows firmware.now (map input_bytes samples.now) plan.now flags)) }
     {
-        let rooms = make_rooms(alloc, samples.len(), plan.as_slice())?;
-        let Ok(rows) = Vec::with_capacity(alloc, samples.len()) else {
-            return Err(Memory);
+        let form = WithWrites { firmware, samples };
+        let start = Start {
+            image: &firmware.image,
+            wait: firmware.layout.wait,
+            most: firmware.step_bound,
         };
-        let mut machine = Machine::new(alloc, &firmware.image, flags)?;
-        arrive(&mut machine, firmware.layout.wait, firmware.step_bound);
-        let requests = plan.as_slice();
-        let mut progress = before_samples(alloc, firmware, samples, requests, rooms, rows);
-        begin(&mut machine, firmware, samples, requests, &mut progress);
+        let (machine, progress) = begun(alloc, &form, &start, plan, flags)?;
         Ok(Session {
             machine,
-            firmware,
-            samples,
+            form,
             plan,
             progress,
         })
@@ -78,8 +80,7 @@ impl<'a, M: Mem> Session<'a, M> {
     {
         advance(
             &mut self.machine,
-            self.firmware,
-            self.samples,
+            &self.form,
             self.plan.as_slice(),
             &mut self.progress,
         )
@@ -115,19 +116,12 @@ impl<'a, M: Mem> Session<'a, M> {
     {
         let Session {
             mut machine,
-            firmware,
-            samples,
+            form,
             plan,
             mut progress,
         } = self;
-        drive(
-            &mut machine,
-            firmware,
-            samples,
-            plan.as_slice(),
-            &mut progress,
-        );
-        let rows = into_rows(&machine, firmware, progress);
+        drive(&mut machine, &form, plan.as_slice(), &mut progress);
+        let rows = into_rows(&mut machine, &form, progress);
         (rows, machine.into_mem())
     }
 }

@@ -1,11 +1,5 @@
+pub mod FaultLemmas
 pub mod ReadLemmas
 pub mod RunLemmas
-pub mod UsageLemmas
-pub mod LineLemmas
-pub mod AnswerLemmas
-pub mod DeedLemmas
 pub mod StatusLemmas
-pub mod NumberLemmas
-pub mod CertLemmas
-pub mod SumLemmas
-pub mod DebugLemmas
+pub mod UsageLemmas

@@ -13,7 +13,7 @@ use Rattle.fz_shelf.specs.declared.log.Answer.TheVariants.{Whole, Missed, Long}
 use Rattle.std.specs.declared.alloc.Global.{Global}
 use Rattle.std.specs.declared.vec.Vec.{Vec}
 use Rattle.fz_status.specs.Words.{Text, word_at}
-use Rattle.fz_top.specs.Contents.{bytes_of}
+use Rattle.build_commands.specs.Contents.{bytes_of}
 use Rattle.fz_top.specs.Reads.{AreHeld, AreThere, names_at, whole_entries, Reads, ReadsOne, ReadsWhole, StopsAt}
 use Rattle.fz_top.specs.Reads.{StopsBy}
 use Rattle.fz_top.specs.declared.reading.Stop.{Stop}

@@ -10,10 +10,10 @@ use Rattle.fz_shelf.specs.Reading.{Counts}
 use Rattle.std.specs.declared.alloc.Global.{Global}
 use Rattle.std.specs.declared.vec.Vec.{Vec}
 use Rattle.fz_status.specs.Words.{Text, word_at}
-use Rattle.fz_top.specs.Contents.{bytes_of}
+use Rattle.build_commands.specs.Contents.{bytes_of}
 use Rattle.fz_top.specs.Commands.{Makes, command_in, inputs_of}
 use Rattle.fz_top.specs.Reads.{ReadsWhole, AreHeld, AreThere, names_at, StopsBy}
-use Rattle.fz_top.specs.Deeds.{Deed, IsFaultOf}
+use Rattle.build_commands.specs.Deeds.{Deed, IsFaultOf}
 use Rattle.fz_top.specs.Runs.{CanBeDone, DeedsHaveNoFault, HasNoFault, Faulted, IsMade, Untouched, IsReadFault}
 use Rattle.fz_top.specs.Runs.{IsTooLong, IsWriteFault, Settles, status_of, IsReady, AreKnown, FileFits, World, world}
 use Rattle.fz_top.specs.Runs.{Worked, Delivered, WriteFailed, PutFailed, ChangesOnly, IsWritten, Runs}

@@ -4,23 +4,23 @@ use Rattle.std.specs.Prelude.{option_map}
 use Rattle.fz_words.specs.App.{IsRefused}
 use Rattle.fz_words.specs.Table.{Row, row, command_in as command_by}
 use Rattle.codegen.specs.declared.width.Width.TheVariants.{Byte, Word}
-use Rattle.fz_top.specs.Asm.{AsmMakes, asm_inputs}
-use Rattle.fz_top.specs.Certify.{CertifyMakes, certify_in, certify_inputs}
-use Rattle.fz_top.specs.Check.{CheckMakes, check_in, check_inputs}
-use Rattle.fz_top.specs.Compile.{CompileMakes, compile_in, compile_inputs}
-use Rattle.fz_top.specs.Debug.{DebugMakes, debug_files, debug_in, debug_inputs}
-use Rattle.fz_top.specs.Deeds.{Deed}
-use Rattle.fz_top.specs.Exec.{ExecMakes, exec_in, exec_inputs}
-use Rattle.fz_top.specs.Generate.{GenerateMakes, generate_in, generate_inputs}
-use Rattle.fz_top.specs.Hcheck.{HcheckMakes, hcheck_inputs}
-use Rattle.fz_top.specs.Mcompile.{McompileMakes}
-use Rattle.fz_top.specs.Run.{RunMakes, files_in, run_in, run_inputs}
-use Rattle.fz_top.specs.Scompile.{ScompileMakes, scompile_inputs}
+use Rattle.build_commands.specs.Asm.{AsmMakes, asm_inputs}
+use Rattle.build_commands.specs.Certify.{CertifyMakes, certify_in, certify_inputs}
+use Rattle.build_commands.specs.Check.{CheckMakes, check_in, check_inputs}
+use Rattle.build_commands.specs.Compile.{CompileMakes, compile_in, compile_inputs}
+use Rattle.run_commands.specs.Debug.{DebugMakes, debug_files, debug_in, debug_inputs}
+use Rattle.build_commands.specs.Deeds.{Deed}
+use Rattle.build_commands.specs.Exec.{ExecMakes, exec_in, exec_inputs}
+use Rattle.run_commands.specs.Generate.{GenerateMakes, generate_in, generate_inputs}
+use Rattle.build_commands.specs.Hcheck.{HcheckMakes, hcheck_inputs}
+use Rattle.build_commands.specs.Mcompile.{McompileMakes}
+use Rattle.run_commands.specs.Run.{RunMakes, files_in, run_in, run_inputs}
+use Rattle.build_commands.specs.Scompile.{ScompileMakes, scompile_inputs}
 use Rattle.fz_status.specs.Words.{Text}
-use Rattle.fz_top.specs.Contents.{content_at}
+use Rattle.build_commands.specs.Contents.{content_at}
 use Rattle.fz_top.specs.declared.command.Command.{Command}
-use Rattle.fz_top.specs.declared.command.Command.TheVariants.{Asm, Certify, Check, Compile, Debug, Exec, Generate, Hcheck}
-use Rattle.fz_top.specs.declared.command.Command.TheVariants.{Mcompile, Run, Scompile}
+use Rattle.fz_top.specs.declared.command.Command.TheVariants.{Asm, Certify, Check, Compile, Debug, Exec, Generate}
+use Rattle.fz_top.specs.declared.command.Command.TheVariants.{Hcheck, Mcompile, Run, Scompile}
 use Rattle.fz_top.specs.declared.command.Name.{Name}
 use Rattle.fz_top.specs.declared.command.Name.TheVariants as name
 use Rattle.fz_status.specs.declared.status.Status.{Status}

@@ -9,7 +9,7 @@ use Rattle.fz_shelf.specs.Reading.{Counts}
 use Rattle.fz_status.specs.Words.{Text, word_at}
 use Rattle.fz_top.specs.Commands.{Makes, command_in, inputs_of}
 use Rattle.fz_top.specs.Reads.{AreHeld, names_at, whole_entries, StopsBy}
-use Rattle.fz_top.specs.Deeds.{Deed}
+use Rattle.build_commands.specs.Deeds.{Deed}
 use Rattle.fz_top.specs.declared.command.Command.{Command}
 use Rattle.fz_top.specs.declared.reading.Stop.{Stop}
 use Rattle.fz_top.specs.declared.reading.Stop.TheVariants as stop

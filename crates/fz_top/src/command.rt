@@ -1,29 +1,29 @@
 //! The commands: the one table of them, and every match on which command it is.
 //!
-//! A command is a file of its own beside this one, with the form of its words, the files that it
-//! reads and what it makes of them; the file of the same name in `specs/` defines these. Here
-//! each has a row of the table and an arm of each match.
+//! A command is a file of its own in build_commands or run_commands, with the form of its words, the
+//! files that it reads and what it makes of them; the file of the same name in `specs/` there defines
+//! these. Here each has a row of the table and an arm of each match.
 ghost use Rattle.std.specs.Prelude.{◌≡◌, ◌↔◌, ◌≤◌, length, IfOk, IsErrOf, Some, None};
 ghost use Rattle.std.specs.List.{All};
 ghost use Rattle.fz_words.specs.App.{IsRefused};
 ghost use Rattle.fz_status.specs.Words.{texts_of};
-ghost use Rattle.fz_top.specs.Contents.{bytes_of};
+ghost use Rattle.build_commands.specs.Contents.{bytes_of};
 ghost use Rattle.fz_top.specs.Commands.{IsUsage, Makes, command_in, form_of, inputs_of, name_in, table};
-ghost use Rattle.fz_top.specs.Deeds.{IsResultOf};
+ghost use Rattle.build_commands.specs.Deeds.{IsResultOf};
 
-use crate::certify::{self, Certify};
-use crate::check::{self, Check};
-use crate::compile::{self, Compile};
-use crate::debug::{self, DebugRun};
-use crate::exec::{self, Exec};
-use crate::generate::{self, Generate};
-use crate::reading::content;
-use crate::run::{self, Run};
-use crate::work::Work;
-use crate::{asm, hcheck, mcompile, scompile};
+use build_commands::certify::{self, Certify};
+use build_commands::check::{self, Check};
+use build_commands::compile::{self, Compile};
+use build_commands::contents::content;
+use build_commands::exec::{self, Exec};
+use build_commands::work::Work;
+use build_commands::{asm, hcheck, mcompile, scompile};
 use codegen::Width;
 use fz_status::Status;
 use fz_words::Refusal;
+use run_commands::debug::{self, DebugRun};
+use run_commands::generate::{self, Generate};
+use run_commands::run::{self, Run};
 use std::alloc::Global;
 
 /// A command by its name alone.

@@ -2,10 +2,10 @@
 ghost use Rattle.std.specs.Prelude.{◌≡◌, ◌⊎◌, length, OnOk, OnErr, IsOk};
 ghost use Rattle.fz_shelf.specs.Told.{HasRoom};
 ghost use Rattle.fz_status.specs.Words.{texts_of};
-ghost use Rattle.fz_top.specs.Deeds.{deed_of};
+ghost use Rattle.build_commands.specs.Deeds.{deed_of};
 ghost use Rattle.fz_top.specs.Runs.{world, ChangesOnly, FileFits, Delivered, WriteFailed, PutFailed};
 
-use crate::work::Work;
+use build_commands::work::Work;
 use fz_shelf::{Failed, Shelf, Sink, put_lines};
 use fz_status::word;
 

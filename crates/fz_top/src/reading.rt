@@ -3,7 +3,7 @@ ghost use Rattle.std.specs.Prelude.{◌≡◌, ◌<◌, ◌≤◌, length, IfOk,
 ghost use Rattle.std.specs.List.{All};
 ghost use Rattle.fz_shelf.specs.Files.{IsThere};
 ghost use Rattle.fz_status.specs.Words.{texts_of, word_at};
-ghost use Rattle.fz_top.specs.Contents.{bytes_of, content_at};
+ghost use Rattle.build_commands.specs.Contents.{bytes_of};
 ghost use Rattle.fz_top.specs.Reads.{ReadsWhole, StopsBy, AreThere, IsFailedRead, names_at, ReadsOne, StopsAt};
 
 use fz_shelf::{ReadError, Shelf};
@@ -72,16 +72,4 @@ pub(crate) fn read_all<S: Shelf>(
         }
     }
     Ok(contents)
-}
-
-/// The content of the file at this place of the list, or nothing.
-pub(crate) fn content(contents: &[Vec<u8>], at: usize) -> &[u8]
-    requires { All (λ c. length c.items ≤ 1048576) contents.now }
-    ensures value { result.now ≡ content_at (bytes_of contents.now) at }
-    ensures small { length result.now ≤ 1048576 }
-{
-    match contents.get(at) {
-        Some(content) => content.as_slice(),
-        None => b"",
-    }
 }

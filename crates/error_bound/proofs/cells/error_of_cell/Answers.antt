@@ -9,10 +9,10 @@ wider : (f : Frac) → IsTruth 1000000000000 f → IsTruth 10000000000000000 f
 wider f t = record { num_from = t.num_from; num_to = t.num_to; den_from = t.den_from; den_to = omega (arith, ints, t.den_to) }
 
 pub gap-requires : goal.gap-requires
-gap-requires c = wider c.degrees_of-degrees.result.low c.degrees_of-degrees.ensures.truth.low
+gap-requires c = wider c.wide.result c.wide.ensures.truth
 
 pub gap-requires-2 : goal.gap-requires-2
-gap-requires-2 c = wider c.degrees_of-degrees.result.high c.degrees_of-degrees.ensures.truth.high
+gap-requires-2 c = wider c.wide-2.result c.wide-2.ensures.truth
 
 -- a byte and a degree are at most 1 apart
 whole_near : (t g : ℕ) (f : Fraction) → g ≤ 255 → f.num ≤ f.den → IsNear t g f t
@@ -26,7 +26,6 @@ gap_small g f hg t = whole_near 1000000000 g (fraction_of f) hg (omega (arith, i
 
 pub returns-clause-small : goal.returns-clause-small
 returns-clause-small c =
-    let d = c.degrees_of-degrees.ensures.truth in
-    let a = c.gap.ensures.least 1000000000 (gap_small c.grade-g.result c.degrees_of-degrees.result.low (omega arith) d.low) in
-    let b = c.gap-2.ensures.least 1000000000 (gap_small c.grade-g.result c.degrees_of-degrees.result.high (omega arith) d.high) in
+    let a = c.gap.ensures.least 1000000000 (gap_small c.grade-g.result c.wide.result (omega arith) c.wide.ensures.truth) in
+    let b = c.gap-2.ensures.least 1000000000 (gap_small c.grade-g.result c.wide-2.result (omega arith) c.wide-2.ensures.truth) in
     omega (arith, a, b)

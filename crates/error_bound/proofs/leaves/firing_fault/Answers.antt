@@ -1,5 +1,4 @@
 use Rattle.std.proofs.Common.{ℕ, sym, subst, arith}
-use Rattle.std.proofs.lemmas.Int.{ints}
 use Rattle.error_bound.specs.declared.boxes.LeafFault.TheVariants.{Silent}
 use Rattle.error_bound.specs.Faults.{IsSilentFault, silent, loud}
 use Rattle.error_bound.specs.Reaches.{span_of, byte_span_of}
@@ -9,9 +8,8 @@ pub returns-then-high-gt0-clause-fault : goal.returns-then-high-gt0-clause-fault
 returns-then-high-gt0-clause-fault c =
     let q = c.args.reach in
     let n = c.args.n in
-    subst (λ (k : ℕ). IsSilentFault n (span_of q.degrees) (byte_span_of q) (Silent n (record { 0 = k }))) (sym c.up_nano.ensures) (silent (omega (arith, ints, c.if-high-gt0.true)))
+    subst (λ (k : ℕ). IsSilentFault n (span_of q.degrees) (byte_span_of q) (Silent n (record { 0 = k }))) (sym c.up_nano.ensures) (silent (omega (arith, c.if-high-gt0.true)))
 
 pub returns-then-reach-gt0-clause-fault : goal.returns-then-reach-gt0-clause-fault
 returns-then-reach-gt0-clause-fault c =
-    let from = c.requires.high.num_from in
-    loud (omega (arith, ints, c.if-high-gt0.false, from)) (omega (arith, c.if-reach-gt0.true))
+    loud (omega (arith, c.if-high-gt0.false)) (omega (arith, c.if-reach-gt0.true))

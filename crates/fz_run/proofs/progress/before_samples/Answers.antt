@@ -5,17 +5,19 @@ use Rattle.fz_run.proofs.Outlooks.{steady_before}
 use Rattle.fz_run.proofs.progress.before_samples.Goals as goal
 
 pub returns-clause-way : goal.returns-clause-way
-returns-clause-way c =
+returns-clause-way g c =
     let a = c.args in
+    let samples = (g.F.RunForm.harness a.form.now).samples in
     let none = ap length c.requires.none in
     let len = a.rows.ok in
-    let all : length a.samples.now - 0 ≡ length a.samples.now = omega arith in
+    let plan = c.requires.plan in
+    let all : length samples - 0 ≡ length samples = omega arith in
     record {
-      outputs = c.requires.outputs;
+      few = plan.few;
       number = omega arith;
       first = omega arith;
       behind = omega arith;
-      follow = follow_good a.plan.now c.requires.plan;
+      follow = follow_good a.plan.now plan;
       rooms = subst (λ (n : ℕ). HaveRoom 1 n a.plan.now a.rooms.items) (sym all) c.requires.rooms;
       rows = omega (arith, len.0, none);
       room = c.requires.room;

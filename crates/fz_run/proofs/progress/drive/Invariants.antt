@@ -5,11 +5,13 @@ use Rattle.fz_run.proofs.progress.drive.Given as goal
 -- the rows and the last state to come are those of the whole run
 abbrev pub invariant-loop : goal.invariant-loop
 invariant-loop g l = record {
-  way : IsUnderWay l.firmware l.samples l.plan l.p;
-  rows : (outlook_at l.fn.m.flags l.firmware l.samples l.plan l.p l.m.state).rows ≡ (outlook_at l.fn.m.flags l.firmware l.samples l.plan l.fn.p l.fn.m.state).rows;
-  state : (outlook_at l.fn.m.flags l.firmware l.samples l.plan l.p l.m.state).state ≡ (outlook_at l.fn.m.flags l.firmware l.samples l.plan l.fn.p l.fn.m.state).state;
+  way : IsUnderWay (g.F.RunForm.harness l.form) l.plan l.p;
+  rows : (outlook_at l.fn.m.flags (g.F.RunForm.harness l.form) l.plan l.p l.m.state).rows
+      ≡ (outlook_at l.fn.m.flags (g.F.RunForm.harness l.form) l.plan l.fn.p l.fn.m.state).rows;
+  state : (outlook_at l.fn.m.flags (g.F.RunForm.harness l.form) l.plan l.p l.m.state).state
+      ≡ (outlook_at l.fn.m.flags (g.F.RunForm.harness l.form) l.plan l.fn.p l.fn.m.state).state;
   flags : l.m.flags ≡ l.fn.m.flags;
 }
 
 abbrev pub decreases-loop : goal.decreases-loop
-decreases-loop g l = length (outlook_at l.fn.m.flags l.firmware l.samples l.plan l.p l.m.state).later
+decreases-loop g l = length (outlook_at l.fn.m.flags (g.F.RunForm.harness l.form) l.plan l.p l.m.state).later

@@ -1,9 +1,31 @@
-use Rattle.fz_top.proofs.DeedLemmas.{apart}
+use Rattle.build_commands.specs.Contents.{content_at}
+use Rattle.run_commands.specs.Debug.{debug_files}
+use Rattle.run_commands.specs.Run.{files_in}
+use Rattle.fz_top.specs.Commands.{Makes}
+use Rattle.fz_top.specs.declared.command.Command.TheVariants as command
 use Rattle.fz_top.proofs.laws.deeds_have_no_fault.Goals as goal
 
 pub returns : goal.returns
-returns c = apart c.first_faults_are_one.ensures c.load_faults_are_one.ensures c.spelled_blocks_are_one.ensures c.layouts_are_one.ensures c.limits_have_no_fault.ensures
-    c.spelled_traces_have_no_fault.ensures c.images_are_one.ensures.one c.images_are_one.ensures.no_fault
-    c.images_load_alike.ensures c.runs_end_once.ensures c.text_answers_are_one.ensures c.same_blocks_answer_alike.ensures
-    c.firmwares_are_one.ensures c.spelled_plans_have_no_fault.ensures c.answers_are_one.ensures c.same_blocks_stop_alike.ensures
-    c.drawn_blocks_are_one.ensures c.handlers_have_no_fault.ensures
+unfolding Makes
+returns c command.Asm contents deed s makes fault =
+    c.assembled_sources_have_no_fault.ensures (content_at contents 0) deed s makes fault
+returns c (command.Certify certify) contents deed s makes fault =
+    c.certified_texts_have_no_fault.ensures certify (content_at contents 0) deed s makes fault
+returns c (command.Check check) contents deed s makes fault =
+    c.checked_certs_have_no_fault.ensures check (content_at contents 0) (content_at contents 1) deed s makes fault
+returns c (command.Compile compile) contents deed s makes fault =
+    c.compiled_texts_have_no_fault.ensures compile (content_at contents 0) deed s makes fault
+returns c (command.Debug debug) contents deed s makes fault =
+    c.debugged_runs_have_no_fault.ensures debug (debug_files contents) deed s makes fault
+returns c (command.Exec exec) contents deed s makes fault =
+    c.ended_runs_have_no_fault.ensures exec (content_at contents 0) deed s makes fault
+returns c (command.Generate generate) contents deed s makes fault =
+    c.generated_runs_have_no_fault.ensures generate deed s makes fault
+returns c command.Hcheck contents deed s makes fault =
+    c.checked_handlers_have_no_fault.ensures (content_at contents 0) deed s makes fault
+returns c command.Mcompile contents deed s makes fault =
+    c.mailbox_texts_have_no_fault.ensures (content_at contents 0) deed s makes fault
+returns c (command.Run run) contents deed s makes fault =
+    c.certified_runs_have_no_fault.ensures run (files_in contents) deed s makes fault
+returns c command.Scompile contents deed s makes fault =
+    c.watched_texts_have_no_fault.ensures (content_at contents 0) deed s makes fault

@@ -1,7 +1,7 @@
 use Rattle.std.proofs.Common.{inl, inr}
 use Rattle.fz_status.specs.Words.{texts_of}
 use Rattle.fz_top.specs.Runs.{IsReady, world}
-use Rattle.fz_top.proofs.DeedLemmas.{carries}
+use Rattle.fz_top.proofs.FaultLemmas.{carries}
 use Rattle.fz_top.proofs.RunLemmas.{does, no_read_fault, no_write_fault, settles, completes, there, long_status}
 use Rattle.fz_top.proofs.RunLemmas.{usage_status, usage_cause}
 use Rattle.fz_top.proofs.program.fuzz12.Goals as goal

@@ -1,12 +1,25 @@
-use Rattle.std.proofs.Common.{◌∙◌, List, ap}
+use Rattle.std.proofs.Common.{◌∙◌, ℕ, List, ap}
+use Rattle.cpu12_parts.specs.State.{State}
+use Rattle.run_law.specs.Forms.{RowSeen}
 use Rattle.interrupt_plan.specs.declared.Request.{Request}
+use Rattle.fz_run.specs.Rows.{writes_harness}
 use Rattle.fz_run.specs.Outlooks.{Outlook, outlook_at}
 use Rattle.fz_run.proofs.session.Session.finish.Goals as goal
 
 pub returns-clause-rows : goal.returns-clause-rows
 returns-clause-rows g c =
     let i = c.self.inside in
-    c.into_rows-rows.ensures.rows i.machine.flags
+    let h = writes_harness i.form.firmware.now i.form.samples.now in
+    c.into_rows-rows.ensures.rows
     ∙ c.drive.ensures.rows
-    ∙ ap (λ (l : List Request). (outlook_at i.machine.flags i.firmware.now i.samples.now l i.progress i.machine.state).rows) c.as_slice.ensures
-    ∙ ap (λ (o : Outlook). o.rows) c.self.view_is
+    ∙ ap (λ (l : List Request). (outlook_at i.machine.flags h l i.progress i.machine.state).rows) c.as_slice.ensures
+    ∙ ap (λ (o : Outlook (RowSeen (List ℕ))). o.rows) c.self.view_is
+
+pub returns-clause-memory : goal.returns-clause-memory
+returns-clause-memory g c =
+    let i = c.self.inside in
+    let h = writes_harness i.form.firmware.now i.form.samples.now in
+    c.into_mem.ensures
+    ∙ ap (λ (s : State). s.mem) (c.into_rows-rows.ensures.state ∙ c.drive.ensures.state)
+    ∙ ap (λ (l : List Request). (outlook_at i.machine.flags h l i.progress i.machine.state).state.mem) c.as_slice.ensures
+    ∙ ap (λ (o : Outlook (RowSeen (List ℕ))). o.state.mem) c.self.view_is

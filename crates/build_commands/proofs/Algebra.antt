@@ -1,0 +1,58 @@
+-- Texts that are written line by line, and of items one by one.
+use Rattle.std.proofs.Common.{refl, ◌≡◌, ◌<◌, ◌+◌, ℕ, List, [], ◌∷◌, ◌++◌, length, take, get_or, sym, ◌∙◌, ap, ap₂}
+use Rattle.std.proofs.Common.{arith, append_assoc, add-one}
+use Rattle.std.specs.Prelude.{flat_map, map, String, string_bytes}
+use Rattle.std.specs.declared.alloc.Global.{Global}
+use Rattle.std.proofs.Math.Seq.{take-suc}
+use Rattle.std.proofs.lemmas.List.{append-nil, length-take-le}
+use Rattle.fz_shelf.specs.Lines.{text_of}
+use Rattle.build_commands.specs.Lines.{counted}
+
+pub text_of-snoc : (lines : List (String Global)) (l : String Global)
+    → text_of (lines ++ l ∷ []) ≡ text_of lines ++ string_bytes l
+text_of-snoc [] l = append-nil (string_bytes l)
+text_of-snoc (x ∷ lines) l = ap (λ (t : List ℕ). string_bytes x ++ t) (text_of-snoc lines l) ∙ sym (append_assoc (string_bytes x) (text_of lines) (string_bytes l))
+
+-- the text so far with one line more
+pub line_more : (before items_text line_text next_text : List ℕ) (items next : List (String Global))
+    (line : String Global)
+    → text_of items ≡ before ++ items_text → next ≡ items ++ line ∷ [] → string_bytes line ≡ line_text
+    → next_text ≡ items_text ++ line_text → text_of next ≡ before ++ next_text
+line_more before items_text line_text next_text items next line so_far added is whole =
+    ap text_of added ∙ text_of-snoc items line ∙ ap₂ (λ (x y : List ℕ). x ++ y) so_far is
+    ∙ append_assoc before items_text line_text ∙ ap (λ (l : List ℕ). before ++ l) (sym whole)
+
+-- ---- counted items, one more
+
+counted-snoc : {X : Type 0} (f : ℕ → X → List ℕ) (k : ℕ) (xs : List X) (x : X)
+    → counted f k (xs ++ x ∷ []) ≡ counted f k xs ++ f (k + length xs) x
+counted-snoc f k [] x = append-nil (f k x) ∙ ap (λ (n : ℕ). f n x) (omega arith)
+counted-snoc f k (y ∷ xs) x =
+    let at : k + 1 + length xs ≡ k + length (y ∷ xs) = omega arith in
+    ap (λ (t : List ℕ). f k y ++ t) (counted-snoc f (k + 1) xs x ∙ ap (λ (n : ℕ). counted f (k + 1) xs ++ f n x) at)
+    ∙ sym (append_assoc (f k y) (counted f (k + 1) xs) (f (k + length (y ∷ xs)) x))
+
+pub counted_more : {X : Type 0} (f : ℕ → X → List ℕ) (xs : List X) (i : ℕ) (d : X) → i < length xs
+    → counted f 1 (take (i + 1) xs) ≡ counted f 1 (take i xs) ++ f (i + 1) (get_or xs i d)
+counted_more f xs i d lt =
+    let more : take (i + 1) xs ≡ take i xs ++ get_or xs i d ∷ [] = rw add-one (take-suc xs i d lt) in
+    let size : 1 + length (take i xs) ≡ i + 1 = omega (arith, length-take-le i xs (omega arith)) in
+    ap (counted f 1) more ∙ counted-snoc f 1 (take i xs) (get_or xs i d)
+    ∙ ap (λ (n : ℕ). counted f 1 (take i xs) ++ f n (get_or xs i d)) size
+
+pub counted-map : {X Y : Type 0} (f : ℕ → Y → List ℕ) (g : X → Y) (k : ℕ) (xs : List X)
+    → counted f k (map g xs) ≡ counted (λ n x. f n (g x)) k xs
+counted-map f g k [] = refl
+counted-map f g k (x ∷ xs) = ap (λ (t : List ℕ). f k (g x) ++ t) (counted-map f g (k + 1) xs)
+
+pub flat-map : {X Y : Type 0} (f : Y → List ℕ) (g : X → Y) (xs : List X)
+    → flat_map f (map g xs) ≡ flat_map (λ x. f (g x)) xs
+flat-map f g [] = refl
+flat-map f g (x ∷ xs) = ap (λ (t : List ℕ). f (g x) ++ t) (flat-map f g xs)
+
+-- a text so far with more behind it
+pub text_more : (before items_text more_text next_text now next : List ℕ) → now ≡ before ++ items_text
+    → next ≡ now ++ more_text → next_text ≡ items_text ++ more_text → next ≡ before ++ next_text
+text_more before items_text more_text next_text now next so_far step whole =
+    step ∙ ap (λ (l : List ℕ). l ++ more_text) so_far ∙ append_assoc before items_text more_text
+    ∙ ap (λ (l : List ℕ). before ++ l) (sym whole)

@@ -1,0 +1,110 @@
+-- A certificate that one block of a text accepts is refused by none.
+use Rattle.std.proofs.Common.{◌≡◌, ◌≢◌, ◌≤◌, ℕ, List, sym, subst, arith}
+use Rattle.std.specs.Prelude.{Result, Ok, Err, IfOk, IfErr}
+use Rattle.std.specs.Global.{Vec}
+use Rattle.fuzzy_meaning.specs.declared.block.Block.{Block}
+use Rattle.fuzzy_meaning.specs.Blocks.{IsValid}
+use Rattle.codegen.specs.Widths.{parts}
+use Rattle.codegen.specs.declared.width.Width.{Width}
+use Rattle.codegen.specs.declared.width.Width.TheVariants.{Byte, Word}
+use Rattle.box_tree.specs.Certificates.{HasFault, bad_version, no_version, bad_claims, no_claims, bad_node, left_open}
+use Rattle.box_tree.specs.Certificates.{late, many_leaves}
+use Rattle.box_tree.specs.declared.cert.CertFault.{CertFault}
+use Rattle.box_tree.specs.declared.cert.CertFault.TheVariants as cert
+use Rattle.box_tree.specs.declared.cert.Cert.{Cert}
+use Rattle.box_tree.specs.declared.cert.Node.{Node}
+use Rattle.error_bound.specs.declared.boxes.Interval.{Interval}
+use Rattle.error_bound.specs.declared.boxes.Leaf as the
+use Rattle.cert_check.specs.declared.checker.CheckFault.{CheckFault}
+use Rattle.cert_check.specs.declared.checker.CheckFault.TheVariants as check
+use Rattle.cert_check.specs.declared.text.TextFault.{TextFault as TheRefusal}
+use Rattle.cert_check.specs.declared.text.TextFault.TheVariants as refusal
+use Rattle.cert_check.specs.Faults.{IsPairFault, bad_rule, fails, HasTreeFault, bad_cut, bad_leaf, HasCheckFault}
+use Rattle.cert_check.specs.Faults.{outputs, tree, claimed}
+use Rattle.cert_check.specs.Laws.{TextAnswersAreOne}
+use Rattle.cert_check.specs.TextFaults.{HasTextFault, of_text, of_cert}
+use Rattle.fuzzy_meaning.specs.SameBlocks.{IsSameBlock}
+use Rattle.cert_check.specs.SameBlocks.{SameBlocksAnswerAlike}
+use Rattle.build_commands.specs.Certs.{AcceptsCert, HasCertFault, cert_refusals, version, status_of}
+use Rattle.fz_status.specs.Refusals.{IsRefusal}
+use Rattle.fz_status.specs.declared.status.CertRefusal.{CertRefusal}
+use Rattle.fz_status.specs.declared.status.CertRefusal.TheVariants as told
+use Rattle.fz_status.specs.declared.status.Status.{Status}
+
+few_versions : (width : Width) → version width ≤ 2
+few_versions Byte = omega arith
+few_versions Word = omega arith
+
+abbrev refusal_of : CertRefusal → TheRefusal
+refusal_of (told.Text f) = refusal.Text f
+refusal_of (told.Check f) = refusal.Check f
+
+has_refusal : (width : Width) (block : Block) (text : List ℕ) (f : CertRefusal) → HasCertFault width block text f
+    → HasTextFault block (parts width) (version width) text (refusal_of f)
+has_refusal width block text (told.Text f) h = h
+has_refusal width block text (told.Check f) h = h
+
+pub cert_apart : TextAnswersAreOne → SameBlocksAnswerAlike → (width : Width) (text errors : List ℕ)
+    (block other : Block) → IsValid block → IsSameBlock other block
+    → AcceptsCert width block text errors → (f : CertRefusal) → HasCertFault width other text f → ⊥
+cert_apart answers alike width text errors block other valid blocks accepts f fault =
+    let refused = alike other block (parts width) (version width) text (Err (refusal_of f)) blocks (has_refusal width other text f fault) in
+    let same : Ok errors ≡ Err (refusal_of f) = answers block (parts width) (version width) text (Ok errors) (Err (refusal_of f)) valid (few_versions width) accepts refused in
+    cc
+
+-- ---- a refusal is no want of memory
+
+text_carries : (v : ℕ) (text : List ℕ) (f : CertFault) → HasFault v text f → f ≢ cert.Memory
+text_carries v text _ (bad_version some none) e = cc
+text_carries v text _ (no_version none) e = cc
+text_carries v text _ (bad_claims rest is none) e = cc
+text_carries v text _ (no_claims is) e = cc
+text_carries v text _ (bad_node claims nodes n rest begins none) e = cc
+text_carries v text _ (left_open claims nodes n begins some) e = cc
+text_carries v text _ (late claims nodes node behind begins good) e = cc
+text_carries v text _ (many_leaves claims nodes n pairs behind begins good some all) e = cc
+
+pair_carries : (b : Block) (box : List Interval) (o : ℕ) (leaf : the.Leaf) (line : ℕ) (f : CheckFault)
+    → IsPairFault b box o leaf line f → f ≢ check.Memory
+pair_carries b box o leaf line _ (bad_rule none) e = cc
+pair_carries b box o leaf line _ (fails g pair h) e = cc
+
+tree_carries : (b : Block) (nodes : List Node) (f : CheckFault) → HasTreeFault b nodes f → f ≢ check.Memory
+tree_carries b nodes _ (bad_cut box i c rest r none) e = cc
+tree_carries b nodes f (bad_leaf box pairs rest g r h) e = pair_carries b _ h.output h.leaf _ f h.is e
+
+check_carries : (b : Block) (h : ℕ) (c : Cert) (f : CheckFault) → HasCheckFault b h c f → f ≢ check.Memory
+check_carries b h c _ (outputs differ) e = cc
+check_carries b h c f (tree g count t) e = tree_carries b c.nodes f t e
+check_carries b h c _ (claimed es k over count a) e = cc
+
+-- ---- the checker's answer as a status
+
+pub as_errors : (P : List ℕ → Type 0) (answer : Result (Vec ℕ) TheRefusal) (result : Result (Vec ℕ) Status)
+    → IfOk result (λ es. answer ≡ Ok es) → IfOk answer (λ es. P es.items) → IfOk result (λ es. P es.items)
+as_errors P answer (Err s) same h = tt
+as_errors P answer (Ok es) same h = subst (λ a. IfOk a (λ fs. P fs.items)) same h
+
+as_refusal : (width : Width) (block : Block) (text : List ℕ) (r : TheRefusal)
+    → (r ≢ refusal.Memory → HasTextFault block (parts width) (version width) text r)
+    → IsRefusal (cert_refusals width block text) (status_of r)
+as_refusal width block text refusal.Memory h = tt
+as_refusal width block text (refusal.Text f) h = let is = h (λ e. let z : ⊥ = cc in z) in (text_is is, is)
+  where
+    text_is : HasTextFault block (parts width) (version width) text (refusal.Text f) → f ≢ cert.Memory
+    text_is (of_text g fault) = text_carries (version width) text g fault
+as_refusal width block text (refusal.Check f) h = let is = h (λ e. let z : ⊥ = cc in z) in (check_is is, is)
+  where
+    check_is : HasTextFault block (parts width) (version width) text (refusal.Check f) → f ≢ check.Memory
+    check_is (of_cert c g spelled fault) = check_carries block (parts width) c g fault
+
+pub as_status : (width w : Width) (block : Block) (text : List ℕ) (answer : Result (Vec ℕ) TheRefusal)
+    (result : Result (Vec ℕ) Status) → w ≡ width
+    → IfErr result (λ s. (r : TheRefusal) × (answer ≡ Err r) × (s ≡ status_of r))
+    → IfErr answer (λ r. r ≢ refusal.Memory → HasTextFault block (parts width) (version width) text r)
+    → IfErr result (IsRefusal (cert_refusals w block text))
+as_status width w block text answer (Ok es) at same h = tt
+as_status width w block text answer (Err s) at (r, is, told) h =
+    subst (λ v. IsRefusal (cert_refusals v block text) s) (sym at)
+    (subst (λ x. IsRefusal (cert_refusals width block text) x) (sym told)
+    (as_refusal width block text r (subst (λ a. IfErr a (λ q. q ≢ refusal.Memory → HasTextFault block (parts width) (version width) text q)) is h)))

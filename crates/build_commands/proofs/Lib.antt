@@ -1,0 +1,6 @@
+pub mod Algebra
+pub mod CertLemmas
+pub mod ImageLemmas
+pub mod LineLemmas
+pub mod NumberLemmas
+pub mod WrittenLemmas

@@ -1,0 +1,34 @@
+-- The command `asm SRC OUT`.
+use Rattle.std.specs.Prelude.{◌≡◌, ℕ, List, [], ◌∷◌, length, codes, Some, Result, Ok, Err}
+use Rattle.cpu12_asm.specs.Bytes.{IsAscending, start_of}
+use Rattle.cpu12_asm.specs.Sources.{Assembles, assembled}
+use Rattle.cpu12_asm.specs.declared.image.Image.{Image}
+use Rattle.srecord.specs.Images.{ImageText}
+use Rattle.build_commands.specs.Deeds.{Deed}
+use Rattle.build_commands.specs.Lines.{line}
+use Rattle.fz_status.specs.Refusals.{Refusals, Refuses}
+use Rattle.fz_status.specs.declared.status.Status.{Status}
+use Rattle.fz_status.specs.declared.status.Status.TheVariants as status
+
+-- SRC
+abbrev pub asm_inputs : List ℕ
+asm_inputs = 2 ∷ []
+
+-- the source gives an image, and OUT is to hold its records; the line says how many bytes it has
+pub record AsmGives (source : List ℕ) (deed : Deed) : Type 0 where
+  pub image : Image
+  pub assembles : Assembles source image.bytes
+  pub ascending : IsAscending image.bytes
+  pub start : image.start ≡ start_of image.bytes
+  pub records : List ℕ
+  pub text : ImageText image.bytes image.start records
+  pub deed_is : deed ≡ record { text = line (codes "bytes ") (length image.bytes); file = Some (3, records) }
+
+-- why a source gives none
+abbrev pub source_refusals : List ℕ → Refusals
+source_refusals source (status.Asm f) = assembled source ≡ Err f
+source_refusals source s = ⊥
+
+abbrev pub AsmMakes : List ℕ → Result Deed Status → Type 0
+AsmMakes source (Ok deed) = AsmGives source deed
+AsmMakes source (Err s) = Refuses (source_refusals source) s

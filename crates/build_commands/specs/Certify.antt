@@ -1,0 +1,83 @@
+-- The commands `certify FCL TARGET OUT` and `certify16 FCL TARGET OUT`.
+use Rattle.std.specs.Prelude.{◌≡◌, ◌≤◌, ℕ, List, [], ◌∷◌, ◌++◌, All, codes, Option, Some, option_map, Result, Ok, Err}
+use Rattle.fuzzy_meaning.specs.Blocks.{IsValid}
+use Rattle.fuzzy_meaning.specs.SameBlocks.{IsSameBlock}
+use Rattle.fuzzy_meaning.specs.declared.block.Block.{Block}
+use Rattle.codegen.specs.Widths.{parts}
+use Rattle.codegen.specs.declared.firmware.Firmware.{Firmware}
+use Rattle.codegen.specs.declared.width.Width.{Width}
+use Rattle.box_tree.specs.Certificates.{CertText}
+use Rattle.box_tree.specs.Trees.{leaf_count}
+use Rattle.box_tree.specs.declared.cert.Cert.{Cert}
+use Rattle.error_certifier.specs.Halving.{IsHalving, StopsAt}
+use Rattle.error_certifier.specs.Laws.{SaysOutOfReach}
+use Rattle.error_certifier.specs.declared.certifier.NotReached.{NotReached}
+use Rattle.fz_status.specs.Refusals.{Refusals, Refuses}
+use Rattle.fz_status.specs.Words.{Text, word_at}
+use Rattle.fz_status.specs.declared.status.Status.{Status}
+use Rattle.fz_status.specs.declared.status.Status.TheVariants as status
+use Rattle.build_commands.specs.Certs.{version}
+use Rattle.build_commands.specs.Deeds.{Deed}
+use Rattle.build_commands.specs.Firmwares.{GivesFirmware, RefusesText}
+use Rattle.build_commands.specs.Lines.{counted, error_line, line}
+use Rattle.build_commands.specs.Words.{number_of}
+use Rattle.build_commands.specs.declared.certify.Certify.{Certify}
+
+abbrev pub certify_with : Width → ℕ → Certify
+certify_with width target = record { width = width; target = target }
+
+-- the command of the words, where TARGET is of its form
+abbrev pub certify_in : Width → List Text → Option Certify
+certify_in width words = option_map (certify_with width) (number_of (word_at words 3))
+
+-- FCL
+abbrev pub certify_inputs : List ℕ
+certify_inputs = 2 ∷ []
+
+-- ---- its lines: the error of each output, and how many leaves the certificate has
+
+abbrev pub certify_lines : List ℕ → ℕ → List ℕ
+certify_lines errors leaves = counted error_line 1 errors ++ line (codes "leaves ") leaves
+
+-- ---- what it makes of its file
+
+-- the text gives firmware with answers of this width, the certificate is that of the halving of its block, with
+-- errors of at most the target, and OUT is to hold the certificate's text
+pub record CertifyGives (certify : Certify) (text : List ℕ) (deed : Deed) : Type 0 where
+  pub block : Block
+  pub firmware : Firmware
+  pub gives : GivesFirmware certify.width text block firmware
+  pub cert : Cert
+  pub halving : IsHalving block (parts certify.width) certify.target cert
+  pub within : All (λ error. error ≤ certify.target) cert.claims
+  pub out : List ℕ
+  pub spelled : CertText (version certify.width) out cert
+  pub deed_is : deed ≡ record { text = certify_lines cert.claims (leaf_count cert.nodes); file = Some (4, out) }
+
+-- halving stops so, and for a cell no certificate that is accepted has a smaller error
+pub record StopsHalving (width : Width) (target : ℕ) (block : Block) (stop : NotReached) : Type 0 where
+  pub stops : StopsAt block (parts width) target stop
+  pub out_of_reach : SaysOutOfReach block (parts width) target stop
+
+-- why its file is refused: the text first
+abbrev pub target_refusals : Width → ℕ → Block → Refusals
+target_refusals width target block (status.NotReached stop) = StopsHalving width target block stop
+target_refusals width target block s = ⊥
+
+abbrev pub certify_refusals : Certify → List ℕ → Refusals
+certify_refusals certify text (status.Fcl f) = RefusesText text f
+certify_refusals certify text (status.NotReached stop) =
+    (block : Block) × (firmware : Firmware) × GivesFirmware certify.width text block firmware
+    × StopsHalving certify.width certify.target block stop
+certify_refusals certify text s = ⊥
+
+abbrev pub CertifyMakes : Certify → List ℕ → Result Deed Status → Type 0
+CertifyMakes certify text (Ok deed) = CertifyGives certify text deed
+CertifyMakes certify text (Err s) = Refuses (certify_refusals certify text) s
+
+-- halving does not stop at a block that is the same as one with a certificate of it
+abbrev pub HalvedBlocksDoNotStop : Type 0
+HalvedBlocksDoNotStop =
+    (width : Width) (target : ℕ) (block other : Block) (cert : Cert) (stop : NotReached)
+    → IsValid block → IsSameBlock other block
+    → IsHalving block (parts width) target cert → StopsHalving width target other stop → ⊥

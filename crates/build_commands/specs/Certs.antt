@@ -1,0 +1,53 @@
+-- Certificates of a text's block.
+use Rattle.std.specs.Prelude.{ℕ, List}
+use Rattle.fuzzy_meaning.specs.declared.block.Block.{Block}
+use Rattle.codegen.specs.Widths.{parts}
+use Rattle.codegen.specs.declared.firmware.Firmware.{Firmware}
+use Rattle.codegen.specs.declared.width.Width.{Width}
+use Rattle.codegen.specs.declared.width.Width.TheVariants.{Byte, Word}
+use Rattle.cert_check.specs.TextFaults.{IsAcceptedText, HasTextFault}
+use Rattle.cert_check.specs.declared.text.TextFault.{TextFault as TheRefusal}
+use Rattle.cert_check.specs.declared.text.TextFault.TheVariants as refusal
+use Rattle.fcl_check.specs.Texts.{SpellsBlock}
+use Rattle.build_commands.specs.Firmwares.{GivesFirmware}
+use Rattle.fz_status.specs.Refusals.{Refusals}
+use Rattle.fz_status.specs.declared.status.CertRefusal.{CertRefusal}
+use Rattle.fz_status.specs.declared.status.CertRefusal.TheVariants as told
+use Rattle.fz_status.specs.declared.status.Status.{Status}
+use Rattle.fz_status.specs.declared.status.Status.TheVariants as status
+
+-- the version of the texts of certificates for answers of this width
+abbrev pub version : Width → ℕ
+version Byte = 1
+version Word = 2
+
+-- CERT is a certificate that is accepted for the block's answers of this width, with these errors
+abbrev pub AcceptsCert : Width → Block → List ℕ → List ℕ → Type 0
+AcceptsCert width block cert errors = IsAcceptedText block (parts width) (version width) cert errors
+
+-- why the block refuses it
+abbrev pub HasCertFault : Width → Block → List ℕ → CertRefusal → Type 0
+HasCertFault width block cert (told.Text f) = HasTextFault block (parts width) (version width) cert (refusal.Text f)
+HasCertFault width block cert (told.Check f) = HasTextFault block (parts width) (version width) cert (refusal.Check f)
+
+abbrev pub cert_refusals : Width → Block → List ℕ → Refusals
+cert_refusals width block cert (status.Cert f) = HasCertFault width block cert f
+cert_refusals width block cert s = ⊥
+
+-- why CERT is refused, the text giving firmware
+abbrev pub RefusesCert : Width → List ℕ → List ℕ → CertRefusal → Type 0
+RefusesCert width text cert f =
+    (block : Block) × (firmware : Firmware) × GivesFirmware width text block firmware × HasCertFault width block cert f
+
+-- the status that tells a refusal
+abbrev pub status_of : TheRefusal → Status
+status_of (refusal.Text f) = status.Cert (told.Text f)
+status_of (refusal.Check f) = status.Cert (told.Check f)
+status_of refusal.Memory = status.Memory
+
+-- a certificate that one block of a text accepts is refused by none
+abbrev pub AcceptedCertsHaveNoFault : Type 0
+AcceptedCertsHaveNoFault =
+    (width : Width) (text cert errors : List ℕ) (block other : Block) (f : CertRefusal)
+    → SpellsBlock text block → SpellsBlock text other
+    → AcceptsCert width block cert errors → HasCertFault width other cert f → ⊥

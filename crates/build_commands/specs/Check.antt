@@ -1,0 +1,47 @@
+-- The commands `check FCL CERT` and `check16 FCL CERT`.
+use Rattle.std.specs.Prelude.{◌≡◌, ℕ, List, [], ◌∷◌, ◌++◌, codes, None, Result, Ok, Err}
+use Rattle.fuzzy_meaning.specs.declared.block.Block.{Block}
+use Rattle.codegen.specs.Bounds.{instruction_bound}
+use Rattle.codegen.specs.declared.firmware.Firmware.{Firmware}
+use Rattle.codegen.specs.declared.width.Width.{Width}
+use Rattle.build_commands.specs.Certs.{AcceptsCert, RefusesCert}
+use Rattle.build_commands.specs.Deeds.{Deed}
+use Rattle.build_commands.specs.Firmwares.{GivesFirmware, RefusesText}
+use Rattle.build_commands.specs.Lines.{counted, error_line, line}
+use Rattle.fz_status.specs.Refusals.{Refusals, Refuses}
+use Rattle.build_commands.specs.declared.check.Check.{Check}
+use Rattle.fz_status.specs.declared.status.Status.{Status}
+use Rattle.fz_status.specs.declared.status.Status.TheVariants as status
+
+abbrev pub check_in : Width → Check
+check_in width = record { width = width }
+
+-- FCL and CERT
+abbrev pub check_inputs : List ℕ
+check_inputs = 2 ∷ 3 ∷ []
+
+-- ---- its lines: the error of each output, and the bound on instructions
+
+abbrev pub check_lines : List ℕ → ℕ → List ℕ
+check_lines errors instructions = counted error_line 1 errors ++ line (codes "instructions ") instructions
+
+-- ---- what it makes of its files
+
+-- the text gives firmware with answers of this width, and CERT is a certificate that is accepted with these errors
+pub record CheckGives (check : Check) (text cert : List ℕ) (deed : Deed) : Type 0 where
+  pub block : Block
+  pub firmware : Firmware
+  pub gives : GivesFirmware check.width text block firmware
+  pub errors : List ℕ
+  pub accepts : AcceptsCert check.width block cert errors
+  pub deed_is : deed ≡ record { text = check_lines errors (instruction_bound check.width block); file = None }
+
+-- why its files are refused: the text first
+abbrev pub check_refusals : Check → List ℕ → List ℕ → Refusals
+check_refusals check text cert (status.Fcl f) = RefusesText text f
+check_refusals check text cert (status.Cert f) = RefusesCert check.width text cert f
+check_refusals check text cert s = ⊥
+
+abbrev pub CheckMakes : Check → List ℕ → List ℕ → Result Deed Status → Type 0
+CheckMakes check text cert (Ok deed) = CheckGives check text cert deed
+CheckMakes check text cert (Err s) = Refuses (check_refusals check text cert) s

@@ -1,0 +1,33 @@
+-- What a command leaves to be written and put.
+use Rattle.std.specs.Prelude.{ℕ, List, Option, option_map, Result, Ok, Err}
+use Rattle.fz_shelf.specs.Lines.{text_of}
+use Rattle.fz_status.specs.declared.status.Status.{Status}
+use Rattle.fz_status.specs.declared.status.Status.TheVariants as status
+use Rattle.build_commands.specs.declared.work.Work.{Work}
+
+-- the text for out, and the word of the file to write with its bytes
+pub record Deed : Type 0 where
+  pub text : List ℕ
+  pub file : Option (ℕ × List ℕ)
+
+abbrev pub deed_of : Work → Deed
+deed_of w = record { text = text_of w.lines.items; file = option_map (λ p. (p.0, p.1.items)) w.file }
+
+-- what makes a deed makes no fault
+abbrev pub DeedHasNoFault : (Result Deed Status → Type 0) → Type 0
+DeedHasNoFault makes = (deed : Deed) (s : Status) → makes (Ok deed) → makes (Err s) → ⊥
+
+-- the fault is one that comes of the contents, or want of memory
+abbrev pub IsFaultOf : (Result Deed Status → Type 0) → Status → Type 0
+IsFaultOf makes status.Ok = ⊥
+IsFaultOf makes status.Usage = ⊥
+IsFaultOf makes (status.ReadFault p) = ⊥
+IsFaultOf makes status.WriteFault = ⊥
+IsFaultOf makes (status.TooLong p) = ⊥
+IsFaultOf makes status.Memory = Unit {0}
+IsFaultOf makes s = makes (Err s)
+
+-- what is made, or one of its faults, or want of memory
+abbrev pub IsResultOf : (Result Deed Status → Type 0) → Result Work Status → Type 0
+IsResultOf makes (Ok w) = makes (Ok (deed_of w))
+IsResultOf makes (Err s) = IsFaultOf makes s

@@ -1,0 +1,52 @@
+-- The block and the firmware of a text.
+use Rattle.std.specs.Prelude.{◌≡◌, ℕ, false, List}
+use Rattle.fuzzy_meaning.specs.declared.block.Block.{Block}
+use Rattle.rule_layout.specs.Layouts.{IsWithinLimits, IsFaultOf as IsLayoutFault}
+use Rattle.codegen.specs.Firmwares.{IsFirmwareOf}
+use Rattle.codegen.specs.Mailboxes.{IsMailboxOf}
+use Rattle.codegen.specs.Watched.{IsWatchedFirmwareOf}
+use Rattle.codegen.specs.declared.firmware.Firmware.{Firmware}
+use Rattle.codegen.specs.declared.width.Width.{Width}
+use Rattle.codegen.specs.Widths.{is_wide}
+use Rattle.fcl_syntax.specs.Text.{IsFirstFault}
+use Rattle.fcl_check.specs.Texts.{SpellsBlock, HasLoadFault}
+use Rattle.fz_status.specs.Refusals.{CarriesNoMemory, Refusals}
+use Rattle.fz_status.specs.declared.status.FclFault.{FclFault}
+use Rattle.fz_status.specs.declared.status.FclFault.TheVariants as fcl
+use Rattle.fz_status.specs.declared.status.Status.TheVariants as status
+
+-- the block is the text's, it can be laid out, and the firmware is the block's, with answers of this width
+pub record GivesFirmware (width : Width) (text : List ℕ) (block : Block) (firmware : Firmware) : Type 0 where
+  pub spelled : SpellsBlock text block
+  pub limits : IsWithinLimits block
+  pub compiled : IsFirmwareOf block firmware
+  pub wide : firmware.wide ≡ is_wide width
+
+-- the same for its firmware in the mailbox form, which answers bytes
+pub record GivesMailbox (text : List ℕ) (block : Block) (firmware : Firmware) : Type 0 where
+  pub spelled : SpellsBlock text block
+  pub limits : IsWithinLimits block
+  pub compiled : IsMailboxOf block firmware
+  pub narrow : firmware.wide ≡ false
+
+-- the same for firmware that watches its tables
+pub record GivesWatched (text : List ℕ) (block : Block) (firmware : Firmware) : Type 0 where
+  pub spelled : SpellsBlock text block
+  pub limits : IsWithinLimits block
+  pub compiled : IsWatchedFirmwareOf block firmware
+
+-- why a text gives no firmware, in any form
+abbrev pub RefusesText : List ℕ → FclFault → Type 0
+RefusesText text (fcl.Syntax f) = IsFirstFault text f
+RefusesText text (fcl.Load f) = HasLoadFault text f
+RefusesText text (fcl.Layout f) = (block : Block) × SpellsBlock text block × IsLayoutFault block f
+
+abbrev pub text_refusals : List ℕ → Refusals
+text_refusals text (status.Fcl f) = RefusesText text f
+text_refusals text s = ⊥
+
+-- a text that spells a block within the limits is not refused
+abbrev pub SpelledTextsHaveNoFault : Type 0
+SpelledTextsHaveNoFault =
+    (text : List ℕ) (block : Block) (f : FclFault) → SpellsBlock text block → IsWithinLimits block
+    → CarriesNoMemory (status.Fcl f) → RefusesText text f → ⊥

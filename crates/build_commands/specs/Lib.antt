@@ -1,0 +1,15 @@
+pub mod Asm
+pub mod Certify
+pub mod Certs
+pub mod Check
+pub mod Compile
+pub mod Contents
+pub mod Deeds
+pub mod Exec
+pub mod Firmwares
+pub mod Hcheck
+pub mod Images
+pub mod Lines
+pub mod Mcompile
+pub mod Scompile
+pub mod Words

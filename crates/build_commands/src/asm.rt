@@ -1,0 +1,56 @@
+//! The command `asm SRC OUT`.
+ghost use Rattle.std.specs.Prelude.{◌≡◌, ◌≤◌, length, IfOk, List, ℕ};
+ghost use Rattle.fz_shelf.specs.Lines.{text_of};
+ghost use Rattle.std.specs.Prelude.{codes};
+ghost use Rattle.build_commands.specs.Deeds.{DeedHasNoFault, IsResultOf};
+ghost use Rattle.build_commands.specs.Lines.{line};
+ghost use Rattle.build_commands.specs.Asm.{AsmMakes};
+
+use crate::lines::labelled;
+use crate::work::Work;
+use cpu12_asm::{AsmFault, Image, assemble};
+use fz_status::Status;
+use std::alloc::{AllocError, Global};
+
+/// The word SRC.
+pub static INPUTS: [u32; 1] = [2];
+
+/// The place of the word OUT.
+const OUT: u32 = 3;
+
+/// Assembles the source, and writes down the records of its image and how many bytes that has.
+pub fn work(alloc: Global, source: &[u8]) -> Result<Work, Status>
+    requires { length source.now ≤ 1048576 }
+    ensures { IsResultOf (AsmMakes source.now) result }
+{
+    let image = match assemble(alloc, source) {
+        Ok(image) => image,
+        Err(AsmFault::Memory) => return Err(Status::Memory),
+        Err(fault) => return Err(Status::Asm(fault)),
+    };
+    let records = match srecord::write(alloc, &image) {
+        Ok(records) => records,
+        Err(_) => return Err(Status::Memory),
+    };
+    match lines(alloc, &image) {
+        Ok(lines) => Ok(Work {
+            lines,
+            file: Some((OUT, records)),
+        }),
+        Err(_) => Err(Status::Memory),
+    }
+}
+
+/// How many bytes the image has.
+fn lines(alloc: Global, image: &Image) -> Result<Vec<String>, AllocError>
+    ensures { IfOk result (λ lines. text_of lines.items ≡ line (codes "bytes ") (length image.now.bytes)) }
+{
+    let mut lines = Vec::new(alloc);
+    lines.push(labelled(alloc, "bytes ", image.bytes.len() as u128)?)?;
+    Ok(lines)
+}
+
+/// A source that makes a deed makes no fault.
+pub fn assembled_sources_have_no_fault()
+    ensures { (source : List ℕ) → DeedHasNoFault (AsmMakes source) }
+{}

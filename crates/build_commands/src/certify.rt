@@ -1,0 +1,162 @@
+//! The commands `certify FCL TARGET OUT` and `certify16 FCL TARGET OUT`.
+ghost use Rattle.std.specs.Prelude.{◌≡◌, ◌≤◌, length, All, IfOk, IfErr, List, ℕ};
+ghost use Rattle.fuzzy_meaning.specs.Blocks.{IsValid};
+ghost use Rattle.codegen.specs.Widths.{parts};
+ghost use Rattle.box_tree.specs.Certificates.{CertText, IsCert};
+ghost use Rattle.box_tree.specs.Trees.{leaf_count};
+ghost use Rattle.error_certifier.specs.Halving.{IsHalving};
+ghost use Rattle.fz_shelf.specs.Lines.{text_of};
+ghost use Rattle.fz_status.specs.Refusals.{IsRefusal};
+ghost use Rattle.fz_status.specs.Words.{texts_of};
+ghost use Rattle.build_commands.specs.Certs.{version};
+ghost use Rattle.build_commands.specs.Certify.{CertifyMakes, certify_in, certify_lines, target_refusals};
+ghost use Rattle.build_commands.specs.Certify.{HalvedBlocksDoNotStop};
+ghost use Rattle.build_commands.specs.Deeds.{DeedHasNoFault, IsResultOf};
+ghost use Rattle.build_commands.specs.declared.certify.Certify.{Certify as TheCertify};
+
+use crate::firmware::{firmware_of, spelled_texts_have_no_fault};
+use crate::lines::{labelled, push_errors};
+use crate::words::{Number, number_in};
+use crate::work::Work;
+use box_tree::{Cert, Node};
+use codegen::Width;
+use error_certifier::{NotReached, answers_are_one, same_blocks_stop_alike};
+use fcl_check::spelled_blocks_are_one;
+use fuzzy_meaning::Block;
+use fz_status::{Status, word};
+use std::alloc::{AllocError, Global};
+
+/// `certify FCL TARGET OUT`, and `certify16 FCL TARGET OUT` for answers of 16 bits.
+#[derive(Clone, Copy, Debug, PartialEq, Eq)]
+pub struct Certify {
+    /// How wide the firmware's answers are.
+    width: Width,
+    /// The error that no output is to pass, in millionths of its range.
+    target: Number,
+}
+
+/// The word FCL.
+pub static INPUTS: [u32; 1] = [2];
+
+/// The place of the word OUT.
+const OUT: u32 = 4;
+
+impl Certify {
+    /// The command of these words.
+    pub fn of(width: Width, words: &[String]) -> Option<Certify>
+        ensures { result ≡ certify_in width (texts_of words.now) }
+    {
+        match number_in(word(words, 3)) {
+            Some(target) => Some(Certify { width, target }),
+            None => None,
+        }
+    }
+
+    /// Halves the boxes of the text's block until each has leaves within the target, and writes down
+    /// the certificate, the error of each output and the number of leaves.
+    pub fn work(self, alloc: Global, fcl: &[u8]) -> Result<Work, Status>
+        requires { length fcl.now ≤ 1048576 }
+        ensures { IsResultOf (CertifyMakes self fcl.now) result }
+    {
+        let width = self.width;
+        let compiled = match firmware_of(alloc, width, fcl) {
+            Ok(compiled) => compiled,
+            Err(status) => return Err(status),
+        };
+        let cert = match halved(alloc, width, self.target.get(), &compiled.block) {
+            Ok(cert) => cert,
+            Err(status) => return Err(status),
+        };
+        let text = match text_of_cert(alloc, width, &cert) {
+            Ok(text) => text,
+            Err(status) => return Err(status),
+        };
+        match lines(alloc, &cert) {
+            Ok(lines) => Ok(Work {
+                lines,
+                file: Some((OUT, text)),
+            }),
+            Err(_) => Err(Status::Memory),
+        }
+    }
+}
+
+/// The certificate of a block's halving, for answers of this width.
+pub fn halved(alloc: Global, width: Width, target: u32, block: &Block) -> Result<Cert, Status>
+    requires block { IsValid block.now }
+    requires target { target ≤ 1000000 }
+    ensures halving { IfOk result (IsHalving block.now (parts width) target) }
+    ensures within { IfOk result (λ cert. All (λ error. error ≤ target) cert.claims) }
+    ensures cert { IfOk result IsCert }
+    ensures stops { IfErr result (IsRefusal (target_refusals width target block.now)) }
+{
+    let answer = match width {
+        Width::Byte => error_certifier::certify(alloc, block, target),
+        Width::Word => error_certifier::certify16(alloc, block, target),
+    };
+    match answer {
+        Ok(cert) => Ok(cert),
+        Err(NotReached::Memory) => Err(Status::Memory),
+        Err(stop) => Err(Status::NotReached(stop)),
+    }
+}
+
+/// The text of a certificate for answers of this width.
+fn text_of_cert(alloc: Global, width: Width, cert: &Cert) -> Result<Vec<u8>, Status>
+    requires { IsCert cert.now }
+    ensures text { IfOk result (λ text. CertText (version width) text.items cert.now) }
+    ensures memory { IfErr result (λ status. status ≡ Status.Memory) }
+{
+    let text = match width {
+        Width::Byte => box_tree::write(alloc, cert),
+        Width::Word => box_tree::write16(alloc, cert),
+    };
+    match text {
+        Ok(text) => Ok(text),
+        Err(_) => Err(Status::Memory),
+    }
+}
+
+fn count_of_leaves(nodes: &[Node]) -> u64
+    requires { leaf_count nodes.now ≤ 4096 }
+    ensures { result ≡ leaf_count nodes.now }
+{
+    let mut count = 0;
+    for k in (0..nodes.len()).rev() {
+        if let Node::Leaf(_) = nodes[k] {
+            count += 1;
+        }
+    }
+    count
+}
+
+/// The error of each output, and the number of leaves.
+fn lines(alloc: Global, cert: &Cert) -> Result<Vec<String>, AllocError>
+    requires { IsCert cert.now }
+    ensures { IfOk result (λ lines. text_of lines.items ≡
+        certify_lines cert.now.claims (leaf_count cert.now.nodes)) }
+{
+    let errors = cert.claims.as_slice();
+    let nodes = cert.nodes.as_slice();
+    let mut lines = Vec::new(alloc);
+    push_errors(alloc, &mut lines, errors)?;
+    lines.push(labelled(alloc, "leaves ", u128::from(count_of_leaves(nodes)))?)?;
+    Ok(lines)
+}
+
+/// Halving does not stop at a block that is the same as one with a certificate of it.
+pub fn halved_blocks_do_not_stop()
+    ensures { HalvedBlocksDoNotStop }
+{
+    same_blocks_stop_alike();
+    answers_are_one()
+}
+
+/// A text that makes a deed makes no fault.
+pub fn certified_texts_have_no_fault()
+    ensures { (certify : TheCertify) (text : List ℕ) → DeedHasNoFault (CertifyMakes certify text) }
+{
+    spelled_texts_have_no_fault();
+    spelled_blocks_are_one();
+    halved_blocks_do_not_stop()
+}

@@ -1,0 +1,65 @@
+//! The commands `check FCL CERT` and `check16 FCL CERT`.
+ghost use Rattle.std.specs.Prelude.{◌≡◌, ◌≤◌, length, IfOk, List, ℕ};
+ghost use Rattle.fz_shelf.specs.Lines.{text_of};
+ghost use Rattle.build_commands.specs.Deeds.{DeedHasNoFault, IsResultOf};
+ghost use Rattle.build_commands.specs.Check.{CheckMakes, check_lines};
+ghost use Rattle.build_commands.specs.declared.check.Check.{Check as TheCheck};
+
+use crate::certs::{accepted_certs_have_no_fault, errors_under};
+use crate::firmware::{firmware_of, spelled_texts_have_no_fault};
+use crate::lines::{labelled, push_errors};
+use crate::work::Work;
+use codegen::Width;
+use fz_status::Status;
+use std::alloc::{AllocError, Global};
+
+/// `check FCL CERT`, and `check16 FCL CERT` for answers of 16 bits.
+#[derive(Clone, Copy, Debug, PartialEq, Eq)]
+pub struct Check {
+    /// How wide the firmware's answers are.
+    pub width: Width,
+}
+
+/// The words FCL and CERT.
+pub static INPUTS: [u32; 2] = [2, 3];
+
+impl Check {
+    /// Checks the certificate against the text's block, and writes down the error of each output and
+    /// the bound on instructions.
+    pub fn work(self, alloc: Global, fcl: &[u8], cert: &[u8]) -> Result<Work, Status>
+        requires fcl { length fcl.now ≤ 1048576 }
+        requires cert { length cert.now ≤ 1048576 }
+        ensures { IsResultOf (CheckMakes self fcl.now cert.now) result }
+    {
+        let compiled = match firmware_of(alloc, self.width, fcl) {
+            Ok(compiled) => compiled,
+            Err(status) => return Err(status),
+        };
+        let errors = match errors_under(alloc, self.width, &compiled.block, cert) {
+            Ok(errors) => errors,
+            Err(status) => return Err(status),
+        };
+        match lines(alloc, errors.as_slice(), compiled.firmware.instr_bound) {
+            Ok(lines) => Ok(Work { lines, file: None }),
+            Err(_) => Err(Status::Memory),
+        }
+    }
+}
+
+/// The error of each output, and the bound on instructions.
+fn lines(alloc: Global, errors: &[u32], instructions: u32) -> Result<Vec<String>, AllocError>
+    ensures { IfOk result (λ lines. text_of lines.items ≡ check_lines errors.now instructions) }
+{
+    let mut lines = Vec::new(alloc);
+    push_errors(alloc, &mut lines, errors)?;
+    lines.push(labelled(alloc, "instructions ", u128::from(instructions))?)?;
+    Ok(lines)
+}
+
+/// A text and a certificate that make a deed make no fault.
+pub fn checked_certs_have_no_fault()
+    ensures { (check : TheCheck) (text cert : List ℕ) → DeedHasNoFault (CheckMakes check text cert) }
+{
+    spelled_texts_have_no_fault();
+    accepted_certs_have_no_fault()
+}

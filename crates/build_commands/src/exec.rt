@@ -1,0 +1,99 @@
+//! The command `exec IMAGE STEPS FLAGS`.
+ghost use Rattle.std.specs.Prelude.{◌≡◌, ◌≤◌, length, string_bytes, IfOk, List, ℕ};
+ghost use Rattle.fz_shelf.specs.Lines.{text_of};
+ghost use Rattle.build_commands.specs.Deeds.{DeedHasNoFault, IsResultOf};
+ghost use Rattle.build_commands.specs.Exec.{ExecMakes, exec_in, exec_line};
+ghost use Rattle.fz_status.specs.Words.{texts_of};
+ghost use Rattle.build_commands.specs.declared.exec.Exec.{Exec as TheExec};
+
+use crate::images::image_of;
+use crate::lines::{labelled, line_of_registers};
+use crate::words::{flags, number_in};
+use crate::work::Work;
+use cpu12_asm::Image;
+use cpu12_emul::ends::RunEnd;
+use cpu12_emul::laws::{images_load_alike, runs_end_once};
+use cpu12_emul::machine::Machine;
+use cpu12_isa::instr::Regs;
+use cpu12_isa::pages::PageMem;
+use fz_status::{Status, word};
+use srecord::images_are_one;
+use std::alloc::{AllocError, Global};
+
+/// `exec IMAGE STEPS FLAGS`
+#[derive(Clone, Copy, Debug, PartialEq, Eq)]
+pub struct Exec {
+    /// The most steps that are taken.
+    steps: u32,
+    /// The condition codes that the machine leaves open.
+    flags: u8,
+}
+
+/// The word IMAGE.
+pub static INPUTS: [u32; 1] = [2];
+
+impl Exec {
+    /// The command of these words.
+    pub fn of(words: &[String]) -> Option<Exec>
+        ensures { result ≡ exec_in (texts_of words.now) }
+    {
+        let Some(steps) = number_in(word(words, 3)) else {
+            return None;
+        };
+        match flags(word(words, 4)) {
+            Some(flags) => Some(Exec {
+                steps: steps.get(),
+                flags,
+            }),
+            None => None,
+        }
+    }
+
+    /// Runs the image from reset until it branches to itself, and writes down the registers.
+    pub fn work(self, alloc: Global, records: &[u8]) -> Result<Work, Status>
+        requires { length records.now ≤ 1048576 }
+        ensures { IsResultOf (ExecMakes self records.now) result }
+    {
+        let image = match image_of(alloc, records) {
+            Ok(image) => image,
+            Err(status) => return Err(status),
+        };
+        let mut machine = match Machine::<PageMem>::new(alloc, &image, self.flags) {
+            Ok(machine) => machine,
+            Err(_) => return Err(Status::Memory),
+        };
+        match machine.run(self.steps) {
+            RunEnd::Arrived(steps) => match lines(alloc, &machine.regs(), steps) {
+                Ok(lines) => Ok(Work { lines, file: None }),
+                Err(_) => Err(Status::Memory),
+            },
+            RunEnd::Trap(pc, byte) => Err(Status::Trap(pc, byte)),
+            RunEnd::Budget(steps) => Err(Status::Budget(steps)),
+        }
+    }
+}
+
+/// The line of registers, and of how many steps led to them.
+fn line_of(alloc: Global, regs: &Regs, steps: u32) -> Result<String, AllocError>
+    ensures { IfOk result (λ s. string_bytes s ≡ exec_line regs.now steps) }
+{
+    let end = labelled(alloc, " steps ", u128::from(steps))?;
+    line_of_registers(alloc, regs, end.as_str())
+}
+
+fn lines(alloc: Global, regs: &Regs, steps: u32) -> Result<Vec<String>, AllocError>
+    ensures { IfOk result (λ lines. text_of lines.items ≡ exec_line regs.now steps) }
+{
+    let mut lines = Vec::new(alloc);
+    lines.push(line_of(alloc, regs, steps)?)?;
+    Ok(lines)
+}
+
+/// Records that make a deed make no fault.
+pub fn ended_runs_have_no_fault()
+    ensures { (exec : TheExec) (text : List ℕ) → DeedHasNoFault (ExecMakes exec text) }
+{
+    images_are_one();
+    images_load_alike();
+    runs_end_once()
+}

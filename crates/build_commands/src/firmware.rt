@@ -1,0 +1,110 @@
+//! From a text to its block, and to the block's firmware.
+ghost use Rattle.std.specs.Prelude.{◌≡◌, ◌≤◌, length, IfOk, IfErr};
+ghost use Rattle.fcl_check.specs.Texts.{SpellsBlock};
+ghost use Rattle.build_commands.specs.Firmwares.{GivesFirmware, GivesMailbox, GivesWatched, text_refusals};
+ghost use Rattle.build_commands.specs.Firmwares.{SpelledTextsHaveNoFault};
+ghost use Rattle.fz_status.specs.Refusals.{IsRefusal};
+
+use codegen::{Firmware, Width, compile, compile_post, compile_scrub, compile16};
+use fcl_check::{LoadFault, load, load_faults_are_one, spelled_blocks_are_one};
+use fcl_syntax::{SyntaxFault, first_faults_are_one, parse};
+use fuzzy_meaning::Block;
+use fz_status::{FclFault, Status};
+use rule_layout::{LayoutFault, layouts_are_one, limits_have_no_fault};
+use std::alloc::Global;
+
+/// A block with its firmware.
+#[derive(Drop)]
+pub struct Compiled {
+    /// The block that the text spells.
+    pub block: Block,
+    /// The block's firmware.
+    pub firmware: Firmware,
+}
+
+/// The block that the text spells, and that block's firmware with answers of this width. The faults
+/// come in their order: of the grammar, of the block, of the layout.
+pub fn firmware_of(alloc: Global, width: Width, text: &[u8]) -> Result<Compiled, Status>
+    requires { length text.now ≤ 1048576 }
+    ensures gives { IfOk result (λ c. GivesFirmware width text.now c.block c.firmware) }
+    ensures fault { IfErr result (IsRefusal (text_refusals text.now)) }
+{
+    let block = match block_of(alloc, text) {
+        Ok(block) => block,
+        Err(status) => return Err(status),
+    };
+    let firmware = match width {
+        Width::Byte => compile(alloc, &block),
+        Width::Word => compile16(alloc, &block),
+    };
+    match firmware {
+        Ok(firmware) => Ok(Compiled { block, firmware }),
+        Err(LayoutFault::Memory) => Err(Status::Memory),
+        Err(fault) => Err(Status::Fcl(FclFault::Layout(fault))),
+    }
+}
+
+/// The block that the text spells, and that block's firmware in the mailbox form. The faults are the
+/// same.
+pub(crate) fn mailbox_of(alloc: Global, text: &[u8]) -> Result<Compiled, Status>
+    requires { length text.now ≤ 1048576 }
+    ensures gives { IfOk result (λ c. GivesMailbox text.now c.block c.firmware) }
+    ensures fault { IfErr result (IsRefusal (text_refusals text.now)) }
+{
+    let block = match block_of(alloc, text) {
+        Ok(block) => block,
+        Err(status) => return Err(status),
+    };
+    match compile_post(alloc, &block) {
+        Ok(firmware) => Ok(Compiled { block, firmware }),
+        Err(LayoutFault::Memory) => Err(Status::Memory),
+        Err(fault) => Err(Status::Fcl(FclFault::Layout(fault))),
+    }
+}
+
+/// The block that the text spells, and that block's firmware with watched tables. The faults are the
+/// same.
+pub(crate) fn watched_firmware_of(alloc: Global, text: &[u8]) -> Result<Compiled, Status>
+    requires { length text.now ≤ 1048576 }
+    ensures gives { IfOk result (λ c. GivesWatched text.now c.block c.firmware) }
+    ensures fault { IfErr result (IsRefusal (text_refusals text.now)) }
+{
+    let block = match block_of(alloc, text) {
+        Ok(block) => block,
+        Err(status) => return Err(status),
+    };
+    match compile_scrub(alloc, &block) {
+        Ok(firmware) => Ok(Compiled { block, firmware }),
+        Err(LayoutFault::Memory) => Err(Status::Memory),
+        Err(fault) => Err(Status::Fcl(FclFault::Layout(fault))),
+    }
+}
+
+/// The block that the text spells.
+fn block_of(alloc: Global, text: &[u8]) -> Result<Block, Status>
+    requires { length text.now ≤ 1048576 }
+    ensures block { IfOk result (SpellsBlock text.now) }
+    ensures fault { IfErr result (IsRefusal (text_refusals text.now)) }
+{
+    let tree = match parse(alloc, text) {
+        Ok(tree) => tree,
+        Err(SyntaxFault::Memory) => return Err(Status::Memory),
+        Err(fault) => return Err(Status::Fcl(FclFault::Syntax(fault))),
+    };
+    match load(alloc, &tree) {
+        Ok(block) => Ok(block),
+        Err(LoadFault::Memory) => Err(Status::Memory),
+        Err(fault) => Err(Status::Fcl(FclFault::Load(fault))),
+    }
+}
+
+/// A text that spells a block within the limits has no fault.
+pub fn spelled_texts_have_no_fault()
+    ensures { SpelledTextsHaveNoFault }
+{
+    first_faults_are_one();
+    load_faults_are_one();
+    spelled_blocks_are_one();
+    layouts_are_one();
+    limits_have_no_fault()
+}

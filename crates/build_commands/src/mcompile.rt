@@ -1,0 +1,29 @@
+//! The command `mcompile FCL OUT`.
+ghost use Rattle.std.specs.Prelude.{◌≤◌, length, List, ℕ};
+ghost use Rattle.build_commands.specs.Deeds.{DeedHasNoFault, IsResultOf};
+ghost use Rattle.build_commands.specs.Mcompile.{McompileMakes};
+
+use crate::compile::written;
+use crate::firmware::{mailbox_of, spelled_texts_have_no_fault};
+use crate::work::Work;
+use fz_status::Status;
+use std::alloc::Global;
+
+/// Compiles the text in the mailbox form, and writes down the records of the image and its bounds.
+pub fn work(alloc: Global, fcl: &[u8]) -> Result<Work, Status>
+    requires { length fcl.now ≤ 1048576 }
+    ensures { IsResultOf (McompileMakes fcl.now) result }
+{
+    let compiled = match mailbox_of(alloc, fcl) {
+        Ok(compiled) => compiled,
+        Err(status) => return Err(status),
+    };
+    written(alloc, &compiled.firmware)
+}
+
+/// A text that makes a deed makes no fault.
+pub fn mailbox_texts_have_no_fault()
+    ensures { (text : List ℕ) → DeedHasNoFault (McompileMakes text) }
+{
+    spelled_texts_have_no_fault()
+}

@@ -1,0 +1,33 @@
+//! The command `scompile FCL OUT`.
+ghost use Rattle.std.specs.Prelude.{◌≤◌, length, List, ℕ};
+ghost use Rattle.build_commands.specs.Deeds.{DeedHasNoFault, IsResultOf};
+ghost use Rattle.build_commands.specs.Scompile.{ScompileMakes};
+
+use crate::compile::written;
+use crate::firmware::{spelled_texts_have_no_fault, watched_firmware_of};
+use crate::work::Work;
+use fz_status::Status;
+use std::alloc::Global;
+
+/// The word FCL.
+pub static INPUTS: [u32; 1] = [2];
+
+/// Compiles the text to firmware that watches its tables, and writes down the records of its image and
+/// its bounds.
+pub fn work(alloc: Global, fcl: &[u8]) -> Result<Work, Status>
+    requires { length fcl.now ≤ 1048576 }
+    ensures { IsResultOf (ScompileMakes fcl.now) result }
+{
+    let compiled = match watched_firmware_of(alloc, fcl) {
+        Ok(compiled) => compiled,
+        Err(status) => return Err(status),
+    };
+    written(alloc, &compiled.firmware)
+}
+
+/// A text that makes a deed makes no fault.
+pub fn watched_texts_have_no_fault()
+    ensures { (text : List ℕ) → DeedHasNoFault (ScompileMakes text) }
+{
+    spelled_texts_have_no_fault()
+}

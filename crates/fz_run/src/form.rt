@@ -1,0 +1,112 @@
+//! Forms of firmware: what a run is given, and what serves its requests.
+ghost use Rattle.std.specs.Prelude.{ℕ, ◌≡◌, ◌<◌, ◌≤◌, Some, List, length, slice_get, IsTrue};
+ghost use Rattle.cpu12_parts.specs.Cuts.{suspended, wav};
+ghost use Rattle.cpu12_emul.specs.Take.{may_interrupt, frame_seen, frame_of};
+ghost use Rattle.run_law.specs.Forms.{RowSeen};
+ghost use Rattle.fz_run.specs.Forms.{Harness};
+ghost use Rattle.fz_run.specs.Rest.{counted_at, shown_by};
+ghost use Rattle.fz_run.specs.Rows.{writes_harness};
+
+use crate::ports::{answers, give, is_idle};
+use crate::rows::{Row, row_of};
+use crate::sample::Tally;
+use codegen::Firmware;
+use cpu12_emul::ends::Frame;
+use cpu12_emul::machine::Machine;
+use cpu12_isa::mem::Mem;
+use interrupt_plan::Request;
+use trace_io::Sample;
+
+/// A form of firmware with its samples and the handler of its requests, whose runs have rows of type
+/// `R`. No call changes the byte from which open flags are taken.
+pub trait RunForm<R> {
+    /// What the firmware is given.
+    ghost Given: { Type 0 };
+
+    /// What a row shows.
+    ghost Shown: { Type 0 };
+
+    /// The samples, the parts of the form, and what rows show.
+    ghost harness: { Self → Harness R Given Shown };
+
+    /// How many samples there are.
+    fn count(&self) -> usize
+        ensures { result ≡ length (harness self.now).samples };
+
+    /// Gives sample `k`, counted from 0.
+    fn give<M: Mem>(&self, m: &mut Machine<M>, k: usize)
+        requires { k < length (harness self.now).samples }
+        ensures state { (x : Given) → slice_get (harness self.now).samples k ≡ Some x
+            → m.new.state ≡ (harness self.now).parts.give x m.old.state }
+        ensures flags { m.new.flags ≡ m.old.flags };
+
+    /// Takes sample `k` away, which ends here.
+    fn leave<M: Mem>(&self, m: &mut Machine<M>, k: usize)
+        requires { k < length (harness self.now).samples }
+        ensures state { (x : Given) → slice_get (harness self.now).samples k ≡ Some x
+            → m.new.state ≡ (harness self.now).parts.leave x m.old.state }
+        ensures flags { m.new.flags ≡ m.old.flags };
+
+    /// Whether a sample is over.
+    fn ends<M: Mem>(&self, m: &Machine<M>) -> bool
+        ensures { result ≡ (harness self.now).parts.ends m.now.state };
+
+    /// Takes the interrupt of a request, from the push of the frame to the return, and answers what it
+    /// pushed and how many steps its handler did.
+    fn take<M: Mem>(&self, m: &mut Machine<M>, request: &Request) -> (Frame, u16)
+        requires { IsTrue (may_interrupt m.old.state) }
+        ensures state { m.new.state
+            ≡ (harness self.now).parts.handle m.old.flags request.now (suspended wav m.old.state) }
+        ensures frame { frame_seen result.0 ≡ frame_of m.old.state }
+        ensures steps { result.1
+            ≡ (harness self.now).parts.steps m.old.flags request.now (suspended wav m.old.state) }
+        ensures flags { m.new.flags ≡ m.old.flags };
+
+    /// The row of sample `k`, which ends here, and of which this was counted.
+    fn row<M: Mem>(&self, m: &Machine<M>, k: usize, tally: Tally) -> R
+        requires { k < length (harness self.now).samples }
+        ensures { (x : Given) → slice_get (harness self.now).samples k ≡ Some x
+            → (harness self.now).seen result
+            ≡ shown_by (harness self.now).shows (harness self.now).parts.answers (counted_at tally m.now.state) x };
+}
+
+/// A firmware that stands alone, with a trace. Its handler does the writes that a request lists.
+#[derive(Drop)]
+pub struct WithWrites<'a> {
+    /// The firmware, of at most four outputs.
+    pub firmware: &'a Firmware,
+    /// The trace.
+    pub samples: &'a [Sample],
+    ghost outputs: { firmware.now.outputs ≤ 4 },
+}
+
+impl<'a> RunForm<Row> for WithWrites<'a> {
+    ghost Given = { List ℕ };
+
+    ghost Shown = { RowSeen (List ℕ) };
+
+    ghost harness = { λ x. writes_harness x.firmware.now x.samples.now };
+
+    fn count(&self) -> usize {
+        self.samples.len()
+    }
+
+    fn give<M: Mem>(&self, m: &mut Machine<M>, k: usize) {
+        give(&self.firmware.layout, m, self.samples[k].bytes.as_slice());
+    }
+
+    fn leave<M: Mem>(&self, _m: &mut Machine<M>, _k: usize) {}
+
+    fn ends<M: Mem>(&self, m: &Machine<M>) -> bool {
+        is_idle(&self.firmware.layout, m)
+    }
+
+    fn take<M: Mem>(&self, m: &mut Machine<M>, request: &Request) -> (Frame, u16) {
+        (m.interrupt(request.writes.as_slice()), 0)
+    }
+
+    fn row<M: Mem>(&self, m: &Machine<M>, k: usize, tally: Tally) -> Row {
+        let bytes = self.samples[k].bytes.as_slice();
+        row_of(bytes, answers(self.firmware, m), tally)
+    }
+}

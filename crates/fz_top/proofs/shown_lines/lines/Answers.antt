@@ -1,6 +1,0 @@
-use Rattle.fz_top.proofs.DebugLemmas.{lines_written}
-use Rattle.fz_top.proofs.shown_lines.lines.Goals as goal
-
-pub returns : goal.returns
-returns c = lines_written c.new-lines.result.items c.push_shown.new.lines.items c.push_rows.new.lines.items c.args.shown.now
-    c.args.rows.now c.new-lines.ensures.items c.in_ok-push_shown.ensures c.in_ok-push_rows.ensures

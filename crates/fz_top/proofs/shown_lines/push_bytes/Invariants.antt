@@ -1,8 +1,0 @@
-use Rattle.std.proofs.Common.{◌≡◌, ◌++◌, take}
-use Rattle.std.specs.List.{flat_map}
-use Rattle.std.specs.Prelude.{string_bytes}
-use Rattle.fz_top.specs.Debug.{behind_blank}
-use Rattle.fz_top.proofs.shown_lines.push_bytes.Given as goal
-
-abbrev pub invariant-loop-byte : goal.invariant-loop-byte
-invariant-loop-byte l = string_bytes l.text ≡ string_bytes l.initial.text ++ flat_map behind_blank (take l.byte-index l.bytes)

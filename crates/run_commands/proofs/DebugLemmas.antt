@@ -1,0 +1,83 @@
+-- What a debugged run gives.
+use Rattle.std.proofs.Common.{◌≡◌, ◌≤◌, ◌∙◌, ℕ, suc, List, [], ◌∷◌, ◌++◌, length, refl, ap, ap₂, sym, subst, arith}
+use Rattle.std.specs.Prelude.{None, String, map}
+use Rattle.std.specs.List.{flat_map}
+use Rattle.std.specs.declared.alloc.Global.{Global}
+use Rattle.fuzzy_meaning.specs.declared.block.Block.{Block}
+use Rattle.fuzzy_meaning.specs.declared.block.Input.{Input}
+use Rattle.codegen.specs.declared.firmware.Firmware.{Firmware}
+use Rattle.interrupt_plan.specs.declared.Request.{Request}
+use Rattle.trace_io.specs.Traces.{Fields, SpellSamples, Spells}
+use Rattle.trace_io.specs.declared.sample.Sample.{Sample}
+use Rattle.run_law.specs.Forms.{RowSeen}
+use Rattle.fz_run.specs.Answering.{AnswersItsBlock}
+use Rattle.fz_run.specs.Rows.{firmware_rows, input_bytes, row_seen}
+use Rattle.fz_run.specs.declared.rows.Row.{Row}
+use Rattle.fz_shelf.specs.Lines.{text_of}
+use Rattle.debug_script.specs.Showing.{shown}
+use Rattle.debug_script.specs.declared.order.Order.{Order}
+use Rattle.debug_script.specs.declared.shown.Shown.{Shown}
+use Rattle.run_commands.specs.Debug.{DebugFiles, DebugGives, Debugs, debug_lines, run_positions, shown_line}
+use Rattle.build_commands.specs.Deeds.{Deed}
+use Rattle.build_commands.specs.Lines.{counted}
+use Rattle.run_commands.specs.Run.{row_lines}
+use Rattle.run_commands.specs.declared.debug.DebugRun.{DebugRun}
+use Rattle.run_commands.proofs.AnswerLemmas.{input_bytes_fit}
+use Rattle.build_commands.proofs.Algebra.{counted-map}
+
+row_each : (inputs : List Input) (rows : List Fields) (samples : List Sample) → SpellSamples inputs rows samples
+    → length samples ≡ length rows
+row_each inputs [] [] h = refl
+row_each inputs [] (s ∷ ss) h = absurd h
+row_each inputs (r ∷ rs) [] h = absurd h
+row_each inputs (r ∷ rs) (s ∷ ss) h = ap suc (row_each inputs rs ss h.1)
+
+pub few_samples : (inputs : List Input) (text : List ℕ) (samples slice : List Sample) → Spells inputs text samples
+    → slice ≡ samples → length slice ≤ 4294967295
+few_samples inputs text samples slice s same =
+    let n = row_each inputs s.rows samples s.spelled in
+    let k = ap (λ (ss : List Sample). length ss) same in
+    omega (arith, n, k, s.few)
+
+abbrev pub only_text : List ℕ → Deed
+only_text t = record { text = t; file = None }
+
+-- what the debugger answers of accepted files, and its lines
+pub gives : (debug : DebugRun) (files : DebugFiles) (block : Block) (firmware : Firmware) (samples slice : List Sample)
+    (plan : List Request) (script orders : List Order) (items items' : List Shown) (rows rows' : List (RowSeen (List ℕ)))
+    (text : List ℕ)
+    → Debugs files block firmware samples plan script → slice ≡ samples → orders ≡ script
+    → items ≡ shown orders (run_positions firmware debug.flags slice plan)
+    → rows ≡ (firmware_rows firmware (map input_bytes slice) plan debug.flags).rows
+    → AnswersItsBlock firmware debug.flags (map input_bytes slice) plan rows
+    → text ≡ debug_lines items' rows' → items' ≡ items → rows' ≡ rows
+    → DebugGives debug files (only_text text)
+gives debug files block firmware samples slice plan script orders items items' rows rows' text a same obeyed is ran answers
+    written same_items same_rows =
+    let all : AnswersItsBlock firmware debug.flags (map input_bytes samples) plan rows =
+    subst (λ (ss : List Sample). AnswersItsBlock firmware debug.flags (map input_bytes ss) plan rows) same answers in
+    let shown_is : items' ≡ shown script (run_positions firmware debug.flags samples plan) =
+    same_items ∙ is ∙ ap₂ (λ (os : List Order) (ss : List Sample). shown os (run_positions firmware debug.flags ss plan)) obeyed same in
+    record {
+      block = block;
+      firmware = firmware;
+      samples = samples;
+      plan = plan;
+      script = script;
+      accepts = a;
+      rows = rows;
+      ran = subst (λ (ss : List Sample). rows ≡ (firmware_rows firmware (map input_bytes ss) plan debug.flags).rows) same ran;
+      follows = all block a.compiled.spelled.valid a.compiled.limits a.compiled.compiled
+          (input_bytes_fit block a.in_range.rows samples a.in_range.spelled);
+      deed_is = ap only_text (written ∙ ap₂ debug_lines shown_is same_rows);
+    }
+
+-- the lines of what is shown, and those of the rows behind them
+pub lines_written : (none begun lines : List (String Global)) (items : List Shown) (rows : List Row) → none ≡ []
+    → text_of begun ≡ text_of none ++ flat_map shown_line items
+    → text_of lines ≡ text_of begun ++ counted (λ k r. row_lines k (row_seen r)) 1 rows
+    → text_of lines ≡ debug_lines items (map row_seen rows)
+lines_written none begun lines items rows start shown_so rows_so =
+    let first : text_of begun ≡ flat_map shown_line items =
+    shown_so ∙ ap (λ (ls : List (String Global)). text_of ls ++ flat_map shown_line items) start in
+    rows_so ∙ ap₂ (λ (x y : List ℕ). x ++ y) first (sym (counted-map row_lines row_seen 1 rows))

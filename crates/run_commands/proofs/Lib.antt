@@ -1,0 +1,4 @@
+pub mod AnswerLemmas
+pub mod DebugLemmas
+pub mod LineLemmas
+pub mod SumLemmas

@@ -1,0 +1,137 @@
+-- The lines of a run and of a workload.
+use Rattle.std.proofs.Common.{◌≡◌, ◌<◌, ◌+◌, ℕ, List, [], ◌∷◌, ◌++◌, length, take, get_or, sym, ◌∙◌, ap, ap₂}
+use Rattle.std.proofs.Common.{append_assoc, add-one}
+use Rattle.std.specs.Prelude.{codes, decimal, flat_map, map, String, string_bytes}
+use Rattle.std.specs.declared.alloc.Global.{Global}
+use Rattle.std.proofs.Math.Seq.{take-suc}
+use Rattle.std.proofs.lemmas.List.{append-nil}
+use Rattle.fz_shelf.specs.Lines.{text_of}
+use Rattle.fz_run.specs.Rows.{boundary_seen, frames_seen, row_seen}
+use Rattle.fz_run.specs.declared.rows.Row.{Row}
+use Rattle.fz_status.specs.FaultLines.{newline}
+use Rattle.run_law.specs.Forms.{RowSeen}
+use Rattle.build_commands.specs.Lines.{counted, error_line, line}
+use Rattle.build_commands.proofs.Algebra.{counted-map, flat-map, text_of-snoc}
+use Rattle.run_commands.specs.Generate.{answers_of, frames_of, generate_lines, resumed_of}
+use Rattle.run_commands.specs.Run.{frame_line, numbers, report_of, row_lines, run_lines, sample_line}
+
+pub numbers-snoc : (ns : List ℕ) (n : ℕ) → numbers (ns ++ n ∷ []) ≡ numbers ns ++ (codes " " ++ decimal n)
+numbers-snoc [] n = ap (λ (l : List ℕ). codes " " ++ l) (append-nil (decimal n))
+numbers-snoc (m ∷ ns) n = ap (λ (l : List ℕ). codes " " ++ (decimal m ++ l)) (numbers-snoc ns n) ∙ ap (λ (l : List ℕ). codes " " ++ l) (sym (append_assoc (decimal m) (numbers ns) (codes " " ++ decimal n)))
+
+-- the text so far with one number more
+pub number_more : (before now next : List ℕ) (ns : List ℕ) (i d : ℕ) → i < length ns
+    → now ≡ before ++ numbers (take i ns) → next ≡ now ++ (codes " " ++ decimal (get_or ns i d))
+    → next ≡ before ++ numbers (take (i + 1) ns)
+number_more before now next ns i d lt so_far step =
+    let more : take (i + 1) ns ≡ take i ns ++ get_or ns i d ∷ [] = rw add-one (take-suc ns i d lt) in
+    step ∙ ap (λ (l : List ℕ). l ++ (codes " " ++ decimal (get_or ns i d))) so_far
+    ∙ append_assoc before (numbers (take i ns)) (codes " " ++ decimal (get_or ns i d))
+    ∙ ap (λ (l : List ℕ). before ++ l) (sym (numbers-snoc (take i ns) (get_or ns i d)) ∙ ap numbers (sym more))
+
+-- ---- the lines of a run
+
+module _ (k instructions steps resumed frames : ℕ) (bytes answers : List ℕ) where
+  abbrev pub sample_text : List ℕ
+  sample_text = codes "sample " ++ (decimal k ++ (codes " bytes" ++ (numbers bytes
+      ++ (codes " answers" ++ (numbers answers ++ (codes " instructions " ++ (decimal instructions
+      ++ (codes " steps " ++ (decimal steps ++ (codes " resumed " ++ (decimal resumed
+      ++ (codes " frames " ++ (decimal frames ++ newline)))))))))))))
+
+  pub sample_written : (t0 t1 t2 t3 t4 t5 t6 t7 t8 t9 : List ℕ) → t0 ≡ codes "sample "
+      → t1 ≡ t0 ++ (decimal k ++ codes " bytes")
+      → t2 ≡ t1 ++ numbers bytes → t3 ≡ t2 ++ codes " answers" → t4 ≡ t3 ++ numbers answers
+      → t5 ≡ t4 ++ (codes " instructions " ++ decimal instructions) → t6 ≡ t5 ++ (codes " steps " ++ decimal steps)
+      → t7 ≡ t6 ++ (codes " resumed " ++ decimal resumed) → t8 ≡ t7 ++ (codes " frames " ++ decimal frames)
+      → t9 ≡ t8 ++ newline → t9 ≡ sample_text
+  sample_written t0 t1 t2 t3 t4 t5 t6 t7 t8 t9 e0 e1 e2 e3 e4 e5 e6 e7 e8 e9 =
+      let x1 = decimal k ++ codes " bytes" in
+      let s8 : t9 ≡ t7 ++ (codes " frames " ++ (decimal frames ++ newline)) =
+      e9 ∙ ap (λ (l : List ℕ). l ++ newline) e8 ∙ append_assoc t7 (codes " frames " ++ decimal frames) newline in
+      let s7 : t9 ≡ t6 ++ (codes " resumed " ++ (decimal resumed ++ (codes " frames " ++ (decimal frames ++ newline)))) =
+      s8 ∙ next t6 (codes " resumed ") (decimal resumed) (codes " frames " ++ (decimal frames ++ newline)) t7 e7 in
+      let r6 = codes " resumed " ++ (decimal resumed ++ (codes " frames " ++ (decimal frames ++ newline))) in
+      let s6 : t9 ≡ t5 ++ (codes " steps " ++ (decimal steps ++ r6)) = s7 ∙ next t5 (codes " steps ") (decimal steps) r6 t6 e6 in
+      let r5 = codes " steps " ++ (decimal steps ++ r6) in
+      let s5 : t9 ≡ t4 ++ (codes " instructions " ++ (decimal instructions ++ r5)) =
+      s6 ∙ next t4 (codes " instructions ") (decimal instructions) r5 t5 e5 in
+      let r4 = codes " instructions " ++ (decimal instructions ++ r5) in
+      let s4 : t9 ≡ t3 ++ (numbers answers ++ r4) = s5 ∙ one t3 (numbers answers) r4 t4 e4 in
+      let s3 : t9 ≡ t2 ++ (codes " answers" ++ (numbers answers ++ r4)) = s4 ∙ one t2 (codes " answers") (numbers answers ++ r4) t3 e3 in
+      let r2 = codes " answers" ++ (numbers answers ++ r4) in
+      let s2 : t9 ≡ t1 ++ (numbers bytes ++ r2) = s3 ∙ one t1 (numbers bytes) r2 t2 e2 in
+      s2 ∙ next t0 (decimal k) (codes " bytes") (numbers bytes ++ r2) t1 e1
+      ∙ ap (λ (l : List ℕ). l ++ (decimal k ++ (codes " bytes" ++ (numbers bytes ++ r2)))) e0
+    where
+      one : (t x rest u : List ℕ) → u ≡ t ++ x → u ++ rest ≡ t ++ (x ++ rest)
+      one t x rest u e = ap (λ (l : List ℕ). l ++ rest) e ∙ append_assoc t x rest
+
+      next : (t x y rest u : List ℕ) → u ≡ t ++ (x ++ y) → u ++ rest ≡ t ++ (x ++ (y ++ rest))
+      next t x y rest u e = one t (x ++ y) rest u e ∙ ap (λ (l : List ℕ). t ++ l) (append_assoc x y rest)
+
+pub row_written : (before next now : List (String Global)) (line : String Global) (k : ℕ) (row : Row)
+    → now ≡ before ++ line ∷ [] → string_bytes line ≡ sample_line k (row_seen row)
+    → text_of next ≡ text_of now ++ flat_map (λ f. frame_line k (boundary_seen f)) row.frames
+    → text_of next ≡ text_of before ++ row_lines k (row_seen row)
+row_written before next now line k row pushed is frames =
+    frames
+    ∙ ap₂ (λ (x y : List ℕ). x ++ y) (ap text_of pushed ∙ text_of-snoc before line) (sym (flat-map (frame_line k) boundary_seen row.frames))
+    ∙ append_assoc (text_of before) (string_bytes line) (flat_map (frame_line k) (frames_seen row.frames))
+    ∙ ap (λ (l : List ℕ). text_of before ++ (l ++ flat_map (frame_line k) (frames_seen row.frames))) is
+
+pub run_written : (none errors bounded rows lines : List (String Global)) (bound_line left_line : String Global)
+    (es : List ℕ) (bound left : ℕ) (rs : List Row)
+    → none ≡ [] → text_of errors ≡ text_of none ++ counted error_line 1 es
+    → bounded ≡ errors ++ bound_line ∷ [] → string_bytes bound_line ≡ line (codes "instructions ") bound
+    → text_of rows ≡ text_of bounded ++ counted (λ k r. row_lines k (row_seen r)) 1 rs
+    → lines ≡ rows ++ left_line ∷ [] → string_bytes left_line ≡ line (codes "left ") left
+    → text_of lines ≡ run_lines (report_of es bound (map row_seen rs) left)
+run_written none errors bounded rows lines bound_line left_line es bound left rs start e0 e1 b e2 e3 l =
+    let d0 : text_of errors ≡ counted error_line 1 es = e0 ∙ ap (λ (x : List (String Global)). text_of x ++ counted error_line 1 es) start in
+    let d1 : text_of bounded ≡ counted error_line 1 es ++ line (codes "instructions ") bound =
+    ap text_of e1 ∙ text_of-snoc errors bound_line ∙ ap₂ (λ (x y : List ℕ). x ++ y) d0 b in
+    let each = counted-map row_lines row_seen 1 rs in
+    let d2 : text_of rows ≡ (counted error_line 1 es ++ line (codes "instructions ") bound) ++ counted row_lines 1 (map row_seen rs) =
+    e2 ∙ ap₂ (λ (x y : List ℕ). x ++ y) d1 (sym each) in
+    ap text_of e3 ∙ text_of-snoc rows left_line ∙ ap₂ (λ (x y : List ℕ). x ++ y) d2 l
+    ∙ append_assoc (counted error_line 1 es ++ line (codes "instructions ") bound) (counted row_lines 1 (map row_seen rs)) (line (codes "left ") left)
+    ∙ append_assoc (counted error_line 1 es) (line (codes "instructions ") bound) (counted row_lines 1 (map row_seen rs) ++ line (codes "left ") left)
+
+-- ---- the lines of a workload
+
+-- a text so far, whose last line is told
+pushed : (before now : List (String Global)) (last : String Global) (last_text rest text : List ℕ)
+    → now ≡ before ++ last ∷ [] → string_bytes last ≡ last_text → text ≡ text_of now ++ rest
+    → text ≡ text_of before ++ (last_text ++ rest)
+pushed before now last last_text rest text added is so_far =
+    so_far
+    ∙ ap (λ (l : List ℕ). l ++ rest) (ap text_of added ∙ text_of-snoc before last ∙ ap (λ (l : List ℕ). text_of before ++ l) is)
+    ∙ append_assoc (text_of before) last_text rest
+
+pub generate_written : (number bound : ℕ) (es : List ℕ) (rows : List (RowSeen (List ℕ)))
+    (l0 l1 l2 l3 l4 l5 l6 l7 : List (String Global)) (s1 s3 s4 s5 s6 s7 : String Global)
+    → l0 ≡ [] → l1 ≡ l0 ++ s1 ∷ [] → string_bytes s1 ≡ line (codes "gen ") number
+    → text_of l2 ≡ text_of l1 ++ counted error_line 1 es
+    → l3 ≡ l2 ++ s3 ∷ [] → string_bytes s3 ≡ line (codes "instructions ") bound
+    → l4 ≡ l3 ++ s4 ∷ [] → string_bytes s4 ≡ line (codes "samples ") (length rows)
+    → l5 ≡ l4 ++ s5 ∷ [] → string_bytes s5 ≡ line (codes "frames ") (frames_of rows)
+    → l6 ≡ l5 ++ s6 ∷ [] → string_bytes s6 ≡ line (codes "resumed ") (resumed_of rows)
+    → l7 ≡ l6 ++ s7 ∷ [] → string_bytes s7 ≡ line (codes "sum ") (answers_of rows)
+    → text_of l7 ≡ generate_lines number es bound rows
+generate_written number bound es rows l0 l1 l2 l3 l4 l5 l6 l7 s1 s3 s4 s5 s6 s7 start a1 is1 errors a3 is3 a4 is4 a5 is5 a6 is6 a7 is7 =
+    let r7 = line (codes "sum ") (answers_of rows) in
+    let r6 = line (codes "resumed ") (resumed_of rows) ++ r7 in
+    let r5 = line (codes "frames ") (frames_of rows) ++ r6 in
+    let r4 = line (codes "samples ") (length rows) ++ r5 in
+    let r3 = line (codes "instructions ") bound ++ r4 in
+    let r2 = counted error_line 1 es ++ r3 in
+    let x6 : text_of l7 ≡ text_of l6 ++ r7 =
+    ap text_of a7 ∙ text_of-snoc l6 s7 ∙ ap (λ (l : List ℕ). text_of l6 ++ l) is7 in
+    let x5 = pushed l5 l6 s6 (line (codes "resumed ") (resumed_of rows)) r7 (text_of l7) a6 is6 x6 in
+    let x4 = pushed l4 l5 s5 (line (codes "frames ") (frames_of rows)) r6 (text_of l7) a5 is5 x5 in
+    let x3 = pushed l3 l4 s4 (line (codes "samples ") (length rows)) r5 (text_of l7) a4 is4 x4 in
+    let x2 = pushed l2 l3 s3 (line (codes "instructions ") bound) r4 (text_of l7) a3 is3 x3 in
+    let x1 : text_of l7 ≡ text_of l1 ++ r2 =
+    x2 ∙ ap (λ (l : List ℕ). l ++ r3) errors ∙ append_assoc (text_of l1) (counted error_line 1 es) r3 in
+    let x0 = pushed l0 l1 s1 (line (codes "gen ") number) r2 (text_of l7) a1 is1 x1 in
+    x0 ∙ ap (λ (x : List (String Global)). text_of x ++ (line (codes "gen ") number ++ r2)) start

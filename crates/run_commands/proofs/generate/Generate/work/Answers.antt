@@ -1,0 +1,60 @@
+use Rattle.std.proofs.Common.{ℕ, List, ap, ap₂, ◌∙◌, map, refl}
+use Rattle.std.specs.Prelude.{None}
+use Rattle.codegen.specs.declared.width.Width.TheVariants.{Byte}
+use Rattle.fz_run.specs.Rows.{firmware_rows, input_bytes, row_seen}
+use Rattle.fz_run.specs.declared.rows.Row.{Row}
+use Rattle.workload.specs.Draws.{draw}
+use Rattle.run_commands.specs.CertifiedRun.{left_of}
+use Rattle.build_commands.specs.Deeds.{Deed}
+use Rattle.build_commands.specs.Firmwares.{GivesFirmware}
+use Rattle.run_commands.specs.Generate.{generate_lines}
+use Rattle.run_commands.specs.Run.{report_of}
+use Rattle.run_commands.proofs.AnswerLemmas.{reports}
+use Rattle.run_commands.proofs.generate.Generate.work.Goals as goal
+
+abbrev only_text : List ℕ → Deed
+only_text t = record { text = t; file = None }
+
+pub compiled-requires-clause-limits : goal.compiled-requires-clause-limits
+compiled-requires-clause-limits c =
+    c.drawn_blocks_are_within_limits.ensures (draw c.args.self.number 0 5) c.in-Ok.workload.block
+    c.in-Ok.ensures.workload.drawn_block
+
+pub returns-in-Ok-lines : goal.returns-in-Ok-lines
+returns-in-Ok-lines c =
+    let number = c.args.self.number in
+    let w = c.in-Ok.workload in
+    let drawn = c.in-Ok.ensures.workload in
+    let firmware = c.in-Ok-compiled.firmware in
+    let bound = firmware.instr_bound in
+    let cert = c.in-Ok-halved.cert in
+    let halving = c.in-Ok-halved.ensures.halving in
+    let samples = c.as_slice-samples.result.now in
+    let rows = map row_seen c.in-Ok-run.rows.items in
+    let left = left_of (firmware_rows firmware (map input_bytes samples) w.requests 0).state.mem in
+    let gives : GivesFirmware Byte w.text.items w.block firmware = record {
+      spelled = drawn.spelled;
+      limits = c.drawn_blocks_are_within_limits.ensures (draw number 0 5) w.block drawn.drawn_block;
+      compiled = c.in-Ok-compiled.ensures.firmware;
+      wide = c.in-Ok-compiled.ensures.narrow;
+    } in
+    let lines_of = λ (es : List ℕ) (rs : List Row). generate_lines number es bound (map row_seen rs) in
+    record {
+      text = w.text.items;
+      trace = w.trace.items;
+      plan = w.plan.items;
+      block = w.block;
+      samples = w.samples.items;
+      requests = w.requests;
+      workload = drawn;
+      firmware = firmware;
+      gives = gives;
+      cert = cert;
+      halving = halving;
+      report = report_of cert.claims bound rows left;
+      errors = refl;
+      reported = reports c.answers_are_within_errors.ensures Byte 0 w.text.items w.block firmware gives cert cert.claims
+          halving.claims w.trace.items w.samples.items samples drawn.in_trace c.as_slice-samples.ensures.value w.requests
+          rows left c.in-Ok-run.ensures.rows c.in-Ok-run.ensures.answers refl;
+      deed_is = ap only_text (c.in-Ok-lines.ensures ∙ ap₂ lines_of c.as_slice-errors.ensures c.deref.ensures.value);
+    }

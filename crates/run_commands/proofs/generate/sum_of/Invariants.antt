@@ -1,0 +1,9 @@
+use Rattle.std.proofs.Common.{◌≡◌, ◌≤◌, ◌*◌, take}
+use Rattle.std.specs.Prelude.{sum}
+use Rattle.run_commands.proofs.generate.sum_of.Given as goal
+
+abbrev pub invariant-loop-answer : goal.invariant-loop-answer
+invariant-loop-answer l = record {
+  sum_is : l.sum ≡ sum (take l.answer-index l.answers);
+  small : l.sum ≤ 65535 * l.answer-index;
+}

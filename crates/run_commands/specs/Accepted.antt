@@ -1,0 +1,32 @@
+-- The contents of the files of a run, accepted or refused one by one.
+use Rattle.std.specs.Prelude.{ℕ, List}
+use Rattle.fuzzy_meaning.specs.declared.block.Block.{Block}
+use Rattle.codegen.specs.declared.firmware.Firmware.{Firmware}
+use Rattle.codegen.specs.declared.width.Width.{Width}
+use Rattle.interrupt_plan.specs.PlanTexts.{HasFault as PlanHasFault, Spells as SpellsPlan}
+use Rattle.interrupt_plan.specs.declared.Request.{Request}
+use Rattle.srecord.specs.Texts.{GivesImage}
+use Rattle.trace_io.specs.Traces.{HasFault as TraceHasFault, Spells as SpellsTrace}
+use Rattle.trace_io.specs.declared.sample.Sample.{Sample}
+use Rattle.run_commands.specs.CertifiedRun.{Files}
+use Rattle.build_commands.specs.Certs.{AcceptsCert}
+use Rattle.build_commands.specs.Firmwares.{GivesFirmware}
+use Rattle.fz_status.specs.Refusals.{Refusals}
+use Rattle.fz_status.specs.declared.status.Status.TheVariants as status
+
+-- all are accepted, and give this
+pub record Accepts (width : Width) (files : Files) (block : Block) (firmware : Firmware) (errors : List ℕ)
+    (samples : List Sample) (plan : List Request) : Type 0 where
+  pub compiled : GivesFirmware width files.fcl block firmware
+  pub image : GivesImage files.image firmware.image
+  pub accepted : AcceptsCert width block files.cert errors
+  pub in_range : SpellsTrace block.inputs files.trace samples
+  pub good_plan : SpellsPlan files.plan plan
+
+abbrev pub trace_refusals : Block → List ℕ → Refusals
+trace_refusals block text (status.Trace f) = TraceHasFault block.inputs text f
+trace_refusals block text s = ⊥
+
+abbrev pub plan_refusals : List ℕ → Refusals
+plan_refusals text (status.Plan f) = PlanHasFault text f
+plan_refusals text s = ⊥

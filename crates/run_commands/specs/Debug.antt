@@ -1,0 +1,135 @@
+-- The command `debug FCL IMAGE TRACE PLAN FLAGS SCRIPT`.
+use Rattle.std.specs.Prelude.{◌≡◌, ℕ, List, [], ◌∷◌, ◌++◌, codes, decimal, map, Option, None, option_map}
+use Rattle.std.specs.Prelude.{Result, Ok, Err}
+use Rattle.std.specs.List.{flat_map}
+use Rattle.fuzzy_meaning.specs.declared.block.Block.{Block}
+use Rattle.codegen.specs.declared.firmware.Firmware.{Firmware}
+use Rattle.codegen.specs.declared.width.Width.TheVariants.{Byte}
+use Rattle.fz_shelf.specs.Parts.{address_digits, byte_digits}
+use Rattle.interrupt_plan.specs.PlanTexts.{HasFault as PlanHasFault, Spells as SpellsPlan}
+use Rattle.interrupt_plan.specs.declared.Request.{Request}
+use Rattle.run_law.specs.Forms.{RowSeen}
+use Rattle.srecord.specs.Texts.{GivesImage}
+use Rattle.trace_io.specs.Traces.{HasFault as TraceHasFault, Spells as SpellsTrace}
+use Rattle.trace_io.specs.declared.sample.Sample.{Sample}
+use Rattle.fz_run.specs.Answering.{AnswersUnder}
+use Rattle.fz_run.specs.Positions.{Position, positions}
+use Rattle.fz_run.specs.Rows.{first_state, firmware_rows, input_bytes}
+use Rattle.debug_script.specs.Scripts.{script_of}
+use Rattle.debug_script.specs.Showing.{shown}
+use Rattle.debug_script.specs.declared.order.Order.{Order}
+use Rattle.debug_script.specs.declared.shown.Shown.{Shown}
+use Rattle.debug_script.specs.declared.shown.Shown.TheVariants.{Stop, Registers, Bytes}
+use Rattle.build_commands.specs.Contents.{content_at}
+use Rattle.build_commands.specs.Deeds.{Deed}
+use Rattle.build_commands.specs.Firmwares.{GivesFirmware, RefusesText}
+use Rattle.build_commands.specs.Images.{RefusesImage}
+use Rattle.build_commands.specs.Lines.{counted, with_registers}
+use Rattle.run_commands.specs.Run.{OfFirmware, row_lines}
+use Rattle.build_commands.specs.Words.{flags_of}
+use Rattle.run_commands.specs.declared.debug.DebugRun.{DebugRun}
+use Rattle.fz_status.specs.FaultLines.{newline}
+use Rattle.fz_status.specs.Refusals.{Refusals, Refuses}
+use Rattle.fz_status.specs.Words.{Text, word_at}
+use Rattle.fz_status.specs.declared.status.Status.{Status}
+use Rattle.fz_status.specs.declared.status.Status.TheVariants as status
+
+abbrev pub debug_with : ℕ → DebugRun
+debug_with flags = record { flags = flags }
+
+-- the command of the words, where the last but one is of the form of FLAGS
+abbrev pub debug_in : List Text → Option DebugRun
+debug_in words = option_map debug_with (flags_of (word_at words 6))
+
+-- FCL, IMAGE, TRACE, PLAN and SCRIPT
+abbrev pub debug_inputs : List ℕ
+debug_inputs = 2 ∷ 3 ∷ 4 ∷ 5 ∷ 7 ∷ []
+
+-- the contents of the five files
+pub record DebugFiles : Type 0 where
+  pub fcl : List ℕ
+  pub image : List ℕ
+  pub trace : List ℕ
+  pub plan : List ℕ
+  pub script : List ℕ
+
+abbrev pub debug_files : List (List ℕ) → DebugFiles
+debug_files contents = record {
+  fcl = content_at contents 0;
+  image = content_at contents 1;
+  trace = content_at contents 2;
+  plan = content_at contents 3;
+  script = content_at contents 4;
+}
+
+-- ---- its lines
+
+-- a byte, with a blank before it
+abbrev pub behind_blank : ℕ → List ℕ
+behind_blank byte = codes " " ++ byte_digits byte
+
+-- the line of what an order shows
+abbrev pub shown_line : Shown → List ℕ
+shown_line (Stop sample moment pc) = codes "stop " ++ (decimal sample ++ (codes " " ++ (decimal moment
+    ++ (codes " " ++ (address_digits pc ++ newline)))))
+shown_line (Registers regs) = with_registers regs newline
+shown_line (Bytes at bytes) = codes "mem " ++ (address_digits at ++ (flat_map behind_blank bytes ++ newline))
+
+-- what a script shows, and then the rows of the whole run, as `run` has them
+abbrev pub debug_lines : List Shown → List (RowSeen (List ℕ)) → List ℕ
+debug_lines shown rows = flat_map shown_line shown ++ counted row_lines 1 rows
+
+-- ---- what it makes of its files
+
+-- FCL spells a block, IMAGE holds exactly its firmware's image, the trace spells samples within their inputs' ranges,
+-- the plan interrupts that write only free bytes, and SCRIPT a script
+pub record Debugs (files : DebugFiles) (block : Block) (firmware : Firmware) (samples : List Sample)
+    (plan : List Request) (script : List Order) : Type 0 where
+  pub compiled : GivesFirmware Byte files.fcl block firmware
+  pub image : GivesImage files.image firmware.image
+  pub in_range : SpellsTrace block.inputs files.trace samples
+  pub good_plan : SpellsPlan files.plan plan
+  pub spelled : script_of files.script ≡ Ok script
+
+-- the positions of the firmware's run over the samples under the plan
+abbrev pub run_positions : Firmware → ℕ → List Sample → List Request → List Position
+run_positions firmware flags samples plan =
+    positions (first_state firmware flags) (firmware_rows firmware (map input_bytes samples) plan flags)
+
+-- The lines are what the script shows over the positions of that run, and then its rows: they are those of the run
+-- without the script, whose answers and counts are those without interrupts.
+pub record DebugGives (debug : DebugRun) (files : DebugFiles) (deed : Deed) : Type 0 where
+  pub block : Block
+  pub firmware : Firmware
+  pub samples : List Sample
+  pub plan : List Request
+  pub script : List Order
+  pub accepts : Debugs files block firmware samples plan script
+  pub rows : List (RowSeen (List ℕ))
+  pub ran : rows ≡ (firmware_rows firmware (map input_bytes samples) plan debug.flags).rows
+  pub follows : AnswersUnder block firmware debug.flags (map input_bytes samples) plan rows
+  pub deed_is : deed ≡ record {
+    text = debug_lines (shown script (run_positions firmware debug.flags samples plan)) rows;
+    file = None;
+  }
+
+-- why FCL is refused; why IMAGE is, FCL giving firmware; why a trace is, IMAGE holding its image; why a plan is, the
+-- trace spelling samples beside; and why a script is, the plan being one beside
+abbrev pub debug_refusals : DebugRun → DebugFiles → Refusals
+debug_refusals debug files (status.Fcl f) = RefusesText files.fcl f
+debug_refusals debug files (status.Image f) =
+    OfFirmware Byte files.fcl (λ block firmware. RefusesImage files.image firmware.image f)
+debug_refusals debug files (status.Trace f) = OfFirmware Byte files.fcl (λ block firmware.
+    GivesImage files.image firmware.image × TraceHasFault block.inputs files.trace f)
+debug_refusals debug files (status.Plan f) = OfFirmware Byte files.fcl (λ block firmware.
+    GivesImage files.image firmware.image
+    × (samples : List Sample) × SpellsTrace block.inputs files.trace samples × PlanHasFault files.plan f)
+debug_refusals debug files (status.Script n) = OfFirmware Byte files.fcl (λ block firmware.
+    GivesImage files.image firmware.image
+    × (samples : List Sample) × SpellsTrace block.inputs files.trace samples
+    × (plan : List Request) × SpellsPlan files.plan plan × (script_of files.script ≡ Err n))
+debug_refusals debug files s = ⊥
+
+abbrev pub DebugMakes : DebugRun → DebugFiles → Result Deed Status → Type 0
+DebugMakes debug files (Ok deed) = DebugGives debug files deed
+DebugMakes debug files (Err s) = Refuses (debug_refusals debug files) s

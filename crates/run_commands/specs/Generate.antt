@@ -1,0 +1,94 @@
+-- The command `gen NUMBER`.
+use Rattle.std.specs.Prelude.{◌≡◌, ℕ, List, [], ◌++◌, length, sum, sum_by, codes, Option, None, option_map}
+use Rattle.std.specs.Prelude.{Result, Ok, Err}
+use Rattle.fuzzy_meaning.specs.declared.block.Block.{Block}
+use Rattle.codegen.specs.Widths.{parts}
+use Rattle.codegen.specs.declared.firmware.Firmware.{Firmware}
+use Rattle.codegen.specs.declared.width.Width.TheVariants.{Byte}
+use Rattle.box_tree.specs.declared.cert.Cert.{Cert}
+use Rattle.error_certifier.specs.Halving.{IsHalving}
+use Rattle.interrupt_plan.specs.declared.Request.{Request}
+use Rattle.trace_io.specs.declared.sample.Sample.{Sample}
+use Rattle.run_law.specs.Forms.{RowSeen}
+use Rattle.workload.specs.Blocks.{IsDrawnBlock}
+use Rattle.workload.specs.Draws.{draw}
+use Rattle.workload.specs.Workloads.{IsWorkload}
+use Rattle.fz_status.specs.Refusals.{Refusals, Refuses}
+use Rattle.fz_status.specs.Words.{Text, word_at}
+use Rattle.fz_status.specs.declared.status.Status.{Status}
+use Rattle.fz_status.specs.declared.status.Status.TheVariants as status
+use Rattle.run_commands.specs.CertifiedRun.{IsReportOf, Report}
+use Rattle.build_commands.specs.Certify.{StopsHalving}
+use Rattle.build_commands.specs.Deeds.{Deed}
+use Rattle.build_commands.specs.Firmwares.{GivesFirmware}
+use Rattle.build_commands.specs.Lines.{counted, error_line, line}
+use Rattle.build_commands.specs.Words.{number_up_to}
+use Rattle.run_commands.specs.declared.generate.Generate.{Generate}
+
+abbrev pub generate_with : ℕ → Generate
+generate_with number = record { number = number }
+
+-- the command of the words, where NUMBER is one of 32 bits
+abbrev pub generate_in : List Text → Option Generate
+generate_in words = option_map generate_with (number_up_to 4294967295 (word_at words 2))
+
+-- it reads no file
+abbrev pub generate_inputs : List ℕ
+generate_inputs = []
+
+-- ---- its lines
+
+-- over all rows: how many frames, at how many boundaries REV, REVW and WAV went on, and the sum of the answers
+abbrev pub frames_of : List (RowSeen (List ℕ)) → ℕ
+frames_of rows = sum_by (λ row. length row.frames) rows
+
+abbrev pub resumed_of : List (RowSeen (List ℕ)) → ℕ
+resumed_of rows = sum_by (λ row. row.resumed) rows
+
+abbrev pub answers_of : List (RowSeen (List ℕ)) → ℕ
+answers_of rows = sum_by (λ row. sum row.answers) rows
+
+-- the number, the error of each output, the bound on instructions, how many samples, and the sums over all rows
+abbrev pub generate_lines : ℕ → List ℕ → ℕ → List (RowSeen (List ℕ)) → List ℕ
+generate_lines number errors bound rows =
+    line (codes "gen ") number ++ (counted error_line 1 errors
+    ++ (line (codes "instructions ") bound ++ (line (codes "samples ") (length rows)
+    ++ (line (codes "frames ") (frames_of rows) ++ (line (codes "resumed ") (resumed_of rows)
+    ++ line (codes "sum ") (answers_of rows))))))
+
+-- ---- what it makes of the number
+
+-- the error that the certificate is not to pass, in millionths of the output's range
+abbrev pub generated_target : ℕ
+generated_target = 400000
+
+-- The texts spell what the number draws: a block, samples and interrupts. The block has this firmware, whose answers
+-- have a byte, and the certificate is that of its halving, accepted with its claims as errors. The report is of the
+-- firmware's run over the samples under the interrupts, with FLAGS 00: as `run` reports it of these texts, of the
+-- image's records and of the certificate's text.
+pub record GenerateGives (number : ℕ) (deed : Deed) : Type 0 where
+  pub text : List ℕ
+  pub trace : List ℕ
+  pub plan : List ℕ
+  pub block : Block
+  pub samples : List Sample
+  pub requests : List Request
+  pub workload : IsWorkload number text trace plan block samples requests
+  pub firmware : Firmware
+  pub gives : GivesFirmware Byte text block firmware
+  pub cert : Cert
+  pub halving : IsHalving block (parts Byte) generated_target cert
+  pub report : Report
+  pub errors : report.errors ≡ cert.claims
+  pub reported : IsReportOf Byte 0 block firmware samples requests report
+  pub deed_is : deed ≡ record { text = generate_lines number report.errors report.bound report.rows; file = None }
+
+-- there is none where halving stops at a block that the number draws
+abbrev pub generate_refusals : ℕ → Refusals
+generate_refusals number (status.NotReached stop) =
+    (block : Block) × IsDrawnBlock (draw number 0 5) block × StopsHalving Byte generated_target block stop
+generate_refusals number s = ⊥
+
+abbrev pub GenerateMakes : Generate → Result Deed Status → Type 0
+GenerateMakes generate (Ok deed) = GenerateGives generate.number deed
+GenerateMakes generate (Err s) = Refuses (generate_refusals generate.number) s

@@ -1,0 +1,5 @@
+pub mod Accepted
+pub mod CertifiedRun
+pub mod Debug
+pub mod Generate
+pub mod Run

@@ -1,0 +1,116 @@
+-- The commands `run FCL IMAGE CERT TRACE PLAN FLAGS` and `run16`, with answers of 16 bits.
+use Rattle.std.specs.Prelude.{◌≡◌, ℕ, List, [], ◌∷◌, ◌++◌, codes, decimal, length, Option, None, option_map}
+use Rattle.std.specs.Prelude.{Result, Ok, Err}
+use Rattle.std.specs.List.{flat_map}
+use Rattle.fuzzy_meaning.specs.declared.block.Block.{Block}
+use Rattle.codegen.specs.declared.firmware.Firmware.{Firmware}
+use Rattle.codegen.specs.declared.width.Width.{Width}
+use Rattle.cpu12_emul.specs.Take.{FrameSeen}
+use Rattle.fz_shelf.specs.Parts.{address_digits}
+use Rattle.interrupt_plan.specs.PlanTexts.{HasFault as PlanHasFault}
+use Rattle.run_law.specs.Forms.{RowSeen}
+use Rattle.srecord.specs.Texts.{GivesImage}
+use Rattle.trace_io.specs.Traces.{HasFault as TraceHasFault, Spells as SpellsTrace}
+use Rattle.trace_io.specs.declared.sample.Sample.{Sample}
+use Rattle.run_commands.specs.CertifiedRun.{CertifiedRun, Files, Report}
+use Rattle.build_commands.specs.Certs.{AcceptsCert, HasCertFault}
+use Rattle.build_commands.specs.Deeds.{Deed}
+use Rattle.build_commands.specs.Firmwares.{GivesFirmware, RefusesText}
+use Rattle.build_commands.specs.Images.{RefusesImage}
+use Rattle.fz_status.specs.FaultLines.{newline}
+use Rattle.build_commands.specs.Lines.{counted, error_line, line}
+use Rattle.fz_status.specs.Refusals.{Refusals, Refuses}
+use Rattle.fz_status.specs.Words.{Text, word_at}
+use Rattle.build_commands.specs.Contents.{content_at}
+use Rattle.build_commands.specs.Words.{flags_of}
+use Rattle.run_commands.specs.declared.run.Run.{Run}
+use Rattle.fz_status.specs.declared.status.Status.{Status}
+use Rattle.fz_status.specs.declared.status.Status.TheVariants as status
+
+abbrev pub run_with : Width → ℕ → Run
+run_with width flags = record { width = width; flags = flags }
+
+-- the command of the words, where the last is of the form of FLAGS
+abbrev pub run_in : Width → List Text → Option Run
+run_in width words = option_map (run_with width) (flags_of (word_at words 7))
+
+-- FCL, IMAGE, CERT, TRACE and PLAN
+abbrev pub run_inputs : List ℕ
+run_inputs = 2 ∷ 3 ∷ 4 ∷ 5 ∷ 6 ∷ []
+
+abbrev pub files_in : List (List ℕ) → Files
+files_in contents = record {
+  fcl = content_at contents 0;
+  image = content_at contents 1;
+  cert = content_at contents 2;
+  trace = content_at contents 3;
+  plan = content_at contents 4;
+}
+
+-- ---- its lines
+
+-- numbers, with a blank before each
+abbrev pub numbers : List ℕ → List ℕ
+numbers [] = []
+numbers (n ∷ ns) = codes " " ++ (decimal n ++ numbers ns)
+
+-- the line of a frame of the k-th sample: its boundary, where the sample was interrupted, where the stack ends
+-- behind the push, and how many bytes were pushed
+abbrev pub frame_line : ℕ → ℕ × FrameSeen → List ℕ
+frame_line k f = codes "frame " ++ (decimal k ++ (codes " " ++ (decimal f.0
+    ++ (codes " " ++ (address_digits f.1.pc ++ (codes " " ++ (address_digits f.1.sp
+    ++ (codes " " ++ (decimal (length f.1.bytes) ++ newline)))))))))
+
+-- the line of the k-th sample
+abbrev pub sample_line : ℕ → RowSeen (List ℕ) → List ℕ
+sample_line k r = codes "sample " ++ (decimal k ++ (codes " bytes" ++ (numbers r.sample
+    ++ (codes " answers" ++ (numbers r.answers ++ (codes " instructions " ++ (decimal r.instrs
+    ++ (codes " steps " ++ (decimal r.steps ++ (codes " resumed " ++ (decimal r.resumed
+    ++ (codes " frames " ++ (decimal (length r.frames) ++ newline)))))))))))))
+
+-- followed by its frames
+abbrev pub row_lines : ℕ → RowSeen (List ℕ) → List ℕ
+row_lines k r = sample_line k r ++ flat_map (frame_line k) r.frames
+
+abbrev pub report_of : List ℕ → ℕ → List (RowSeen (List ℕ)) → ℕ → Report
+report_of errors bound rows left = record { errors = errors; bound = bound; rows = rows; left = left }
+
+-- the errors, the bound on instructions, each sample, and the sum
+abbrev pub run_lines : Report → List ℕ
+run_lines r = counted error_line 1 r.errors
+    ++ (line (codes "instructions ") r.bound ++ (counted row_lines 1 r.rows ++ line (codes "left ") r.left))
+
+-- ---- what it makes of its files
+
+-- the run is certified, and the lines are those of its report
+pub record RunGives (run : Run) (files : Files) (deed : Deed) : Type 0 where
+  pub report : Report
+  pub certified : CertifiedRun run.width run.flags files report
+  pub deed_is : deed ≡ record { text = run_lines report; file = None }
+
+-- FCL gives firmware of which this holds
+abbrev pub OfFirmware : Width → List ℕ → (Block → Firmware → Type 0) → Type 0
+OfFirmware width fcl holds =
+    (block : Block) × (firmware : Firmware) × GivesFirmware width fcl block firmware × holds block firmware
+
+-- why a certificate is refused, FCL giving firmware whose image is IMAGE's; why a trace is, the certificate being
+-- accepted beside; and why a plan is, the trace spelling samples beside
+abbrev pub run_refusals : Run → Files → Refusals
+run_refusals run files (status.Fcl f) = RefusesText files.fcl f
+run_refusals run files (status.Image f) =
+    OfFirmware run.width files.fcl (λ block firmware. RefusesImage files.image firmware.image f)
+run_refusals run files (status.Cert f) = OfFirmware run.width files.fcl (λ block firmware.
+    GivesImage files.image firmware.image × HasCertFault run.width block files.cert f)
+run_refusals run files (status.Trace f) = OfFirmware run.width files.fcl (λ block firmware.
+    GivesImage files.image firmware.image
+    × (errors : List ℕ) × AcceptsCert run.width block files.cert errors
+    × TraceHasFault block.inputs files.trace f)
+run_refusals run files (status.Plan f) = OfFirmware run.width files.fcl (λ block firmware.
+    GivesImage files.image firmware.image
+    × (errors : List ℕ) × AcceptsCert run.width block files.cert errors
+    × (samples : List Sample) × SpellsTrace block.inputs files.trace samples × PlanHasFault files.plan f)
+run_refusals run files s = ⊥
+
+abbrev pub RunMakes : Run → Files → Result Deed Status → Type 0
+RunMakes run files (Ok deed) = RunGives run files deed
+RunMakes run files (Err s) = Refuses (run_refusals run files) s

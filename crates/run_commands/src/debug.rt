@@ -1,0 +1,128 @@
+//! The command `debug FCL IMAGE TRACE PLAN FLAGS SCRIPT`: what a script shows of a run, and the run.
+ghost use Rattle.std.specs.Prelude.{◌≡◌, ◌≤◌, length, IfOk, IfErr};
+ghost use Rattle.std.specs.List.{All};
+ghost use Rattle.fz_status.specs.Refusals.{IsRefusal};
+ghost use Rattle.fz_status.specs.Words.{texts_of};
+ghost use Rattle.build_commands.specs.Contents.{bytes_of};
+ghost use Rattle.run_commands.specs.Debug.{DebugFiles, DebugMakes, Debugs, debug_files, debug_in, debug_refusals};
+ghost use Rattle.build_commands.specs.Deeds.{DeedHasNoFault, IsResultOf};
+ghost use Rattle.run_commands.specs.declared.debug.DebugRun.{DebugRun as TheDebug};
+
+use crate::run::{plan_of, samples_of};
+use crate::shown_lines::lines;
+use build_commands::contents::content;
+use build_commands::firmware::{Compiled, firmware_of, spelled_texts_have_no_fault};
+use build_commands::images::{firmware_images_have_no_fault, require_image};
+use build_commands::words::flags;
+use build_commands::work::Work;
+use codegen::Width;
+use debug_script::{Script, ScriptFault, debug, read_script};
+use fcl_check::spelled_blocks_are_one;
+use fz_status::{Status, word};
+use interrupt_plan::{Plan, spelled_plans_have_no_fault};
+use std::alloc::Global;
+use trace_io::{Sample, spelled_traces_have_no_fault};
+
+/// `debug FCL IMAGE TRACE PLAN FLAGS SCRIPT`
+#[derive(Clone, Copy, Debug, PartialEq, Eq)]
+pub struct DebugRun {
+    /// The condition codes that the machine leaves open.
+    flags: u8,
+}
+
+/// The words FCL, IMAGE, TRACE, PLAN and SCRIPT.
+pub static INPUTS: [u32; 5] = [2, 3, 4, 5, 7];
+
+/// What the files give, where all of them are accepted.
+#[derive(Drop)]
+struct Accepted {
+    compiled: Compiled,
+    samples: Vec<Sample>,
+    plan: Plan,
+    script: Script,
+}
+
+impl DebugRun {
+    /// The command of these words.
+    pub fn of(words: &[String]) -> Option<DebugRun>
+        ensures { result ≡ debug_in (texts_of words.now) }
+    {
+        match flags(word(words, 6)) {
+            Some(flags) => Some(DebugRun { flags }),
+            None => None,
+        }
+    }
+
+    /// Runs the samples of the trace under the plan and obeys the script on the way, once all files
+    /// are accepted, and writes down what the script shows and what came of the samples.
+    pub fn work(self, alloc: Global, contents: &[Vec<u8>]) -> Result<Work, Status>
+        requires { All (λ c. length c.items ≤ 1048576) contents.now }
+        ensures { IsResultOf (DebugMakes self (debug_files (bytes_of contents.now))) result }
+    {
+        let accepted = match self.accepted(alloc, contents) {
+            Ok(accepted) => accepted,
+            Err(status) => return Err(status),
+        };
+        let ran = debug(
+            alloc,
+            &accepted.compiled.firmware,
+            &accepted.samples,
+            &accepted.plan,
+            self.flags,
+            accepted.script.as_slice(),
+        );
+        let Ok((shown, rows)) = ran else {
+            return Err(Status::Memory);
+        };
+        match lines(alloc, &shown, &rows) {
+            Ok(lines) => Ok(Work { lines, file: None }),
+            Err(_) => Err(Status::Memory),
+        }
+    }
+
+    /// What the files give, or the first fault in their order.
+    fn accepted(self, alloc: Global, contents: &[Vec<u8>]) -> Result<Accepted, Status>
+        requires { All (λ c. length c.items ≤ 1048576) contents.now }
+        ensures accepted { IfOk result (λ a. Debugs (debug_files (bytes_of contents.now))
+            a.compiled.block a.compiled.firmware a.samples.items a.plan a.script) }
+        ensures fault { IfErr result (IsRefusal (debug_refusals self (debug_files (bytes_of contents.now)))) }
+    {
+        let compiled = match firmware_of(alloc, Width::Byte, content(contents, 0)) {
+            Ok(compiled) => compiled,
+            Err(status) => return Err(status),
+        };
+        match require_image(alloc, content(contents, 1), &compiled.firmware.image) {
+            Ok(()) => {}
+            Err(status) => return Err(status),
+        }
+        let samples = match samples_of(alloc, &compiled.block, content(contents, 2)) {
+            Ok(samples) => samples,
+            Err(status) => return Err(status),
+        };
+        let plan = match plan_of(alloc, content(contents, 3)) {
+            Ok(plan) => plan,
+            Err(status) => return Err(status),
+        };
+        match read_script(alloc, content(contents, 4)) {
+            Ok(script) => Ok(Accepted {
+                compiled,
+                samples,
+                plan,
+                script,
+            }),
+            Err(ScriptFault::Memory) => Err(Status::Memory),
+            Err(ScriptFault::Line(line)) => Err(Status::Script(line)),
+        }
+    }
+}
+
+/// Files that make a deed make no fault.
+pub fn debugged_runs_have_no_fault()
+    ensures { (debug : TheDebug) (files : DebugFiles) → DeedHasNoFault (DebugMakes debug files) }
+{
+    spelled_texts_have_no_fault();
+    firmware_images_have_no_fault();
+    spelled_blocks_are_one();
+    spelled_traces_have_no_fault();
+    spelled_plans_have_no_fault()
+}

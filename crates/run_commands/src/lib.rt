@@ -1,0 +1,13 @@
+//! The commands that run a block's firmware: `run`, `run16`, `debug` and `gen`, and what a certified run
+//! is (`CertifiedRun`).
+//!
+//! Each is one module, with the form of its words, the places of its files among them (`INPUTS`), and
+//! `work`, which makes of the files' contents the lines to put, or the status of their first fault.
+//! Each has a law that contents of which it makes something have no fault.
+#![tactic(auto)]
+
+pub mod debug;
+pub mod generate;
+pub mod run;
+mod run_lines;
+mod shown_lines;

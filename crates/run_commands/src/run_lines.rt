@@ -1,0 +1,131 @@
+//! The lines of a run.
+ghost use Rattle.std.specs.Prelude.{◌≡◌, ◌++◌, decimal, map, string_bytes, IfOk, OnOk};
+ghost use Rattle.std.specs.List.{flat_map};
+ghost use Rattle.fz_shelf.specs.Lines.{text_of};
+ghost use Rattle.fz_run.specs.Rows.{boundary_seen, frames_seen, row_seen};
+ghost use Rattle.build_commands.specs.Lines.{counted};
+ghost use Rattle.run_commands.specs.Run.{frame_line, numbers, report_of, row_lines, run_lines, sample_line};
+
+use build_commands::lines::{labelled, push_address, push_errors};
+use cpu12_emul::ends::Frame;
+use fz_run::Row;
+use std::alloc::{AllocError, Global};
+use std::fmt::Write;
+
+/// The errors, the bound on instructions, each sample with its frames, and the sum.
+pub(crate) fn lines(
+    alloc: Global,
+    errors: &[u32],
+    bound: u32,
+    rows: &[Row],
+    left: u32,
+) -> Result<Vec<String>, AllocError>
+    ensures { IfOk result (λ lines. text_of lines.items
+        ≡ run_lines (report_of errors.now bound (map row_seen rows.now) left)) }
+{
+    let mut lines = Vec::new(alloc);
+    push_errors(alloc, &mut lines, errors)?;
+    lines.push(labelled(alloc, "instructions ", u128::from(bound))?)?;
+    push_rows(alloc, &mut lines, rows)?;
+    lines.push(labelled(alloc, "left ", u128::from(left))?)?;
+    Ok(lines)
+}
+
+/// Each sample with its frames.
+pub(crate) fn push_rows(
+    alloc: Global,
+    lines: &mut Vec<String>,
+    rows: &[Row],
+) -> Result<(), AllocError>
+    ensures { OnOk result (text_of lines.new.items ≡ text_of lines.old.items
+        ++ counted (λ k r. row_lines k (row_seen r)) 1 rows.now) }
+{
+    for (at, row) in rows.iter().enumerate() {
+        push_row(alloc, lines, at + 1, row)?;
+    }
+    Ok(())
+}
+
+/// The k-th sample with its frames.
+fn push_row(alloc: Global, lines: &mut Vec<String>, k: usize, row: &Row) -> Result<(), AllocError>
+    ensures { OnOk result (text_of lines.new.items ≡ text_of lines.old.items ++ row_lines k (row_seen row.now)) }
+{
+    lines.push(line_of_sample(alloc, k, row)?)?;
+    push_frames(alloc, lines, k, row.frames.as_slice())?;
+    Ok(())
+}
+
+/// The frames of the k-th sample.
+fn push_frames(
+    alloc: Global,
+    lines: &mut Vec<String>,
+    k: usize,
+    frames: &[(u32, Frame)],
+) -> Result<(), AllocError>
+    ensures { OnOk result (text_of lines.new.items ≡ text_of lines.old.items
+        ++ flat_map (λ f. frame_line k (boundary_seen f)) frames.now) }
+{
+    for frame in frames {
+        lines.push(line_of_frame(alloc, k, frame)?)?;
+    }
+    Ok(())
+}
+
+/// The line of a frame of the k-th sample, behind its boundary.
+fn line_of_frame(alloc: Global, k: usize, frame: &(u32, Frame)) -> Result<String, AllocError>
+    ensures { IfOk result (λ s. string_bytes s ≡ frame_line k (boundary_seen frame.now)) }
+{
+    let boundary = frame.0;
+    let bytes = frame.1.bytes.len();
+    let mut text = String::from_str(alloc, "frame ")?;
+    write!(&mut text, "{k} {boundary}")?;
+    push_address(alloc, &mut text, " ", frame.1.pc)?;
+    push_address(alloc, &mut text, " ", frame.1.sp)?;
+    write!(&mut text, " {bytes}\n")?;
+    Ok(text)
+}
+
+/// Bytes as numbers, with a blank before each.
+fn push_bytes(text: &mut String, values: &[u8]) -> Result<(), AllocError>
+    ensures { OnOk result (string_bytes text.new ≡ string_bytes text.old ++ numbers values.now) }
+{
+    for byte in values {
+        write!(text, " {byte}")?;
+    }
+    Ok(())
+}
+
+/// Numbers, with a blank before each.
+fn push_numbers(text: &mut String, values: &[u16]) -> Result<(), AllocError>
+    ensures { OnOk result (string_bytes text.new ≡ string_bytes text.old ++ numbers values.now) }
+{
+    for number in values {
+        write!(text, " {number}")?;
+    }
+    Ok(())
+}
+
+/// The line of the k-th sample.
+fn line_of_sample(alloc: Global, k: usize, row: &Row) -> Result<String, AllocError>
+    ensures { IfOk result (λ s. string_bytes s ≡ sample_line k (row_seen row.now)) }
+{
+    let mut text = String::from_str(alloc, "sample ")?;
+    write!(&mut text, "{k} bytes")?;
+    push_bytes(&mut text, row.bytes.as_slice())?;
+    text.push_str(" answers")?;
+    push_numbers(&mut text, row.answers.as_slice())?;
+    push_count(&mut text, " instructions ", row.instrs as usize)?;
+    push_count(&mut text, " steps ", row.steps as usize)?;
+    push_count(&mut text, " resumed ", row.resumed as usize)?;
+    push_count(&mut text, " frames ", row.frames.len())?;
+    text.push_str("\n")?;
+    Ok(text)
+}
+
+/// A number behind a label.
+fn push_count(text: &mut String, label: &str, count: usize) -> Result<(), AllocError>
+    ensures { OnOk result (string_bytes text.new ≡ string_bytes text.old ++ (label.now ++ decimal count)) }
+{
+    text.push_str(label)?;
+    write!(text, "{count}")
+}

@@ -1,0 +1,76 @@
+//! The lines of what a script shows.
+ghost use Rattle.std.specs.Prelude.{◌≡◌, ◌++◌, map, string_bytes, IfOk, OnOk};
+ghost use Rattle.std.specs.List.{flat_map};
+ghost use Rattle.fz_shelf.specs.Lines.{text_of};
+ghost use Rattle.fz_run.specs.Rows.{row_seen};
+ghost use Rattle.debug_script.specs.declared.shown.Shown.TheVariants as seen;
+ghost use Rattle.run_commands.specs.Debug.{behind_blank, debug_lines, shown_line};
+
+use crate::run_lines::push_rows;
+use build_commands::lines::{line_of_registers, push_address, push_byte};
+use debug_script::Shown;
+use fz_run::Row;
+use std::alloc::{AllocError, Global};
+use std::fmt::Write;
+
+/// What a script shows, and each sample with its frames.
+pub(crate) fn lines(alloc: Global, shown: &[Shown], rows: &[Row]) -> Result<Vec<String>, AllocError>
+    ensures { IfOk result (λ lines. text_of lines.items ≡ debug_lines shown.now (map row_seen rows.now)) }
+{
+    let mut lines = Vec::new(alloc);
+    push_shown(alloc, &mut lines, shown)?;
+    push_rows(alloc, &mut lines, rows)?;
+    Ok(lines)
+}
+
+/// What a script shows, a line each.
+fn push_shown(alloc: Global, lines: &mut Vec<String>, shown: &[Shown]) -> Result<(), AllocError>
+    ensures { OnOk result (text_of lines.new.items ≡ text_of lines.old.items ++ flat_map shown_line shown.now) }
+{
+    for item in shown {
+        lines.push(line_of(alloc, item)?)?;
+    }
+    Ok(())
+}
+
+fn line_of(alloc: Global, item: &Shown) -> Result<String, AllocError>
+    ensures { IfOk result (λ s. string_bytes s ≡ shown_line item.now) }
+{
+    match item {
+        Shown::Stop(sample, moment, pc) => line_of_stop(alloc, *sample, *moment, *pc),
+        Shown::Registers(regs) => line_of_registers(alloc, regs, "\n"),
+        Shown::Bytes(at, bytes) => line_of_bytes(alloc, *at, bytes.as_slice()),
+    }
+}
+
+/// The line of where a run stands.
+fn line_of_stop(alloc: Global, sample: u32, moment: u32, pc: u16) -> Result<String, AllocError>
+    ensures { IfOk result (λ s. string_bytes s ≡ shown_line (seen.Stop sample moment pc)) }
+{
+    let mut text = String::from_str(alloc, "stop ")?;
+    write!(&mut text, "{sample} {moment}")?;
+    push_address(alloc, &mut text, " ", pc)?;
+    text.push_str("\n")?;
+    Ok(text)
+}
+
+/// The line of bytes from an address on.
+fn line_of_bytes(alloc: Global, at: u16, bytes: &[u8]) -> Result<String, AllocError>
+    ensures { IfOk result (λ s. string_bytes s ≡ shown_line (seen.Bytes at bytes.now)) }
+{
+    let mut text = String::new(alloc);
+    push_address(alloc, &mut text, "mem ", at)?;
+    push_bytes(alloc, &mut text, bytes)?;
+    text.push_str("\n")?;
+    Ok(text)
+}
+
+/// Bytes as two digits each, with a blank before each.
+fn push_bytes(alloc: Global, text: &mut String, bytes: &[u8]) -> Result<(), AllocError>
+    ensures { OnOk result (string_bytes text.new ≡ string_bytes text.old ++ flat_map behind_blank bytes.now) }
+{
+    for byte in bytes {
+        push_byte(alloc, text, " ", *byte)?;
+    }
+    Ok(())
+}
