@@ -1,5 +1,5 @@
 -- What a firmware that stands alone answers, and what is known at each of its instructions.
-use Rattle.std.specs.Prelude.{◌≡◌, ℕ, ◌+◌, ◌^◌, ◌<◌, ◌≤◌, Bool, true, false, List, [], ◌∷◌, length, All, slice_set}
+use Rattle.std.specs.Prelude.{◌≡◌, ℕ, ◌+◌, ◌^◌, ◌<◌, ◌≤◌, Bool, true, false, List, [], ◌∷◌, length, All, slice_index, slice_set}
 use Rattle.fuzzy_meaning.specs.declared.block.Block.{Block}
 use Rattle.fuzzy_meaning.specs.Blocks.{IsValid}
 use Rattle.rule_layout.specs.Layouts.{IsWithinLimits}
@@ -98,7 +98,7 @@ FirmwareAnswersBeside = (open_to : ℕ → Bool) (b : Block) (f : Firmware) → 
     → IsWithinLimits b → IsFirmwareOf b f → AnswersBeside open_to b f
 
 -- From reset over a memory that is the image's but for open bytes, instructions come where the code waits too: there
--- the registers are the same, and the bytes but for those that are open.
+-- the registers are the same, and the bytes but for those that are open, which are as they were.
 pub record ArrivesAlike (open_to : ℕ → Bool) (l : Layout) (image mem : List ℕ) (flags : ℕ) : Type 0 where
   pub image_state : State
   pub state : State
@@ -107,6 +107,7 @@ pub record ArrivesAlike (open_to : ℕ → Bool) (l : Layout) (image mem : List 
   pub regs : state.regs ≡ image_state.regs
   pub temps : state.temps ≡ image_state.temps
   pub bytes : Agree open_to state.mem image_state.mem
+  pub open_bytes : (at : ℕ) → open_to at ≡ true → slice_index state.mem at ≡ slice_index mem at
 
 -- So does the firmware of a block.
 abbrev pub FirmwareArrivesAlike : Type 0

@@ -1,5 +1,5 @@
 -- From reset to where the code waits.
-use Rattle.std.proofs.Common.{◌≡◌, ◌⊎◌, inl, inr, ⊎_elim, Bool, false, ℕ, ◌+◌, ◌-◌, ◌*◌, ◌/◌, ◌%◌, ◌^◌, ◌<◌, ◌≤◌, Ok, List, [], ◌∷◌, ◌++◌, map, length, set, get_or, refl, sym, ap, ap₂, ◌∙◌}
+use Rattle.std.proofs.Common.{true, ◌≢◌, ◌≡◌, ◌⊎◌, inl, inr, ⊎_elim, Bool, false, ℕ, ◌+◌, ◌-◌, ◌*◌, ◌/◌, ◌%◌, ◌^◌, ◌<◌, ◌≤◌, Ok, List, [], ◌∷◌, ◌++◌, map, length, set, get_or, refl, sym, ap, ap₂, ◌∙◌}
 use Rattle.std.proofs.Common.{subst, arith, length-set, get_or-set_same, get_or-set_other}
 use Rattle.fuzzy_meaning.specs.declared.block.Block.{Block}
 use Rattle.cpu12_isa.specs.declared.instr.Instr.TheVariants.{LdsImmediate, ClrExtended, Andcc}
@@ -150,6 +150,7 @@ pub record Alike (c : Ctx) (mem : List ℕ) : Type 0 where
   pub regs : state.regs ≡ (third c.flags c.layout c.image).regs
   pub temps : state.temps ≡ (third c.flags c.layout c.image).temps
   pub bytes : Agree c.open_to state.mem (third c.flags c.layout c.image).mem
+  pub open_bytes : (at : ℕ) → c.open_to at ≡ true → get_or state.mem at 0 ≡ get_or mem at 0
 
 -- the registers there depend on PC alone
 regs_from : ℕ → ℕ → ℕ → Regs
@@ -168,11 +169,15 @@ set_agree open_to m n at v lt a = record { size = length-set m at v ∙ a.size �
         ap (λ (k : ℕ). get_or (set m at v) k 0) e ∙ get_or-set_same m at v 0 (omega arith) ∙ sym (get_or-set_same n at v 0 lt) ∙ ap (λ (k : ℕ). get_or (set n at v) k 0) (sym e)
     each q shown (inr other) = get_or-set_other m at q v 0 other ∙ a.bytes q shown ∙ sym (get_or-set_other n at q v 0 other)
 
-pub arrive_alike : (c : Ctx) (mem : List ℕ) → IsStarted c.layout → ((at : ℕ) → 0xFFFE ≤ at → at < 2 ^ 16 → c.open_to at ≡ false)
+-- an open byte is not one that is shown
+apart : (open_to : ℕ → Bool) (p q : ℕ) → open_to p ≡ true → open_to q ≡ false → p ≢ q
+apart open_to p q t f e = cc
+
+pub arrive_alike : (c : Ctx) (mem : List ℕ) → IsStarted c.layout → c.open_to c.layout.ready ≡ false → ((at : ℕ) → 0xFFFE ≤ at → at < 2 ^ 16 → c.open_to at ≡ false)
     → HasBytes c.image 0xFFFE (bytes_of_word c.layout.code) → HasBytes c.image c.layout.code (code_bytes (start_code c.layout)) → length c.image ≡ 65536
     → Agree c.open_to mem c.image → Alike c mem
 unfolding regs_from
-arrive_alike c mem f reset vector start size a =
+arrive_alike c mem f shown reset vector start size a =
     let l = c.layout in
     let ready = f.ready in
     let here : HasBytes mem 0xFFFE (bytes_of_word l.code) = same_bytes c.image mem 0xFFFE (bytes_of_word l.code) (λ k lo hi. a.bytes k (reset k lo hi)) vector in
@@ -185,4 +190,5 @@ arrive_alike c mem f reset vector start size a =
       regs = ap (regs_from c.flags l.ready) pc;
       temps = refl;
       bytes = set_agree c.open_to mem c.image l.ready 0 (omega arith) a;
+      open_bytes = λ at is. get_or-set_other mem l.ready at 0 0 (apart c.open_to at l.ready is shown);
     }

@@ -211,7 +211,7 @@ alike : (c : Ctx) (b : Block) (w : Width) (mem : List ℕ) → Founded c b w →
     → Agree c.open_to mem c.image → ArrivesAlike c.open_to c.layout c.image mem c.flags
 alike c b w mem h started reset agree =
     let a = h.arrived in
-    let r = arrive_alike c mem started reset h.vector h.start a.size agree in
+    let r = arrive_alike c mem started h.samples.frame.shown reset h.vector h.start a.size agree in
     record {
       image_state = a.t;
       state = r.state;
@@ -220,6 +220,7 @@ alike c b w mem h started reset agree =
       regs = r.regs ∙ ap (λ (s : State). s.regs) (sym a.third_is);
       temps = r.temps ∙ ap (λ (s : State). s.temps) (sym a.third_is);
       bytes = subst (λ (s : State). Agree c.open_to r.state.mem s.mem) (sym a.third_is) r.bytes;
+      open_bytes = r.open_bytes;
     }
 
 pub firmware_arrives_alike : FirmwareLaws → FirmwareArrivesAlike
