@@ -44,7 +44,7 @@ use Rattle.fz_run.proofs.PortBytes.{write_last}
 use Rattle.fz_run.proofs.PlainSteps.{plain_step}
 use Rattle.fz_run.proofs.StandAlone.{before_at}
 use Rattle.fz_run.proofs.Stretching.{all_stretches, before_weaker}
-use Rattle.fz_run.proofs.UsedLaws.{Laws}
+use Rattle.fz_run.proofs.UsedLaws.{WayLaws, Laws}
 use Rattle.fz_run.proofs.WholeSteps.{Inside, rev_step, revw_step, average_step}
 
 -- a firmware at the layout that stands alone, with n answers
@@ -87,7 +87,7 @@ at_instruction open_to image s c = record {
     high (inl e) = omega arith
     high (inr e) = omega arith
 
-step_stretch : Laws → (open_to : ℕ → Bool) (image : List ℕ) (flags d : ℕ) (s t : State) → flags < 2 ^ 8 → IsInterruptibleStep open_to main_layout image flags d s t
+step_stretch : WayLaws → (open_to : ℕ → Bool) (image : List ℕ) (flags d : ℕ) (s t : State) → flags < 2 ^ 8 → IsInterruptibleStep open_to main_layout image flags d s t
     → Stretch (Kept open_to flags (On image)) flags d s t
 unfolding On
 step_stretch laws open_to image flags d s t hf h = by h.instruction
@@ -124,7 +124,7 @@ step_stretch laws open_to image flags d s t hf h = by h.instruction
         revw_step laws.steps open_to flags (On image) d p.0 p.1 s t hf c p.2.step (record { reads = p.2.reads; writes = p.2.writes; below = p.2.below; itself = p.2.itself }) (within p.2.away)
     by (inr (inr (inr p))) = average_step laws.steps open_to flags (On image) d s t hf c p.step p.reads here (second p.away)
 
-stretches : Laws → (open_to : ℕ → Bool) (image : List ℕ) (flags : ℕ) (ds : List ℕ) (s t : State) → flags < 2 ^ 8 → Execution (IsInterruptibleStep open_to main_layout image flags) ds s t
+stretches : WayLaws → (open_to : ℕ → Bool) (image : List ℕ) (flags : ℕ) (ds : List ℕ) (s t : State) → flags < 2 ^ 8 → Execution (IsInterruptibleStep open_to main_layout image flags) ds s t
     → Execution (Stretch (Kept open_to flags (On image)) flags) ds s t
 stretches laws open_to image flags [] s t hf h = h
 stretches laws open_to image flags (d ∷ ds) s t hf h = (h.0, (step_stretch laws open_to image flags d s h.0 hf h.1.0, stretches laws open_to image flags ds h.0 t hf h.1.1))
@@ -159,14 +159,14 @@ unfolding numbers
 within open_to b w most image flags before [] s h = tt
 within open_to b w most image flags before (bytes ∷ samples) s h = (h.1.0.steps, within open_to b w most image flags (λ o. answer w b o bytes (before o)) samples h.0 h.1.1)
 
-went : Laws → (open_to : ℕ → Bool) (b : Block) (w : Width) (most : ℕ) (image : List ℕ) (flags : ℕ) (before : ℕ → ℕ) (bytes : List ℕ) (s t : State) → flags < 2 ^ 8 → length bytes ≤ 8
+went : WayLaws → (open_to : ℕ → Bool) (b : Block) (w : Width) (most : ℕ) (image : List ℕ) (flags : ℕ) (before : ℕ → ℕ) (bytes : List ℕ) (s t : State) → flags < 2 ^ 8 → length bytes ≤ 8
     → (a : IsAnsweredBeside open_to main_layout b w most image flags before bytes s t)
     → Stretches (Kept open_to flags (On image)) flags a.ds (given main_layout bytes s) t
 went laws open_to b w most image flags before bytes s t hf l a =
     let start = answers.given main_layout bytes s in
     subst (λ (u : State). Stretches (Kept open_to flags (On image)) flags a.ds u t) (sym (same_given bytes s l)) (all_stretches (Kept open_to flags (On image)) flags a.ds start t (stretches laws open_to image flags a.ds start t hf a.execution))
 
-sampled : Laws → (open_to : ℕ → Bool) (f : Firmware) (n : ℕ) (b : Block) (w : Width) (most : ℕ) (flags : ℕ) (before : ℕ → ℕ) (bytes : List ℕ) (s t : State) → flags < 2 ^ 8 → length bytes ≤ 8
+sampled : WayLaws → (open_to : ℕ → Bool) (f : Firmware) (n : ℕ) (b : Block) (w : Width) (most : ℕ) (flags : ℕ) (before : ℕ → ℕ) (bytes : List ℕ) (s t : State) → flags < 2 ^ 8 → length bytes ≤ 8
     → (a : IsAnsweredBeside open_to main_layout b w most (image_memory f.image.bytes) flags before bytes s t)
     → Completes (FactsBeside open_to flags (alone f n)) (with_writes flags (alone f n)) 0 (all_steps a.ds) (all_steps a.ds) (given main_layout bytes s)
 unfolding On IsStack
@@ -182,7 +182,7 @@ sampled laws open_to f n b w most flags before bytes s t hf l a =
       ended = ap (is_idle main_layout) g.goes ∙ a.idle;
     }
 
-all_sampled : Laws → (open_to : ℕ → Bool) (f : Firmware) (n : ℕ) (b : Block) (w : Width) (most : ℕ) (flags : ℕ) (before : ℕ → ℕ) (samples : List (List ℕ)) (s : State) → flags < 2 ^ 8
+all_sampled : WayLaws → (open_to : ℕ → Bool) (f : Firmware) (n : ℕ) (b : Block) (w : Width) (most : ℕ) (flags : ℕ) (before : ℕ → ℕ) (samples : List (List ℕ)) (s : State) → flags < 2 ^ 8
     → AreShort samples → (h : AreAnsweredBeside open_to main_layout b w most (image_memory f.image.bytes) flags before samples s)
     → AllComplete (FactsBeside open_to flags (alone f n)) (with_writes flags (alone f n)) (numbers open_to b w most (image_memory f.image.bytes) flags before samples s h) samples s
 unfolding numbers
@@ -200,7 +200,7 @@ waits_alone : (f : Firmware) (s : State) → IsInterruptible is_free (image_memo
 unfolding IsStack
 waits_alone f s c = record { image = c.same; stack = at_stack s.regs.sp c.stack; unmasked = c.mask; sums = c.temps }
 
-all_wait : Laws → (f : Firmware) (n : ℕ) (b : Block) (w : Width) (most : ℕ) (flags : ℕ) (before : ℕ → ℕ) (samples : List (List ℕ)) (s : State) → flags < 2 ^ 8
+all_wait : WayLaws → (f : Firmware) (n : ℕ) (b : Block) (w : Width) (most : ℕ) (flags : ℕ) (before : ℕ → ℕ) (samples : List (List ℕ)) (s : State) → flags < 2 ^ 8
     → AreShort samples → IsInterruptible is_free (image_memory f.image.bytes) s → (h : AreAnswered main_layout b w most (image_memory f.image.bytes) flags before samples s)
     → AllWait flags (alone f n) (numbers is_free b w most (image_memory f.image.bytes) flags before samples s h) samples s
 unfolding numbers
@@ -241,7 +241,7 @@ answer_is : (xs ys : List ℕ) (i j : ℕ) → xs ≡ ys → i ≡ j
     → ◌≡◌ {A = Answer} (record { values = xs; instructions = i }) (record { values = ys; instructions = j })
 answer_is xs ys i j v n = ap₂ (λ (x : List ℕ) (k : ℕ). let r : Answer = record { values = x; instructions = k } in r) v n
 
-all_answers : Laws
+all_answers : WayLaws
     → (f : Firmware) (n : ℕ) (b : Block) (image : List ℕ) (flags : ℕ) (before : ℕ → ℕ) (plan : List Request) (k : ℕ) (samples : List (List ℕ)) (s : State)
     → flags < 2 ^ 8 → AreShort samples → n ≤ 4
     → (h : AreAnswered main_layout b (width_of f.wide) f.instr_bound image flags before samples s)
@@ -303,7 +303,7 @@ is_low : (f : Firmware) (n : ℕ) → n ≤ 4 → IsLow (alone f n)
 is_low f n few = let bytes = few_bytes f.wide n few in record { ready = omega arith; outputs = omega arith }
 
 -- its run beside handlers to which these bytes are open
-beside : Laws → (open_to : ℕ → Bool) (b : Block) (f : Firmware) (n flags : ℕ) (samples : List (List ℕ)) (s : State) → flags < 2 ^ 8 → length b.outputs ≤ 4 → n ≤ 4
+beside : WayLaws → (open_to : ℕ → Bool) (b : Block) (f : Firmware) (n flags : ℕ) (samples : List (List ℕ)) (s : State) → flags < 2 ^ 8 → length b.outputs ≤ 4 → n ≤ 4
     → IsFirmwareOf b (alone f n) → AreShort samples → IsArrivedBeside open_to main_layout (image_memory f.image.bytes) flags s
     → AreAnsweredBeside open_to main_layout b (width_of f.wide) f.instr_bound (image_memory f.image.bytes) flags (λ o. 0) samples s
     → RunsBeside open_to (alone f n) flags samples
@@ -335,19 +335,19 @@ under laws b f n flags samples plan s hf few count h short good a answered =
     let image = image_memory f.image.bytes in
     let most = f.instr_bound in
     let ns = numbers is_free b w most image flags (λ o. 0) samples s answered in
-    let first : first_state g flags ≡ s = first_is laws.arrives_plainly is_free b f n flags s few h a in
+    let first : first_state g flags ≡ s = first_is laws.ways.arrives_plainly is_free b f n flags s few h a in
     let low : IsLow g = is_low f n count in
     let steps : AllWithin (steps_by b most) ns = within is_free b w most image flags (λ o. 0) samples s answered in
     let same_bound : steps_by b most ≡ step_bound w b = ap (steps_by b) h.instructions in
     let enough : f.step_bound ≡ steps_by b most = h.steps ∙ sym same_bound in
     let bounded : AllWithin f.step_bound ns = subst (λ (m : ℕ). AllWithin m ns) (sym enough) steps in
-    let complete : AllComplete (FactsAlone flags g) (with_writes flags g) ns samples s = all_sampled laws is_free f n b w most flags (λ o. 0) samples s hf short answered in
+    let complete : AllComplete (FactsAlone flags g) (with_writes flags g) ns samples s = all_sampled laws.ways is_free f n b w most flags (λ o. 0) samples s hf short answered in
     let runs : FollowsAlone flags g f.step_bound plan ns samples s = laws.runs_follow flags g f.step_bound plan ns samples s low good bounded complete in
     let rows = (firmware_rows g samples plan flags).rows in
     let expected = rows_of_samples flags g plan 1 ns samples s in
     let rows_are : rows ≡ expected =
     ap (λ (u : State). (rows_from (with_writes flags g) f.step_bound (λ k. requests_of k plan) 1 samples u).rows) first ∙ runs.rows_are in
-    let same = ap (map answer_of_row) rows_are ∙ all_answers laws f n b image flags (λ o. 0) plan 1 samples s hf short count answered in
+    let same = ap (map answer_of_row) rows_are ∙ all_answers laws.ways f n b image flags (λ o. 0) plan 1 samples s hf short count answered in
     let both = laws.answered_are_uninterrupted b g flags samples s h.outputs a answered in
     record {
       answers = record {
@@ -358,7 +358,7 @@ under laws b f n flags samples plan s hf few count h short good a answered =
       };
       ns = ns;
       complete = subst (λ (u : State). AllComplete (FactsAlone flags g) (with_writes flags g) ns samples u) (sym first) complete;
-      waits = subst (λ (u : State). AllWait flags g ns samples u) (sym first) (all_wait laws f n b w most flags (λ o. 0) samples s hf short a.interruptible answered);
+      waits = subst (λ (u : State). AllWait flags g ns samples u) (sym first) (all_wait laws.ways f n b w most flags (λ o. 0) samples s hf short a.interruptible answered);
       rows_are = rows_are ∙ ap (λ (u : State). rows_of_samples flags g plan 1 ns samples u) (sym first);
       follows = subst (λ (u : State). FollowsAlone flags g f.step_bound plan ns samples u) (sym first) runs;
     }
@@ -371,7 +371,7 @@ is_alone : (b : Block) (f : Firmware) → IsFirmwareOf b f → f ≡ alone f (le
 unfolding by_layout
 is_alone b f h = ap₂ (by_layout f) h.layout h.outputs
 
-pub runs_beside : Laws → FirmwareAnswersBeside → FirmwareRunsBeside
+pub runs_beside : WayLaws → FirmwareAnswersBeside → FirmwareRunsBeside
 runs_beside laws answers open_to b f flags samples hf leaves v limits h all =
     let n = length b.outputs in
     let same = is_alone b f h in
