@@ -1,7 +1,7 @@
 // Laws of runs.
 ghost use Rattle.fz_run.specs.Answering.{AnswersUnderPlans, FirmwareRunsBeside, FirstStatesAlike};
 ghost use Rattle.fz_run.specs.Arrival.{ArrivesPlainly};
-ghost use Rattle.fz_run.specs.Following.{RunsFollowAlone};
+ghost use Rattle.fz_run.specs.Following.{RunsFollowAlone, RunsFollowBeside, RequestsAreGood};
 ghost use Rattle.fz_run.specs.Showing.{RowsAreShown};
 
 use crate::alone::StandAlone;
@@ -27,8 +27,21 @@ use run_law::laws::runs_follow;
 pub fn runs_follow_alone()
     ensures { RunsFollowAlone }
 {
+    runs_follow_beside();
+    requests_are_good();
+}
+
+/// The same whatever more is open than the free bytes.
+pub fn runs_follow_beside()
+    ensures { RunsFollowBeside }
+{
     runs_follow::<StandAlone>();
 }
+
+/// The requests of each sample of a good plan are good, and ascend.
+pub fn requests_are_good()
+    ensures { RequestsAreGood }
+{}
 
 /// The firmware of a block, of either width, answers every list of samples under every good plan as
 /// without interrupts: each row is of its sample, its answers and its number of instructions are the
