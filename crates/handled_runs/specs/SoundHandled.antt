@@ -1,4 +1,5 @@
--- A firmware whose interrupts run an accepted handler is a sound form. The proof stands here, where an impl can cite it.
+-- A firmware whose interrupts run an accepted handler is a sound form. The proof stands here, where an impl can cite
+-- it.
 use Rattle.std.proofs.Common.{◌≡◌, ℕ, zero, suc, ◌+◌, ◌<◌, ◌≤◌, ◌⊎◌, inl, inr, Bool, true, false, Ok, Result, Some, List, [], ◌∷◌, ◌++◌, length, get_or, refl, ap, sym, ◌∙◌, subst, arith, nat_lt, nat_le}
 use Rattle.std.specs.Prelude.{All, min, take, ◌&&◌, ◌||◌}
 use Rattle.std.specs.Option.{is_some}
@@ -63,7 +64,8 @@ pub record HandlerStands (handler : List (ℕ × ℕ)) (most : ℕ) (done : List
   pub short : AreShort most done
 
 -- what is open
-pub not_open : (at : ℕ) → (at < 0x1800) ⊎ (((0x1FE0 ≤ at) × (at < 0x4000)) ⊎ (((0x5000 ≤ at) × (at < 0xFFF2)) ⊎ (0xFFF4 ≤ at)))
+pub not_open : (at : ℕ)
+    → (at < 0x1800) ⊎ (((0x1FE0 ≤ at) × (at < 0x4000)) ⊎ (((0x5000 ≤ at) × (at < 0xFFF2)) ⊎ (0xFFF4 ≤ at)))
     → is_open_to_code at ≡ false
 not_open at (inl h) = grind (arith, nat_tests)
 not_open at (inr (inl h)) = let lo = h.0 in let hi = h.1 in grind (arith, nat_tests)
@@ -92,7 +94,8 @@ code_open at lo hi =
     rw (f, c) refl
 
 -- a handler's bytes stand where its code may
-pub in_code : (image : List (ℕ × ℕ)) (at byte : ℕ) → IsWhole image → byte_at image at ≡ Some byte → (0x4000 ≤ at) × (at < 0x5000)
+pub in_code : (image : List (ℕ × ℕ)) (at byte : ℕ) → IsWhole image → byte_at image at ≡ Some byte
+    → (0x4000 ≤ at) × (at < 0x5000)
 in_code image at byte w e = (not_low (λ l. w.inside at (has, inl l)), not_high (λ l. w.inside at (has, inr (inl l))))
   where
     has : is_some (byte_at image at) ≡ true
@@ -110,16 +113,19 @@ Keeps m n = (at : ℕ) → 0x4000 ≤ at → is_open_to_code at ≡ true → get
 
 image_stays : (image : List (ℕ × ℕ)) (m n : List ℕ) → IsWhole image → Keeps m n → HasImage image m → HasImage image n
 image_stays image m n w keeps h = record {
-  vector = ap (λ (k : ℕ). word_of k (get_or n 65523 0)) (keeps 65522 (omega arith) refl) ∙ ap (λ (k : ℕ). word_of (get_or m 65522 0) k) (keeps 65523 (omega arith) refl) ∙ h.vector;
+  vector = ap (λ (k : ℕ). word_of k (get_or n 65523 0)) (keeps 65522 (omega arith) refl)
+      ∙ ap (λ (k : ℕ). word_of (get_or m 65522 0) k) (keeps 65523 (omega arith) refl) ∙ h.vector;
   bytes = λ at byte e. (let r = in_code image at byte w e in keeps at r.0 (code_open at r.0 r.1) ∙ h.bytes at byte e);
 }
 
-stands : (image : List (ℕ × ℕ)) (most : ℕ) (done : List (Request × ℕ)) (w u : State) → IsWhole image → Keeps w.mem u.mem
+stands : (image : List (ℕ × ℕ)) (most : ℕ) (done : List (Request × ℕ)) (w u : State) → IsWhole image
+    → Keeps w.mem u.mem
     → HandlerStands image most done w → HandlerStands image most done u
 stands image most done w u whole keeps h = record { image = image_stays image w.mem u.mem whole keeps h.image; short = h.short }
 
 -- writes that stand low keep them
-kept : WritesStay → (ws : List (ℕ × ℕ)) (m : List ℕ) → ((at : ℕ) → IsWritten ws at → at < 0x4000) → Keeps m (write_all ws m)
+kept : WritesStay → (ws : List (ℕ × ℕ)) (m : List ℕ) → ((at : ℕ) → IsWritten ws at → at < 0x4000)
+    → Keeps m (write_all ws m)
 kept stay ws m low at from is = (stay ws m).1 at (λ w. (let l = low at w in omega arith))
 
 placed_low : (vs : List ℕ) (p at : ℕ) → p + length vs ≤ 0x4000 → IsWritten (placed p vs) at → at < 0x4000
@@ -138,7 +144,8 @@ take_few zero (x ∷ xs) = omega arith
 take_few (suc n) [] = omega arith
 take_few (suc n) (x ∷ xs) = let rest = take_few n xs in omega arith
 
-given_keeps : WritesStay → (l : Layout) (x : List ℕ) (w : State) → l.samples + 8 ≤ 0x1800 → l.ready < 0x1800 → Keeps w.mem (given l (take 8 x) w).mem
+given_keeps : WritesStay → (l : Layout) (x : List ℕ) (w : State) → l.samples + 8 ≤ 0x1800 → l.ready < 0x1800
+    → Keeps w.mem (given l (take 8 x) w).mem
 given_keeps stay l x w samples ready = kept stay (placed l.samples (take 8 x) ++ (l.ready, 1) ∷ []) w.mem low
   where
     low : (at : ℕ) → IsWritten (placed l.samples (take 8 x) ++ (l.ready, 1) ∷ []) at → at < 0x4000
@@ -152,7 +159,8 @@ sp_near : (sp : ℕ) → IsStackOfOneCall sp → (0x1FFE ≤ sp) × (sp ≤ 0x20
 sp_near sp (inl e) = (omega arith, omega arith)
 sp_near sp (inr e) = (omega arith, omega arith)
 
-sp_of : (w s : State) → IsStackOfOneCall s.regs.sp → Simulates is_open_to_code w s → (0x1FF8 ≤ w.regs.sp) × (w.regs.sp ≤ 0x2000)
+sp_of : (w s : State) → IsStackOfOneCall s.regs.sp → Simulates is_open_to_code w s
+    → (0x1FF8 ≤ w.regs.sp) × (w.regs.sp ≤ 0x2000)
 sp_of w s k (inl l) =
     let near = sp_near s.regs.sp k in
     let e = ap (λ (r : Regs). r.sp) l.regs in
@@ -178,34 +186,45 @@ pushes_keep laws w lo hi = cases w.temps refl
         (kept laws.writes_stay (placed (plus w.regs.sp 65530) (sum_bytes p q)) w.mem (λ at h. placed_low (sum_bytes p q) (plus w.regs.sp 65530) at (omega arith) h))
 
 -- a step writes what it writes without interrupts
-step_left : CodeLaws → (flags : ℕ) (w s : State) → (k : IsShownStep is_open_to_code flags s) → Simulates is_open_to_code w s
+step_left : CodeLaws → (flags : ℕ) (w s : State) → (k : IsShownStep is_open_to_code flags s)
+    → Simulates is_open_to_code w s
     → outcome (step_act flags w.regs w.temps) w.mem ≡ Ok k.left
 step_left laws flags w s k (inl l) =
-    let both = laws.step_agrees flags s.regs s.temps w.mem s.mem k.left (is_hidden is_open_to_code s.regs.sp) (is_hidden is_open_to_code k.left.regs.sp) l.mem k.reads k.goes k.covers in
-    ap (λ (r : Regs). outcome (step_act flags r w.temps) w.mem) l.regs ∙ ap (λ (u : Temps). outcome (step_act flags s.regs u) w.mem) l.temps ∙ both.0
+    let both =
+    laws.step_agrees flags s.regs s.temps w.mem s.mem k.left (is_hidden is_open_to_code s.regs.sp)
+    (is_hidden is_open_to_code k.left.regs.sp) l.mem k.reads k.goes k.covers in
+    ap (λ (r : Regs). outcome (step_act flags r w.temps) w.mem) l.regs
+    ∙ ap (λ (u : Temps). outcome (step_act flags s.regs u) w.mem) l.temps ∙ both.0
 step_left laws flags w s k (inr l) =
-    let good : AreSumsReady is_open_to_code s (Running l.product l.weight) = subst (λ (u : Temps). AreSumsReady is_open_to_code s u) l.running k.sums in
+    let good : AreSumsReady is_open_to_code s (Running l.product l.weight) =
+    subst (λ (u : Temps). AreSumsReady is_open_to_code s u) l.running k.sums in
     let room : HasRoom s = k.room in
     let fits = room.fits in
     let code : get_or w.mem s.regs.pc 0 ≡ 60 = l.mem.bytes s.regs.pc good.3 ∙ good.2 in
-    let both = laws.step_agrees flags s.regs s.temps w.mem s.mem k.left (is_hidden is_open_to_code s.regs.sp) (is_hidden is_open_to_code k.left.regs.sp) l.mem k.reads k.goes k.covers in
+    let both =
+    laws.step_agrees flags s.regs s.temps w.mem s.mem k.left (is_hidden is_open_to_code s.regs.sp)
+    (is_hidden is_open_to_code k.left.regs.sp) l.mem k.reads k.goes k.covers in
     ap (λ (r : Regs). outcome (step_act flags r w.temps) w.mem) l.regs
     ∙ laws.wavr_goes_on flags s.regs w.temps l.product l.weight w.mem l.temps fits.sp good.0 good.1 code l.sums
     ∙ ap (λ (u : Temps). outcome (step_act flags s.regs u) w.mem) (sym l.running)
     ∙ both.0
 
-shown_not : (hidden : ℕ → Bool) (ws : List (ℕ × ℕ)) (at : ℕ) → AllShown hidden (addresses ws) → IsWritten ws at → hidden at ≡ false
+shown_not : (hidden : ℕ → Bool) (ws : List (ℕ × ℕ)) (at : ℕ) → AllShown hidden (addresses ws) → IsWritten ws at
+    → hidden at ≡ false
 shown_not hidden [] at a w = absurd w
 shown_not hidden (x ∷ ws) at a (inl e) = ap hidden e ∙ a.0
 shown_not hidden (x ∷ ws) at a (inr w) = shown_not hidden ws at a.1 w
 
 open_not : (sp at : ℕ) → is_open_to_code at ≡ true → is_hidden is_open_to_code sp at ≡ false → ⊥
-open_not sp at is h = both (is_open_to_code at) is (or_parts (is_open_to_code at) (nat_le 0x1FE0 at && nat_lt at sp) h).0
+open_not sp at is h = both (is_open_to_code at) is
+    (or_parts (is_open_to_code at) (nat_le 0x1FE0 at && nat_lt at sp) h).0
 
-steps_keep : CodeLaws → (flags : ℕ) (w s : State) → Facts is_open_to_code flags s → Simulates is_open_to_code w s → Keeps w.mem (stepped flags w).mem
+steps_keep : CodeLaws → (flags : ℕ) (w s : State) → Facts is_open_to_code flags s → Simulates is_open_to_code w s
+    → Keeps w.mem (stepped flags w).mem
 steps_keep laws flags w s facts l at from is =
     let k = facts.shown in
-    let e : next_of flags w ≡ applied (Ok k.left) w.mem = ap (λ (o : Result Left ℕ). applied o w.mem) (step_left laws flags w s k l) in
+    let e : next_of flags w ≡ applied (Ok k.left) w.mem =
+    ap (λ (o : Result Left ℕ). applied o w.mem) (step_left laws flags w s k l) in
     let low = min s.regs.sp k.left.regs.sp in
     ap (λ (o : Result Next ℕ). get_or (state_by w o).mem at 0) e
     ∙ (laws.writes_stay k.left.writes w.mem).1 at
@@ -236,7 +255,8 @@ shown_high sp at l h =
     let b : (nat_le 0x1FE0 at && nat_lt at sp) ≡ false = grind (arith, nat_tests) in
     rw (a, b)
 
-serves : (x : Handled) (done : List (Request × ℕ)) (a : Request) (v s : State) → IsGoodRequest a → FactsBeside is_open_to_code x.flags x.firmware s → Begins is_open_to_code v s
+serves : (x : Handled) (done : List (Request × ℕ)) (a : Request) (v s : State) → IsGoodRequest a
+    → FactsBeside is_open_to_code x.flags x.firmware s → Begins is_open_to_code v s
     → HandlerStands x.handler x.most done v
     → Quiet is_open_to_code (served x.flags x.most a v).state v s
     × HandlerStands x.handler x.most ((a, (served x.flags x.most a v).steps) ∷ done) (served x.flags x.most a v).state
@@ -247,19 +267,25 @@ serves x done a v s good p begins own =
     let near = sp_near s.regs.sp p.stack in
     let can : CanEnter s = record { size = room.size; fits = room.fits; low = near.0; high = near.1 } in
     let laws = x.laws in
-    let q : IsQuietCode x.flags x.most a.writes v s = laws.handlers_are_quiet is_open_to_code x.handler x.most x.flags a.writes v s x.is_handler (all_open a.writes good.free) own.image can begins in
+    let q : IsQuietCode x.flags x.most a.writes v s =
+    laws.handlers_are_quiet is_open_to_code x.handler x.most x.flags a.writes v s x.is_handler
+    (all_open a.writes good.free) own.image can begins in
     let u = q.quiet in
-    let sp : v.regs.sp ≤ 0x2000 = subst (λ (r : Regs). r.sp ≤ 0x2000) (sym begins.regs) (below_near s.regs s.temps near.0 near.1) in
+    let sp : v.regs.sp ≤ 0x2000 =
+    subst (λ (r : Regs). r.sp ≤ 0x2000) (sym begins.regs) (below_near s.regs s.temps near.0 near.1) in
     let whole = (let k = x.is_handler in k.whole) in (
       record { regs = u.regs; temps = u.temps; mem = more_hidden v.regs.sp (served x.flags x.most a v).state.mem v.mem u.mem },
       record {
-        image = image_stays x.handler v.mem (served x.flags x.most a v).state.mem whole (λ at from is. u.mem.bytes at (shown_high v.regs.sp at sp from)) own.image;
-        short = All-cons (λ (t : Request × ℕ). t.1 ≤ x.most) (a, (served x.flags x.most a v).steps) done q.steps own.short;
+        image = image_stays x.handler v.mem (served x.flags x.most a v).state.mem whole
+            (λ at from is. u.mem.bytes at (shown_high v.regs.sp at sp from)) own.image;
+        short = All-cons (λ (t : Request × ℕ). t.1 ≤ x.most)
+            (a, (served x.flags x.most a v).steps) done q.steps own.short;
       },
     )
 
 pub sound : (x : Handled) → WritesAgree → WritesAreQuiet
-    → Sound is_open_to_code (with_code x.flags x.firmware x.most) (FactsBeside is_open_to_code x.flags x.firmware) IsGoodRequest (HandlerStands x.handler x.most)
+    → Sound is_open_to_code (with_code x.flags x.firmware x.most)
+    (FactsBeside is_open_to_code x.flags x.firmware) IsGoodRequest (HandlerStands x.handler x.most)
 sound x agree quiet =
     let whole = (let k = x.is_handler in k.whole) in
     let laws = x.laws in
@@ -273,9 +299,12 @@ sound x agree quiet =
       ends = λ m w s l. ended_alike is_open_to_code opens_free x.firmware x.low w s l;
       quiet = λ done a v s good p may begins own. serves x done a v s good p begins own;
       leaves_open = record {
-        gives = λ done bytes w o. stands x.handler x.most done w (given x.firmware.layout (take 8 bytes) w) whole (given_keeps laws.writes_stay x.firmware.layout bytes w x.samples ready) o;
+        gives = λ done bytes w o. stands x.handler x.most done w (given x.firmware.layout (take 8 bytes) w) whole
+            (given_keeps laws.writes_stay x.firmware.layout bytes w x.samples ready) o;
         leaves = λ done bytes w o. o;
-        pushes = λ done w s p l o. (let sp = sp_of w s p.stack l in stands x.handler x.most done w (suspended wav w) whole (pushes_keep laws w sp.0 sp.1) o);
-        steps = λ done w s p l o. stands x.handler x.most done w (stepped x.flags w) whole (steps_keep laws x.flags w s p.facts l) o;
+        pushes = λ done w s p l o.
+            (let sp = sp_of w s p.stack l in stands x.handler x.most done w (suspended wav w) whole (pushes_keep laws w sp.0 sp.1) o);
+        steps = λ done w s p l o. stands x.handler x.most done w (stepped x.flags w) whole
+            (steps_keep laws x.flags w s p.facts l) o;
       };
     }

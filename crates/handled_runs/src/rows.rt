@@ -63,9 +63,9 @@ fn joint_rows(
 }
 
 /// Runs a firmware over a trace under a plan, where each interrupt runs the code of a handler that was accepted, and
-/// answers a row for each sample. Bits of `flags` give the flags that the CPU12 Reference Manual leaves undefined. Where
-/// the firmware is a block's, the rows are those of `fz_run::run`, and no interrupt does more steps than the handler has
-/// instructions on a path. Want of memory is the one error.
+/// answers a row for each sample. Bits of `flags` give the flags that the CPU12 Reference Manual leaves undefined.
+/// Where the firmware is a block's, the rows are those of `fz_run::run`, and no interrupt does more steps than the
+/// handler has instructions on a path. Want of memory is the one error.
 pub fn run_handler(
     alloc: Global,
     firmware: &Firmware,
