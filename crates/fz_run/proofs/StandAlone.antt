@@ -7,16 +7,16 @@ use Rattle.cpu12_emul.specs.Take.{may_interrupt}
 use Rattle.run_law.specs.Forms.{RowSeen}
 use Rattle.run_law.specs.Uninterrupted.{uninterrupted, counted, first_open, taken_at, resumed_of, frames_of}
 use Rattle.run_law.specs.Soundness.{Before}
-use Rattle.run_law.specs.Following.{AllComplete, RunsFollow, expected_rows}
+use Rattle.run_law.specs.Following.{AllComplete, expected_rows}
 use Rattle.interrupt_plan.specs.declared.Request.{Request}
-use Rattle.interrupt_plan.specs.Plans.{IsGoodRequest}
 use Rattle.codegen.specs.declared.firmware.Firmware.{Firmware}
 use Rattle.fz_run.specs.Forms.{given, answers_in, with_writes}
 use Rattle.fz_run.specs.Rows.{requests_of}
 use Rattle.fz_run.specs.Facts.{FactsAlone}
-use Rattle.fz_run.specs.Following.{IsLow, Nothing, rows_of_samples, RunsFollowAlone}
+use Rattle.fz_run.specs.SoundAlone.{free_opens}
+use Rattle.fz_run.specs.Following.{rows_of_samples, RunsFollowAlone, RunsFollowBeside}
+use Rattle.fz_run.specs.Given.{RequestsAreGood}
 use Rattle.fz_run.proofs.Algebra.{before_at}
-use Rattle.fz_run.proofs.Requests.{requests_are_good}
 
 -- where I is 0 throughout a request is taken at its moment
 at_once : (flags : ℕ) (s : State) (k m : ℕ) → ((j : ℕ) → suc j ≤ m + k → may_interrupt (uninterrupted flags j s) ≡ true) → first_open flags s k m ≡ m
@@ -54,9 +54,8 @@ same_rows flags f plan k (n ∷ ns) (bytes ∷ rest) s h =
       frames = frames_of flags moment (given f.layout bytes s) (requests_of k plan) n;
     }
 
-pub runs_follow_alone : ((flags : ℕ) (f : Firmware) → IsLow f → RunsFollow is_free (with_writes flags f) (FactsAlone flags f) IsGoodRequest Nothing)
-    → RunsFollowAlone
-runs_follow_alone law flags f most plan ns samples s low good le h =
-    let r = law flags f low (λ j. requests_of j plan) (requests_are_good plan good) [] 1 most ns samples s s le h
+pub runs_follow_alone : RunsFollowBeside → RequestsAreGood → RunsFollowAlone
+runs_follow_alone law requests flags f most plan ns samples s low good le h =
+    let r = law is_free flags f free_opens low (λ j. requests_of j plan) (requests plan good) [] 1 most ns samples s s le h
     (record { regs = refl; temps = refl; mem = agree_self (is_hidden is_free s.regs.sp) s.mem }) tt in
     record { arrived = r.arrived; rows_are = r.rows_are ∙ same_rows flags f plan 1 ns samples s h; simulates = r.simulates; last = r.last }

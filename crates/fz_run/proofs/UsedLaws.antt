@@ -6,10 +6,13 @@ use Rattle.fz_run.specs.Following.{RunsFollowAlone}
 use Rattle.fz_run.specs.Given.{GivenIsPut}
 use Rattle.fz_run.specs.Instructions.{InstructionsAreSteps}
 
-pub record Laws : Type 0 where
+pub record WayLaws : Type 0 where
   pub steps : InstructionsAreSteps
   pub given_is_put : GivenIsPut
   pub arrives_plainly : ArrivesPlainly
+
+pub record Laws : Type 0 where
+  pub ways : WayLaws
   pub firmware_answers : FirmwareAnswers
   pub answered_are_uninterrupted : AnsweredAreUninterrupted
   pub runs_follow : RunsFollowAlone

@@ -14,7 +14,7 @@ use Rattle.codegen.specs.WatchedCode.{fault_at}
 use Rattle.fz_run.specs.Following.{IsLow, Nothing}
 use Rattle.fz_run.specs.Forms.{given}
 use Rattle.fz_run.specs.SoundAlone as alone
-use Rattle.fz_run.specs.SoundAlone.{leaves_stack, low_shown, all_open}
+use Rattle.fz_run.specs.SoundAlone.{leaves_stack, free_opens, low_shown, all_open}
 use Rattle.watched_runs.specs.Forms.{watched_form, FactsWatched}
 
 -- one byte more is written alike
@@ -37,7 +37,7 @@ same_restored agree image (Some c) w s l = same_set agree c.0 (slice_index image
 pub sound : (flags : ℕ) (f : Firmware) → IsLow f → WritesAgree → WritesAreQuiet
     → Sound is_free (watched_form flags f) (FactsWatched flags) IsGoodRequest Nothing
 sound flags f low agree quiet =
-    let beside = alone.sound flags f low agree quiet in
+    let beside = alone.sound is_free free_opens flags f low agree quiet in
     record {
       apart = leaves_stack;
       shown = λ s p. (let facts = p.facts in facts.shown);
@@ -45,13 +45,13 @@ sound flags f low agree quiet =
           same_changed agree x.change (given f.layout x.bytes w) (given f.layout x.bytes s) (beside.gives x.bytes w s l);
       leaves = λ x w s l. same_restored agree (image_memory f.image.bytes) x.change w s l;
       answers = λ w s l.
-          (let shown = low_shown s.regs.sp fault_at (omega arith) in
+          (let shown = low_shown is_free free_opens s.regs.sp fault_at (omega arith) in
           ap₂ (λ (xs : List ℕ) (v : ℕ). xs ++ v ∷ []) (beside.answers w s l) (l.mem.bytes fault_at shown));
       ends = beside.ends;
       quiet = λ done a v s good p may begins own.
           (let facts = p.facts in
           let shown = facts.shown in
-          (quiet is_free a.writes v s leaves_stack (all_open a.writes good.free) shown.room begins, tt));
+          (quiet is_free a.writes v s leaves_stack (all_open is_free free_opens a.writes good.free) shown.room begins, tt));
       leaves_open = record {
         gives = λ done x w o. tt;
         leaves = λ done x w o. tt;

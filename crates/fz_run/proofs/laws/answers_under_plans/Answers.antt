@@ -3,9 +3,11 @@ use Rattle.fz_run.proofs.laws.answers_under_plans.Goals as goal
 
 pub returns : goal.returns
 returns c = answers_under_plans (record {
-  steps = c.instructions_are_steps.ensures;
-  given_is_put = c.given_is_put.ensures;
-  arrives_plainly = c.arrives_plainly.ensures;
+  ways = record {
+    steps = c.instructions_are_steps.ensures;
+    given_is_put = c.given_is_put.ensures;
+    arrives_plainly = c.arrives_plainly.ensures;
+  };
   firmware_answers = c.firmware_answers.ensures;
   answered_are_uninterrupted = c.answered_are_uninterrupted.ensures;
   runs_follow = c.runs_follow_alone.ensures;

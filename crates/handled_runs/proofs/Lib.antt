@@ -1,0 +1,5 @@
+mod Beginnings
+mod HandledAnswers
+mod Returns
+mod JointBytes
+mod SampleBytes
