@@ -1,6 +1,6 @@
 -- The rows of a trace, one after another.
-use Rattle.std.proofs.Common.{rules, ◌≡◌, ◌<◌, ◌≤◌, ℕ, zero, suc, ◌+◌, ◌-◌, List, [], ◌∷◌, ◌++◌, length, take, refl, ap, ap₂, sym, ◌∙◌, subst, arith, append_assoc}
-use Rattle.std.specs.Prelude.{All, map, fold, Some, slice_get, slice_index}
+use Rattle.std.proofs.Common.{◌≡◌, ◌≤◌, ℕ, zero, suc, ◌+◌, ◌-◌, List, [], ◌∷◌, ◌++◌, length, take, refl, ap, ap₂, sym, ◌∙◌, subst, arith, append_assoc}
+use Rattle.std.specs.Prelude.{All, map, Some, slice_get, slice_index}
 use Rattle.std.proofs.lemmas.List.Sums.{fold-append}
 use Rattle.std.proofs.lemmas.Option.{slice_get_within}
 use Rattle.std.proofs.lemmas.List.Elements.{All-cons, All-take}
@@ -9,25 +9,21 @@ use Rattle.fz_num.specs.Decimals.{distance}
 use Rattle.fz_num.specs.Fracs.{IsClose}
 use Rattle.fuzzy_meaning.specs.declared.block.Block.{Block}
 use Rattle.fuzzy_meaning.specs.declared.block.Input.{Input}
-use Rattle.fuzzy_meaning.specs.declared.block.Output.{Output}
-use Rattle.fuzzy_meaning.specs.Blocks.{AreInputs, IsValid, IsWithin, output_at}
+use Rattle.fuzzy_meaning.specs.Blocks.{AreInputs, IsWithin}
 use Rattle.fuzzy_meaning.specs.Meaning.{exact_answer}
 use Rattle.byte_scaling.specs.Cells.{bytes_of, value_in}
 use Rattle.point_slope.specs.Bytes.{answer_in}
-use Rattle.box_tree.specs.declared.cert.Cert.{Cert}
-use Rattle.cert_check.specs.Acceptance.{IsAccepted}
 use Rattle.cert_check.specs.Laws.{AcceptedAnswersAreNear, answer_to}
 use Rattle.codegen.specs.Uninterrupted.{AreAnswersOf}
 use Rattle.codegen.specs.Widths.{answer, parts, width_of}
-use Rattle.codegen.specs.declared.firmware.Firmware.{Firmware}
 use Rattle.codegen.specs.declared.width.Width.{Width}
 use Rattle.codegen.specs.declared.width.Width.TheVariants.{Byte, Word}
-use Rattle.trace_io.specs.Traces.{AreWithin, Fields, SpellSamples, Spells}
+use Rattle.trace_io.specs.Traces.{AreWithin, Fields, SpellSamples}
 use Rattle.trace_io.specs.declared.sample.Sample.{Sample}
 use Rattle.run_law.specs.Forms.{RowSeen}
-use Rattle.fz_run.specs.Answering.{AnswerBlock, answer_of_row}
+use Rattle.fz_run.specs.Answering.{answer_of_row}
 use Rattle.fz_run.specs.Rows.{input_bytes}
-use Rattle.certified_run.specs.Nearness.{AnswersAreWithinErrors, AreWithinErrors, IsWithinErrors, numbers_of}
+use Rattle.certified_run.specs.Nearness.{AnswersAreWithinErrors, numbers_of}
 
 -- ---- the samples
 

@@ -15,7 +15,8 @@ pub record AreSteps (P : State → Type 0) (flags : ℕ) (ds : List ℕ) (s t : 
   pub counts : counted flags (all_steps ds) s ≡ length ds
   pub each : Before P flags (all_steps ds) s
 
--- what each state keeps in which a sample is being answered: it does not wait, and its bytes from $2000 on are an image's
+-- what each state keeps in which a sample is being answered: it does not wait, and its bytes from $2000 on are those of
+-- an image's memory
 pub record IsServing (open_to : ℕ → Bool) (l : Layout) (memory : List ℕ) (flags : ℕ) (s : State) : Type 0 where
   pub facts : Facts open_to flags s
   pub busy : is_idle l s ≡ false

@@ -1,10 +1,10 @@
 -- A sample of a trace with upsets, by its number.
 use Rattle.std.proofs.Common.{◌≡◌, ℕ, zero, suc, ◌+◌, List, [], ◌∷◌, length, Some, slice_get, refl, sym, ap, ◌∙◌, arith}
-use Rattle.std.specs.Prelude.{Option, map}
+use Rattle.std.specs.Prelude.{map}
 use Rattle.std.proofs.lemmas.List.{length-map}
 use Rattle.interrupt_plan.specs.declared.upsets.Upset.{Upset}
 use Rattle.trace_io.specs.declared.sample.Sample.{Sample}
-use Rattle.codegen.specs.Watched.{Change, Watched}
+use Rattle.codegen.specs.Watched.{Watched}
 use Rattle.fz_run.specs.Rows.{input_bytes}
 use Rattle.watched_runs.specs.Samples.{change_of, changes_from, with_upsets}
 

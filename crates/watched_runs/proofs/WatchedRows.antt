@@ -296,7 +296,7 @@ under laws b f p flags samples plan upsets s hf good ready a answered =
     record {
       answers = subst (λ (rs : List FaultSeen). AreWatchedRows b f (λ o. 0) xs rs)
           (sym (rows_are ∙ ap expected first)) (all_rows laws b f p flags (λ o. 0) plan 1 xs s hf ready answered);
-      ns = ns;
+      steps = ns;
       complete = subst (λ (u : State). AllComplete (FactsWatched flags) g ns xs u) (sym first) complete;
       changes = subst (λ (u : State). AllHoldChanges flags f ns xs u) (sym first)
           (all_hold laws b f p flags (λ o. 0) xs s hf ready waits answered);

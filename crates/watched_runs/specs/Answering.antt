@@ -58,18 +58,18 @@ AllHoldChanges flags f (n ∷ ns) (x ∷ xs) s =
     (restored (image_memory f.image.bytes) x.change (uninterrupted flags n (given_changed f.layout x s)))
 
 -- What a block's firmware gives under a plan and upsets: rows that are the samples'; the run without interrupts from
--- the first arrival answers all samples, and its states keep the facts, with each sample's byte changed as long as it
--- is answered; the rows are read off it; and the run under the plan follows it.
+-- the first arrival, which answers all samples in so many steps each, and whose states keep the facts, with each
+-- sample's byte changed as long as it is answered; the rows are read off it; and the run under the plan follows it.
 pub record AnswersUnderUpsets (b : Block) (f : Firmware) (flags : ℕ) (samples : List (List ℕ)) (plan : List Request)
     (upsets : List Upset) (rows : List FaultSeen) : Type 0 where
   pub answers : AreWatchedRows b f (λ o. 0) (with_upsets upsets samples) rows
-  pub ns : List ℕ
+  pub steps : List ℕ
   pub complete :
-      AllComplete (FactsWatched flags) (watched_form flags f) ns (with_upsets upsets samples) (first_state f flags)
-  pub changes : AllHoldChanges flags f ns (with_upsets upsets samples) (first_state f flags)
+      AllComplete (FactsWatched flags) (watched_form flags f) steps (with_upsets upsets samples) (first_state f flags)
+  pub changes : AllHoldChanges flags f steps (with_upsets upsets samples) (first_state f flags)
   pub rows_are : rows ≡ map (fault_seen f.outputs) (expected_rows (watched_form flags f)
-      (λ k. requests_of k plan) 1 ns (with_upsets upsets samples) (first_state f flags))
-  pub follows : AllFollow is_free (watched_form flags f) Nothing [] (λ k. requests_of k plan) 1 ns
+      (λ k. requests_of k plan) 1 steps (with_upsets upsets samples) (first_state f flags))
+  pub follows : AllFollow is_free (watched_form flags f) Nothing [] (λ k. requests_of k plan) 1 steps
       (with_upsets upsets samples) (first_state f flags) (upset_rows f samples plan upsets flags)
 
 -- so are rows, where the firmware is one of a valid block with watched tables

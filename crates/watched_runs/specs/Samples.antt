@@ -1,5 +1,6 @@
 -- The samples of a trace, each with what is upset while it is answered.
-use Rattle.std.specs.Prelude.{ℕ, suc, ◌<◌, ◌==◌, if◌then◌else◌, Option, Some, None, List, [], ◌∷◌, length, slice_index_or}
+use Rattle.std.specs.Prelude.{ℕ, suc, ◌<◌, ◌==◌, if◌then◌else◌, Option}
+use Rattle.std.specs.Prelude.{Some, None, List, [], ◌∷◌, length, slice_index_or}
 use Rattle.interrupt_plan.specs.declared.upsets.Upset.{Upset}
 use Rattle.codegen.specs.Watched.{Change, Watched}
 

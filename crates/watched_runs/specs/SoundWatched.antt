@@ -42,7 +42,8 @@ sound flags f low agree quiet =
       apart = leaves_stack;
       shown = λ s p. (let facts = p.facts in facts.shown);
       gives = λ x w s l.
-          same_changed agree x.change (given f.layout x.bytes w) (given f.layout x.bytes s) (beside.gives x.bytes w s l);
+          (let same = beside.gives x.bytes w s l in
+          same_changed agree x.change (given f.layout x.bytes w) (given f.layout x.bytes s) same);
       leaves = λ x w s l. same_restored agree (image_memory f.image.bytes) x.change w s l;
       answers = λ w s l.
           (let shown = low_shown is_free free_opens s.regs.sp fault_at (omega arith) in

@@ -1,4 +1,4 @@
-use Rattle.std.proofs.Common.{◌≡◌, ◌∙◌, ℕ, ◌<◌, ◌^◌, List, map, ap, sym, subst}
+use Rattle.std.proofs.Common.{◌∙◌, ◌<◌, ◌^◌, List, map, ap, sym, subst}
 use Rattle.std.specs.Prelude.{All}
 use Rattle.interrupt_plan.specs.declared.upsets.Upset.{Upset}
 use Rattle.fz_run.specs.Rows.{requests_of, first_state, input_bytes}
