@@ -4,8 +4,8 @@ use Rattle.cpu12_parts.specs.State.{State}
 use Rattle.interrupt_plan.specs.declared.Request.{Request}
 use Rattle.run_law.specs.Forms.{Ran, RowSeen, run_from, row_of, Rows, put_row, rows_from}
 use Rattle.fz_run.specs.Rows.{requests_of, steps_told, shown}
-use Rattle.fz_run.specs.Forms.{PlanForm, plan_form}
-use Rattle.fz_run.specs.Showing.{RowsAreShown}
+use Rattle.fz_run.specs.Forms.{PlanForm, plan_form, FormParts, Harness}
+use Rattle.fz_run.specs.Showing.{ShowsBoth, RowsAreShown}
 use Rattle.fz_run.specs.Slices.{Follow, requests_first}
 use Rattle.fz_run.proofs.PlanSlices.{first_are, later_are}
 
@@ -81,3 +81,10 @@ rows_are_shown h flags most plan s row_in told_in b = record {
   rows = shown_rows_are (plan_form flags h.parts) h.shows row_in b.row most plan 1 h.samples s;
   told = shown_told_are (plan_form flags h.parts) h.shows told_in b.told most plan 1 h.samples s;
 }
+
+-- pairs show both
+abbrev pairs : {S : Type 0} → FormParts S → List S → Harness (RowSeen S × ℕ) S (RowSeen S × ℕ)
+pairs parts samples = record { samples = samples; parts = parts; shows = λ row n. (row, n); seen = λ r. r }
+
+pairs_show_both : {S : Type 0} (parts : FormParts S) (samples : List S) → ShowsBoth (pairs parts samples) (λ t. t.0) (λ t. t.1)
+pairs_show_both parts samples = record { row = λ row n. refl; told = λ row n. refl }
