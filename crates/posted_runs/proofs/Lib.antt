@@ -1,2 +1,7 @@
 pub mod OneList
 pub mod Instances
+pub mod Takings
+pub mod Turnings
+pub mod Postings
+pub mod OutputValues
+pub mod Running
