@@ -1,4 +1,5 @@
 pub mod OneList
+pub mod LastOnes
 pub mod Instances
 pub mod Takings
 pub mod Turnings

@@ -9,7 +9,8 @@
 //! What it answers is exactly the run's definition over the machine's steps and interrupts, for every
 //! firmware, all samples and all good posts. Beside it stand the turns as a definition of their lengths
 //! alone: at which boundaries posts are taken, which samples are answered, and where. It knows no
-//! memory and no flag; [`turns_are_one`] says that posts have one list of turns.
+//! memory and no flag. [`turns_are_one`] says that posts have one list of turns, [`last_is_answered`]
+//! that the sample posted last is answered last, and [`all_are_taken`] that each post is taken once.
 #![tactic(auto)]
 
 mod laws;
@@ -20,5 +21,5 @@ mod tally;
 mod turn;
 mod turns;
 
-pub use laws::turns_are_one;
+pub use laws::{all_are_taken, last_is_answered, turns_are_one};
 pub use run::{Answer, PostRun, run_posts};
