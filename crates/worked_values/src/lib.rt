@@ -40,6 +40,8 @@ mod parts;
 #[cfg(test)]
 mod plans;
 #[cfg(test)]
+mod posted;
+#[cfg(test)]
 mod posts;
 #[cfg(test)]
 mod records;
