@@ -1,13 +1,13 @@
 -- What is told of posts, and a run by its next turn.
-use Rattle.std.proofs.Common.{◌≡◌, ℕ, zero, suc, ◌+◌, ◌-◌, ◌<◌, ◌≤◌, ◌==◌, Bool, true, false, ◌&&◌, nat_le, Result, Ok, Err, List, [], ◌∷◌, ◌++◌, length, take, drop, map}
-use Rattle.std.proofs.Common.{refl, ap, ap₂, sym, ◌∙◌, subst, arith, append_assoc, append-nil, length-append, length-drop, inl, inr, ◌⊎◌}
-use Rattle.std.specs.Prelude.{if◌then◌else◌, slice_index}
+use Rattle.std.proofs.Common.{◌≡◌, ℕ, zero, suc, ◌+◌, ◌-◌, ◌≤◌, ◌==◌, Bool, true, false, ◌&&◌, nat_le, Result, Ok, Err, List, [], ◌∷◌, ◌++◌, length, take, drop}
+use Rattle.std.proofs.Common.{refl, ap, ap₂, sym, ◌∙◌, arith, append_assoc, append-nil, length-append, length-drop}
+use Rattle.std.specs.Prelude.{slice_index}
 use Rattle.std.proofs.lemmas.Bool.Decides.{nat_tests}
 use Rattle.std.proofs.lemmas.List.{map-append}
 use Rattle.cpu12_parts.specs.State.{State}
 use Rattle.cpu12_emul.specs.Step.{Next, next_of}
-use Rattle.cpu12_emul.specs.Take.{FrameSeen, frame_of, may_interrupt}
-use Rattle.run_law.specs.Forms.{Taking, Ran, takes, taken, told, put_take, is_empty, is_part, before_rest, stuck, then_rest, run_from, ended}
+use Rattle.cpu12_emul.specs.Take.{FrameSeen, may_interrupt}
+use Rattle.run_law.specs.Forms.{Taking, Ran, takes, taken, is_empty, is_part, then_rest, run_from}
 use Rattle.run_law.specs.Following.{asked}
 use Rattle.interrupt_plan.specs.declared.Post.{Post}
 use Rattle.codegen.specs.declared.firmware.Firmware.{Firmware}
@@ -15,7 +15,7 @@ use Rattle.posted_runs.specs.declared.tally.Tally.{Tally}
 use Rattle.codegen.specs.Uninterrupted.{values_in}
 use Rattle.posted_runs.specs.Turns.{up_to, behind, waiting}
 use Rattle.posted_runs.specs.Runs.{TurnForm, turn_form, AnswerSeen, RunSeen, bytes_of, no_turn, before_turns, answers_by, waits_by, then_turns, is_over, turns_from, frames_seen}
-use Rattle.posted_runs.specs.Tallies.{Brought, with_frames, Turned, turned, rest_of, Counted, counted_at, with_rest}
+use Rattle.posted_runs.specs.Tallies.{Brought, with_frames, turned, rest_of, Counted, counted_at, with_rest}
 
 -- those that are taken come before those that are left
 takes_by : (b : Bool) (flags : ℕ) (f : Firmware) (samples : List (List ℕ)) (g m : ℕ) (q : Post) (qs : List Post) (s : State)

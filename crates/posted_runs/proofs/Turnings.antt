@@ -1,16 +1,16 @@
 -- A turn by its next boundary and step.
 use Rattle.std.proofs.Common.{◌≡◌, ℕ, zero, suc, ◌+◌, ◌-◌, ◌<◌, ◌==◌, Bool, true, false, not, ◌&&◌, nat_lt, Ok, Err, List, [], ◌∷◌, ◌++◌, length, drop}
-use Rattle.std.proofs.Common.{refl, ap, ap₂, sym, ◌∙◌, subst, arith, append_assoc, append-nil, length-append}
+use Rattle.std.proofs.Common.{refl, ap, ap₂, sym, ◌∙◌, arith, append_assoc, append-nil, length-append}
 use Rattle.std.proofs.lemmas.Bool.Decides.{nat_tests}
 use Rattle.cpu12_parts.specs.State.{State}
 use Rattle.cpu12_emul.specs.Step.{Next, next_of}
 use Rattle.cpu12_emul.specs.Take.{FrameSeen}
-use Rattle.run_law.specs.Forms.{Form, Taking, Ran, takes, is_part, one_if, is_empty, resumes, before_rest, stuck, then_rest, run_from, ended}
+use Rattle.run_law.specs.Forms.{Taking, Ran, takes, is_part, one_if, is_empty, resumes, before_rest, stuck, then_rest, run_from, ended}
 use Rattle.interrupt_plan.specs.declared.Post.{Post}
 use Rattle.cpu12_emul.specs.declared.ends.Stepped.{Stepped}
 use Rattle.posted_runs.specs.declared.tally.Tally.{Tally}
 use Rattle.posted_runs.specs.Runs.{TurnForm, frames_seen}
-use Rattle.posted_runs.specs.Tallies.{Brought, with_frames, Turned, turned, rest_of, turned_at}
+use Rattle.posted_runs.specs.Tallies.{Brought, with_frames, turned, rest_of, turned_at}
 
 merged : (inside : Bool) (b : Taking Post (Unit {0})) (kind : Stepped) (m i r : ℕ) (fs : List (ℕ × FrameSeen)) (k : Ran Post (Unit {0}))
     → turned m i r fs (before_rest inside b kind k)

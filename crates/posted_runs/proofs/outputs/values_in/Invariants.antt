@@ -1,4 +1,4 @@
-use Rattle.std.proofs.Common.{◌≡◌, ◌≤◌, ◌<◌, ◌+◌, ◌*◌, ◌^◌, ◌++◌}
+use Rattle.std.proofs.Common.{◌≡◌, ◌≤◌, ◌<◌, ◌+◌, ◌*◌, ◌++◌}
 use Rattle.arrayvec.specs.ArrayVec.{array_vec_len}
 use Rattle.codegen.specs.Uninterrupted.{values_from}
 use Rattle.codegen.specs.Widths.{width_of, places}

@@ -1,10 +1,10 @@
-use Rattle.std.proofs.Common.{◌≡◌, ◌∙◌, ◌+◌, ◌&&◌, ℕ, Bool, false, not, nat_lt, length, refl, ap, ap₂, sym, arith}
+use Rattle.std.proofs.Common.{◌≡◌, ◌∙◌, ◌+◌, ◌&&◌, ℕ, Bool, false, nat_lt, refl, ap, ap₂, sym}
 use Rattle.cpu12_emul.specs.Step.{Next, Whole, next_of}
-use Rattle.run_law.specs.Forms.{one_if, is_part}
+use Rattle.run_law.specs.Forms.{one_if}
 use Rattle.posted_runs.specs.declared.tally.Tally.{Tally}
-use Rattle.posted_runs.specs.Runs.{TurnForm, frames_seen}
+use Rattle.posted_runs.specs.Runs.{TurnForm}
 use Rattle.posted_runs.specs.Tallies.{form_of, turned_at}
-use Rattle.posted_runs.proofs.Turnings.{Passed, Stops, passes, stops}
+use Rattle.posted_runs.proofs.Turnings.{passes, stops}
 use Rattle.posted_runs.proofs.turn.pass.Goals as goal
 
 pub returns-in-Ok-clause-goes : goal.returns-in-Ok-clause-goes

@@ -1,4 +1,4 @@
-use Rattle.std.proofs.Common.{◌≡◌, ◌∙◌, ◌+◌, ℕ, map, ap, ap₂, sym, subst, arith}
+use Rattle.std.proofs.Common.{◌≡◌, ◌∙◌, ℕ, map, ap, ap₂, sym, subst, arith}
 use Rattle.cpu12_isa.specs.declared.instr.Regs.{Regs}
 use Rattle.posted_runs.specs.Runs.{TurnForm, turn_form, input_bytes}
 use Rattle.posted_runs.specs.Tallies.{form_of, rest_of}

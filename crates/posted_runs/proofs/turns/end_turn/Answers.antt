@@ -1,7 +1,6 @@
-use Rattle.std.proofs.Common.{◌≡◌, ◌≤◌, ◌+◌, ◌-◌, ◌++◌, ◌∷◌, [], ◌∙◌, ℕ, List, min, map, length, take, drop, ap, sym, subst, arith}
+use Rattle.std.proofs.Common.{◌≡◌, ◌≤◌, ◌+◌, ◌-◌, ◌++◌, ◌∷◌, [], ◌∙◌, ℕ, min, map, length, take, drop, ap, sym, subst, arith}
 use Rattle.std.specs.Prelude.{if◌then◌else◌, is_ok}
 use Rattle.std.proofs.lemmas.List.{map-append}
-use Rattle.interrupt_plan.specs.declared.Post.{Post}
 use Rattle.posted_runs.specs.Turns.{up_to, behind, waiting}
 use Rattle.posted_runs.specs.Runs.{input_bytes, answer_seen}
 use Rattle.posted_runs.proofs.Postings.{first_posts, posts_behind, first_within, waits_within, behind_waits_within, waits_some, waits_few, behind_few, rest_slice}

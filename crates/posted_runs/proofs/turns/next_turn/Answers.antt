@@ -1,11 +1,11 @@
-use Rattle.std.proofs.Common.{◌≡◌, ◌∙◌, ◌+◌, ◌-◌, ◌++◌, ℕ, Bool, true, false, List, map, drop, take, refl, ap, ap₂, sym, arith}
+use Rattle.std.proofs.Common.{◌≡◌, ◌∙◌, ◌+◌, ◌-◌, ◌++◌, ℕ, false, List, map, drop, take, ap, ap₂, sym, arith}
 use Rattle.cpu12_parts.specs.State.{State}
 use Rattle.cpu12_emul.specs.Take.{FrameSeen}
 use Rattle.run_law.specs.Forms.{Ran, run_from, takes}
 use Rattle.run_law.specs.Following.{asked}
 use Rattle.interrupt_plan.specs.declared.Post.{Post}
-use Rattle.posted_runs.specs.Runs.{TurnForm, turn_form, AnswerSeen, answers_by, waits_by, input_bytes, answer_seen, frames_seen, turns_from}
-use Rattle.posted_runs.specs.Tallies.{Turned, Brought, with_rest, counted_at}
+use Rattle.posted_runs.specs.Runs.{TurnForm, turn_form, answers_by, waits_by, input_bytes, answer_seen, frames_seen, turns_from}
+use Rattle.posted_runs.specs.Tallies.{Turned, Brought, with_rest}
 use Rattle.posted_runs.proofs.Running.{over_here, run_turn, stuck_here, turn_here, turn_is, ran_told, slice_is}
 use Rattle.posted_runs.proofs.turns.next_turn.Goals as goal
 
