@@ -53,3 +53,16 @@ TurnsAreOne =
     (n : ℕ) (steps : List ℕ → ℕ) (g w : ℕ) (done : List ℕ) (posts : List Post) (xs ys : List (ℕ × Post))
     (us vs : List (ℕ × ℕ))
     → AreTurns n steps g w done posts xs us → AreTurns n steps g w done posts ys vs → (xs ≡ ys) × (us ≡ vs)
+
+-- The sample that is posted last is answered last, where one is.
+abbrev pub LastIsAnswered : Type 0
+LastIsAnswered =
+    (n : ℕ) (steps : List ℕ → ℕ) (g w : ℕ) (done : List ℕ) (posts : List Post) (taken : List (ℕ × Post))
+    (answered : List (ℕ × ℕ)) → AreTurns n steps g w done posts taken answered → waiting w posts ≢ 0
+    → (before : List (ℕ × ℕ)) × ((end : ℕ) × (answered ≡ before ++ (waiting w posts, end) ∷ []))
+
+-- Each post is taken once, in their order.
+abbrev pub AllAreTaken : Type 0
+AllAreTaken =
+    (n : ℕ) (steps : List ℕ → ℕ) (g w : ℕ) (done : List ℕ) (posts : List Post) (taken : List (ℕ × Post))
+    (answered : List (ℕ × ℕ)) → AreTurns n steps g w done posts taken answered → map (λ t. t.1) taken ≡ posts

@@ -1,10 +1,25 @@
 //! Runs of the mailbox form under posts.
 //!
-//! What stands here are the turns of such a run as a definition of their lengths alone: at which
-//! boundaries posts are taken, which samples are answered, and where. It knows no memory and no
-//! flag; [`turns_are_one`] says that posts have one list of turns.
+//! [`run_posts`] resets the machine, brings the firmware to its wait loop, and takes each post at the
+//! first boundary between two steps, at or after its moment, where interrupts are allowed: its handler
+//! puts a sample into the mailbox. A *turn* goes from one arrival at the wait loop to the next. It
+//! answers the sample that waits, if there is one. The run ends where the firmware waits, no sample is
+//! posted and no post is left.
+//!
+//! What it answers is exactly the run's definition over the machine's steps and interrupts, for every
+//! firmware, all samples and all good posts. Beside it stand the turns as a definition of their lengths
+//! alone: at which boundaries posts are taken, which samples are answered, and where. It knows no
+//! memory and no flag. [`turns_are_one`] says that posts have one list of turns, [`last_is_answered`]
+//! that the sample posted last is answered last, and [`all_are_taken`] that each post is taken once.
 #![tactic(auto)]
 
 mod laws;
+mod outputs;
+mod post;
+mod run;
+mod tally;
+mod turn;
+mod turns;
 
-pub use laws::turns_are_one;
+pub use laws::{all_are_taken, last_is_answered, turns_are_one};
+pub use run::{Answer, PostRun, run_posts};

@@ -11,6 +11,8 @@ mod firmware;
 #[cfg(test)]
 mod mailboxes;
 #[cfg(test)]
+mod posted;
+#[cfg(test)]
 mod runs;
 #[cfg(test)]
 mod scripts;
