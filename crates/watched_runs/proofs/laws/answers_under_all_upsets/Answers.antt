@@ -1,3 +1,5 @@
+use Rattle.cpu12_isa.specs.Regions.{is_free}
+use Rattle.fz_run.specs.SoundAlone.{free_opens}
 use Rattle.watched_runs.proofs.WatchedRows.{answers_under_all_upsets}
 use Rattle.watched_runs.proofs.laws.answers_under_all_upsets.Goals as goal
 
@@ -8,5 +10,6 @@ returns c = answers_under_all_upsets (record {
   arrives_plainly = c.arrives_plainly.ensures;
   requests_are_good = c.requests_are_good.ensures;
   watched_answers = c.watched_answers.ensures;
-  runs_follow = λ flags f low. c.runs_follow.ensures (record { flags = flags; firmware = f; low = low });
+  runs_follow = λ flags f low. c.runs_follow.ensures
+      (record { flags = flags; firmware = f; low = low; open_to = is_free; opens = free_opens });
 })
