@@ -31,7 +31,7 @@ use Rattle.certified_run.specs.Nearness.{AnswersAreWithinErrors, AreWithinErrors
 
 -- ---- the samples
 
-bytes_read : (is : List Input) (rows : List Fields) (samples : List Sample) → SpellSamples is rows samples
+pub bytes_read : (is : List Input) (rows : List Fields) (samples : List Sample) → SpellSamples is rows samples
     → map input_bytes samples ≡ map (bytes_of is) (numbers_of samples)
 bytes_read is [] [] spelled = refl
 bytes_read is [] (s ∷ ss) spelled = absurd spelled
@@ -55,7 +55,7 @@ each_within (j ∷ is) (d ∷ ds) within zero i x is_at x_at =
     subst (λ (y : Dec). IsWithin i.lo i.hi y) num (subst (λ (n : Input). IsWithin n.lo n.hi d) at within.0)
 each_within (j ∷ is) (d ∷ ds) within (suc k) i x is_at x_at = each_within is ds within.1 k i x is_at x_at
 
-are_inputs : (b : Block) (rows : List Fields) (samples : List Sample) → SpellSamples b.inputs rows samples
+pub are_inputs : (b : Block) (rows : List Fields) (samples : List Sample) → SpellSamples b.inputs rows samples
     → All (AreInputs b) (numbers_of samples)
 are_inputs b [] [] spelled = λ d k lt. absurd (omega arith)
 are_inputs b [] (s ∷ ss) spelled = absurd spelled
@@ -69,7 +69,7 @@ are_inputs b (r ∷ rs) (s ∷ ss) spelled =
 
 -- ---- the answers of a row are those to the samples up to it
 
-answer_to_next : (h : ℕ) (b : Block) (o : ℕ) (before : List (List Dec)) (xs : List Dec)
+pub answer_to_next : (h : ℕ) (b : Block) (o : ℕ) (before : List (List Dec)) (xs : List Dec)
     → answer_to h b o (before ++ xs ∷ []) ≡ answer_in h b o (bytes_of b.inputs xs) (answer_to h b o before)
 answer_to_next h b o before xs =
     fold-append (λ (n : ℕ) (ds : List Dec). answer_in h b o (bytes_of b.inputs ds) n) 0 before (xs ∷ [])

@@ -5,11 +5,21 @@
 #![tactic(auto)]
 
 ghost use Rattle.certified_run.specs.Nearness.{AnswersAreWithinErrors};
+ghost use Rattle.certified_run.specs.Faultless.{FaultlessAnswersAreNear};
 
 /// The rows of a block's firmware are within the errors of each accepted certificate of the exact
 /// answers, which know no bytes, tables, slots or machine: for answers of a byte and of 16 bits.
 pub fn answers_are_within_errors()
     ensures { AnswersAreWithinErrors }
+{
+    cert_check::accepted_answers_are_near();
+}
+
+/// The rows of a firmware with watched tables in which FAULT was 0 are within the errors of each
+/// accepted certificate of the exact answers, where no output has NC; with NC those before the first
+/// row in which FAULT was 1.
+pub fn faultless_answers_are_near()
+    ensures { FaultlessAnswersAreNear }
 {
     cert_check::accepted_answers_are_near();
 }

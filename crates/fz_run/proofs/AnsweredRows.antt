@@ -1,16 +1,13 @@
 -- Where whole instructions answer all samples, so do the rows under every good plan.
-use Rattle.std.proofs.Common.{◌≡◌, ◌==◌, ℕ, zero, suc, ◌+◌, ◌*◌, ◌^◌, ◌<◌, ◌≤◌, Bool, true, false, List, [], ◌∷◌, length, map, get_or, refl, ap, ap₂, sym, ◌∙◌}
-use Rattle.std.proofs.Common.{subst, arith, inl, inr, ◌⊎◌}
+use Rattle.std.proofs.Common.{◌≡◌, ℕ, zero, suc, ◌+◌, ◌*◌, ◌^◌, ◌<◌, ◌≤◌, Bool, true, false, List, [], ◌∷◌, length, map, get_or, refl, ap, ap₂, sym, ◌∙◌}
+use Rattle.std.proofs.Common.{subst, arith}
 use Rattle.std.specs.Prelude.{All}
-use Rattle.std.proofs.Math.ListN.{set}
-use Rattle.std.proofs.lemmas.Bool.Decides.{nat_tests}
 use Rattle.std.proofs.lemmas.List.Elements.{All-cons}
 use Rattle.fuzzy_meaning.specs.declared.block.Block.{Block}
-use Rattle.cpu12_isa.specs.Act.{write_all}
-use Rattle.cpu12_isa.specs.Memory.{plus, placed, word_of}
-use Rattle.cpu12_isa.specs.Regions.{stack_start, stack_end, is_free}
+use Rattle.cpu12_isa.specs.Memory.{plus, word_of}
+use Rattle.cpu12_isa.specs.Regions.{is_free}
 use Rattle.cpu12_parts.specs.State.{State}
-use Rattle.cpu12_parts.specs.Executions.{Execution, all_steps}
+use Rattle.cpu12_parts.specs.Executions.{all_steps}
 use Rattle.cpu12_emul.specs.Image.{image_memory}
 use Rattle.cpu12_emul.specs.Step.{reset_with}
 use Rattle.interrupt_plan.specs.declared.Request.{Request}
@@ -21,7 +18,7 @@ use Rattle.codegen.specs.declared.width.Width.{Width}
 use Rattle.codegen.specs.Layouts.{main_layout}
 use Rattle.codegen.specs.Widths.{width_of, answer}
 use Rattle.codegen.specs.Bounds.{instruction_bound, steps_by, step_bound}
-use Rattle.codegen.specs.Interruptible.{is_idle, IsInterruptible, IsShownInstruction, IsInterruptibleStep}
+use Rattle.codegen.specs.Interruptible.{is_idle, IsInterruptible}
 use Rattle.codegen.specs.Answers as answers
 use Rattle.codegen.specs.Answers.{IsArrived, IsAnswered, AreAnswered}
 use Rattle.codegen.specs.Firing.{AreInputBytes}
@@ -35,116 +32,20 @@ use Rattle.fz_run.specs.Forms.{given, answer_size, answers_at, answers_in, with_
 use Rattle.fz_run.specs.Rows.{requests_of, arrival, first_state, firmware_rows}
 use Rattle.fz_run.specs.Arrival.{ArrivesPlainly}
 use Rattle.fz_run.specs.Facts.{FactsAlone, WaitsAlone}
+use Rattle.fz_run.specs.Instructions.{AreSteps, IsServing}
 use Rattle.fz_run.specs.Following.{row_of_sample, rows_of_samples, IsLow, FollowsAlone, AllWait}
-use Rattle.fz_run.proofs.Stretches.{Stretch, Stretches, Kept, SameAbove, AtInstruction}
 use Rattle.fz_run.specs.Answering.{answer_of_row, AnswersItsBlock, AnswersUnder, AnswersUnderPlans}
-use Rattle.fz_run.proofs.PortBytes.{write_last}
-use Rattle.fz_run.proofs.PlainSteps.{plain_step}
-use Rattle.fz_run.proofs.StandAlone.{before_at}
-use Rattle.fz_run.proofs.Stretching.{all_stretches, before_weaker}
+use Rattle.fz_run.proofs.Algebra.{before_at, before_weaker, at_stack}
 use Rattle.fz_run.proofs.UsedLaws.{Laws}
-use Rattle.fz_run.proofs.WholeSteps.{Inside, rev_step, revw_step, average_step}
 
 -- a firmware at the layout that stands alone, with n answers
 abbrev alone : Firmware → ℕ → Firmware
 alone f n = record f { layout = main_layout; outputs = n }
 
--- it does not wait, SP is one of two, and memory is the image's from the stack's end on
-IsStack : ℕ → Type 0
-IsStack sp = (sp + 2 ≡ stack_end) ⊎ (sp ≡ stack_end)
-
-On : List ℕ → State → Type 0
-On image u = (is_idle main_layout u ≡ false) × IsStack u.regs.sp × SameAbove image u.mem
-
-at_stack : (sp : ℕ) → (sp ≡ 0x1FFE) ⊎ (sp ≡ 0x2000) → IsStack sp
-unfolding IsStack
-at_stack sp (inl e) = inl (omega arith)
-at_stack sp (inr e) = inr e
-
-off_loop : (v : State) → (v.regs.pc ≡ 0xC008 → ⊥) → is_idle main_layout v ≡ false
-off_loop v h = let t : (v.regs.pc == 0xC008) ≡ false = grind (arith, nat_tests) in rw t refl
-
--- what each state keeps at which an interrupt may come, in the words of runs
-at_instruction : (image : List ℕ) (s : State) → IsInterruptible is_free image s → AtInstruction is_free s
-at_instruction image s c = record {
-  temps = c.temps;
-  size = c.size;
-  bytes = c.bytes;
-  fits = c.fits;
-  low = low c.stack;
-  high = high c.stack;
-  unmasked = c.mask;
-  code = c.code;
-}
-  where
-    low : (s.regs.sp ≡ 0x1FFE) ⊎ (s.regs.sp ≡ 0x2000) → stack_start + 15 ≤ s.regs.sp
-    low (inl e) = omega arith
-    low (inr e) = omega arith
-
-    high : (s.regs.sp ≡ 0x1FFE) ⊎ (s.regs.sp ≡ 0x2000) → s.regs.sp ≤ stack_end
-    high (inl e) = omega arith
-    high (inr e) = omega arith
-
-step_stretch : Laws → (image : List ℕ) (flags d : ℕ) (s t : State) → flags < 2 ^ 8 → IsInterruptibleStep is_free main_layout image flags d s t
-    → Stretch (Kept is_free flags (On image)) flags d s t
-unfolding On
-step_stretch laws image flags d s t hf h = by h.instruction
-  where
-    c : AtInstruction is_free s
-    c = at_instruction image s h.interruptible
-
-    stack : IsStack s.regs.sp
-    stack = (let state = h.interruptible in at_stack s.regs.sp state.stack)
-
-    same : SameAbove image s.mem
-    same = (let state = h.interruptible in state.same)
-
-    here : On image s
-    here = (h.busy, stack, same)
-
-    stays : (v : State) → (s.regs.pc ≡ 0xC008 → ⊥) → v.regs.pc ≡ s.regs.pc → is_idle main_layout v ≡ false
-    stays v ne e = off_loop v (λ z. ne (sym e ∙ z))
-
-    within : (s.regs.pc ≡ 0xC008 → ⊥) → Inside (On image) s
-    within away v e g m = (stays v away e, subst IsStack (sym g) stack, λ at le. m at le ∙ same at le)
-
-    second : (plus s.regs.pc 1 ≡ 0xC008 → ⊥) → (v : State) → v.regs.pc ≡ plus s.regs.pc 1 → v.regs.sp ≡ s.regs.sp → v.mem ≡ s.mem → On image v
-    second away v e g m =
-        (off_loop v (λ z. away (sym e ∙ z)), subst IsStack (sym g) stack, λ at le. ap (λ (n : List ℕ). get_or n at 0) m ∙ same at le)
-
-    by : IsShownInstruction is_free main_layout flags d s t → Stretch (Kept is_free flags (On image)) flags d s t
-    by (inl p) =
-        subst (λ (k : ℕ). Stretch (Kept is_free flags (On image)) flags k s t) (sym p.1.1)
-        (plain_step laws.steps.plain_is_step is_free flags (On image) p.0 s t c p.1.0.step p.1.0.reads p.1.0.writes p.1.0.uncovers here)
-    by (inr (inl p)) =
-        rev_step laws.steps is_free flags (On image) d p.0 p.1 s t hf c p.2.step (record { reads = p.2.reads; writes = p.2.writes; below = p.2.below; itself = p.2.itself }) (within p.2.away)
-    by (inr (inr (inl p))) =
-        revw_step laws.steps is_free flags (On image) d p.0 p.1 s t hf c p.2.step (record { reads = p.2.reads; writes = p.2.writes; below = p.2.below; itself = p.2.itself }) (within p.2.away)
-    by (inr (inr (inr p))) = average_step laws.steps is_free flags (On image) d s t hf c p.step p.reads here (second p.away)
-
-stretches : Laws → (image : List ℕ) (flags : ℕ) (ds : List ℕ) (s t : State) → flags < 2 ^ 8 → Execution (IsInterruptibleStep is_free main_layout image flags) ds s t
-    → Execution (Stretch (Kept is_free flags (On image)) flags) ds s t
-stretches laws image flags [] s t hf h = h
-stretches laws image flags (d ∷ ds) s t hf h = (h.0, (step_stretch laws image flags d s h.0 hf h.1.0, stretches laws image flags ds h.0 t hf h.1.1))
-
 -- samples that end below the outputs' bytes
 abbrev AreShort : List (List ℕ) → Type 0
 AreShort [] = Unit {0}
 AreShort (bytes ∷ samples) = (length bytes ≤ 8) × AreShort samples
-
--- a sample is given alike
-same_put : (at : ℕ) (bytes m : List ℕ) → at + length bytes ≤ 65535 → write_all (placed at bytes) m ≡ answers.put m at bytes
-same_put at [] m l = refl
-same_put at (v ∷ bytes) m l =
-    let e : plus at 1 ≡ at + 1 = omega arith in
-    ap (λ (k : ℕ). write_all (placed k bytes) (set m at v)) e ∙ same_put (at + 1) bytes (set m at v) (omega arith)
-
-same_given : (bytes : List ℕ) (s : State) → length bytes ≤ 8 → given main_layout bytes s ≡ answers.given main_layout bytes s
-same_given bytes s l =
-    ap (λ (m : List ℕ). by m) (write_last (placed 0x1001 bytes) 0x1000 1 s.mem ∙ ap (λ (m : List ℕ). set m 0x1000 1) (same_put 0x1001 bytes s.mem (omega arith)))
-  where
-    by : List ℕ → State
-    by m = record { regs = s.regs; temps = s.temps; mem = m }
 
 -- the numbers of steps of the samples
 numbers : (b : Block) (w : Width) (most : ℕ) (image : List ℕ) (flags : ℕ) (before : ℕ → ℕ) (samples : List (List ℕ)) (s : State)
@@ -159,24 +60,24 @@ within b w most image flags before (bytes ∷ samples) s h = (h.1.0.steps, withi
 
 went : Laws → (b : Block) (w : Width) (most : ℕ) (image : List ℕ) (flags : ℕ) (before : ℕ → ℕ) (bytes : List ℕ) (s t : State) → flags < 2 ^ 8 → length bytes ≤ 8
     → (a : IsAnswered main_layout b w most image flags before bytes s t)
-    → Stretches (Kept is_free flags (On image)) flags a.ds (given main_layout bytes s) t
+    → AreSteps (IsServing is_free main_layout image flags) flags a.ds (given main_layout bytes s) t
 went laws b w most image flags before bytes s t hf l a =
-    let start = answers.given main_layout bytes s in
-    subst (λ (u : State). Stretches (Kept is_free flags (On image)) flags a.ds u t) (sym (same_given bytes s l)) (all_stretches (Kept is_free flags (On image)) flags a.ds start t (stretches laws image flags a.ds start t hf a.execution))
+    subst (λ (u : State). AreSteps (IsServing is_free main_layout image flags) flags a.ds u t)
+    (sym (laws.given_is_put main_layout bytes s (omega arith)))
+    (laws.steps is_free main_layout image flags a.ds (answers.given main_layout bytes s) t hf a.execution)
 
 sampled : Laws → (f : Firmware) (n : ℕ) (b : Block) (w : Width) (most : ℕ) (flags : ℕ) (before : ℕ → ℕ) (bytes : List ℕ) (s t : State) → flags < 2 ^ 8 → length bytes ≤ 8
     → (a : IsAnswered main_layout b w most (image_memory f.image.bytes) flags before bytes s t)
     → Completes (FactsAlone flags (alone f n)) (with_writes flags (alone f n)) 0 (all_steps a.ds) (all_steps a.ds) (given main_layout bytes s)
-unfolding On IsStack
 sampled laws f n b w most flags before bytes s t hf l a =
-    let image = image_memory f.image.bytes in
-    let g = went laws b w most image flags before bytes s t hf l a in
-    let busy =
-    before_weaker (Kept is_free flags (On image)) (λ u. is_idle main_layout u ≡ false) flags (λ u k. k.1.0) (all_steps a.ds) (given main_layout bytes s) g.each in
+    let P = IsServing is_free main_layout (image_memory f.image.bytes) flags in
+    let first = given main_layout bytes s in
+    let g = went laws b w most (image_memory f.image.bytes) flags before bytes s t hf l a in
     record {
       sum = omega arith;
-      holds = before_weaker (Kept is_free flags (On image)) (FactsAlone flags (alone f n)) flags (λ u k. record { facts = k.0; image = k.1.2; stack = k.1.1 }) (all_steps a.ds) (given main_layout bytes s) g.each;
-      on = λ j from l. before_at (λ u. is_idle main_layout u ≡ false) flags (all_steps a.ds) j (given main_layout bytes s) busy l;
+      holds = before_weaker P (FactsAlone flags (alone f n)) flags
+          (λ u k. record { facts = k.facts; image = k.image; stack = k.stack }) (all_steps a.ds) first g.each;
+      on = λ j from l. (let k = before_at P flags (all_steps a.ds) j first g.each l in k.busy);
       ended = ap (is_idle main_layout) g.goes ∙ a.idle;
     }
 
@@ -195,7 +96,6 @@ all_sampled laws f n b w most flags before (bytes ∷ samples) s hf l h =
 
 -- where it waits
 waits_alone : (f : Firmware) (s : State) → IsInterruptible is_free (image_memory f.image.bytes) s → WaitsAlone f s
-unfolding IsStack
 waits_alone f s c = record { image = c.same; stack = at_stack s.regs.sp c.stack; unmasked = c.mask; sums = c.temps }
 
 all_wait : Laws → (f : Firmware) (n : ℕ) (b : Block) (w : Width) (most : ℕ) (flags : ℕ) (before : ℕ → ℕ) (samples : List (List ℕ)) (s : State) → flags < 2 ^ 8

@@ -10,6 +10,8 @@ pub mod PlainSteps
 pub mod PartSteps
 pub mod SumSteps
 pub mod WholeSteps
+pub mod Algebra
+pub mod Serving
 pub mod AnsweredRows
 pub mod Requests
 pub mod StandAlone

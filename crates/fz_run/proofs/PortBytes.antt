@@ -1,9 +1,13 @@
 -- What is written and read through a firmware's ports.
-use Rattle.std.proofs.Common.{◌≡◌, ℕ, zero, suc, ◌-◌, ◌<◌, Bool, List, [], ◌∷◌, ◌++◌, refl, arith, append_assoc}
+use Rattle.std.proofs.Common.{◌≡◌, ℕ, zero, suc, ◌+◌, ◌-◌, ◌<◌, ◌≤◌, Bool, List, [], ◌∷◌, ◌++◌, length, refl, ap, ◌∙◌}
+use Rattle.std.proofs.Common.{arith, append_assoc}
 use Rattle.std.proofs.Math.ListN.{set}
 use Rattle.cpu12_isa.specs.Act.{write_all}
-use Rattle.cpu12_isa.specs.Memory.{plus}
+use Rattle.cpu12_isa.specs.Memory.{plus, placed}
+use Rattle.cpu12_parts.specs.State.{State}
+use Rattle.codegen.specs.Answers as answers
 use Rattle.fz_run.specs.Forms.{answer_size, answer_at, answers_at}
+use Rattle.fz_run.specs.Given.{GivenIsPut}
 
 pub write_last : (ws : List (ℕ × ℕ)) (at v : ℕ) (m : List ℕ) → write_all (ws ++ (at, v) ∷ []) m ≡ set (write_all ws m) at v
 write_last [] at v m = refl
@@ -13,3 +17,19 @@ write_last (w ∷ ws) at v m = write_last ws at v (set m w.0 w.1)
 pub answer_more : (wide : Bool) (m : List ℕ) (at n : ℕ) (vs : List ℕ) → 0 < n → (vs ++ answer_at wide at m ∷ []) ++ answers_at wide (n - 1) (plus at (answer_size wide)) m ≡ vs ++ answers_at wide n at m
 answer_more wide m at zero vs h = absurd (omega arith)
 answer_more wide m at (suc n) vs h = let e : suc n - 1 ≡ n = omega arith in rw e (append_assoc vs (answer_at wide at m ∷ []) (answers_at wide n (plus at (answer_size wide)) m))
+
+same_put : (at : ℕ) (bytes m : List ℕ) → at + length bytes ≤ 65535
+    → write_all (placed at bytes) m ≡ answers.put m at bytes
+same_put at [] m l = refl
+same_put at (v ∷ bytes) m l =
+    let e : plus at 1 ≡ at + 1 = omega arith in
+    ap (λ (k : ℕ). write_all (placed k bytes) (set m at v)) e ∙ same_put (at + 1) bytes (set m at v) (omega arith)
+
+-- a sample is given alike
+pub given_is_put : GivenIsPut
+given_is_put layout bytes s l =
+    let last = write_last (placed layout.samples bytes) layout.ready 1 s.mem in
+    ap by (last ∙ ap (λ (m : List ℕ). set m layout.ready 1) (same_put layout.samples bytes s.mem l))
+  where
+    by : List ℕ → State
+    by m = record { regs = s.regs; temps = s.temps; mem = m }

@@ -4,6 +4,7 @@ use Rattle.std.specs.Prelude.{All}
 use Rattle.interrupt_plan.specs.declared.Request.{Request}
 use Rattle.interrupt_plan.specs.Plans.{NotAfter, Ascends, IsGoodRequest, IsGood}
 use Rattle.fz_run.specs.Rows.{is_of, requests_of}
+use Rattle.fz_run.specs.Given.{RequestsAreGood}
 use Rattle.run_law.specs.Soundness.{AllGood, Ascend}
 use Rattle.fz_run.proofs.PlanSlices.{not_after_le, one_is, other_is, of_here, of_not}
 
@@ -20,7 +21,7 @@ goes_from : (a : Request) (rest : List Request) → All IsGoodRequest rest → A
 goes_from a [] g h = tt
 goes_from a (b ∷ rest) g h = (not_after_le a b h.0, not_after_moment a b h.0, g 0 b (omega arith), goes_from b rest (λ k d l. g (suc k) d (omega arith)) h.1)
 
-pub goes_good : (plan : List Request) → IsGood plan → Goes 0 0 plan
+goes_good : (plan : List Request) → IsGood plan → Goes 0 0 plan
 goes_good [] h = tt
 goes_good (a ∷ rest) h = (omega arith, λ e. omega arith, h.requests 0 a (omega arith), goes_from a rest (λ k d l. h.requests (suc k) d (omega arith)) h.ascends)
 
@@ -29,14 +30,14 @@ bool_cases true = inl refl
 bool_cases false = inr refl
 
 -- the requests of one sample are good, and ascend
-pub requests_good : (k j m : ℕ) (plan : List Request) → Goes j m plan → AllGood IsGoodRequest (requests_of k plan)
+requests_good : (k j m : ℕ) (plan : List Request) → Goes j m plan → AllGood IsGoodRequest (requests_of k plan)
 requests_good k j m [] h = tt
 requests_good k j m (q ∷ qs) h = elim (bool_cases (is_of k q)) [
   | inl e ↦ subst (λ (l : List Request). AllGood IsGoodRequest l) (sym (of_here k q qs e)) (h.2, requests_good k q.sample q.moment qs h.3)
   | inr e ↦ subst (λ (l : List Request). AllGood IsGoodRequest l) (sym (of_not k q qs e)) (requests_good k q.sample q.moment qs h.3)
 ]
 
-pub requests_ascend : (k j m : ℕ) (plan : List Request) → Goes j m plan → (i : ℕ) → (j ≡ k → i ≤ m) → (j < k → i ≤ 0) → Ascend (λ (r : Request). r.moment) i (requests_of k plan)
+requests_ascend : (k j m : ℕ) (plan : List Request) → Goes j m plan → (i : ℕ) → (j ≡ k → i ≤ m) → (j < k → i ≤ 0) → Ascend (λ (r : Request). r.moment) i (requests_of k plan)
 requests_ascend k j m [] h i e f = tt
 requests_ascend k j m (q ∷ qs) h i e f = elim (bool_cases (is_of k q)) [
   | inl t ↦
@@ -54,3 +55,8 @@ requests_ascend k j m (q ∷ qs) h i e f = elim (bool_cases (is_of k q)) [
     at_most : q.sample ≡ k → (j ≡ q.sample) ⊎ (j < q.sample) → i ≤ q.moment
     at_most here (inl y) = omega (arith, e (y ∙ here), h.1 (sym y))
     at_most here (inr y) = omega (arith, f (omega arith))
+
+pub requests_are_good : RequestsAreGood
+requests_are_good plan good k =
+    let g = goes_good plan good in
+    (requests_good k 0 0 plan g, requests_ascend k 0 0 plan g 0 (λ e. omega arith) (λ e. omega arith))

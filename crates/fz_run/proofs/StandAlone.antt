@@ -5,7 +5,7 @@ use Rattle.cpu12_isa.proofs.Algebra.{agree_self}
 use Rattle.cpu12_parts.specs.State.{State}
 use Rattle.cpu12_emul.specs.Take.{may_interrupt}
 use Rattle.run_law.specs.Forms.{RowSeen}
-use Rattle.run_law.specs.Uninterrupted.{stepped, uninterrupted, counted, first_open, taken_at, resumed_of, frames_of}
+use Rattle.run_law.specs.Uninterrupted.{uninterrupted, counted, first_open, taken_at, resumed_of, frames_of}
 use Rattle.run_law.specs.Soundness.{Before}
 use Rattle.run_law.specs.Following.{AllComplete, RunsFollow, expected_rows}
 use Rattle.interrupt_plan.specs.declared.Request.{Request}
@@ -15,12 +15,8 @@ use Rattle.fz_run.specs.Forms.{given, answers_in, with_writes}
 use Rattle.fz_run.specs.Rows.{requests_of}
 use Rattle.fz_run.specs.Facts.{FactsAlone}
 use Rattle.fz_run.specs.Following.{IsLow, Nothing, rows_of_samples, RunsFollowAlone}
-use Rattle.fz_run.proofs.Requests.{goes_good, requests_good, requests_ascend}
-
-pub before_at : (P : State → Type 0) (flags n m : ℕ) (s : State) → Before P flags n s → suc m ≤ n → P (uninterrupted flags m s)
-before_at P flags zero m s b l = absurd (omega arith)
-before_at P flags (suc n) zero s b l = b.0
-before_at P flags (suc n) (suc m) s b l = before_at P flags n m (stepped flags s) b.1 (omega arith)
+use Rattle.fz_run.proofs.Algebra.{before_at}
+use Rattle.fz_run.proofs.Requests.{requests_are_good}
 
 -- where I is 0 throughout a request is taken at its moment
 at_once : (flags : ℕ) (s : State) (k m : ℕ) → ((j : ℕ) → suc j ≤ m + k → may_interrupt (uninterrupted flags j s) ≡ true) → first_open flags s k m ≡ m
@@ -61,7 +57,6 @@ same_rows flags f plan k (n ∷ ns) (bytes ∷ rest) s h =
 pub runs_follow_alone : ((flags : ℕ) (f : Firmware) → IsLow f → RunsFollow is_free (with_writes flags f) (FactsAlone flags f) IsGoodRequest Nothing)
     → RunsFollowAlone
 runs_follow_alone law flags f most plan ns samples s low good le h =
-    let g = goes_good plan good in
-    let r = law flags f low (λ j. requests_of j plan) (λ j. (requests_good j 0 0 plan g, requests_ascend j 0 0 plan g 0 (λ e. omega arith) (λ e. omega arith))) [] 1 most ns samples s s le h
+    let r = law flags f low (λ j. requests_of j plan) (requests_are_good plan good) [] 1 most ns samples s s le h
     (record { regs = refl; temps = refl; mem = agree_self (is_hidden is_free s.regs.sp) s.mem }) tt in
     record { arrived = r.arrived; rows_are = r.rows_are ∙ same_rows flags f plan 1 ns samples s h; simulates = r.simulates; last = r.last }

@@ -10,7 +10,6 @@ use Rattle.cpu12_isa.specs.Regions.{stack_start, stack_end, is_hidden}
 use Rattle.cpu12_parts.specs.declared.temps.Temps.TheVariants.{Free}
 use Rattle.cpu12_parts.specs.State.{State}
 use Rattle.cpu12_parts.specs.Cuts.{Kind, rev, revw, wav}
-use Rattle.cpu12_parts.specs.Executions.{all_steps}
 use Rattle.cpu12_parts.specs.Fits.{PartFits}
 use Rattle.cpu12_parts.specs.Inside.{own_address, second_byte, GoesOnAt, LeavesSums, WritesNothing}
 use Rattle.cpu12_parts.specs.Laws.{Any, AreKept, IsSteady, RevIsWhole, RevwIsWhole, WavIsWhole}
@@ -24,12 +23,6 @@ pub record Stretch (P : State → Type 0) (flags d : ℕ) (s t : State) : Type 0
   pub goes : uninterrupted flags (suc d) s ≡ t
   pub counts : counted flags (suc d) s ≡ 1
   pub each : Before P flags (suc d) s
-
--- the steps of whole instructions one after another: as many count as there are instructions
-pub record Stretches (P : State → Type 0) (flags : ℕ) (ds : List ℕ) (s t : State) : Type 0 where
-  pub goes : uninterrupted flags (all_steps ds) s ≡ t
-  pub counts : counted flags (all_steps ds) s ≡ length ds
-  pub each : Before P flags (all_steps ds) s
 
 -- the facts of a run, and one beside
 abbrev pub Kept : (ℕ → Bool) → ℕ → (State → Type 0) → State → Type 0

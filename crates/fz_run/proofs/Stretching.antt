@@ -8,7 +8,8 @@ use Rattle.cpu12_parts.specs.Executions.{Execution, all_steps}
 use Rattle.run_law.specs.Forms.{is_part, one_if}
 use Rattle.run_law.specs.Uninterrupted.{stepped, kind_at, state_by, kind_by, uninterrupted, counted}
 use Rattle.run_law.specs.Soundness.{Before}
-use Rattle.fz_run.proofs.Stretches.{Stretch, Stretches}
+use Rattle.fz_run.specs.Instructions.{AreSteps}
+use Rattle.fz_run.proofs.Stretches.{Stretch}
 
 uninterrupted_add : (flags m n : ℕ) (s : State) → uninterrupted flags (m + n) s ≡ uninterrupted flags n (uninterrupted flags m s)
 uninterrupted_add flags zero n s = let e : 0 + n ≡ n = omega arith in ap (λ (k : ℕ). uninterrupted flags k s) e
@@ -25,7 +26,7 @@ before_add : (P : State → Type 0) (flags m n : ℕ) (s : State) → Before P f
 before_add P flags zero n s a b = let e : n ≡ 0 + n = omega arith in subst (λ (k : ℕ). Before P flags k s) e b
 before_add P flags (suc m) n s a b = let e : suc (m + n) ≡ suc m + n = omega arith in subst (λ (k : ℕ). Before P flags k s) e (a.0, before_add P flags m n (stepped flags s) a.1 b)
 
-pub all_stretches : (P : State → Type 0) (flags : ℕ) (ds : List ℕ) (s t : State) → Execution (Stretch P flags) ds s t → Stretches P flags ds s t
+pub all_stretches : (P : State → Type 0) (flags : ℕ) (ds : List ℕ) (s t : State) → Execution (Stretch P flags) ds s t → AreSteps P flags ds s t
 all_stretches P flags [] s t e = record { goes = e; counts = refl; each = tt }
 all_stretches P flags (d ∷ ds) s t w =
     let u = w.0 in
@@ -36,10 +37,6 @@ all_stretches P flags (d ∷ ds) s t w =
       counts = (let c = counted_add flags (suc d) (all_steps ds) s in let c2 = ap (counted flags (all_steps ds)) a.goes in omega (arith, c, c2, a.counts, r.counts));
       each = before_add P flags (suc d) (all_steps ds) s a.each (subst (λ (v : State). Before P flags (all_steps ds) v) (sym a.goes) r.each);
     }
-
-pub before_weaker : (P Q : State → Type 0) (flags : ℕ) → ((s : State) → P s → Q s) → (n : ℕ) (s : State) → Before P flags n s → Before Q flags n s
-before_weaker P Q flags h zero s b = tt
-before_weaker P Q flags h (suc n) s b = (h s b.0, before_weaker P Q flags h n (stepped flags s) b.1)
 
 -- a plain instruction is one step
 pub plain_stretch : (P : State → Type 0) (flags : ℕ) (s t : State) → P s → next_of flags s ≡ Ok (record { state = t; kind = Plain }) → Stretch P flags 0 s t

@@ -3,10 +3,12 @@ use Rattle.codegen.specs.Answers.{FirmwareAnswers}
 use Rattle.codegen.specs.Uninterrupted.{AnsweredAreUninterrupted}
 use Rattle.fz_run.specs.Arrival.{ArrivesPlainly}
 use Rattle.fz_run.specs.Following.{RunsFollowAlone}
-use Rattle.fz_run.proofs.Stretches.{StepLaws}
+use Rattle.fz_run.specs.Given.{GivenIsPut}
+use Rattle.fz_run.specs.Instructions.{InstructionsAreSteps}
 
 pub record Laws : Type 0 where
-  pub steps : StepLaws
+  pub steps : InstructionsAreSteps
+  pub given_is_put : GivenIsPut
   pub arrives_plainly : ArrivesPlainly
   pub firmware_answers : FirmwareAnswers
   pub answered_are_uninterrupted : AnsweredAreUninterrupted

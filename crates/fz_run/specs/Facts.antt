@@ -1,5 +1,5 @@
 -- What each state of a run without interrupts keeps.
-use Rattle.std.specs.Prelude.{◌≡◌, ℕ, ◌+◌, ◌≤◌, ◌⊎◌, min, Bool, false, slice_index}
+use Rattle.std.specs.Prelude.{◌≡◌, ℕ, ◌+◌, ◌≤◌, ◌⊎◌, min, Bool, false, List, slice_index}
 use Rattle.cpu12_isa.specs.Agreement.{AllShown}
 use Rattle.cpu12_isa.specs.Flags.{interrupts_masked, has}
 use Rattle.cpu12_isa.specs.Regions.{stack_end, is_free, is_hidden}
@@ -26,9 +26,13 @@ pub record Facts (open_to : ℕ → Bool) (flags : ℕ) (s : State) : Type 0 whe
   pub unmasked : has s.regs.ccr interrupts_masked ≡ false
   pub sums : AreNoneOrRunning s.temps
 
--- the bytes from $2000 on, and so all from $C000 on, are the image's, and 0 where it has none
+-- the bytes from $2000 on, and so all from $C000 on, are those of an image's memory
+abbrev pub HasImageBytes : List ℕ → State → Type 0
+HasImageBytes image s = (at : ℕ) → stack_end ≤ at → slice_index s.mem at ≡ slice_index image at
+
+-- they are the firmware's image's, and 0 where it has none
 abbrev pub HasImage : Firmware → State → Type 0
-HasImage f s = (at : ℕ) → stack_end ≤ at → slice_index s.mem at ≡ slice_index (image_memory f.image.bytes) at
+HasImage f s = HasImageBytes (image_memory f.image.bytes) s
 
 -- SP is at the stack's end, or two bytes lower while a call is open
 abbrev pub IsStackOfOneCall : ℕ → Type 0

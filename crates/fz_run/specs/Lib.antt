@@ -11,3 +11,5 @@ pub mod SoundAlone
 pub mod Answering
 pub mod Showing
 pub mod Arrival
+pub mod Instructions
+pub mod Given

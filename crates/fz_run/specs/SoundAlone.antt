@@ -30,7 +30,7 @@ low_shown sp at h =
     let b : (nat_le stack_start at && nat_lt at sp) ≡ false = grind (arith, nat_tests) in
     rw (a, b)
 
-all_open : (ws : List Write) → All (λ (w : Write). is_free w.at ≡ true) ws → AreOpen is_free ws
+pub all_open : (ws : List Write) → All (λ (w : Write). is_free w.at ≡ true) ws → AreOpen is_free ws
 all_open [] g = tt
 all_open (w ∷ ws) g = (g 0 w (omega arith), all_open ws (λ k x l. g (suc k) x (omega arith)))
 

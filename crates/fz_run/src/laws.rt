@@ -2,6 +2,8 @@
 ghost use Rattle.fz_run.specs.Answering.{AnswersUnderPlans};
 ghost use Rattle.fz_run.specs.Arrival.{ArrivesPlainly};
 ghost use Rattle.fz_run.specs.Following.{RunsFollowAlone};
+ghost use Rattle.fz_run.specs.Given.{GivenIsPut, RequestsAreGood};
+ghost use Rattle.fz_run.specs.Instructions.{InstructionsAreSteps};
 ghost use Rattle.fz_run.specs.Showing.{RowsAreShown};
 
 use crate::alone::StandAlone;
@@ -35,6 +37,27 @@ pub fn runs_follow_alone()
 pub fn answers_under_plans()
     ensures { AnswersUnderPlans }
 {
+    instructions_are_steps();
+    given_is_put();
+    arrives_plainly();
+    firmware_answers();
+    answered_are_uninterrupted();
+    runs_follow_alone();
+}
+
+/// Plain instructions from reset to LOOP are the way by which a run gets there.
+pub fn arrives_plainly()
+    ensures { ArrivesPlainly }
+{
+    plain_is_step();
+}
+
+/// Whole instructions on a sample, at each of which an interrupt may come, are steps: as many count as
+/// there are instructions, and before each step, also inside REV, REVW and WAV, the state keeps the
+/// facts of a run and the image.
+pub fn instructions_are_steps()
+    ensures { InstructionsAreSteps }
+{
     decoded_has_opcode();
     writes_stay();
     bytes_stay();
@@ -55,18 +78,17 @@ pub fn answers_under_plans()
     wav_stays();
     wav_steady();
     wav_is_whole();
-    arrives_plainly();
-    firmware_answers();
-    answered_are_uninterrupted();
-    runs_follow_alone();
 }
 
-/// Plain instructions from reset to LOOP are the way by which a run gets there.
-pub fn arrives_plainly()
-    ensures { ArrivesPlainly }
-{
-    plain_is_step();
-}
+/// A sample is given to a run as it is to whole instructions.
+pub fn given_is_put()
+    ensures { GivenIsPut }
+{}
+
+/// The requests of each sample of a good plan are good, and their moments ascend.
+pub fn requests_are_good()
+    ensures { RequestsAreGood }
+{}
 
 /// Where what a form shows of a row and of its handlers' steps has both, what is shown of its runs has the
 /// rows, and the sums of what was told.

@@ -1,0 +1,20 @@
+-- How a sample and its requests are given.
+use Rattle.std.specs.Prelude.{◌≡◌, ℕ, ◌+◌, ◌≤◌, List, length}
+use Rattle.cpu12_parts.specs.State.{State}
+use Rattle.interrupt_plan.specs.declared.Request.{Request}
+use Rattle.interrupt_plan.specs.Plans.{IsGoodRequest, IsGood}
+use Rattle.codegen.specs.declared.layout.Layout.{Layout}
+use Rattle.codegen.specs.Answers as answers
+use Rattle.run_law.specs.Soundness.{AllGood, Ascend}
+use Rattle.fz_run.specs.Forms.{given}
+use Rattle.fz_run.specs.Rows.{requests_of}
+
+-- Bytes that end in memory are given as whole instructions are.
+abbrev pub GivenIsPut : Type 0
+GivenIsPut = (l : Layout) (bytes : List ℕ) (s : State) → l.samples + length bytes ≤ 65535
+    → given l bytes s ≡ answers.given l bytes s
+
+-- The requests of a sample of a good plan are good, and their moments ascend.
+abbrev pub RequestsAreGood : Type 0
+RequestsAreGood = (plan : List Request) → IsGood plan → (k : ℕ)
+    → AllGood IsGoodRequest (requests_of k plan) × Ascend (λ r. r.moment) 0 (requests_of k plan)

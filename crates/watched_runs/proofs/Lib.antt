@@ -1,0 +1,7 @@
+pub mod UsedLaws
+pub mod Answers
+pub mod Changes
+pub mod WatchedRows
+pub mod Places
+pub mod Samples
+pub mod Shown

@@ -1,0 +1,25 @@
+-- The laws on which the answers under upsets stand.
+use Rattle.std.proofs.Common.{ℕ}
+use Rattle.cpu12_isa.specs.Regions.{is_free}
+use Rattle.run_law.specs.Following.{RunsFollow}
+use Rattle.interrupt_plan.specs.Plans.{IsGoodRequest}
+use Rattle.codegen.specs.declared.firmware.Firmware.{Firmware}
+use Rattle.codegen.specs.Watched.{WatchedAnswers}
+use Rattle.fz_run.specs.Arrival.{ArrivesPlainly}
+use Rattle.fz_run.specs.Following.{IsLow, Nothing}
+use Rattle.fz_run.specs.Given.{GivenIsPut, RequestsAreGood}
+use Rattle.fz_run.specs.Instructions.{InstructionsAreSteps}
+use Rattle.watched_runs.specs.Forms.{watched_form, FactsWatched}
+
+-- the law on runs at this form
+abbrev pub RunsFollowUpsets : Type 0
+RunsFollowUpsets = (flags : ℕ) (f : Firmware) → IsLow f
+    → RunsFollow is_free (watched_form flags f) (FactsWatched flags) IsGoodRequest Nothing
+
+pub record Laws : Type 0 where
+  pub steps : InstructionsAreSteps
+  pub given_is_put : GivenIsPut
+  pub arrives_plainly : ArrivesPlainly
+  pub requests_are_good : RequestsAreGood
+  pub watched_answers : WatchedAnswers
+  pub runs_follow : RunsFollowUpsets

@@ -1,0 +1,34 @@
+use Rattle.std.proofs.Common.{◌≡◌, ◌∙◌, ℕ, ◌<◌, ◌^◌, List, map, ap, sym, subst}
+use Rattle.std.specs.Prelude.{All}
+use Rattle.interrupt_plan.specs.declared.upsets.Upset.{Upset}
+use Rattle.fz_run.specs.Rows.{requests_of, first_state, input_bytes}
+use Rattle.watched_runs.specs.Samples.{with_upsets}
+use Rattle.watched_runs.specs.Forms.{watched_form}
+use Rattle.watched_runs.specs.Rows.{FaultSeen, fault_seen, upset_rows, faults_of}
+use Rattle.watched_runs.specs.Answering.{AnswersItsSamples}
+use Rattle.watched_runs.proofs.Shown.{shown_plainly}
+use Rattle.watched_runs.proofs.run.run_upsets.Goals as goal
+
+pub returns-clause-rows : goal.returns-clause-rows
+returns-clause-rows c =
+    let a = c.args in
+    let f = a.firmware.now in
+    let inputs = map input_bytes a.samples.now in
+    let plan = a.plan.now in
+    c.in_ok-rows.ensures.rows
+    ∙ shown_plainly (fault_seen f.outputs) (watched_form a.flags f) f.step_bound (λ k. requests_of k plan) 1
+    (with_upsets c.ascending-upsets.result.now inputs) (first_state f a.flags)
+    ∙ ap (λ (us : List Upset). faults_of f (upset_rows f inputs plan us a.flags)) c.ascending-upsets.ensures.same
+
+pub returns-clause-answers : goal.returns-clause-answers
+returns-clause-answers c =
+    let a = c.args in
+    let f = a.firmware.now in
+    let inputs = map input_bytes a.samples.now in
+    let plan = a.plan.now in
+    let upsets : List Upset = a.upsets.now in
+    let fit = subst (λ (us : List Upset). All (λ (u : Upset). u.value < 2 ^ 8) us) c.ascending-upsets.ensures.same
+    c.read_values.ensures in
+    let law = c.answers_under_all_upsets.ensures f a.flags inputs plan upsets c.ranges.flags.fits c.requires.plan
+    c.requires.upsets fit in
+    subst (λ (rs : List FaultSeen). AnswersItsSamples f a.flags inputs plan upsets rs) (sym (returns-clause-rows c)) law

@@ -1,0 +1,56 @@
+-- The rows of a list of samples under a plan and upsets.
+use Rattle.std.specs.Prelude.{ℕ, List, map, take, slice_index}
+use Rattle.run_law.specs.Forms.{RowSeen, Rows, rows_from}
+use Rattle.interrupt_plan.specs.declared.Request.{Request}
+use Rattle.interrupt_plan.specs.declared.upsets.Upset.{Upset}
+use Rattle.codegen.specs.declared.firmware.Firmware.{Firmware}
+use Rattle.codegen.specs.Watched.{Watched}
+use Rattle.trace_io.specs.declared.sample.Sample.{Sample}
+use Rattle.fz_run.specs.Forms.{Harness}
+use Rattle.fz_run.specs.Rows as rows
+use Rattle.fz_run.specs.Rows.{requests_of, first_state, input_bytes}
+use Rattle.watched_runs.specs.Samples.{with_upsets}
+use Rattle.watched_runs.specs.declared.form.WatchedRow as declared
+use Rattle.watched_runs.specs.Forms.{watched_parts, watched_form}
+
+-- a row of a sample's bytes, and what FAULT held at its end
+pub record FaultSeen : Type 0 where
+  pub row : RowSeen (List ℕ)
+  pub fault : ℕ
+
+-- the row of n answers, behind which FAULT was read
+abbrev pub fault_seen : ℕ → RowSeen Watched → FaultSeen
+fault_seen n r = record {
+  row = record {
+    sample = r.sample.bytes;
+    answers = take n r.answers;
+    instrs = r.instrs;
+    steps = r.steps;
+    resumed = r.resumed;
+    frames = r.frames;
+  };
+  fault = slice_index r.answers n;
+}
+
+-- the run of a firmware over a list of samples, each given by its input bytes, under a plan and upsets
+abbrev pub upset_rows : Firmware → List (List ℕ) → List Request → List Upset → ℕ → Rows Watched Request ℕ
+upset_rows f samples plan upsets flags =
+    rows_from (watched_form flags f) f.step_bound (λ k. requests_of k plan) 1 (with_upsets upsets samples)
+    (first_state f flags)
+
+-- its rows
+abbrev pub faults_of : Firmware → Rows Watched Request ℕ → List FaultSeen
+faults_of f all = map (fault_seen f.outputs) all.rows
+
+-- a row of the code, as it is seen
+abbrev pub row_seen : declared.WatchedRow → FaultSeen
+row_seen r = record { row = rows.row_seen r.row; fault = r.fault }
+
+-- a firmware with a trace and upsets: its rows do not tell of handlers' steps
+abbrev pub watched_harness : Firmware → List Sample → List Upset → Harness declared.WatchedRow Watched FaultSeen
+watched_harness f samples upsets = record {
+  samples = with_upsets upsets (map input_bytes samples);
+  parts = watched_parts f;
+  shows = λ row steps. fault_seen f.outputs row;
+  seen = row_seen;
+}

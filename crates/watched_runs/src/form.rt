@@ -1,0 +1,101 @@
+//! A firmware with watched tables, as a form of runs.
+ghost use Rattle.std.specs.Prelude.{ℕ, ◌≡◌, ◌<◌, ◌≤◌, ◌+◌, List, Some, length, map, slice_get};
+ghost use Rattle.fz_run.specs.Rows.{input_bytes};
+ghost use Rattle.codegen.specs.Watched as tables;
+ghost use Rattle.watched_runs.specs.Rows.{FaultSeen, watched_harness};
+ghost use Rattle.watched_runs.specs.Samples.{AscendThroughout};
+
+use crate::upsets::{change, restore, upset_of};
+use codegen::Firmware;
+use cpu12_emul::ends::Frame;
+use cpu12_emul::machine::Machine;
+use cpu12_isa::mem::Mem;
+use fz_run::form::RunForm;
+use fz_run::ports::{answers, give, is_idle};
+use fz_run::{Row, Tally, row_of};
+use interrupt_plan::{Request, Upset};
+use trace_io::Sample;
+
+/// What a sample's run gave, and what FAULT held at its end.
+#[derive(Drop)]
+pub struct WatchedRow {
+    /// The row.
+    pub row: Row,
+    /// The byte at FAULT: 1 where a byte of the tables was another than the image's, and else 0.
+    pub fault: u8,
+}
+
+/// Where a firmware with watched tables says whether these are what they were.
+const FAULT: u16 = 0x1030;
+
+/// A firmware with watched tables, with a trace and upsets. Its handler does the writes that a request
+/// lists.
+#[derive(Drop)]
+pub struct WithUpsets<'a> {
+    /// The firmware, of at most four outputs.
+    pub firmware: &'a Firmware,
+    /// The trace.
+    pub samples: &'a [Sample],
+    /// What is upset in its samples, one byte at most in each.
+    pub upsets: &'a [Upset],
+    ghost outputs: { firmware.now.outputs ≤ 4 },
+    ghost ascend: { AscendThroughout upsets.now },
+}
+
+/// The bytes of a sample, of which there are at most eight.
+fn bytes_of(samples: &[Sample], k: usize) -> &[u8]
+    requires { k < length samples.now }
+    ensures bytes { (bytes : List ℕ) → slice_get (map input_bytes samples.now) k ≡ Some bytes → result.now ≡ bytes }
+    ensures few { length result.now ≤ 8 }
+{
+    samples[k].bytes.as_slice()
+}
+
+/// The number of sample `k`, counted from 1.
+fn number_of(samples: &[Sample], k: usize) -> usize
+    requires { k < length samples.now }
+    ensures { result ≡ k + 1 }
+{
+    k + 1
+}
+
+impl<'a> RunForm<WatchedRow> for WithUpsets<'a> {
+    ghost Given = { tables.Watched };
+
+    ghost Shown = { FaultSeen };
+
+    ghost harness = { λ x. watched_harness x.firmware.now x.samples.now x.upsets.now };
+
+    fn count(&self) -> usize {
+        self.samples.len()
+    }
+
+    fn give<M: Mem>(&self, m: &mut Machine<M>, k: usize) {
+        give(&self.firmware.layout, m, bytes_of(self.samples, k));
+        change(m, upset_of(self.upsets, number_of(self.samples, k)));
+    }
+
+    fn leave<M: Mem>(&self, m: &mut Machine<M>, k: usize) {
+        restore(
+            m,
+            &self.firmware.image,
+            upset_of(self.upsets, number_of(self.samples, k)),
+        );
+    }
+
+    fn ends<M: Mem>(&self, m: &Machine<M>) -> bool {
+        is_idle(&self.firmware.layout, m)
+    }
+
+    fn take<M: Mem>(&self, m: &mut Machine<M>, request: &Request) -> (Frame, u16) {
+        (m.interrupt(request.writes.as_slice()), 0)
+    }
+
+    fn row<M: Mem>(&self, m: &Machine<M>, k: usize, tally: Tally) -> WatchedRow {
+        let answers = answers(self.firmware, m);
+        WatchedRow {
+            row: row_of(bytes_of(self.samples, k), answers, tally),
+            fault: m.peek(FAULT),
+        }
+    }
+}

@@ -1,0 +1,22 @@
+// Laws of runs under upsets.
+ghost use Rattle.watched_runs.specs.Answering.{AnswersUnderAllUpsets};
+
+use crate::watched::WatchedTables;
+use codegen::laws::watched_answers;
+use fz_run::laws::{arrives_plainly, given_is_put, instructions_are_steps, requests_are_good};
+use run_law::laws::runs_follow;
+
+/// The firmware of a block with watched tables answers every list of samples under every good plan and
+/// all good upsets: a row's answers are the block's over bytes and FAULT is 0, but the defaults and 1
+/// where a byte of the tables is upset, each after the row before; its counts are those of the run
+/// without interrupts over the memory with that byte, within the bounds; and the run follows that run.
+pub fn answers_under_all_upsets()
+    ensures { AnswersUnderAllUpsets }
+{
+    instructions_are_steps();
+    given_is_put();
+    arrives_plainly();
+    requests_are_good();
+    watched_answers();
+    runs_follow::<WatchedTables>();
+}

@@ -1,0 +1,60 @@
+//! Runs of a firmware with watched tables under upsets.
+ghost use Rattle.std.specs.Prelude.{ℕ, ◌≡◌, ◌≤◌, map, IfOk};
+ghost use Rattle.interrupt_plan.specs.Plans.{IsGood};
+ghost use Rattle.interrupt_plan.specs.Upsets.{AreGoodUpsets};
+ghost use Rattle.fz_run.specs.Rows.{input_bytes};
+ghost use Rattle.watched_runs.specs.Rows.{row_seen, upset_rows, faults_of};
+ghost use Rattle.watched_runs.specs.Answering.{AnswersItsSamples};
+
+use crate::form::{WatchedRow, WithUpsets};
+use crate::laws::answers_under_all_upsets;
+use crate::upsets::{ascending, read_values};
+use codegen::Firmware;
+use cpu12_isa::pages::PageMem;
+use fz_list::Memory;
+use fz_run::{Start, run_form};
+use interrupt_plan::{Plan, Upsets};
+use std::alloc::Global;
+use trace_io::Sample;
+
+/// Runs a firmware over a trace under a plan, with the upsets of the samples that have their numbers,
+/// counted from 1: during such a sample its byte holds the upset's value, and then the image's byte
+/// stands there again. Answers a row for each sample. Bits of `flags` give the flags that the CPU12
+/// Reference Manual leaves undefined. All memory is taken before the first step, and want of it is the
+/// one error.
+///
+/// Where the firmware is that of a block with watched tables, a sample without an upset, or with one
+/// whose value is the image's byte, is answered as the block answers it over bytes, with FAULT 0, and
+/// each other sample by the outputs' defaults, or with NC by the byte before, with FAULT 1.
+pub fn run_upsets(
+    alloc: Global,
+    firmware: &Firmware,
+    samples: &[Sample],
+    plan: &Plan,
+    upsets: &Upsets,
+    flags: u8,
+) -> Result<Vec<WatchedRow>, Memory>
+    requires outputs { firmware.now.outputs ≤ 4 }
+    requires plan { IsGood plan.now }
+    requires upsets { AreGoodUpsets firmware.now.image.bytes upsets.now }
+    ensures rows { IfOk result (λ rows. map row_seen rows.items
+        ≡ faults_of firmware.now (upset_rows firmware.now (map input_bytes samples.now) plan.now upsets.now flags)) }
+    ensures answers { IfOk result (λ rows. AnswersItsSamples firmware.now flags (map input_bytes samples.now) plan.now
+        upsets.now (map row_seen rows.items)) }
+{
+    answers_under_all_upsets();
+    let upsets = ascending(upsets);
+    read_values(upsets);
+    let form = WithUpsets {
+        firmware,
+        samples,
+        upsets,
+    };
+    let start = Start {
+        image: &firmware.image,
+        wait: firmware.layout.wait,
+        most: firmware.step_bound,
+    };
+    let (rows, _memory): (Vec<WatchedRow>, PageMem) = run_form(alloc, &form, &start, plan, flags)?;
+    Ok(rows)
+}

@@ -1,0 +1,74 @@
+// The upset of a sample, among upsets that ascend, and what it does.
+ghost use Rattle.std.specs.Prelude.{ℕ, ◌≡◌, ◌<◌, ◌^◌, All, MatchResult, None, slice_get};
+ghost use Rattle.cpu12_emul.specs.Image.{image_memory};
+ghost use Rattle.interrupt_plan.specs.Upsets.{SamplesAscend};
+ghost use Rattle.codegen.specs.Watched.{changed, restored};
+ghost use Rattle.watched_runs.specs.Samples.{AscendThroughout, change_of, change_in};
+
+use cpu12_asm::Image;
+use cpu12_emul::laws::holds_image;
+use cpu12_emul::machine::Machine;
+use cpu12_isa::mem::Mem;
+use interrupt_plan::{Upset, Upsets};
+
+/// Upsets, whose samples ascend.
+pub(crate) fn ascending(upsets: &Upsets) -> &[Upset]
+    requires { SamplesAscend upsets.now }
+    ensures same { result.now ≡ upsets.now }
+    ensures ascend { AscendThroughout result.now }
+{
+    upsets.as_slice()
+}
+
+/// Where the upset of a sample stands, or would stand.
+fn place_of(upsets: &[Upset], number: usize) -> Result<usize, usize>
+    requires { AscendThroughout upsets.now }
+    ensures { MatchResult result (λ i. change_in (slice_get upsets.now i) ≡ change_of number upsets.now)
+        (λ i. change_of number upsets.now ≡ None) }
+{
+    upsets.binary_search_by_key(&number, |upset| upset.sample as usize)
+}
+
+/// The upset of a sample, counted from 1.
+pub(crate) fn upset_of(upsets: &[Upset], number: usize) -> Option<Upset>
+    requires { AscendThroughout upsets.now }
+    ensures { change_in result ≡ change_of number upsets.now }
+{
+    match place_of(upsets, number) {
+        Ok(at) => upsets.get(at).copied(),
+        Err(_) => None,
+    }
+}
+
+/// Reads the values of upsets, which are bytes.
+pub(crate) fn read_values(upsets: &[Upset])
+    ensures { All (λ u. u.value < 2 ^ 8) upsets.now }
+{
+    for upset in upsets {
+        let value = upset.value;
+        prove!(value <= u8::MAX);
+    }
+}
+
+/// Changes the byte of an upset, if there is one.
+pub(crate) fn change<M: Mem>(m: &mut Machine<M>, upset: Option<Upset>)
+    ensures state { m.new.state
+        ≡ record (m.old.state) { mem = changed (change_in upset) m.old.state.mem } }
+    ensures flags { m.new.flags ≡ m.old.flags }
+{
+    if let Some(upset) = upset {
+        m.poke(upset.at, upset.value);
+    }
+}
+
+/// Puts the image's byte back where an upset changed it, if there is one.
+pub(crate) fn restore<M: Mem>(m: &mut Machine<M>, image: &Image, upset: Option<Upset>)
+    ensures state { m.new.state ≡ restored (image_memory image.now.bytes) (change_in upset) m.old.state }
+    ensures flags { m.new.flags ≡ m.old.flags }
+{
+    holds_image();
+    if let Some(upset) = upset {
+        let byte = image.bytes.get(upset.at).unwrap_or(0);
+        m.poke(upset.at, byte);
+    }
+}
