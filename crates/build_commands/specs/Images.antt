@@ -6,7 +6,7 @@ use Rattle.srecord.specs.Texts.{GivesImage, HasFault}
 use Rattle.fuzzy_meaning.specs.declared.block.Block.{Block}
 use Rattle.codegen.specs.declared.firmware.Firmware.{Firmware}
 use Rattle.codegen.specs.declared.width.Width.{Width}
-use Rattle.build_commands.specs.Firmwares.{GivesFirmware}
+use Rattle.build_commands.specs.Firmwares.{GivesFirmware, GivesWatched}
 use Rattle.fz_status.specs.Refusals.{Refusals}
 use Rattle.fz_status.specs.declared.status.ImageFault.{ImageFault}
 use Rattle.fz_status.specs.declared.status.ImageFault.TheVariants as image
@@ -41,4 +41,11 @@ abbrev pub FirmwareImagesHaveNoFault : Type 0
 FirmwareImagesHaveNoFault =
     (width : Width) (text records : List ℕ) (block other : Block) (firmware others : Firmware) (f : ImageFault)
     → GivesFirmware width text block firmware → GivesFirmware width text other others
+    → GivesImage records firmware.image → RefusesImage records others.image f → ⊥
+
+-- so it is with watched tables
+abbrev pub WatchedImagesHaveNoFault : Type 0
+WatchedImagesHaveNoFault =
+    (text records : List ℕ) (block other : Block) (firmware others : Firmware) (f : ImageFault)
+    → GivesWatched text block firmware → GivesWatched text other others
     → GivesImage records firmware.image → RefusesImage records others.image f → ⊥

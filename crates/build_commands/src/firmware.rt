@@ -64,7 +64,7 @@ pub(crate) fn mailbox_of(alloc: Global, text: &[u8]) -> Result<Compiled, Status>
 
 /// The block that the text spells, and that block's firmware with watched tables. The faults are the
 /// same.
-pub(crate) fn watched_firmware_of(alloc: Global, text: &[u8]) -> Result<Compiled, Status>
+pub fn watched_firmware_of(alloc: Global, text: &[u8]) -> Result<Compiled, Status>
     requires { length text.now ≤ 1048576 }
     ensures gives { IfOk result (λ c. GivesWatched text.now c.block c.firmware) }
     ensures fault { IfErr result (IsRefusal (text_refusals text.now)) }

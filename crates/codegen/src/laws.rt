@@ -1,5 +1,5 @@
 //! Laws of the generated code.
-ghost use Rattle.codegen.specs.Alike.{FirmwaresAreOne};
+ghost use Rattle.codegen.specs.Alike.{FirmwaresAreOne, WatchedFirmwaresAreOne};
 ghost use Rattle.codegen.specs.Answers.{FirmwareAnswers, FirmwareAnswersBeside, FirmwareArrivesAlike};
 ghost use Rattle.codegen.specs.Evaluation.{EvalAnswers};
 ghost use Rattle.codegen.specs.Checksums.{OneChangeIsSeen, TwoChangesMayPass, UnchangedSumIsZero};
@@ -113,6 +113,13 @@ pub fn uninterrupted_are_one()
 /// Blocks that are the same, wherever their conditions lie in memory, have firmware with one image.
 pub fn firmwares_are_one()
     ensures { FirmwaresAreOne }
+{
+    layouts_are_one();
+}
+
+/// So they have with watched tables.
+pub fn watched_firmwares_are_one()
+    ensures { WatchedFirmwaresAreOne }
 {
     layouts_are_one();
 }

@@ -2,3 +2,4 @@ pub mod AnswerLemmas
 pub mod DebugLemmas
 pub mod LineLemmas
 pub mod SumLemmas
+pub mod WatchedLemmas

@@ -3,3 +3,5 @@ pub mod CertifiedRun
 pub mod Debug
 pub mod Generate
 pub mod Run
+pub mod Srun
+pub mod WatchedRun

@@ -1,5 +1,5 @@
-//! The commands that run a block's firmware: `run`, `run16`, `debug` and `gen`, and what a certified run
-//! is (`CertifiedRun`).
+//! The commands that run a block's firmware: `run`, `run16`, `srun`, `debug` and `gen`, and what a
+//! certified run is (`CertifiedRun`), and one under upsets (`WatchedRun`).
 //!
 //! Each is one module, with the form of its words, the places of its files among them (`INPUTS`), and
 //! `work`, which makes of the files' contents the lines to put, or the status of their first fault.
@@ -11,3 +11,5 @@ pub mod generate;
 pub mod run;
 mod run_lines;
 mod shown_lines;
+pub mod srun;
+mod watched_lines;

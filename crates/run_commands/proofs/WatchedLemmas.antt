@@ -1,0 +1,136 @@
+-- What a run under upsets gives.
+use Rattle.std.proofs.Common.{◌≡◌, ◌≤◌, ◌∙◌, ℕ, Bool, List, [], ◌∷◌, ◌++◌, ap, ap₂, append_assoc, sym, subst}
+use Rattle.std.specs.Prelude.{◌&&◌, All, String, codes, map, nat_le, string_bytes}
+use Rattle.std.proofs.lemmas.List.Elements.{All-cons}
+use Rattle.std.specs.declared.alloc.Global.{Global}
+use Rattle.fuzzy_meaning.specs.declared.block.Block.{Block}
+use Rattle.cpu12_asm.specs.Bytes.{byte_at}
+use Rattle.cpu12_emul.specs.Image.{image_memory}
+use Rattle.codegen.specs.Watched.{Watched, watched_answer}
+use Rattle.codegen.specs.declared.firmware.Firmware.{Firmware}
+use Rattle.codegen.specs.declared.width.Width.TheVariants.{Byte}
+use Rattle.srecord.specs.Texts.{GivesImage}
+use Rattle.interrupt_plan.specs.PlanTexts.{Spells as SpellsPlan}
+use Rattle.interrupt_plan.specs.UpsetTexts.{SpellsUpsets}
+use Rattle.interrupt_plan.specs.Upsets.{AreGoodUpsets, IsGoodUpset, is_there}
+use Rattle.interrupt_plan.specs.declared.Request.{Request}
+use Rattle.interrupt_plan.specs.declared.upsets.Upset.{Upset}
+use Rattle.trace_io.specs.Traces.{Spells as SpellsTrace}
+use Rattle.trace_io.specs.declared.sample.Sample.{Sample}
+use Rattle.fz_run.specs.Rows.{input_bytes}
+use Rattle.watched_runs.specs.Answering.{AnswersItsSamples, AnswersUnderUpsets, AreWatchedRows}
+use Rattle.watched_runs.specs.Rows.{FaultSeen, faults_of, row_seen, upset_rows}
+use Rattle.watched_runs.specs.Samples.{with_upsets}
+use Rattle.watched_runs.specs.declared.form.WatchedRow.{WatchedRow}
+use Rattle.certified_run.specs.Faultless.{FaultlessAnswersAreNear}
+use Rattle.fz_shelf.specs.Lines.{text_of}
+use Rattle.fz_status.specs.Refusals.{IsRefusal}
+use Rattle.fz_status.specs.declared.status.Status.{Status}
+use Rattle.fz_status.specs.declared.status.Status.TheVariants as status
+use Rattle.build_commands.specs.Certs.{AcceptsCert}
+use Rattle.build_commands.specs.Firmwares.{GivesWatched}
+use Rattle.build_commands.specs.Lines.{counted, error_line, line}
+use Rattle.build_commands.proofs.Algebra.{counted-map}
+use Rattle.run_commands.specs.Srun.{AcceptsWatched, srun_lines, srun_refusals, upset_refusals}
+use Rattle.run_commands.specs.Srun.{watched_report, watched_row_lines}
+use Rattle.run_commands.specs.WatchedRun.{WatchedFiles, WatchedRun}
+use Rattle.run_commands.proofs.AnswerLemmas.{input_bytes_fit, none}
+use Rattle.run_commands.proofs.LineLemmas.{begun_written}
+
+instructions_within : (b : Block) (f : Firmware) (before : ℕ → ℕ) (xs : List Watched) (rs : List FaultSeen)
+    → AreWatchedRows b f before xs rs → All (λ r. r.row.instrs ≤ f.instr_bound) rs
+instructions_within b f before [] [] rows = none _
+instructions_within b f before [] (r ∷ rs) rows = absurd rows
+instructions_within b f before (x ∷ xs) [] rows = absurd rows
+instructions_within b f before (x ∷ xs) (r ∷ rs) rows =
+    All-cons (λ q. q.row.instrs ≤ f.instr_bound) r rs rows.0.instructions
+    (instructions_within b f (λ o. watched_answer b (image_memory f.image.bytes) x o (before o)) xs rs rows.1)
+
+-- what it answers of accepted files is the run of them
+pub watches : (near : FaultlessAnswersAreNear) (flags : ℕ) (files : WatchedFiles) (block : Block) (firmware : Firmware)
+    (errors : List ℕ) (samples slice : List Sample) (plan : List Request) (upsets : List Upset) (rows : List FaultSeen)
+    → AcceptsWatched files block firmware errors samples plan upsets → slice ≡ samples
+    → rows ≡ faults_of firmware (upset_rows firmware (map input_bytes slice) plan upsets flags)
+    → AnswersItsSamples firmware flags (map input_bytes slice) plan upsets rows
+    → WatchedRun flags files (watched_report errors firmware.instr_bound rows)
+watches near flags files block firmware errors samples slice plan upsets rows a same ran answers = record {
+  block = block;
+  firmware = firmware;
+  compiled = a.compiled;
+  image = a.image;
+  accepted = a.accepted;
+  samples = samples;
+  in_range = a.in_range;
+  plan = plan;
+  good_plan = a.good_plan;
+  upsets = upsets;
+  good_upsets = a.good_upsets;
+  ran = subst (λ (ss : List Sample). rows ≡ faults_of firmware (upset_rows firmware (map input_bytes ss) plan upsets flags))
+      same ran;
+  answers = under;
+  bound = a.compiled.compiled.instructions;
+  instructions = instructions_within block firmware (λ o. 0) (with_upsets upsets (map input_bytes samples)) rows
+      under.answers;
+  within = near block firmware a.accepted.cert errors files.trace samples upsets rows a.compiled.spelled.valid a.in_range
+      under.answers a.accepted.accepted;
+}
+  where
+    all : AnswersItsSamples firmware flags (map input_bytes samples) plan upsets rows
+    all = subst (λ (ss : List Sample). AnswersItsSamples firmware flags (map input_bytes ss) plan upsets rows) same answers
+
+    under : AnswersUnderUpsets block firmware flags (map input_bytes samples) plan upsets rows
+    under = all block a.compiled.spelled.valid a.compiled.limits a.compiled.compiled
+        (input_bytes_fit block a.in_range.rows samples a.in_range.spelled)
+
+-- why upsets are refused, all files before them being accepted
+pub refused_last : (files : WatchedFiles) (block : Block) (firmware : Firmware) (errors : List ℕ) (samples : List Sample)
+    (plan : List Request) (s : Status)
+    → GivesWatched files.fcl block firmware → GivesImage files.image firmware.image
+    → AcceptsCert Byte block files.cert errors → SpellsTrace block.inputs files.trace samples
+    → SpellsPlan files.plan plan
+    → IsRefusal (upset_refusals firmware.image.bytes files.upsets) s → IsRefusal (srun_refusals files) s
+refused_last files block firmware errors samples plan status.Memory compiled image accepted in_range good_plan refused = tt
+refused_last files block firmware errors samples plan (status.Upset f) compiled image accepted in_range good_plan refused = (
+  refused.0,
+  (block, firmware, compiled, (image, errors, accepted, samples, in_range, plan, good_plan, refused.1)),
+)
+refused_last files block firmware errors samples plan s compiled image accepted in_range good_plan refused =
+    absurd refused.1
+
+-- ---- upsets of images that are one
+
+module _ (a b : List (ℕ × ℕ)) (one : (at : ℕ) → byte_at a at ≡ byte_at b at) where
+  good_there : (u : Upset) → IsGoodUpset a u → IsGoodUpset b u
+  good_there u good = record {
+    sample_from = good.sample_from;
+    sample_to = good.sample_to;
+    table = ap (λ (o : Bool). nat_le 0xD000 u.at && nat_le u.at 0xFEFF && o) (ap is_there (sym (one u.at))) ∙ good.table;
+  }
+
+  pub spelled_there : (text : List ℕ) (upsets : List Upset) → SpellsUpsets a text upsets → SpellsUpsets b text upsets
+  spelled_there text upsets spells = record {
+    rows = spells.rows;
+    first = spells.first;
+    few = spells.few;
+    spelled = spells.spelled;
+    good = record {
+      few = spells.good.few;
+      each = λ k d lt. good_there _ (spells.good.each k d lt);
+      ascend = spells.good.ascend;
+    };
+  }
+
+-- ---- the lines
+
+pub watched_written : (none errors bounded rows : List (String Global)) (bound_line : String Global) (es : List ℕ)
+    (bound : ℕ) (rs : List WatchedRow)
+    → none ≡ [] → text_of errors ≡ text_of none ++ counted error_line 1 es
+    → bounded ≡ errors ++ bound_line ∷ [] → string_bytes bound_line ≡ line (codes "instructions ") bound
+    → text_of rows ≡ text_of bounded ++ counted (λ k r. watched_row_lines k (row_seen r)) 1 rs
+    → text_of rows ≡ srun_lines (watched_report es bound (map row_seen rs))
+watched_written none errors bounded rows bound_line es bound rs start e0 e1 b e2 =
+    e2
+    ∙ ap₂ (λ (x y : List ℕ). x ++ y) (begun_written none errors bounded bound_line es bound start e0 e1 b)
+    (sym (counted-map watched_row_lines row_seen 1 rs))
+    ∙ append_assoc (counted error_line 1 es) (line (codes "instructions ") bound)
+    (counted watched_row_lines 1 (map row_seen rs))
