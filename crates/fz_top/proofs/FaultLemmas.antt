@@ -25,6 +25,7 @@ faults_carry command.Hcheck contents s makes = makes.0
 faults_carry command.Mcompile contents s makes = makes.0
 faults_carry (command.Run run) contents s makes = makes.0
 faults_carry command.Scompile contents s makes = makes.0
+faults_carry (command.Srun srun) contents s makes = makes.0
 
 pub carries : (words : List Text) (old new : World) (s : Status) → Runs words old new s → CarriesNoMemory s
 carries words old new s runs = go s (kind_of s) runs

@@ -16,11 +16,12 @@ use Rattle.build_commands.specs.Hcheck.{HcheckMakes, hcheck_inputs}
 use Rattle.build_commands.specs.Mcompile.{McompileMakes}
 use Rattle.run_commands.specs.Run.{RunMakes, files_in, run_in, run_inputs}
 use Rattle.build_commands.specs.Scompile.{ScompileMakes, scompile_inputs}
+use Rattle.run_commands.specs.Srun.{SrunMakes, srun_in, srun_inputs, watched_files}
 use Rattle.fz_status.specs.Words.{Text}
 use Rattle.build_commands.specs.Contents.{content_at}
 use Rattle.fz_top.specs.declared.command.Command.{Command}
 use Rattle.fz_top.specs.declared.command.Command.TheVariants.{Asm, Certify, Check, Compile, Debug, Exec, Generate}
-use Rattle.fz_top.specs.declared.command.Command.TheVariants.{Hcheck, Mcompile, Run, Scompile}
+use Rattle.fz_top.specs.declared.command.Command.TheVariants.{Hcheck, Mcompile, Run, Scompile, Srun}
 use Rattle.fz_top.specs.declared.command.Name.{Name}
 use Rattle.fz_top.specs.declared.command.Name.TheVariants as name
 use Rattle.fz_status.specs.declared.status.Status.{Status}
@@ -32,7 +33,8 @@ table = row (codes "asm") 2 name.Asm ∷ row (codes "certify") 3 name.Certify �
     ∷ row (codes "compile") 2 name.Compile ∷ row (codes "compile16") 2 name.Compile16
     ∷ row (codes "debug") 6 name.Debug ∷ row (codes "exec") 3 name.Exec ∷ row (codes "gen") 1 name.Generate
     ∷ row (codes "hcheck") 1 name.Hcheck ∷ row (codes "mcompile") 2 name.Mcompile ∷ row (codes "run") 6 name.Run
-    ∷ row (codes "run16") 6 name.Run16 ∷ row (codes "scompile") 2 name.Scompile ∷ []
+    ∷ row (codes "run16") 6 name.Run16 ∷ row (codes "scompile") 2 name.Scompile
+    ∷ row (codes "srun") 7 name.Srun ∷ []
 
 -- the command of a name, where the words have its form
 unfoldable pub form_of : Name → List Text → Option Command
@@ -51,6 +53,7 @@ form_of name.Mcompile words = Some Mcompile
 form_of name.Run words = option_map Run (run_in Byte words)
 form_of name.Run16 words = option_map Run (run_in Word words)
 form_of name.Scompile words = Some Scompile
+form_of name.Srun words = option_map Srun (srun_in words)
 
 -- the words that name the files to read, in order
 unfoldable pub inputs_of : Command → List ℕ
@@ -65,6 +68,7 @@ inputs_of Hcheck = hcheck_inputs
 inputs_of Mcompile = compile_inputs
 inputs_of (Run run) = run_inputs
 inputs_of Scompile = scompile_inputs
+inputs_of (Srun srun) = srun_inputs
 
 -- what the command makes of the contents of its files
 unfoldable pub Makes : Command → List (List ℕ) → Result Deed Status → Type 0
@@ -79,6 +83,7 @@ Makes Hcheck contents r = HcheckMakes (content_at contents 0) r
 Makes Mcompile contents r = McompileMakes (content_at contents 0) r
 Makes (Run run) contents r = RunMakes run (files_in contents) r
 Makes Scompile contents r = ScompileMakes (content_at contents 0) r
+Makes (Srun srun) contents r = SrunMakes srun (watched_files contents) r
 
 abbrev pub name_in : List Text → Option Name
 name_in words = command_by table words

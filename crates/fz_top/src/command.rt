@@ -24,6 +24,7 @@ use fz_words::Refusal;
 use run_commands::debug::{self, DebugRun};
 use run_commands::generate::{self, Generate};
 use run_commands::run::{self, Run};
+use run_commands::srun::{self, Srun};
 use std::alloc::Global;
 
 /// A command by its name alone.
@@ -44,10 +45,11 @@ pub(crate) enum Name {
     Run,
     Run16,
     Scompile,
+    Srun,
 }
 
 /// The commands by their names on the command line, each with the number of words that follow.
-static COMMANDS: [(&str, usize, Name); 15] = [
+static COMMANDS: [(&str, usize, Name); 16] = [
     ("asm", 2, Name::Asm),
     ("certify", 3, Name::Certify),
     ("certify16", 3, Name::Certify16),
@@ -63,6 +65,7 @@ static COMMANDS: [(&str, usize, Name); 15] = [
     ("run", 6, Name::Run),
     ("run16", 6, Name::Run16),
     ("scompile", 2, Name::Scompile),
+    ("srun", 7, Name::Srun),
 ];
 
 /// A command with what its words give beside the names of files.
@@ -90,6 +93,8 @@ pub enum Command {
     Run(Run),
     /// `scompile FCL OUT`
     Scompile,
+    /// `srun FCL IMAGE CERT TRACE PLAN UPSETS FLAGS`
+    Srun(Srun),
 }
 
 /// The command of this name that the words ask for.
@@ -113,6 +118,7 @@ fn formed(name: Name, words: &[String]) -> Option<Command>
         Name::Run => Run::of(Width::Byte, words).map(Command::Run),
         Name::Run16 => Run::of(Width::Word, words).map(Command::Run),
         Name::Scompile => Some(Command::Scompile),
+        Name::Srun => Srun::of(words).map(Command::Srun),
     }
 }
 
@@ -134,6 +140,7 @@ impl Command {
             Command::Mcompile => compile::INPUTS.as_slice(),
             Command::Run(_) => run::INPUTS.as_slice(),
             Command::Scompile => scompile::INPUTS.as_slice(),
+            Command::Srun(_) => srun::INPUTS.as_slice(),
         }
     }
 
@@ -155,6 +162,7 @@ impl Command {
             Command::Mcompile => mcompile::work(alloc, content(contents, 0)),
             Command::Run(run) => run.work(alloc, contents),
             Command::Scompile => scompile::work(alloc, content(contents, 0)),
+            Command::Srun(srun) => srun.work(alloc, contents),
         }
     }
 }

@@ -12,6 +12,7 @@ use build_commands::scompile::watched_texts_have_no_fault;
 use run_commands::debug::debugged_runs_have_no_fault;
 use run_commands::generate::generated_runs_have_no_fault;
 use run_commands::run::certified_runs_have_no_fault;
+use run_commands::srun::watched_runs_have_no_fault;
 
 /// Contents that make a deed make no fault.
 pub(crate) fn deeds_have_no_fault()
@@ -27,5 +28,6 @@ pub(crate) fn deeds_have_no_fault()
     checked_handlers_have_no_fault();
     mailbox_texts_have_no_fault();
     certified_runs_have_no_fault();
-    watched_texts_have_no_fault()
+    watched_texts_have_no_fault();
+    watched_runs_have_no_fault()
 }

@@ -1,6 +1,7 @@
 use Rattle.build_commands.specs.Contents.{content_at}
 use Rattle.run_commands.specs.Debug.{debug_files}
 use Rattle.run_commands.specs.Run.{files_in}
+use Rattle.run_commands.specs.Srun.{watched_files}
 use Rattle.fz_top.specs.Commands.{Makes}
 use Rattle.fz_top.specs.declared.command.Command.TheVariants as command
 use Rattle.fz_top.proofs.laws.deeds_have_no_fault.Goals as goal
@@ -29,3 +30,5 @@ returns c (command.Run run) contents deed s makes fault =
     c.certified_runs_have_no_fault.ensures run (files_in contents) deed s makes fault
 returns c command.Scompile contents deed s makes fault =
     c.watched_texts_have_no_fault.ensures (content_at contents 0) deed s makes fault
+returns c (command.Srun srun) contents deed s makes fault =
+    c.watched_runs_have_no_fault.ensures srun (watched_files contents) deed s makes fault
