@@ -1,9 +1,10 @@
 -- What a firmware that stands alone answers, and what is known at each of its instructions.
-use Rattle.std.specs.Prelude.{◌≡◌, ℕ, ◌+◌, ◌^◌, ◌<◌, ◌≤◌, true, List, [], ◌∷◌, length, All, slice_set}
+use Rattle.std.specs.Prelude.{◌≡◌, ℕ, ◌+◌, ◌^◌, ◌<◌, ◌≤◌, Bool, true, false, List, [], ◌∷◌, length, All, slice_index, slice_set}
 use Rattle.fuzzy_meaning.specs.declared.block.Block.{Block}
 use Rattle.fuzzy_meaning.specs.Blocks.{IsValid}
 use Rattle.rule_layout.specs.Layouts.{IsWithinLimits}
-use Rattle.cpu12_isa.specs.Regions.{is_free}
+use Rattle.cpu12_isa.specs.Agreement.{Agree}
+use Rattle.cpu12_isa.specs.Regions.{stack_start, stack_end, is_free}
 use Rattle.cpu12_parts.specs.State.{State}
 use Rattle.cpu12_parts.specs.Whole.{PlainWay}
 use Rattle.cpu12_parts.specs.Executions.{Execution, all_steps}
@@ -15,7 +16,7 @@ use Rattle.codegen.specs.declared.firmware.Firmware.{Firmware}
 use Rattle.codegen.specs.Widths.{width_of, answer}
 use Rattle.codegen.specs.Bounds.{steps_by}
 use Rattle.codegen.specs.Firing.{AreInputBytes}
-use Rattle.codegen.specs.Evaluation.{HasAnswers}
+use Rattle.codegen.specs.Evaluation.{Reads, Writes, HasAnswers}
 use Rattle.codegen.specs.Interruptible.{is_idle, IsInterruptible, IsInterruptibleStep}
 use Rattle.codegen.specs.Firmwares.{IsFirmwareOf}
 
@@ -24,12 +25,17 @@ abbrev pub put : List ℕ → ℕ → List ℕ → List ℕ
 put mem at [] = mem
 put mem at (v ∷ vs) = put (slice_set mem at v) (at + 1) vs
 
--- the first arrival where the code waits, by three plain instructions from reset
-pub record IsArrived (l : Layout) (image : List ℕ) (flags : ℕ) (s : State) : Type 0 where
+-- the first arrival where the code waits, by three plain instructions from reset, beside handlers to which these bytes
+-- are open
+pub record IsArrivedBeside (open_to : ℕ → Bool) (l : Layout) (image : List ℕ) (flags : ℕ) (s : State) : Type 0 where
   pub way : PlainWay flags l.wait 3 (reset_with image) s
   pub wait : s.regs.pc ≡ l.wait
   pub idle : is_idle l s ≡ true
-  pub interruptible : IsInterruptible is_free image s
+  pub interruptible : IsInterruptible open_to image s
+
+-- so it is beside handlers to which the free bytes are open
+abbrev pub IsArrived : Layout → List ℕ → ℕ → State → Type 0
+IsArrived = IsArrivedBeside is_free
 
 -- a sample's bytes and READY are written
 abbrev pub given : Layout → List ℕ → State → State
@@ -37,22 +43,26 @@ given l bytes s = record s { mem = slice_set (put s.mem l.samples bytes) l.ready
 
 -- From there at most so many whole instructions lead to where the code waits again, with the answers after those
 -- before, and no more steps than that says.
-pub record IsAnswered (l : Layout) (b : Block) (w : Width) (most : ℕ) (image : List ℕ) (flags : ℕ) (before : ℕ → ℕ)
-    (bytes : List ℕ) (s t : State) : Type 0 where
+pub record IsAnsweredBeside (open_to : ℕ → Bool) (l : Layout) (b : Block) (w : Width) (most : ℕ) (image : List ℕ)
+    (flags : ℕ) (before : ℕ → ℕ) (bytes : List ℕ) (s t : State) : Type 0 where
   pub ds : List ℕ
-  pub execution : Execution (IsInterruptibleStep is_free l image flags) ds (given l bytes s) t
+  pub execution : Execution (IsInterruptibleStep open_to l image flags) ds (given l bytes s) t
   pub idle : is_idle l t ≡ true
-  pub interruptible : IsInterruptible is_free image t
+  pub interruptible : IsInterruptible open_to image t
   pub answers : HasAnswers l b w (λ o. answer w b o bytes (before o)) t.mem
   pub instructions : length ds ≤ most
   pub steps : all_steps ds ≤ steps_by b most
 
 -- a list of samples, each answered after the one before
+abbrev pub AreAnsweredBeside : (ℕ → Bool) → Layout → Block → Width → ℕ → List ℕ → ℕ → (ℕ → ℕ) → List (List ℕ) → State
+    → Type 0
+AreAnsweredBeside open_to l b w most image flags before [] s = Unit {0}
+AreAnsweredBeside open_to l b w most image flags before (bytes ∷ samples) s =
+    (t : State) × (IsAnsweredBeside open_to l b w most image flags before bytes s t
+    × AreAnsweredBeside open_to l b w most image flags (λ o. answer w b o bytes (before o)) samples t)
+
 abbrev pub AreAnswered : Layout → Block → Width → ℕ → List ℕ → ℕ → (ℕ → ℕ) → List (List ℕ) → State → Type 0
-AreAnswered l b w most image flags before [] s = Unit {0}
-AreAnswered l b w most image flags before (bytes ∷ samples) s =
-    (t : State) × (IsAnswered l b w most image flags before bytes s t × AreAnswered l b w most image flags
-    (λ o. answer w b o bytes (before o)) samples t)
+AreAnswered = AreAnsweredBeside is_free
 
 -- A firmware answers every list of samples of a block so from reset, within its bound, whatever the open flags are.
 abbrev pub AnswersFrom : Block → Firmware → Type 0
@@ -63,3 +73,45 @@ AnswersFrom b f = (flags : ℕ) (samples : List (List ℕ)) → flags < 2 ^ 8 �
 -- The firmware of a block does.
 abbrev pub FirmwareAnswers : Type 0
 FirmwareAnswers = (b : Block) (f : Firmware) → IsValid b → IsWithinLimits b → IsFirmwareOf b f → AnswersFrom b f
+
+-- What is open to handlers leaves a layout alone: it is neither what EVAL reads and writes, nor the stack, nor between the
+-- first byte of the code and the tables, nor the reset vector.
+pub record LeavesLayout (open_to : ℕ → Bool) (l : Layout) : Type 0 where
+  pub ready : open_to l.ready ≡ false
+  pub reads : (at : ℕ) → Reads l at → open_to at ≡ false
+  pub writes : (at : ℕ) → Writes l at → open_to at ≡ false
+  pub stack : (at : ℕ) → stack_start ≤ at → at < stack_end → open_to at ≡ false
+  pub code : (at : ℕ) → l.code ≤ at → at < l.tables → open_to at ≡ false
+  pub reset : (at : ℕ) → 0xFFFE ≤ at → at < 2 ^ 16 → open_to at ≡ false
+
+-- The same beside handlers to which more is open.
+abbrev pub AnswersBeside : (ℕ → Bool) → Block → Firmware → Type 0
+AnswersBeside open_to b f =
+    (flags : ℕ) (samples : List (List ℕ)) → flags < 2 ^ 8 → All (AreInputBytes b) samples
+    → (s : State) × (IsArrivedBeside open_to f.layout (image_memory f.image.bytes) flags s
+    × AreAnsweredBeside open_to f.layout b (width_of f.wide) f.instr_bound (image_memory f.image.bytes) flags (λ o. 0)
+    samples s)
+
+-- The firmware of a block does, beside handlers to which anything is open that leaves its layout alone.
+abbrev pub FirmwareAnswersBeside : Type 0
+FirmwareAnswersBeside = (open_to : ℕ → Bool) (b : Block) (f : Firmware) → LeavesLayout open_to f.layout → IsValid b
+    → IsWithinLimits b → IsFirmwareOf b f → AnswersBeside open_to b f
+
+-- From reset over a memory that is the image's but for open bytes, instructions come where the code waits too: there
+-- the registers are the same, and the bytes but for those that are open, which are as they were.
+pub record ArrivesAlike (open_to : ℕ → Bool) (l : Layout) (image mem : List ℕ) (flags : ℕ) : Type 0 where
+  pub image_state : State
+  pub state : State
+  pub image_arrived : IsArrivedBeside open_to l image flags image_state
+  pub way : PlainWay flags l.wait 3 (reset_with mem) state
+  pub regs : state.regs ≡ image_state.regs
+  pub temps : state.temps ≡ image_state.temps
+  pub bytes : Agree open_to state.mem image_state.mem
+  pub open_bytes : (at : ℕ) → open_to at ≡ true → slice_index state.mem at ≡ slice_index mem at
+
+-- So does the firmware of a block.
+abbrev pub FirmwareArrivesAlike : Type 0
+FirmwareArrivesAlike = (open_to : ℕ → Bool) (b : Block) (f : Firmware) (mem : List ℕ) (flags : ℕ) → flags < 2 ^ 8
+    → LeavesLayout open_to f.layout → IsValid b → IsWithinLimits b → IsFirmwareOf b f
+    → Agree open_to mem (image_memory f.image.bytes)
+    → ArrivesAlike open_to f.layout (image_memory f.image.bytes) mem flags

@@ -1,6 +1,6 @@
 //! Laws of the generated code.
 ghost use Rattle.codegen.specs.Alike.{FirmwaresAreOne};
-ghost use Rattle.codegen.specs.Answers.{FirmwareAnswers};
+ghost use Rattle.codegen.specs.Answers.{FirmwareAnswers, FirmwareAnswersBeside, FirmwareArrivesAlike};
 ghost use Rattle.codegen.specs.Evaluation.{EvalAnswers};
 ghost use Rattle.codegen.specs.Checksums.{OneChangeIsSeen, TwoChangesMayPass, UnchangedSumIsZero};
 ghost use Rattle.codegen.specs.Firing.{RulesGiveMasses};
@@ -36,9 +36,30 @@ pub fn eval_answers()
 }
 
 /// The firmware of a block answers every list of samples over bytes, whatever the open flags are,
-/// within its bounds; and at each instruction what an interrupt may change is not read.
+/// within its bounds; and at each instruction what an interrupt may change is not read, whichever
+/// bytes these are that leave its layout alone.
+pub fn firmware_answers_beside()
+    ensures { FirmwareAnswersBeside }
+{
+    layout_law();
+    nearest_is_byte();
+    stays_fit();
+    rising_items();
+    holds_image();
+    eval_answers();
+}
+
+/// The same where interrupts may change the free bytes.
 pub fn firmware_answers()
     ensures { FirmwareAnswers }
+{
+    firmware_answers_beside();
+}
+
+/// From reset over a memory that is a firmware's but for bytes that interrupts may change, the code
+/// waits first in the same state but for these.
+pub fn firmware_arrives_alike()
+    ensures { FirmwareArrivesAlike }
 {
     layout_law();
     nearest_is_byte();

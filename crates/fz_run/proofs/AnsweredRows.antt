@@ -23,7 +23,9 @@ use Rattle.codegen.specs.Widths.{width_of, answer}
 use Rattle.codegen.specs.Bounds.{instruction_bound, steps_by, step_bound}
 use Rattle.codegen.specs.Interruptible.{is_idle, IsInterruptible, IsShownInstruction, IsInterruptibleStep}
 use Rattle.codegen.specs.Answers as answers
-use Rattle.codegen.specs.Answers.{IsArrived, IsAnswered, AreAnswered}
+use Rattle.cpu12_isa.specs.declared.instr.Regs.{Regs}
+use Rattle.cpu12_isa.specs.Agreement.{Agree}
+use Rattle.codegen.specs.Answers.{LeavesLayout, IsArrivedBeside, FirmwareAnswersBeside, ArrivesAlike, FirmwareArrivesAlike, IsArrived, AreAnswered, IsAnsweredBeside, AreAnsweredBeside}
 use Rattle.codegen.specs.Firing.{AreInputBytes}
 use Rattle.codegen.specs.Firmwares.{IsFirmwareOf}
 use Rattle.codegen.specs.Uninterrupted.{Answer, values_from, values_in, answers_by, AreUninterrupted}
@@ -34,15 +36,15 @@ use Rattle.run_law.specs.Following.{Completes, AllComplete, AllWithin}
 use Rattle.fz_run.specs.Forms.{given, answer_size, answers_at, answers_in, with_writes}
 use Rattle.fz_run.specs.Rows.{requests_of, arrival, first_state, firmware_rows}
 use Rattle.fz_run.specs.Arrival.{ArrivesPlainly}
-use Rattle.fz_run.specs.Facts.{FactsAlone, WaitsAlone}
+use Rattle.fz_run.specs.Facts.{FactsBeside, FactsAlone, WaitsAlone}
 use Rattle.fz_run.specs.Following.{row_of_sample, rows_of_samples, IsLow, FollowsAlone, AllWait}
 use Rattle.fz_run.proofs.Stretches.{Stretch, Stretches, Kept, SameAbove, AtInstruction}
-use Rattle.fz_run.specs.Answering.{answer_of_row, AnswersItsBlock, AnswersUnder, AnswersUnderPlans}
+use Rattle.fz_run.specs.Answering.{answer_of_row, AnswersItsBlock, AnswersUnder, AnswersUnderPlans, RunsBeside, FirmwareRunsBeside, FirstAlike, FirstStatesAlike}
 use Rattle.fz_run.proofs.PortBytes.{write_last}
 use Rattle.fz_run.proofs.PlainSteps.{plain_step}
 use Rattle.fz_run.proofs.StandAlone.{before_at}
 use Rattle.fz_run.proofs.Stretching.{all_stretches, before_weaker}
-use Rattle.fz_run.proofs.UsedLaws.{Laws}
+use Rattle.fz_run.proofs.UsedLaws.{WayLaws, Laws}
 use Rattle.fz_run.proofs.WholeSteps.{Inside, rev_step, revw_step, average_step}
 
 -- a firmware at the layout that stands alone, with n answers
@@ -65,8 +67,8 @@ off_loop : (v : State) → (v.regs.pc ≡ 0xC008 → ⊥) → is_idle main_layou
 off_loop v h = let t : (v.regs.pc == 0xC008) ≡ false = grind (arith, nat_tests) in rw t refl
 
 -- what each state keeps at which an interrupt may come, in the words of runs
-at_instruction : (image : List ℕ) (s : State) → IsInterruptible is_free image s → AtInstruction is_free s
-at_instruction image s c = record {
+at_instruction : (open_to : ℕ → Bool) (image : List ℕ) (s : State) → IsInterruptible open_to image s → AtInstruction open_to s
+at_instruction open_to image s c = record {
   temps = c.temps;
   size = c.size;
   bytes = c.bytes;
@@ -85,13 +87,13 @@ at_instruction image s c = record {
     high (inl e) = omega arith
     high (inr e) = omega arith
 
-step_stretch : Laws → (image : List ℕ) (flags d : ℕ) (s t : State) → flags < 2 ^ 8 → IsInterruptibleStep is_free main_layout image flags d s t
-    → Stretch (Kept is_free flags (On image)) flags d s t
+step_stretch : WayLaws → (open_to : ℕ → Bool) (image : List ℕ) (flags d : ℕ) (s t : State) → flags < 2 ^ 8 → IsInterruptibleStep open_to main_layout image flags d s t
+    → Stretch (Kept open_to flags (On image)) flags d s t
 unfolding On
-step_stretch laws image flags d s t hf h = by h.instruction
+step_stretch laws open_to image flags d s t hf h = by h.instruction
   where
-    c : AtInstruction is_free s
-    c = at_instruction image s h.interruptible
+    c : AtInstruction open_to s
+    c = at_instruction open_to image s h.interruptible
 
     stack : IsStack s.regs.sp
     stack = (let state = h.interruptible in at_stack s.regs.sp state.stack)
@@ -112,20 +114,20 @@ step_stretch laws image flags d s t hf h = by h.instruction
     second away v e g m =
         (off_loop v (λ z. away (sym e ∙ z)), subst IsStack (sym g) stack, λ at le. ap (λ (n : List ℕ). get_or n at 0) m ∙ same at le)
 
-    by : IsShownInstruction is_free main_layout flags d s t → Stretch (Kept is_free flags (On image)) flags d s t
+    by : IsShownInstruction open_to main_layout flags d s t → Stretch (Kept open_to flags (On image)) flags d s t
     by (inl p) =
-        subst (λ (k : ℕ). Stretch (Kept is_free flags (On image)) flags k s t) (sym p.1.1)
-        (plain_step laws.steps.plain_is_step is_free flags (On image) p.0 s t c p.1.0.step p.1.0.reads p.1.0.writes p.1.0.uncovers here)
+        subst (λ (k : ℕ). Stretch (Kept open_to flags (On image)) flags k s t) (sym p.1.1)
+        (plain_step laws.steps.plain_is_step open_to flags (On image) p.0 s t c p.1.0.step p.1.0.reads p.1.0.writes p.1.0.uncovers here)
     by (inr (inl p)) =
-        rev_step laws.steps is_free flags (On image) d p.0 p.1 s t hf c p.2.step (record { reads = p.2.reads; writes = p.2.writes; below = p.2.below; itself = p.2.itself }) (within p.2.away)
+        rev_step laws.steps open_to flags (On image) d p.0 p.1 s t hf c p.2.step (record { reads = p.2.reads; writes = p.2.writes; below = p.2.below; itself = p.2.itself }) (within p.2.away)
     by (inr (inr (inl p))) =
-        revw_step laws.steps is_free flags (On image) d p.0 p.1 s t hf c p.2.step (record { reads = p.2.reads; writes = p.2.writes; below = p.2.below; itself = p.2.itself }) (within p.2.away)
-    by (inr (inr (inr p))) = average_step laws.steps is_free flags (On image) d s t hf c p.step p.reads here (second p.away)
+        revw_step laws.steps open_to flags (On image) d p.0 p.1 s t hf c p.2.step (record { reads = p.2.reads; writes = p.2.writes; below = p.2.below; itself = p.2.itself }) (within p.2.away)
+    by (inr (inr (inr p))) = average_step laws.steps open_to flags (On image) d s t hf c p.step p.reads here (second p.away)
 
-stretches : Laws → (image : List ℕ) (flags : ℕ) (ds : List ℕ) (s t : State) → flags < 2 ^ 8 → Execution (IsInterruptibleStep is_free main_layout image flags) ds s t
-    → Execution (Stretch (Kept is_free flags (On image)) flags) ds s t
-stretches laws image flags [] s t hf h = h
-stretches laws image flags (d ∷ ds) s t hf h = (h.0, (step_stretch laws image flags d s h.0 hf h.1.0, stretches laws image flags ds h.0 t hf h.1.1))
+stretches : WayLaws → (open_to : ℕ → Bool) (image : List ℕ) (flags : ℕ) (ds : List ℕ) (s t : State) → flags < 2 ^ 8 → Execution (IsInterruptibleStep open_to main_layout image flags) ds s t
+    → Execution (Stretch (Kept open_to flags (On image)) flags) ds s t
+stretches laws open_to image flags [] s t hf h = h
+stretches laws open_to image flags (d ∷ ds) s t hf h = (h.0, (step_stretch laws open_to image flags d s h.0 hf h.1.0, stretches laws open_to image flags ds h.0 t hf h.1.1))
 
 -- samples that end below the outputs' bytes
 abbrev AreShort : List (List ℕ) → Type 0
@@ -147,50 +149,50 @@ same_given bytes s l =
     by m = record { regs = s.regs; temps = s.temps; mem = m }
 
 -- the numbers of steps of the samples
-numbers : (b : Block) (w : Width) (most : ℕ) (image : List ℕ) (flags : ℕ) (before : ℕ → ℕ) (samples : List (List ℕ)) (s : State)
-    → AreAnswered main_layout b w most image flags before samples s → List ℕ
-numbers b w most image flags before [] s h = []
-numbers b w most image flags before (bytes ∷ samples) s h = all_steps h.1.0.ds ∷ numbers b w most image flags (λ o. answer w b o bytes (before o)) samples h.0 h.1.1
+numbers : (open_to : ℕ → Bool) (b : Block) (w : Width) (most : ℕ) (image : List ℕ) (flags : ℕ) (before : ℕ → ℕ) (samples : List (List ℕ)) (s : State)
+    → AreAnsweredBeside open_to main_layout b w most image flags before samples s → List ℕ
+numbers open_to b w most image flags before [] s h = []
+numbers open_to b w most image flags before (bytes ∷ samples) s h = all_steps h.1.0.ds ∷ numbers open_to b w most image flags (λ o. answer w b o bytes (before o)) samples h.0 h.1.1
 
-within : (b : Block) (w : Width) (most : ℕ) (image : List ℕ) (flags : ℕ) (before : ℕ → ℕ) (samples : List (List ℕ)) (s : State) (h : AreAnswered main_layout b w most image flags before samples s) → AllWithin (steps_by b most) (numbers b w most image flags before samples s h)
+within : (open_to : ℕ → Bool) (b : Block) (w : Width) (most : ℕ) (image : List ℕ) (flags : ℕ) (before : ℕ → ℕ) (samples : List (List ℕ)) (s : State) (h : AreAnsweredBeside open_to main_layout b w most image flags before samples s) → AllWithin (steps_by b most) (numbers open_to b w most image flags before samples s h)
 unfolding numbers
-within b w most image flags before [] s h = tt
-within b w most image flags before (bytes ∷ samples) s h = (h.1.0.steps, within b w most image flags (λ o. answer w b o bytes (before o)) samples h.0 h.1.1)
+within open_to b w most image flags before [] s h = tt
+within open_to b w most image flags before (bytes ∷ samples) s h = (h.1.0.steps, within open_to b w most image flags (λ o. answer w b o bytes (before o)) samples h.0 h.1.1)
 
-went : Laws → (b : Block) (w : Width) (most : ℕ) (image : List ℕ) (flags : ℕ) (before : ℕ → ℕ) (bytes : List ℕ) (s t : State) → flags < 2 ^ 8 → length bytes ≤ 8
-    → (a : IsAnswered main_layout b w most image flags before bytes s t)
-    → Stretches (Kept is_free flags (On image)) flags a.ds (given main_layout bytes s) t
-went laws b w most image flags before bytes s t hf l a =
+went : WayLaws → (open_to : ℕ → Bool) (b : Block) (w : Width) (most : ℕ) (image : List ℕ) (flags : ℕ) (before : ℕ → ℕ) (bytes : List ℕ) (s t : State) → flags < 2 ^ 8 → length bytes ≤ 8
+    → (a : IsAnsweredBeside open_to main_layout b w most image flags before bytes s t)
+    → Stretches (Kept open_to flags (On image)) flags a.ds (given main_layout bytes s) t
+went laws open_to b w most image flags before bytes s t hf l a =
     let start = answers.given main_layout bytes s in
-    subst (λ (u : State). Stretches (Kept is_free flags (On image)) flags a.ds u t) (sym (same_given bytes s l)) (all_stretches (Kept is_free flags (On image)) flags a.ds start t (stretches laws image flags a.ds start t hf a.execution))
+    subst (λ (u : State). Stretches (Kept open_to flags (On image)) flags a.ds u t) (sym (same_given bytes s l)) (all_stretches (Kept open_to flags (On image)) flags a.ds start t (stretches laws open_to image flags a.ds start t hf a.execution))
 
-sampled : Laws → (f : Firmware) (n : ℕ) (b : Block) (w : Width) (most : ℕ) (flags : ℕ) (before : ℕ → ℕ) (bytes : List ℕ) (s t : State) → flags < 2 ^ 8 → length bytes ≤ 8
-    → (a : IsAnswered main_layout b w most (image_memory f.image.bytes) flags before bytes s t)
-    → Completes (FactsAlone flags (alone f n)) (with_writes flags (alone f n)) 0 (all_steps a.ds) (all_steps a.ds) (given main_layout bytes s)
+sampled : WayLaws → (open_to : ℕ → Bool) (f : Firmware) (n : ℕ) (b : Block) (w : Width) (most : ℕ) (flags : ℕ) (before : ℕ → ℕ) (bytes : List ℕ) (s t : State) → flags < 2 ^ 8 → length bytes ≤ 8
+    → (a : IsAnsweredBeside open_to main_layout b w most (image_memory f.image.bytes) flags before bytes s t)
+    → Completes (FactsBeside open_to flags (alone f n)) (with_writes flags (alone f n)) 0 (all_steps a.ds) (all_steps a.ds) (given main_layout bytes s)
 unfolding On IsStack
-sampled laws f n b w most flags before bytes s t hf l a =
+sampled laws open_to f n b w most flags before bytes s t hf l a =
     let image = image_memory f.image.bytes in
-    let g = went laws b w most image flags before bytes s t hf l a in
+    let g = went laws open_to b w most image flags before bytes s t hf l a in
     let busy =
-    before_weaker (Kept is_free flags (On image)) (λ u. is_idle main_layout u ≡ false) flags (λ u k. k.1.0) (all_steps a.ds) (given main_layout bytes s) g.each in
+    before_weaker (Kept open_to flags (On image)) (λ u. is_idle main_layout u ≡ false) flags (λ u k. k.1.0) (all_steps a.ds) (given main_layout bytes s) g.each in
     record {
       sum = omega arith;
-      holds = before_weaker (Kept is_free flags (On image)) (FactsAlone flags (alone f n)) flags (λ u k. record { facts = k.0; image = k.1.2; stack = k.1.1 }) (all_steps a.ds) (given main_layout bytes s) g.each;
+      holds = before_weaker (Kept open_to flags (On image)) (FactsBeside open_to flags (alone f n)) flags (λ u k. record { facts = k.0; image = k.1.2; stack = k.1.1 }) (all_steps a.ds) (given main_layout bytes s) g.each;
       on = λ j from l. before_at (λ u. is_idle main_layout u ≡ false) flags (all_steps a.ds) j (given main_layout bytes s) busy l;
       ended = ap (is_idle main_layout) g.goes ∙ a.idle;
     }
 
-all_sampled : Laws → (f : Firmware) (n : ℕ) (b : Block) (w : Width) (most : ℕ) (flags : ℕ) (before : ℕ → ℕ) (samples : List (List ℕ)) (s : State) → flags < 2 ^ 8
-    → AreShort samples → (h : AreAnswered main_layout b w most (image_memory f.image.bytes) flags before samples s)
-    → AllComplete (FactsAlone flags (alone f n)) (with_writes flags (alone f n)) (numbers b w most (image_memory f.image.bytes) flags before samples s h) samples s
+all_sampled : WayLaws → (open_to : ℕ → Bool) (f : Firmware) (n : ℕ) (b : Block) (w : Width) (most : ℕ) (flags : ℕ) (before : ℕ → ℕ) (samples : List (List ℕ)) (s : State) → flags < 2 ^ 8
+    → AreShort samples → (h : AreAnsweredBeside open_to main_layout b w most (image_memory f.image.bytes) flags before samples s)
+    → AllComplete (FactsBeside open_to flags (alone f n)) (with_writes flags (alone f n)) (numbers open_to b w most (image_memory f.image.bytes) flags before samples s h) samples s
 unfolding numbers
-all_sampled laws f n b w most flags before [] s hf l h = tt
-all_sampled laws f n b w most flags before (bytes ∷ samples) s hf l h =
+all_sampled laws open_to f n b w most flags before [] s hf l h = tt
+all_sampled laws open_to f n b w most flags before (bytes ∷ samples) s hf l h =
     let image = image_memory f.image.bytes in
-    let g = went laws b w most image flags before bytes s h.0 hf l.0 h.1.0 in
+    let g = went laws open_to b w most image flags before bytes s h.0 hf l.0 h.1.0 in
     let later : ℕ → ℕ = λ o. answer w b o bytes (before o) in (
-      sampled laws f n b w most flags before bytes s h.0 hf l.0 h.1.0,
-      subst (λ (u : State). AllComplete (FactsAlone flags (alone f n)) (with_writes flags (alone f n)) (numbers b w most image flags later samples h.0 h.1.1) samples u) (sym g.goes) (all_sampled laws f n b w most flags later samples h.0 hf l.1 h.1.1),
+      sampled laws open_to f n b w most flags before bytes s h.0 hf l.0 h.1.0,
+      subst (λ (u : State). AllComplete (FactsBeside open_to flags (alone f n)) (with_writes flags (alone f n)) (numbers open_to b w most image flags later samples h.0 h.1.1) samples u) (sym g.goes) (all_sampled laws open_to f n b w most flags later samples h.0 hf l.1 h.1.1),
     )
 
 -- where it waits
@@ -198,18 +200,18 @@ waits_alone : (f : Firmware) (s : State) → IsInterruptible is_free (image_memo
 unfolding IsStack
 waits_alone f s c = record { image = c.same; stack = at_stack s.regs.sp c.stack; unmasked = c.mask; sums = c.temps }
 
-all_wait : Laws → (f : Firmware) (n : ℕ) (b : Block) (w : Width) (most : ℕ) (flags : ℕ) (before : ℕ → ℕ) (samples : List (List ℕ)) (s : State) → flags < 2 ^ 8
+all_wait : WayLaws → (f : Firmware) (n : ℕ) (b : Block) (w : Width) (most : ℕ) (flags : ℕ) (before : ℕ → ℕ) (samples : List (List ℕ)) (s : State) → flags < 2 ^ 8
     → AreShort samples → IsInterruptible is_free (image_memory f.image.bytes) s → (h : AreAnswered main_layout b w most (image_memory f.image.bytes) flags before samples s)
-    → AllWait flags (alone f n) (numbers b w most (image_memory f.image.bytes) flags before samples s h) samples s
+    → AllWait flags (alone f n) (numbers is_free b w most (image_memory f.image.bytes) flags before samples s h) samples s
 unfolding numbers
 all_wait laws f n b w most flags before [] s hf l c h = waits_alone (alone f n) s c
 all_wait laws f n b w most flags before (bytes ∷ samples) s hf l c h =
     let image = image_memory f.image.bytes in
-    let g = went laws b w most image flags before bytes s h.0 hf l.0 h.1.0 in
+    let g = went laws is_free b w most image flags before bytes s h.0 hf l.0 h.1.0 in
     let later : ℕ → ℕ = λ o. answer w b o bytes (before o) in
     let one = h.1.0 in (
       waits_alone (alone f n) s c,
-      subst (λ (u : State). AllWait flags (alone f n) (numbers b w most image flags later samples h.0 h.1.1) samples u) (sym g.goes)
+      subst (λ (u : State). AllWait flags (alone f n) (numbers is_free b w most image flags later samples h.0 h.1.1) samples u) (sym g.goes)
           (all_wait laws f n b w most flags later samples h.0 hf l.1 one.interruptible h.1.1),
     )
 
@@ -239,29 +241,29 @@ answer_is : (xs ys : List ℕ) (i j : ℕ) → xs ≡ ys → i ≡ j
     → ◌≡◌ {A = Answer} (record { values = xs; instructions = i }) (record { values = ys; instructions = j })
 answer_is xs ys i j v n = ap₂ (λ (x : List ℕ) (k : ℕ). let r : Answer = record { values = x; instructions = k } in r) v n
 
-all_answers : Laws
+all_answers : WayLaws
     → (f : Firmware) (n : ℕ) (b : Block) (image : List ℕ) (flags : ℕ) (before : ℕ → ℕ) (plan : List Request) (k : ℕ) (samples : List (List ℕ)) (s : State)
     → flags < 2 ^ 8 → AreShort samples → n ≤ 4
     → (h : AreAnswered main_layout b (width_of f.wide) f.instr_bound image flags before samples s)
-    → map answer_of_row (rows_of_samples flags (alone f n) plan k (numbers b (width_of f.wide) f.instr_bound image flags before samples s h) samples s) ≡ answers_by b (alone f n) image flags before samples s h
+    → map answer_of_row (rows_of_samples flags (alone f n) plan k (numbers is_free b (width_of f.wide) f.instr_bound image flags before samples s h) samples s) ≡ answers_by b (alone f n) image flags before samples s h
 unfolding numbers
 all_answers laws f n b image flags before plan k [] s hf l few h = refl
 all_answers laws f n b image flags before plan k (bytes ∷ samples) s hf l few h =
     let w = width_of f.wide in
     let most = f.instr_bound in
     let start = given main_layout bytes s in
-    let g = went laws b w most image flags before bytes s h.0 hf l.0 h.1.0 in
+    let g = went laws is_free b w most image flags before bytes s h.0 hf l.0 h.1.0 in
     let later : ℕ → ℕ = λ o. answer w b o bytes (before o) in
     let end = uninterrupted flags (all_steps h.1.0.ds) start in
     let here =
     answer_is (answers_in (alone f n) end) (values_in (alone f n) h.0) (counted flags (all_steps h.1.0.ds) start) (length h.1.0.ds) (ap (answers_in (alone f n)) g.goes ∙ same_values f n h.0 few) g.counts in
     let rest = all_answers laws f n b image flags later plan (suc k) samples h.0 hf l.1 few h.1.1 in
     let moved =
-    subst (λ (u : State). map answer_of_row (rows_of_samples flags (alone f n) plan (suc k) (numbers b w most image flags later samples h.0 h.1.1) samples u) ≡ answers_by b (alone f n) image flags later samples h.0 h.1.1) (sym g.goes) rest in
+    subst (λ (u : State). map answer_of_row (rows_of_samples flags (alone f n) plan (suc k) (numbers is_free b w most image flags later samples h.0 h.1.1) samples u) ≡ answers_by b (alone f n) image flags later samples h.0 h.1.1) (sym g.goes) rest in
     ap₂ (λ (x : Answer) (xs : List Answer). x ∷ xs) here moved
 
 all_samples : (f : Firmware) (b : Block) (w : Width) (most : ℕ) (image : List ℕ) (flags : ℕ) (before : ℕ → ℕ) (plan : List Request) (k : ℕ) (samples : List (List ℕ)) (s u : State) → (h : AreAnswered main_layout b w most image flags before samples s)
-    → map (λ (r : RowSeen (List ℕ)). r.sample) (rows_of_samples flags f plan k (numbers b w most image flags before samples s h) samples u) ≡ samples
+    → map (λ (r : RowSeen (List ℕ)). r.sample) (rows_of_samples flags f plan k (numbers is_free b w most image flags before samples s h) samples u) ≡ samples
 unfolding numbers
 all_samples f b w most image flags before plan k [] s u h = refl
 all_samples f b w most image flags before plan k (bytes ∷ samples) s u h =
@@ -284,9 +286,9 @@ enough_steps : (w : Width) (b : Block) → length b.outputs ≤ 4 → 3 ≤ step
 unfolding steps_by instruction_bound
 enough_steps w b few = omega arith
 
-first_is : ArrivesPlainly → (b : Block) (f : Firmware) (n flags : ℕ) (s : State) → length b.outputs ≤ 4 → IsFirmwareOf b (alone f n)
-    → IsArrived main_layout (image_memory f.image.bytes) flags s → first_state (alone f n) flags ≡ s
-first_is arrives_plainly b f n flags s few h a =
+first_is : ArrivesPlainly → (open_to : ℕ → Bool) (b : Block) (f : Firmware) (n flags : ℕ) (s : State) → length b.outputs ≤ 4 → IsFirmwareOf b (alone f n)
+    → IsArrivedBeside open_to main_layout (image_memory f.image.bytes) flags s → first_state (alone f n) flags ≡ s
+first_is arrives_plainly open_to b f n flags s few h a =
     let start = reset_with (image_memory f.image.bytes) in
     ap (λ (most : ℕ). arrival flags 0xC008 most start) h.steps
     ∙ arrives_plainly flags 0xC008 3 (step_bound (width_of f.wide) b) start s refl a.way a.wait (enough_steps (width_of f.wide) b few)
@@ -295,6 +297,31 @@ all_short : (b : Block) (samples : List (List ℕ)) → length b.inputs ≤ 8 �
 all_short b [] few all = tt
 all_short b (bytes ∷ samples) few all =
     (let i = all 0 bytes (omega arith) in omega (arith, i.count), all_short b samples few (λ k d lt. all (suc k) d (omega arith)))
+
+-- its bytes from outside stand low
+is_low : (f : Firmware) (n : ℕ) → n ≤ 4 → IsLow (alone f n)
+is_low f n few = let bytes = few_bytes f.wide n few in record { ready = omega arith; outputs = omega arith }
+
+-- its run beside handlers to which these bytes are open
+beside : WayLaws → (open_to : ℕ → Bool) (b : Block) (f : Firmware) (n flags : ℕ) (samples : List (List ℕ)) (s : State) → flags < 2 ^ 8 → length b.outputs ≤ 4 → n ≤ 4
+    → IsFirmwareOf b (alone f n) → AreShort samples → IsArrivedBeside open_to main_layout (image_memory f.image.bytes) flags s
+    → AreAnsweredBeside open_to main_layout b (width_of f.wide) f.instr_bound (image_memory f.image.bytes) flags (λ o. 0) samples s
+    → RunsBeside open_to (alone f n) flags samples
+beside laws open_to b f n flags samples s hf few count h short a answered =
+    let g = alone f n in
+    let w = width_of f.wide in
+    let image = image_memory f.image.bytes in
+    let most = f.instr_bound in
+    let first : first_state g flags ≡ s = first_is laws.arrives_plainly open_to b f n flags s few h a in
+    let ns = numbers open_to b w most image flags (λ o. 0) samples s answered in
+    let enough : steps_by b most ≡ f.step_bound = ap (steps_by b) h.instructions ∙ sym h.steps in
+    record {
+      low = is_low f n count;
+      ns = ns;
+      within = subst (λ (m : ℕ). AllWithin m ns) enough (within open_to b w most image flags (λ o. 0) samples s answered);
+      complete = subst (λ (u : State). AllComplete (FactsBeside open_to flags g) (with_writes flags g) ns samples u) (sym first)
+          (all_sampled laws open_to f n b w most flags (λ o. 0) samples s hf short answered);
+    }
 
 -- the rows of a firmware that waits first in s
 under : Laws → (b : Block) (f : Firmware) (n flags : ℕ) (samples : List (List ℕ)) (plan : List Request) (s : State) → flags < 2 ^ 8 → length b.outputs ≤ 4
@@ -307,21 +334,20 @@ under laws b f n flags samples plan s hf few count h short good a answered =
     let w = width_of f.wide in
     let image = image_memory f.image.bytes in
     let most = f.instr_bound in
-    let ns = numbers b w most image flags (λ o. 0) samples s answered in
-    let first : first_state g flags ≡ s = first_is laws.arrives_plainly b f n flags s few h a in
-    let few_answers = few_bytes f.wide n count in
-    let low : IsLow g = record { ready = omega arith; outputs = omega arith } in
-    let steps : AllWithin (steps_by b most) ns = within b w most image flags (λ o. 0) samples s answered in
+    let ns = numbers is_free b w most image flags (λ o. 0) samples s answered in
+    let first : first_state g flags ≡ s = first_is laws.ways.arrives_plainly is_free b f n flags s few h a in
+    let low : IsLow g = is_low f n count in
+    let steps : AllWithin (steps_by b most) ns = within is_free b w most image flags (λ o. 0) samples s answered in
     let same_bound : steps_by b most ≡ step_bound w b = ap (steps_by b) h.instructions in
     let enough : f.step_bound ≡ steps_by b most = h.steps ∙ sym same_bound in
     let bounded : AllWithin f.step_bound ns = subst (λ (m : ℕ). AllWithin m ns) (sym enough) steps in
-    let complete : AllComplete (FactsAlone flags g) (with_writes flags g) ns samples s = all_sampled laws f n b w most flags (λ o. 0) samples s hf short answered in
+    let complete : AllComplete (FactsAlone flags g) (with_writes flags g) ns samples s = all_sampled laws.ways is_free f n b w most flags (λ o. 0) samples s hf short answered in
     let runs : FollowsAlone flags g f.step_bound plan ns samples s = laws.runs_follow flags g f.step_bound plan ns samples s low good bounded complete in
     let rows = (firmware_rows g samples plan flags).rows in
     let expected = rows_of_samples flags g plan 1 ns samples s in
     let rows_are : rows ≡ expected =
     ap (λ (u : State). (rows_from (with_writes flags g) f.step_bound (λ k. requests_of k plan) 1 samples u).rows) first ∙ runs.rows_are in
-    let same = ap (map answer_of_row) rows_are ∙ all_answers laws f n b image flags (λ o. 0) plan 1 samples s hf short count answered in
+    let same = ap (map answer_of_row) rows_are ∙ all_answers laws.ways f n b image flags (λ o. 0) plan 1 samples s hf short count answered in
     let both = laws.answered_are_uninterrupted b g flags samples s h.outputs a answered in
     record {
       answers = record {
@@ -332,22 +358,65 @@ under laws b f n flags samples plan s hf few count h short good a answered =
       };
       ns = ns;
       complete = subst (λ (u : State). AllComplete (FactsAlone flags g) (with_writes flags g) ns samples u) (sym first) complete;
-      waits = subst (λ (u : State). AllWait flags g ns samples u) (sym first) (all_wait laws f n b w most flags (λ o. 0) samples s hf short a.interruptible answered);
+      waits = subst (λ (u : State). AllWait flags g ns samples u) (sym first) (all_wait laws.ways f n b w most flags (λ o. 0) samples s hf short a.interruptible answered);
       rows_are = rows_are ∙ ap (λ (u : State). rows_of_samples flags g plan 1 ns samples u) (sym first);
       follows = subst (λ (u : State). FollowsAlone flags g f.step_bound plan ns samples u) (sym first) runs;
     }
 
+-- the same of any firmware of a block
+by_layout : Firmware → Layout → ℕ → Firmware
+by_layout f l k = record f { layout = l; outputs = k }
+
+is_alone : (b : Block) (f : Firmware) → IsFirmwareOf b f → f ≡ alone f (length b.outputs)
+unfolding by_layout
+is_alone b f h = ap₂ (by_layout f) h.layout h.outputs
+
+pub runs_beside : WayLaws → FirmwareAnswersBeside → FirmwareRunsBeside
+runs_beside laws answers open_to b f flags samples hf leaves v limits h all =
+    let n = length b.outputs in
+    let same = is_alone b f h in
+    let own : IsFirmwareOf b (alone f n) = subst (λ (d : Firmware). IsFirmwareOf b d) same h in
+    let mine : LeavesLayout open_to main_layout = subst (λ (l : Layout). LeavesLayout open_to l) h.layout leaves in
+    let from = answers open_to b (alone f n) mine v limits own flags samples hf all in
+    subst (λ (d : Firmware). RunsBeside open_to d flags samples) (sym same)
+    (beside laws open_to b f n flags samples from.0 hf v.few_outputs v.few_outputs own (all_short b samples v.few_inputs all) from.1.0 from.1.1)
+
+first_alike : ArrivesPlainly → (open_to : ℕ → Bool) (b : Block) (f : Firmware) (n flags : ℕ) (mem : List ℕ) → length b.outputs ≤ 4 → IsFirmwareOf b (alone f n)
+    → ArrivesAlike open_to main_layout (image_memory f.image.bytes) mem flags
+    → FirstAlike open_to (alone f n) flags mem (arrival flags 0xC008 f.step_bound (reset_with mem))
+first_alike arrives_plainly open_to b f n flags mem few h a =
+    let first : first_state (alone f n) flags ≡ a.image_state = first_is arrives_plainly open_to b f n flags a.image_state few h a.image_arrived in
+    let at = a.image_arrived in
+    let pc : a.state.regs.pc ≡ 0xC008 = ap (λ (r : Regs). r.pc) a.regs ∙ at.wait in
+    let most = step_bound (width_of f.wide) b in
+    let here : arrival flags 0xC008 f.step_bound (reset_with mem) ≡ a.state =
+    ap (λ (k : ℕ). arrival flags 0xC008 k (reset_with mem)) h.steps
+    ∙ arrives_plainly flags 0xC008 3 most (reset_with mem) a.state refl a.way pc (enough_steps (width_of f.wide) b few) in
+    let there : FirstAlike open_to (alone f n) flags mem a.state = record {
+      regs = a.regs ∙ ap (λ (u : State). u.regs) (sym first);
+      temps = a.temps ∙ ap (λ (u : State). u.temps) (sym first);
+      bytes = subst (λ (u : State). Agree open_to a.state.mem u.mem) (sym first) a.bytes;
+      open_bytes = a.open_bytes;
+    } in
+    subst (λ (u : State). FirstAlike open_to (alone f n) flags mem u) (sym here) there
+
+pub first_states_alike : ArrivesPlainly → FirmwareArrivesAlike → FirstStatesAlike
+first_states_alike arrives_plainly arrives open_to b f flags mem hf leaves v limits h agree =
+    let n = length b.outputs in
+    let same = is_alone b f h in
+    let own : IsFirmwareOf b (alone f n) = subst (λ (d : Firmware). IsFirmwareOf b d) same h in
+    let mine : LeavesLayout open_to main_layout = subst (λ (l : Layout). LeavesLayout open_to l) h.layout leaves in
+    subst (λ (d : Firmware). FirstAlike open_to d flags mem (arrival flags d.layout.wait d.step_bound (reset_with mem))) (sym same)
+    (first_alike arrives_plainly open_to b f n flags mem v.few_outputs own (arrives open_to b (alone f n) mem flags hf mine v limits own agree))
+
 pub answers_under_plans : Laws → AnswersUnderPlans
 answers_under_plans laws f flags samples plan hf good b v limits h all =
     let n = length b.outputs in
-    let same : f ≡ alone f n = ap₂ (λ (l : Layout) (k : ℕ). by l k) h.layout h.outputs in
+    let same = is_alone b f h in
     let own : IsFirmwareOf b (alone f n) = subst (λ (d : Firmware). IsFirmwareOf b d) same h in
     let from = laws.firmware_answers b (alone f n) v limits own flags samples hf all in
     subst (λ (d : Firmware). AnswersUnder b d flags samples plan (firmware_rows d samples plan flags).rows) (sym same)
     (under laws b f n flags samples plan from.0 hf v.few_outputs v.few_outputs own (all_short b samples v.few_inputs all) good from.1.0 from.1.1)
-  where
-    by : Layout → ℕ → Firmware
-    by l k = record f { layout = l; outputs = k }
 
 -- and so do rows that are those of the run
 pub answers_its_block : AnswersUnderPlans → (f : Firmware) (flags : ℕ) (samples : List (List ℕ)) (plan : List Request) (rows : List (RowSeen (List ℕ)))

@@ -5,6 +5,7 @@ use Rattle.interrupt_plan.specs.declared.Request.{Request}
 use Rattle.interrupt_plan.specs.Plans.{NotAfter, Ascends, IsGoodRequest, IsGood}
 use Rattle.fz_run.specs.Rows.{is_of, requests_of}
 use Rattle.run_law.specs.Soundness.{AllGood, Ascend}
+use Rattle.fz_run.specs.Following.{RequestsAreGood}
 use Rattle.fz_run.proofs.PlanSlices.{not_after_le, one_is, other_is, of_here, of_not}
 
 -- by sample and then by moment, from a pair of numbers on, and each request is good
@@ -54,3 +55,8 @@ requests_ascend k j m (q ∷ qs) h i e f = elim (bool_cases (is_of k q)) [
     at_most : q.sample ≡ k → (j ≡ q.sample) ⊎ (j < q.sample) → i ≤ q.moment
     at_most here (inl y) = omega (arith, e (y ∙ here), h.1 (sym y))
     at_most here (inr y) = omega (arith, f (omega arith))
+
+pub requests_are_good : RequestsAreGood
+requests_are_good plan k good =
+    let g = goes_good plan good in
+    (requests_good k 0 0 plan g, requests_ascend k 0 0 plan g 0 (λ e. omega arith) (λ e. omega arith))

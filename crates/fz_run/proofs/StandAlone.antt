@@ -7,15 +7,14 @@ use Rattle.cpu12_emul.specs.Take.{may_interrupt}
 use Rattle.run_law.specs.Forms.{RowSeen}
 use Rattle.run_law.specs.Uninterrupted.{stepped, uninterrupted, counted, first_open, taken_at, resumed_of, frames_of}
 use Rattle.run_law.specs.Soundness.{Before}
-use Rattle.run_law.specs.Following.{AllComplete, RunsFollow, expected_rows}
+use Rattle.run_law.specs.Following.{AllComplete, expected_rows}
 use Rattle.interrupt_plan.specs.declared.Request.{Request}
-use Rattle.interrupt_plan.specs.Plans.{IsGoodRequest}
 use Rattle.codegen.specs.declared.firmware.Firmware.{Firmware}
 use Rattle.fz_run.specs.Forms.{given, answers_in, with_writes}
 use Rattle.fz_run.specs.Rows.{requests_of}
 use Rattle.fz_run.specs.Facts.{FactsAlone}
-use Rattle.fz_run.specs.Following.{IsLow, Nothing, rows_of_samples, RunsFollowAlone}
-use Rattle.fz_run.proofs.Requests.{goes_good, requests_good, requests_ascend}
+use Rattle.fz_run.specs.SoundAlone.{free_opens}
+use Rattle.fz_run.specs.Following.{rows_of_samples, RunsFollowAlone, RunsFollowBeside, RequestsAreGood}
 
 pub before_at : (P : State → Type 0) (flags n m : ℕ) (s : State) → Before P flags n s → suc m ≤ n → P (uninterrupted flags m s)
 before_at P flags zero m s b l = absurd (omega arith)
@@ -58,10 +57,8 @@ same_rows flags f plan k (n ∷ ns) (bytes ∷ rest) s h =
       frames = frames_of flags moment (given f.layout bytes s) (requests_of k plan) n;
     }
 
-pub runs_follow_alone : ((flags : ℕ) (f : Firmware) → IsLow f → RunsFollow is_free (with_writes flags f) (FactsAlone flags f) IsGoodRequest Nothing)
-    → RunsFollowAlone
-runs_follow_alone law flags f most plan ns samples s low good le h =
-    let g = goes_good plan good in
-    let r = law flags f low (λ j. requests_of j plan) (λ j. (requests_good j 0 0 plan g, requests_ascend j 0 0 plan g 0 (λ e. omega arith) (λ e. omega arith))) [] 1 most ns samples s s le h
+pub runs_follow_alone : RunsFollowBeside → RequestsAreGood → RunsFollowAlone
+runs_follow_alone law requests flags f most plan ns samples s low good le h =
+    let r = law is_free flags f free_opens low (λ j. requests_of j plan) (λ j. requests plan j good) [] 1 most ns samples s s le h
     (record { regs = refl; temps = refl; mem = agree_self (is_hidden is_free s.regs.sp) s.mem }) tt in
     record { arrived = r.arrived; rows_are = r.rows_are ∙ same_rows flags f plan 1 ns samples s h; simulates = r.simulates; last = r.last }

@@ -1,8 +1,13 @@
 -- The rows of a block's firmware, by what it answers without interrupts.
-use Rattle.std.specs.Prelude.{◌≡◌, ℕ, ◌^◌, ◌<◌, ◌≤◌, List, All, map}
+use Rattle.std.specs.Prelude.{◌≡◌, ℕ, ◌^◌, ◌<◌, ◌≤◌, Bool, true, List, All, map, slice_index}
 use Rattle.fuzzy_meaning.specs.declared.block.Block.{Block}
 use Rattle.fuzzy_meaning.specs.Blocks.{IsValid}
 use Rattle.rule_layout.specs.Layouts.{IsWithinLimits}
+use Rattle.cpu12_isa.specs.Agreement.{Agree}
+use Rattle.cpu12_parts.specs.State.{State}
+use Rattle.cpu12_emul.specs.Image.{image_memory}
+use Rattle.cpu12_emul.specs.Step.{reset_with}
+use Rattle.codegen.specs.Answers.{LeavesLayout}
 use Rattle.interrupt_plan.specs.declared.Request.{Request}
 use Rattle.interrupt_plan.specs.Plans.{IsGood}
 use Rattle.codegen.specs.declared.firmware.Firmware.{Firmware}
@@ -12,11 +17,11 @@ use Rattle.codegen.specs.Firing.{AreInputBytes}
 use Rattle.codegen.specs.Firmwares.{IsFirmwareOf}
 use Rattle.codegen.specs.Uninterrupted.{Answer, AreUninterrupted, AreAnswersOf}
 use Rattle.run_law.specs.Forms.{RowSeen}
-use Rattle.run_law.specs.Following.{AllComplete}
+use Rattle.run_law.specs.Following.{AllComplete, AllWithin}
 use Rattle.fz_run.specs.Forms.{with_writes}
-use Rattle.fz_run.specs.Rows.{first_state, firmware_rows}
-use Rattle.fz_run.specs.Facts.{FactsAlone}
-use Rattle.fz_run.specs.Following.{rows_of_samples, AllWait, FollowsAlone}
+use Rattle.fz_run.specs.Rows.{arrival, first_state, firmware_rows}
+use Rattle.fz_run.specs.Facts.{FactsBeside, FactsAlone}
+use Rattle.fz_run.specs.Following.{IsLow, rows_of_samples, AllWait, FollowsAlone}
 
 -- a row's answers and its number of instructions
 abbrev pub answer_of_row : RowSeen (List ℕ) → Answer
@@ -55,3 +60,33 @@ abbrev pub AnswersUnderPlans : Type 0
 AnswersUnderPlans = (f : Firmware) (flags : ℕ) (samples : List (List ℕ)) (plan : List Request) → flags < 2 ^ 8
     → IsGood plan
     → AnswersItsBlock f flags samples plan (firmware_rows f samples plan flags).rows
+
+-- The run of a firmware without interrupts from its first arrival: it answers all samples, each in at most as many steps
+-- as the bound says, and its states keep the facts beside handlers to which these bytes are open.
+pub record RunsBeside (open_to : ℕ → Bool) (f : Firmware) (flags : ℕ) (samples : List (List ℕ)) : Type 0 where
+  pub low : IsLow f
+  pub ns : List ℕ
+  pub within : AllWithin f.step_bound ns
+  pub complete : AllComplete (FactsBeside open_to flags f) (with_writes flags f) ns samples (first_state f flags)
+
+-- So the firmware of a block runs beside handlers to which anything is open that leaves its layout alone.
+abbrev pub FirmwareRunsBeside : Type 0
+FirmwareRunsBeside =
+    (open_to : ℕ → Bool) (b : Block) (f : Firmware) (flags : ℕ) (samples : List (List ℕ)) → flags < 2 ^ 8
+    → LeavesLayout open_to f.layout → IsValid b → IsWithinLimits b → IsFirmwareOf b f → All (AreInputBytes b) samples
+    → RunsBeside open_to f flags samples
+
+-- The first state over a memory that is the image's but for open bytes: it is the same but for these, which are as
+-- they were.
+pub record FirstAlike (open_to : ℕ → Bool) (f : Firmware) (flags : ℕ) (mem : List ℕ) (w : State) : Type 0 where
+  pub regs : w.regs ≡ (first_state f flags).regs
+  pub temps : w.temps ≡ (first_state f flags).temps
+  pub bytes : Agree open_to w.mem (first_state f flags).mem
+  pub open_bytes : (at : ℕ) → open_to at ≡ true → slice_index w.mem at ≡ slice_index mem at
+
+abbrev pub FirstStatesAlike : Type 0
+FirstStatesAlike =
+    (open_to : ℕ → Bool) (b : Block) (f : Firmware) (flags : ℕ) (mem : List ℕ) → flags < 2 ^ 8
+    → LeavesLayout open_to f.layout → IsValid b → IsWithinLimits b → IsFirmwareOf b f
+    → Agree open_to mem (image_memory f.image.bytes)
+    → FirstAlike open_to f flags mem (arrival flags f.layout.wait f.step_bound (reset_with mem))

@@ -34,11 +34,15 @@ HasImage f s = (at : ℕ) → stack_end ≤ at → slice_index s.mem at ≡ slic
 abbrev pub IsStackOfOneCall : ℕ → Type 0
 IsStackOfOneCall sp = (sp + 2 ≡ stack_end) ⊎ (sp ≡ stack_end)
 
--- the facts of a firmware that stands alone
-pub record FactsAlone (flags : ℕ) (f : Firmware) (s : State) : Type 0 where
-  pub facts : Facts is_free flags s
+-- the facts of a firmware that stands alone, beside handlers to which these bytes are open
+pub record FactsBeside (open_to : ℕ → Bool) (flags : ℕ) (f : Firmware) (s : State) : Type 0 where
+  pub facts : Facts open_to flags s
   pub image : HasImage f s
   pub stack : IsStackOfOneCall s.regs.sp
+
+-- those beside handlers to which the free bytes are open
+abbrev pub FactsAlone : ℕ → Firmware → State → Type 0
+FactsAlone = FactsBeside is_free
 
 -- what a state keeps of them in which it waits for a sample, and from which no step is done
 pub record WaitsAlone (f : Firmware) (s : State) : Type 0 where

@@ -1,17 +1,18 @@
 -- The rows of a firmware that stands alone, read off its runs without interrupts.
-use Rattle.std.specs.Prelude.{◌≡◌, ℕ, suc, ◌+◌, ◌*◌, ◌<◌, ◌≤◌, true, List, [], ◌∷◌}
-use Rattle.cpu12_isa.specs.Regions.{free_start, is_free}
+use Rattle.std.specs.Prelude.{◌≡◌, ℕ, suc, ◌+◌, ◌*◌, ◌<◌, ◌≤◌, Bool, true, false, List, [], ◌∷◌}
+use Rattle.cpu12_isa.specs.Regions.{free_start, is_free, LeavesStack}
 use Rattle.cpu12_parts.specs.State.{State}
 use Rattle.cpu12_emul.specs.Simulation.{Same}
 use Rattle.run_law.specs.Forms.{RowSeen, Rows, rows_from}
 use Rattle.run_law.specs.Uninterrupted.{uninterrupted, counted, resumed_of, frames_of}
-use Rattle.run_law.specs.Following.{AllComplete, AllWithin, RowsSimulate, last_uninterrupted}
+use Rattle.run_law.specs.Soundness.{AllGood, Ascend}
+use Rattle.run_law.specs.Following.{AllComplete, AllWithin, RowsSimulate, last_uninterrupted, RunsFollow}
 use Rattle.interrupt_plan.specs.declared.Request.{Request}
-use Rattle.interrupt_plan.specs.Plans.{IsGood}
+use Rattle.interrupt_plan.specs.Plans.{IsGoodRequest, IsGood}
 use Rattle.codegen.specs.declared.firmware.Firmware.{Firmware}
 use Rattle.fz_run.specs.Forms.{given, answer_size, answers_in, with_writes}
 use Rattle.fz_run.specs.Rows.{requests_of}
-use Rattle.fz_run.specs.Facts.{FactsAlone, WaitsAlone}
+use Rattle.fz_run.specs.Facts.{FactsBeside, FactsAlone, WaitsAlone}
 
 -- what the row of a sample is to be that is answered in n steps without interrupts: each request is taken at its moment
 abbrev pub row_of_sample : ℕ → Firmware → List Request → ℕ → List ℕ → State → RowSeen (List ℕ)
@@ -45,11 +46,19 @@ pub record IsLow (f : Firmware) : Type 0 where
   pub ready : f.layout.ready < free_start
   pub outputs : f.layout.outputs + answer_size f.wide * f.outputs ≤ free_start
 
--- a firmware whose bytes stand low, and the byte from which open flags are taken
+-- the free bytes are open, the bytes below them are not, nor is the stack
+pub record OpensFree (open_to : ℕ → Bool) : Type 0 where
+  pub apart : LeavesStack open_to
+  pub free : (at : ℕ) → is_free at ≡ true → open_to at ≡ true
+  pub low : (at : ℕ) → at < free_start → open_to at ≡ false
+
+-- a firmware whose bytes stand low, the byte from which open flags are taken, and what is open
 pub record Alone : Type 0 where
   pub flags : ℕ
   pub firmware : Firmware
   pub low : IsLow firmware
+  pub open_to : ℕ → Bool
+  pub opens : OpensFree open_to
 
 -- listed writes tell of no steps, and leave nothing in the open bytes that is spoken of
 abbrev pub Nothing : List (Request × ℕ) → State → Type 0
@@ -79,3 +88,14 @@ RunsFollowAlone = (flags : ℕ) (f : Firmware) (most : ℕ) (plan : List Request
     → (s : State) → IsLow f → IsGood plan → AllWithin most ns
     → AllComplete (FactsAlone flags f) (with_writes flags f) ns samples s
     → FollowsAlone flags f most plan ns samples s
+
+-- Whatever more is open than the free bytes, a run under requests that list writes to these follows the run without
+-- interrupts.
+abbrev pub RunsFollowBeside : Type 0
+RunsFollowBeside = (open_to : ℕ → Bool) (flags : ℕ) (f : Firmware) → OpensFree open_to → IsLow f
+    → RunsFollow open_to (with_writes flags f) (FactsBeside open_to flags f) IsGoodRequest Nothing
+
+-- The requests of each sample of a good plan are good, and their moments do not fall.
+abbrev pub RequestsAreGood : Type 0
+RequestsAreGood = (plan : List Request) (k : ℕ) → IsGood plan
+    → AllGood IsGoodRequest (requests_of k plan) × Ascend (λ (r : Request). r.moment) 0 (requests_of k plan)

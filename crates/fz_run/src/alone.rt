@@ -1,16 +1,15 @@
 // A firmware that stands alone is a sound form.
 ghost use Rattle.std.specs.Prelude.{ℕ, List};
-ghost use Rattle.cpu12_isa.specs.Regions.{is_free};
 ghost use Rattle.interrupt_plan.specs.Plans.{IsGoodRequest};
 ghost use Rattle.interrupt_plan.specs.declared.Request as plan;
 ghost use Rattle.fz_run.specs.Forms.{with_writes};
-ghost use Rattle.fz_run.specs.Facts.{FactsAlone};
+ghost use Rattle.fz_run.specs.Facts.{FactsBeside};
 ghost use Rattle.fz_run.specs.Following.{Alone, Nothing};
 ghost use Rattle.fz_run.specs.SoundAlone.{sound};
 
 use run_law::laws::SoundForm;
 
-/// A firmware that stands alone in memory, under requests that list writes to free bytes.
+/// A firmware that stands alone in memory, under requests that list writes to free bytes, whatever more is open.
 pub struct StandAlone;
 
 impl SoundForm for StandAlone {
@@ -24,13 +23,13 @@ impl SoundForm for StandAlone {
 
     ghost form = { λ x. with_writes x.flags x.firmware };
 
-    ghost open_to = { λ _. is_free };
+    ghost open_to = { λ x. x.open_to };
 
-    ghost holds = { λ x. FactsAlone x.flags x.firmware };
+    ghost holds = { λ x. FactsBeside x.open_to x.flags x.firmware };
 
     ghost good = { λ _. IsGoodRequest };
 
     ghost own = { λ _. Nothing };
 
-    ghost sound = { λ x agree quiet. sound x.flags x.firmware x.low agree quiet };
+    ghost sound = { λ x agree quiet. sound x.open_to x.opens x.flags x.firmware x.low agree quiet };
 }

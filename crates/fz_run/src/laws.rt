@@ -1,12 +1,14 @@
 // Laws of runs.
-ghost use Rattle.fz_run.specs.Answering.{AnswersUnderPlans};
+ghost use Rattle.fz_run.specs.Answering.{AnswersUnderPlans, FirmwareRunsBeside, FirstStatesAlike};
 ghost use Rattle.fz_run.specs.Arrival.{ArrivesPlainly};
-ghost use Rattle.fz_run.specs.Following.{RunsFollowAlone};
+ghost use Rattle.fz_run.specs.Following.{RunsFollowAlone, RunsFollowBeside, RequestsAreGood};
 ghost use Rattle.fz_run.specs.Showing.{RowsAreShown};
 
 use crate::alone::StandAlone;
 use crate::form::RunForm;
-use codegen::laws::{answered_are_uninterrupted, firmware_answers};
+use codegen::laws::{
+    answered_are_uninterrupted, firmware_answers, firmware_answers_beside, firmware_arrives_alike,
+};
 use cpu12_emul::laws::{plain_is_step, rev_is_step, revw_is_step, sums_are_step, wav_is_step};
 use cpu12_isa::laws::{bytes_stay, decoded_has_opcode, writes_stay};
 use cpu12_parts::laws::{
@@ -25,8 +27,21 @@ use run_law::laws::runs_follow;
 pub fn runs_follow_alone()
     ensures { RunsFollowAlone }
 {
+    runs_follow_beside();
+    requests_are_good();
+}
+
+/// The same whatever more is open than the free bytes.
+pub fn runs_follow_beside()
+    ensures { RunsFollowBeside }
+{
     runs_follow::<StandAlone>();
 }
+
+/// The requests of each sample of a good plan are good, and ascend.
+pub fn requests_are_good()
+    ensures { RequestsAreGood }
+{}
 
 /// The firmware of a block, of either width, answers every list of samples under every good plan as
 /// without interrupts: each row is of its sample, its answers and its number of instructions are the
@@ -73,3 +88,41 @@ pub fn arrives_plainly()
 pub fn rows_are_shown<R, F: RunForm<R>>()
     ensures { RowsAreShown R F.Given F.Shown }
 {}
+
+/// The firmware of a block answers all samples without interrupts, each within its bound of steps, and
+/// each state keeps the facts, beside handlers to which anything is open that leaves its layout alone.
+pub fn firmware_runs_beside()
+    ensures { FirmwareRunsBeside }
+{
+    decoded_has_opcode();
+    writes_stay();
+    bytes_stay();
+    plain_is_step();
+    rev_is_step();
+    rev_fits();
+    rev_stays();
+    rev_steady();
+    rev_is_whole();
+    revw_is_step();
+    revw_fits();
+    revw_stays();
+    revw_steady();
+    revw_is_whole();
+    wav_is_step();
+    sums_are_step();
+    wav_fits();
+    wav_stays();
+    wav_steady();
+    wav_is_whole();
+    arrives_plainly();
+    firmware_answers_beside();
+}
+
+/// From reset over a memory that is a firmware's but for open bytes, it waits first in the same state
+/// but for these, which are as they were.
+pub fn first_states_alike()
+    ensures { FirstStatesAlike }
+{
+    arrives_plainly();
+    firmware_arrives_alike();
+}

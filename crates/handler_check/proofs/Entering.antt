@@ -63,8 +63,8 @@ below_fits r Free f l h = (f, omega arith, h)
 below_fits r OnStack f l h = (f, omega arith, h)
 below_fits r (Running p w) f l h = (fits_at r (plus r.sp 65530) f (omega arith), omega arith, omega arith)
 
-can_begin : (v s : State) → CanEnter s → Begins is_free v s → CanBegin v
-can_begin v s k b =
+can_begin : (open_to : ℕ → Bool) (v s : State) → CanEnter s → Begins open_to v s → CanBegin v
+can_begin open_to v s k b =
     let r = below_fits s.regs s.temps k.fits k.low k.high in
     record {
       temps = b.temps;
@@ -74,10 +74,9 @@ can_begin v s k b =
       high = subst (λ (r : Regs). r.sp ≤ 8192) (sym b.regs) r.2;
     }
 
-takes : AcceptedIsTake → (image : List (ℕ × ℕ)) (instrs flags : ℕ) (ws : List Write) (v s : State) → IsHandler image instrs → AreOpen is_free ws → HasImage image s.mem → CanEnter s → Begins is_free v s
+takes : AcceptedIsTake → (image : List (ℕ × ℕ)) (instrs flags : ℕ) (ws : List Write) (v : State) → IsHandler image instrs → AreOpen is_free ws → HasImage image v.mem → CanBegin v
     → IsTake flags instrs ws v
-takes law image instrs flags ws v s k free h can b =
-    law k.code instrs flags k.accepted ws v free (has_handler image instrs v.mem k (image_moves image s.regs.sp v.mem s.mem k.whole can.high b.mem h)) (can_begin v s can b)
+takes law image instrs flags ws v k free h can = law k.code instrs flags k.accepted ws v free (has_handler image instrs v.mem k h) can
 
 -- sums that stay as they were are left
 left_same : (t u v : Temps) → IsOff v → u ≡ v → AreLeft t u v
@@ -89,9 +88,9 @@ hides_less : (sp : ℕ) (m n : List ℕ) → Agree (is_hidden (λ at. false) sp)
 hides_less sp m n a = record { size = a.size; bytes = λ at h. a.bytes at (or_parts (is_free at) (nat_le 8160 at && nat_lt at sp) h).1 }
 
 pub handlers_are_quiet : AcceptedIsTake → TakesQuietly → HandlersAreQuiet
-handlers_are_quiet law quietly image instrs flags ws v s k free h can b =
-    let t = takes law image instrs flags ws v s k free h can b in
-    let c = can_begin v s can b in
+handlers_are_quiet law quietly open_to image instrs flags ws v s k free h can b =
+    let c = can_begin open_to v s can b in
+    let t = takes law image instrs flags ws v k free h c in
     let low = c.low in
     let u = quietly is_free t.writes v leaves t.free c.size c.fits (omega arith) c.high in
     let sp : (framed t.writes v).regs.sp ≡ v.regs.sp = ap (λ (r : Regs). r.sp) u.regs in
@@ -130,5 +129,7 @@ begins running none pushed s k = cases s.temps refl
 
 pub handlers_run_as_takes : AcceptedIsTake → PushesRunning → PushesNone → HidesPushed → HandlersRunAsTakes
 handlers_run_as_takes law running none pushed image instrs k flags ws s free h can =
-    let t = takes law image instrs flags ws (suspended wav s) s k free h can (begins running none pushed s can) in
+    let b = begins running none pushed s can in
+    let there = image_moves image s.regs.sp (suspended wav s).mem s.mem k.whole can.high b.mem h in
+    let t = takes law image instrs flags ws (suspended wav s) k free there (can_begin is_free (suspended wav s) s can b) in
     record { writes = t.writes; free = t.free; back = t.back; steps = t.steps; same = t.same }

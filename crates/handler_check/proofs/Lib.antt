@@ -16,3 +16,4 @@ mod Onward
 mod Extents
 mod Checked
 mod OneAnswer
+mod Shortness

@@ -13,7 +13,7 @@ use Rattle.cpu12_emul.specs.Step.{Next, next_of}
 use Rattle.cpu12_emul.specs.Take.{pushed, written, vectored, framed, entered, taken}
 use Rattle.cpu12_emul.specs.Simulation.{AreOpen, Same, HasRoom}
 use Rattle.run_law.specs.Soundness.{Begins, Quiet}
-use Rattle.handler_check.specs.Cut.{code_start, HasCode}
+use Rattle.handler_check.specs.Cut.{code_start, code_limit, HasCode}
 use Rattle.handler_check.specs.Accepted.{IsAccepted}
 use Rattle.handler_check.specs.Images.{IsHandler}
 
@@ -108,7 +108,13 @@ pub record IsQuietCode (flags most : ℕ) (ws : List Write) (v s : State) : Type
   pub back : (until_rti flags most (at_code ws v)).done ≡ true
   pub steps : (until_rti flags most (at_code ws v)).steps ≤ most
 
--- An accepted handler is quiet.
+-- An accepted handler is quiet where its bytes stand, whatever is open beside the run without interrupts.
 abbrev pub HandlersAreQuiet : Type 0
-HandlersAreQuiet = (image : List (ℕ × ℕ)) (instrs flags : ℕ) (ws : List Write) (v s : State) → IsHandler image instrs
-    → AreOpen is_free ws → HasImage image s.mem → CanEnter s → Begins is_free v s → IsQuietCode flags instrs ws v s
+HandlersAreQuiet =
+    (open_to : ℕ → Bool) (image : List (ℕ × ℕ)) (instrs flags : ℕ) (ws : List Write) (v s : State)
+    → IsHandler image instrs → AreOpen is_free ws → HasImage image v.mem → CanEnter s → Begins open_to v s
+    → IsQuietCode flags instrs ws v s
+
+-- No path of a handler has more instructions than there are bytes from $4000 to $4FFF.
+abbrev pub HandlersAreShort : Type 0
+HandlersAreShort = (image : List (ℕ × ℕ)) (instrs : ℕ) → IsHandler image instrs → code_start + instrs ≤ code_limit

@@ -1,6 +1,6 @@
 //! Laws of handlers.
 ghost use Rattle.handler_check.specs.Images.{HandlersHaveNoFault, FaultsAreOne, CountsAreOne};
-ghost use Rattle.handler_check.specs.Running.{AcceptedIsTake, HandlersRunAsTakes, HandlersAreQuiet};
+ghost use Rattle.handler_check.specs.Running.{AcceptedIsTake, HandlersRunAsTakes, HandlersAreQuiet, HandlersAreShort};
 
 use cpu12_emul::laws::{holds_image, plain_is_step, takes_quietly};
 use cpu12_isa::decode::decodes_encoded;
@@ -26,13 +26,18 @@ pub fn handlers_run_as_takes()
     stack_is_hidden();
 }
 
-/// An accepted handler is quiet beside the run without interrupts.
+/// An accepted handler is quiet beside the run without interrupts, whatever is open there.
 pub fn handlers_are_quiet()
     ensures { HandlersAreQuiet }
 {
     accepted_is_take();
     takes_quietly();
 }
+
+/// A path of a handler has at most 4096 instructions.
+pub fn handlers_are_short()
+    ensures { HandlersAreShort }
+{}
 
 /// Where an image is an accepted handler, no image with the same bytes has a fault.
 pub fn handlers_have_no_fault()

@@ -1,6 +1,6 @@
 -- From reset to where the code waits.
-use Rattle.std.proofs.Common.{◌≡◌, inl, inr, ⊎_elim, ℕ, ◌+◌, ◌-◌, ◌*◌, ◌/◌, ◌%◌, ◌^◌, ◌<◌, ◌≤◌, Ok, List, [], ◌∷◌, ◌++◌, map, length, set, get_or, refl, sym, ap, ap₂, ◌∙◌}
-use Rattle.std.proofs.Common.{subst, arith, length-set, get_or-set_same}
+use Rattle.std.proofs.Common.{true, ◌≢◌, ◌≡◌, ◌⊎◌, inl, inr, ⊎_elim, Bool, false, ℕ, ◌+◌, ◌-◌, ◌*◌, ◌/◌, ◌%◌, ◌^◌, ◌<◌, ◌≤◌, Ok, List, [], ◌∷◌, ◌++◌, map, length, set, get_or, refl, sym, ap, ap₂, ◌∙◌}
+use Rattle.std.proofs.Common.{subst, arith, length-set, get_or-set_same, get_or-set_other}
 use Rattle.fuzzy_meaning.specs.declared.block.Block.{Block}
 use Rattle.cpu12_isa.specs.declared.instr.Instr.TheVariants.{LdsImmediate, ClrExtended, Andcc}
 use Rattle.cpu12_isa.specs.Code.{decode_at}
@@ -21,7 +21,11 @@ use Rattle.codegen.specs.Data.{table_bytes, singleton_bytes, weight_bytes, rule_
 use Rattle.codegen.specs.Images.{bytes_at, block_items, IsApart}
 use Rattle.cpu12_asm.specs.declared.items.Item.TheVariants.{Op}
 use Rattle.codegen.proofs.steps.Flags.{unmasked}
-use Rattle.codegen.proofs.steps.Memory.{HasBytes, SameHigh, high_set, bytes_set_out, bytes_after_set}
+use Rattle.cpu12_isa.specs.declared.instr.Regs.{Regs}
+use Rattle.cpu12_isa.specs.Agreement.{Agree}
+use Rattle.cpu12_parts.specs.declared.temps.Temps.TheVariants.{Free}
+use Rattle.std.proofs.lemmas.Bool.{cases_eq}
+use Rattle.codegen.proofs.steps.Memory.{HasBytes, same_bytes, SameHigh, high_set, bytes_set_out, bytes_after_set}
 use Rattle.codegen.proofs.runs.Stepping.{Ctx, Live}
 use Rattle.codegen.proofs.steps.Decoding.{code_bytes, decode_same, decode_here}
 use Rattle.codegen.proofs.runs.Framing.{Home, answer_room}
@@ -40,9 +44,47 @@ none_stand : (w : Width) (m : List ℕ) (p : ℕ) → ((q : ℕ) → p ≤ q →
 none_stand Byte m p h = (h p (omega arith) (omega arith), tt)
 none_stand Word m p h = (h p (omega arith) (omega arith), (h (p + 1) (omega arith) (omega arith), tt))
 
+-- the state in which the code waits first, from a memory
+abbrev pub third : ℕ → Layout → List ℕ → State
+third flags l m =
+    after_plain flags (Andcc 0xEF) (after_plain flags (ClrExtended l.ready) (after_plain flags (LdsImmediate 0x2000) (reset_with m)))
+
+-- three plain instructions lead there
+pub start_way : (flags : ℕ) (l : Layout) (image : List ℕ) → IsStarted l → HasBytes image 0xFFFE (bytes_of_word l.code) → HasBytes image l.code (code_bytes (start_code l))
+    → PlainWay flags l.wait 3 (reset_with image) (third flags l image)
+start_way flags l image f vector start =
+    let lo = f.low in
+    let hi = f.high in
+    let w = f.wait in
+    let r = f.ready in
+    let s0 = reset_with image in
+    let s1 = after_plain flags (LdsImmediate 0x2000) s0 in
+    let s2 = after_plain flags (ClrExtended l.ready) s1 in
+    let s3 = after_plain flags (Andcc 0xEF) s2 in
+    let p0 : s0.regs.pc ≡ l.code = ap₂ (λ x y. x * 2 ^ 8 + y) vector.0 vector.1.0 ∙ omega arith in
+    let p1 : s1.regs.pc ≡ l.code + 3 = omega arith in
+    let p2 : s2.regs.pc ≡ l.code + 6 = omega arith in
+    let m = set image l.ready 0 in
+    let same : SameHigh image m = high_set image image l.ready 0 (omega arith) (λ at le. refl) in
+    let d0 : decode_at image s0.regs.pc ≡ Ok (LdsImmediate 0x2000) =
+    ap (decode_at image) p0 ∙ decode_here image l.code (LdsImmediate 0x2000) tt (omega arith) (start.0, (start.1.0, (start.1.1.0, tt))) in
+    let at1 : l.code + 1 + 1 + 1 ≡ l.code + 3 = omega arith in
+    let b1 : HasBytes image (l.code + 3) (121 ∷ l.ready / 2 ^ 8 ∷ l.ready % 2 ^ 8 ∷ 16 ∷ 239 ∷ []) =
+    subst (λ p. HasBytes image p (121 ∷ l.ready / 2 ^ 8 ∷ l.ready % 2 ^ 8 ∷ 16 ∷ 239 ∷ [])) at1 start.1.1.1 in
+    let d1 : decode_at image s1.regs.pc ≡ Ok (ClrExtended l.ready) =
+    ap (decode_at image) p1 ∙ decode_here image (l.code + 3) (ClrExtended l.ready) tt (omega arith) (b1.0, (b1.1.0, (b1.1.1.0, tt))) in
+    let at2 : l.code + 3 + 1 + 1 + 1 ≡ l.code + 6 = omega arith in
+    let b2 : HasBytes image (l.code + 6) (16 ∷ 239 ∷ []) = subst (λ p. HasBytes image p (16 ∷ 239 ∷ [])) at2 b1.1.1.1 in
+    let d2 : decode_at m s2.regs.pc ≡ Ok (Andcc 0xEF) =
+    ap (decode_at m) p2 ∙ decode_same image m (l.code + 6) (omega arith) (omega arith) same
+    ∙ decode_here image (l.code + 6) (Andcc 0xEF) tt (omega arith) (b2.0, (b2.1.0, tt)) in
+    (s1, (omega arith, (LdsImmediate 0x2000, record { decoded = d0; plain = refl; after = refl }), (s2, (omega arith, (ClrExtended l.ready, record { decoded = d1; plain = refl; after = refl }), (s3, (omega arith, (Andcc 0xEF, record { decoded = d2; plain = refl; after = refl }), refl))))))
+
 -- the first arrival
 pub record Arrived (c : Ctx) (b : Block) (w : Width) : Type 0 where
   pub t : State
+  pub third_is : t ≡ third c.flags c.layout c.image
+  pub size : length c.image ≡ 65536
   pub way : PlainWay c.flags c.layout.wait 3 (reset_with c.image) t
   pub home : Home c b w (λ o. 0) t
 
@@ -68,18 +110,6 @@ arrive c b width f a few vector start size bytes zero_low =
     let p3 : s3.regs.pc ≡ l.code + 8 = omega arith in
     let m = set c.image l.ready 0 in
     let same : SameHigh c.image m = high_set c.image c.image l.ready 0 (omega arith) (λ at le. refl) in
-    let d0 : decode_at c.image s0.regs.pc ≡ Ok (LdsImmediate 0x2000) =
-    ap (decode_at c.image) p0 ∙ decode_here c.image l.code (LdsImmediate 0x2000) tt (omega arith) (start.0, (start.1.0, (start.1.1.0, tt))) in
-    let at1 : l.code + 1 + 1 + 1 ≡ l.code + 3 = omega arith in
-    let b1 : HasBytes c.image (l.code + 3) (121 ∷ l.ready / 2 ^ 8 ∷ l.ready % 2 ^ 8 ∷ 16 ∷ 239 ∷ []) =
-    subst (λ p. HasBytes c.image p (121 ∷ l.ready / 2 ^ 8 ∷ l.ready % 2 ^ 8 ∷ 16 ∷ 239 ∷ [])) at1 start.1.1.1 in
-    let d1 : decode_at c.image s1.regs.pc ≡ Ok (ClrExtended l.ready) =
-    ap (decode_at c.image) p1 ∙ decode_here c.image (l.code + 3) (ClrExtended l.ready) tt (omega arith) (b1.0, (b1.1.0, (b1.1.1.0, tt))) in
-    let at2 : l.code + 3 + 1 + 1 + 1 ≡ l.code + 6 = omega arith in
-    let b2 : HasBytes c.image (l.code + 6) (16 ∷ 239 ∷ []) = subst (λ p. HasBytes c.image p (16 ∷ 239 ∷ [])) at2 b1.1.1.1 in
-    let d2 : decode_at m s2.regs.pc ≡ Ok (Andcc 0xEF) =
-    ap (decode_at m) p2 ∙ decode_same c.image m (l.code + 6) (omega arith) (omega arith) same
-    ∙ decode_here c.image (l.code + 6) (Andcc 0xEF) tt (omega arith) (b2.0, (b2.1.0, tt)) in
     let f0 : FitsRegs s0.regs = record { a = omega arith; b = omega arith; x = omega arith; y = omega arith; sp = omega arith; pc = omega arith; ccr = omega arith } in
     let f1 = (c.stays_fit c.flags (LdsImmediate 0x2000) s0.regs c.image c.fits (omega arith) f0 bytes).0 in
     let f2 = (c.stays_fit c.flags (ClrExtended l.ready) s1.regs c.image c.fits (omega arith) f1 bytes).0 in
@@ -98,7 +128,9 @@ arrive c b width f a few vector start size bytes zero_low =
     let home : s3.regs.pc ≡ l.wait = p3 ∙ sym w in
     record {
       t = s3;
-      way = (s1, (omega arith, (LdsImmediate 0x2000, record { decoded = d0; plain = refl; after = refl }), (s2, (omega arith, (ClrExtended l.ready, record { decoded = d1; plain = refl; after = refl }), (s3, (omega arith, (Andcc 0xEF, record { decoded = d2; plain = refl; after = refl }), refl))))));
+      third_is = refl;
+      size = size;
+      way = start_way c.flags l c.image f vector start;
       home = record {
         live = live;
         pc_is = home;
@@ -109,4 +141,54 @@ arrive c b width f a few vector start size bytes zero_low =
             bytes_set_out c.image l.ready 0 p (bytes_of width 0) (⊎_elim (λ before. inr (omega arith)) (λ behind. inl (omega arith)) f.apart) (none_stand width c.image p (λ q lo hi. zero_low q (omega arith))));
         ready_is = ready;
       };
+    }
+
+-- the arrival from a memory that agrees: where it is the same
+pub record Alike (c : Ctx) (mem : List ℕ) : Type 0 where
+  pub state : State
+  pub way : PlainWay c.flags c.layout.wait 3 (reset_with mem) state
+  pub regs : state.regs ≡ (third c.flags c.layout c.image).regs
+  pub temps : state.temps ≡ (third c.flags c.layout c.image).temps
+  pub bytes : Agree c.open_to state.mem (third c.flags c.layout c.image).mem
+  pub open_bytes : (at : ℕ) → c.open_to at ≡ true → get_or state.mem at 0 ≡ get_or mem at 0
+
+-- the registers there depend on PC alone
+regs_from : ℕ → ℕ → ℕ → Regs
+regs_from flags ready pc =
+    (after_plain flags (Andcc 0xEF) (after_plain flags (ClrExtended ready) (after_plain flags (LdsImmediate 0x2000) start))).regs
+  where
+    start : State
+    start = record { regs = record { a = 0; b = 0; x = 0; y = 0; sp = 0; pc = pc; ccr = record { 0 = 208 } }; temps = Free; mem = [] }
+
+set_agree : (open_to : ℕ → Bool) (m n : List ℕ) (at v : ℕ) → at < length n → Agree open_to m n → Agree open_to (set m at v) (set n at v)
+set_agree open_to m n at v lt a = record { size = length-set m at v ∙ a.size ∙ sym (length-set n at v); bytes = λ q shown. each q shown (cases_eq q at) }
+  where
+    each : (q : ℕ) → open_to q ≡ false → (q ≡ at) ⊎ (q ≡ at → ⊥) → get_or (set m at v) q 0 ≡ get_or (set n at v) q 0
+    each q shown (inl e) =
+        let size = a.size in
+        ap (λ (k : ℕ). get_or (set m at v) k 0) e ∙ get_or-set_same m at v 0 (omega arith) ∙ sym (get_or-set_same n at v 0 lt) ∙ ap (λ (k : ℕ). get_or (set n at v) k 0) (sym e)
+    each q shown (inr other) = get_or-set_other m at q v 0 other ∙ a.bytes q shown ∙ sym (get_or-set_other n at q v 0 other)
+
+-- an open byte is not one that is shown
+apart : (open_to : ℕ → Bool) (p q : ℕ) → open_to p ≡ true → open_to q ≡ false → p ≢ q
+apart open_to p q t f e = cc
+
+pub arrive_alike : (c : Ctx) (mem : List ℕ) → IsStarted c.layout → c.open_to c.layout.ready ≡ false → ((at : ℕ) → 0xFFFE ≤ at → at < 2 ^ 16 → c.open_to at ≡ false)
+    → HasBytes c.image 0xFFFE (bytes_of_word c.layout.code) → HasBytes c.image c.layout.code (code_bytes (start_code c.layout)) → length c.image ≡ 65536
+    → Agree c.open_to mem c.image → Alike c mem
+unfolding regs_from
+arrive_alike c mem f shown reset vector start size a =
+    let l = c.layout in
+    let ready = f.ready in
+    let here : HasBytes mem 0xFFFE (bytes_of_word l.code) = same_bytes c.image mem 0xFFFE (bytes_of_word l.code) (λ k lo hi. a.bytes k (reset k lo hi)) vector in
+    let code : HasBytes mem l.code (code_bytes (start_code l)) = same_bytes c.image mem l.code (code_bytes (start_code l)) (λ k lo hi. a.bytes k (c.shut.code k lo (omega arith))) start in
+    let word : (m : List ℕ) → ℕ = λ m. get_or m 65534 0 * 2 ^ 8 + get_or m 65535 0 in
+    let pc : word mem ≡ word c.image = ap₂ (λ (x y : ℕ). x * 2 ^ 8 + y) (a.bytes 65534 (reset 65534 (omega arith) (omega arith))) (a.bytes 65535 (reset 65535 (omega arith) (omega arith))) in
+    record {
+      state = third c.flags l mem;
+      way = start_way c.flags l mem f here code;
+      regs = ap (regs_from c.flags l.ready) pc;
+      temps = refl;
+      bytes = set_agree c.open_to mem c.image l.ready 0 (omega arith) a;
+      open_bytes = λ at is. get_or-set_other mem l.ready at 0 0 (apart c.open_to at l.ready is shown);
     }

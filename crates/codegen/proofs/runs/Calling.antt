@@ -34,7 +34,7 @@ use Rattle.cpu12_parts.specs.Touching.{IsIn, Each, IsRulesOver, IsInstructionOve
 use Rattle.codegen.specs.Code.{eval_code}
 use Rattle.codegen.specs.Evaluation.{HasBytes, HasEval, HasAnswers, IsAtEval, IsEvaluated, EvalAnswers, eval_bytes, Reads, Writes, code_region, IsEvalStep}
 use Rattle.codegen.proofs.steps.Memory.{SameHigh, high_set, same_bytes, high_writes}
-use Rattle.codegen.proofs.runs.Stepping.{IsShut, Ctx, Here, Live, Next, plain_next, low_shown, high_shown, not_at}
+use Rattle.codegen.proofs.runs.Stepping.{code_room, IsShut, Ctx, Here, Live, Next, plain_next, low_shown, high_shown, not_at}
 use Rattle.codegen.proofs.steps.Executions.{execution_on, steps_append, length_append}
 use Rattle.codegen.proofs.steps.Decoding.{code_bytes, decode_here}
 use Rattle.codegen.proofs.phases.RuleMemory.{Below, From, apart_by, below_front, below_back}
@@ -56,18 +56,18 @@ rts_run c s p ret l ep h es er =
     let e1 : plus s.regs.sp 1 ≡ 0x1FFF = omega arith in
     let e2 : plus s.regs.sp 2 ≡ 0x2000 = omega arith in
     let open_to = c.open_to in
-    let r0 : is_hidden open_to s.regs.sp s.regs.sp ≡ false = high_shown open_to s.regs.sp s.regs.sp (c.shut.high s.regs.sp (omega arith)) (omega arith) in
-    let r1 : is_hidden open_to s.regs.sp (plus s.regs.sp 1) ≡ false = high_shown open_to s.regs.sp (plus s.regs.sp 1) (c.shut.high (plus s.regs.sp 1) (omega arith)) (omega arith) in
-    plain_next c s p ret Rts l (not_at c.layout s p ep h.off) ep h.low h.high h.decoded refl tt (r0, (r1, tt)) tt (λ at g. inl (ap (λ k. is_hidden open_to k at) es ∙ less_hidden open_to at (ap (λ k. is_hidden open_to k at) (sym e2) ∙ g))) tt (inr e2) refl (ap₂ (λ a b. get_or s.mem a 0 * 2 ^ 8 + get_or s.mem b 0) es e1 ∙ er)
+    let r0 : is_hidden open_to s.regs.sp s.regs.sp ≡ false = high_shown open_to s.regs.sp s.regs.sp (c.shut.stack s.regs.sp (omega arith) (omega arith)) (omega arith) in
+    let r1 : is_hidden open_to s.regs.sp (plus s.regs.sp 1) ≡ false = high_shown open_to s.regs.sp (plus s.regs.sp 1) (c.shut.stack (plus s.regs.sp 1) (omega arith) (omega arith)) (omega arith) in
+    plain_next c s p ret Rts l (not_at c.layout s p ep h.off) ep h.from h.to h.decoded refl tt (r0, (r1, tt)) tt (λ at g. inl (ap (λ k. is_hidden open_to k at) es ∙ less_hidden open_to at (ap (λ k. is_hidden open_to k at) (sym e2) ∙ g))) tt (inr e2) refl (ap₂ (λ a b. get_or s.mem a 0 * 2 ^ 8 + get_or s.mem b 0) es e1 ∙ er)
 
 -- What is owned is not hidden.
 read_shown : (open_to : ℕ → Bool) (l : Layout) (sp at : ℕ) → IsShut open_to l → IsApart l → sp ≤ 0x2000 → Reads l at → is_hidden open_to sp at ≡ false
-read_shown open_to l sp at u a h (inl o) = let low : at < 0x1800 = omega (arith, a.inputs, a.outputs, a.slots, o.1) in low_shown open_to sp at (u.reads at low (inl o)) low
-read_shown open_to l sp at u a h (inr (inl o)) = let low : at < 0x1800 = omega (arith, a.slots, o.1) in low_shown open_to sp at (u.reads at low (inr (inl o))) low
-read_shown open_to l sp at u a h (inr (inr (inl o))) = high_shown open_to sp at (u.high at (omega (arith, a.tables, o.0))) (omega (arith, a.tables, o.0))
-read_shown open_to l sp at u a h (inr (inr (inr (inl o)))) = high_shown open_to sp at (u.high at (omega (arith, a.singletons, o.0))) (omega (arith, a.singletons, o.0))
-read_shown open_to l sp at u a h (inr (inr (inr (inr (inl o))))) = high_shown open_to sp at (u.high at (omega (arith, a.weights, o.0))) (omega (arith, a.weights, o.0))
-read_shown open_to l sp at u a h (inr (inr (inr (inr (inr (inl o)))))) = high_shown open_to sp at (u.high at (omega (arith, a.rules, o.0))) (omega (arith, a.rules, o.0))
+read_shown open_to l sp at u a h (inl o) = let low : at < 0x1800 = omega (arith, a.inputs, a.outputs, a.slots, o.1) in low_shown open_to sp at (u.reads at (inl o)) low
+read_shown open_to l sp at u a h (inr (inl o)) = let low : at < 0x1800 = omega (arith, a.slots, o.1) in low_shown open_to sp at (u.reads at (inr (inl o))) low
+read_shown open_to l sp at u a h (inr (inr (inl o))) = high_shown open_to sp at (u.reads at (inr (inr (inl o)))) (omega (arith, a.tables, o.0))
+read_shown open_to l sp at u a h (inr (inr (inr (inl o)))) = high_shown open_to sp at (u.reads at (inr (inr (inr (inl o))))) (omega (arith, a.singletons, o.0))
+read_shown open_to l sp at u a h (inr (inr (inr (inr (inl o))))) = high_shown open_to sp at (u.reads at (inr (inr (inr (inr (inl o)))))) (omega (arith, a.weights, o.0))
+read_shown open_to l sp at u a h (inr (inr (inr (inr (inr (inl o)))))) = high_shown open_to sp at (u.reads at (inr (inr (inr (inr (inr (inl o))))))) (omega (arith, a.rules, o.0))
 read_shown open_to l sp at u a h (inr (inr (inr (inr (inr (inr o)))))) = absurd o
 
 all_read : (open_to : ℕ → Bool) (l : Layout) (sp : ℕ) (ats : List ℕ) → IsShut open_to l → IsApart l → sp ≤ 0x2000 → Each (Reads l) ats → AllShown (is_hidden open_to sp) ats
@@ -78,7 +78,7 @@ all_written : (open_to : ℕ → Bool) (l : Layout) (sp : ℕ) (ats : List ℕ) 
 all_written open_to l sp [] u a e = tt
 all_written open_to l sp (at ∷ ats) u a e =
     let low = written_low l at a e.0 in
-    (low_shown open_to sp at (u.writes at low e.0) low, all_written open_to l sp ats u a e.1)
+    (low_shown open_to sp at (u.writes at e.0) low, all_written open_to l sp ats u a e.1)
 
 written_below : (l : Layout) (ats : List ℕ) → IsApart l → Each (Writes l) ats → Below 0x1800 ats
 written_below l [] a e = tt
@@ -88,11 +88,16 @@ code_above : (l : Layout) (ats : List ℕ) → IsApart l → Each (IsIn (code_re
 code_above l [] r e = tt
 code_above l (at ∷ ats) r e = (omega (arith, r.eval, e.0.0), code_above l ats r e.1)
 
-code_seen : (open_to : ℕ → Bool) (l : Layout) (sp : ℕ) (ats : List ℕ) → IsShut open_to l → IsApart l → sp ≤ 0x2000 → Each (IsIn (code_region l)) ats
+-- EVAL stands in the code
+pub record IsInCode (l : Layout) : Type 0 where
+  pub from : l.code ≤ l.eval
+  pub to : l.eval + 2432 ≤ l.code + code_room
+
+code_seen : (open_to : ℕ → Bool) (l : Layout) (sp : ℕ) (ats : List ℕ) → IsShut open_to l → IsApart l → IsInCode l → sp ≤ 0x2000 → Each (IsIn (code_region l)) ats
     → AllShown (is_hidden open_to sp) ats
-code_seen open_to l sp [] u r h e = tt
-code_seen open_to l sp (at ∷ ats) u r h e =
-    (high_shown open_to sp at (u.high at (omega (arith, r.eval, e.0.0))) (omega (arith, r.eval, e.0.0)), code_seen open_to l sp ats u r h e.1)
+code_seen open_to l sp [] u r c h e = tt
+code_seen open_to l sp (at ∷ ats) u r c h e =
+    (high_shown open_to sp at (u.code at (omega (arith, c.from, e.0.0)) (omega (arith, c.to, e.0.1))) (omega (arith, r.eval, e.0.0)), code_seen open_to l sp ats u r c h e.1)
 
 -- rules whose conclusions are low keep what stands high
 record High (m mem : List ℕ) : Type 0 where
@@ -179,31 +184,32 @@ over open_to l image flags d s t u a w h sp code (inr (inr (inr o))) =
       same = subst (λ (u : State). SameHigh image u.mem) (sym o.step.after) h.same;
     }
 
-interruptible_step : (open_to : ℕ → Bool) (l : Layout) (image : List ℕ) (flags d : ℕ) (s t : State) → IsShut open_to l → IsApart l → l.wait < l.eval → Alone image s → IsEvalStep l flags d s t
+interruptible_step : (open_to : ℕ → Bool) (l : Layout) (image : List ℕ) (flags d : ℕ) (s t : State) → IsShut open_to l → IsApart l → l.wait < l.eval → IsInCode l → Alone image s → IsEvalStep l flags d s t
     → IsInterruptibleStep open_to l image flags d s t × Alone image t
-interruptible_step open_to l image flags d s t u a w h e =
+interruptible_step open_to l image flags d s t u a w c h e =
     let k = over open_to l image flags d s t u a w h e.stack e.code e.instruction in
     let from = e.code.0.0 in
     let low : s.regs.sp ≤ 0x2000 = omega (arith, h.stack) in (
       record {
         busy = not_at l s s.regs.pc refl (λ q. omega arith);
-        interruptible = record { temps = h.temps; size = e.between.size; bytes = e.between.bytes; fits = e.between.fits; stack = inl h.stack; mask = h.unmasked; same = h.same; code = code_seen open_to l s.regs.sp (six_from s.regs.pc) u a low e.code };
+        interruptible = record { temps = h.temps; size = e.between.size; bytes = e.between.bytes; fits = e.between.fits; stack = inl h.stack; mask = h.unmasked; same = h.same; code = code_seen open_to l s.regs.sp (six_from s.regs.pc) u a c low e.code };
         instruction = k.instruction;
       },
       record { temps = k.temps; stack = e.stack ∙ h.stack; unmasked = e.mask ∙ h.unmasked; same = k.same },
     )
 
-interruptible_execution : (open_to : ℕ → Bool) (l : Layout) (image : List ℕ) (flags : ℕ) (ds : List ℕ) (s t : State) → IsShut open_to l → IsApart l → l.wait < l.eval → Alone image s
+interruptible_execution : (open_to : ℕ → Bool) (l : Layout) (image : List ℕ) (flags : ℕ) (ds : List ℕ) (s t : State) → IsShut open_to l → IsApart l → l.wait < l.eval → IsInCode l → Alone image s
     → Execution (IsEvalStep l flags) ds s t → Execution (IsInterruptibleStep open_to l image flags) ds s t × Alone image t
-interruptible_execution open_to l image flags [] s t u a w h e = (e, subst (Alone image) e h)
-interruptible_execution open_to l image flags (d ∷ ds) s t u a w h e =
-    let one = interruptible_step open_to l image flags d s e.0 u a w h e.1.0 in
-    let rest = interruptible_execution open_to l image flags ds e.0 t u a w one.1 e.1.1 in
+interruptible_execution open_to l image flags [] s t u a w c h e = (e, subst (Alone image) e h)
+interruptible_execution open_to l image flags (d ∷ ds) s t u a w c h e =
+    let one = interruptible_step open_to l image flags d s e.0 u a w c h e.1.0 in
+    let rest = interruptible_execution open_to l image flags ds e.0 t u a w c one.1 e.1.1 in
     ((e.0, (one.0, rest.0)), rest.1)
 
 -- EVAL and its return stand in the image, above where the code waits
 pub record HasRoutine (l : Layout) (b : Block) (w : Width) (image : List ℕ) : Type 0 where
   pub above : l.wait < l.eval
+  pub inside : IsInCode l
   pub eval : HasEval l b w image
   pub back : HasBytes image (l.eval + length (eval_bytes l b w)) (encode_of Rts)
 
@@ -254,12 +260,14 @@ returned c b w back bytes before s a v facts h k t g e alone =
     let high = a.eval_end in
     let low = a.eval in
     let above = h.above in
+    let from = h.inside.from in
+    let to = h.inside.to in
     let room = places_few w (length b.outputs) v.few_outputs in
     let slots = facts.few_slots in
     let apart1 = a.slots in
     let apart2 = a.outputs in
     let live : Live c t = record { temps = alone.temps; size = g.between.size; bytes = g.between.bytes; fits = g.between.fits; stack = inl alone.stack; mask = alone.unmasked; same = alone.same } in
-    let here : Here c p Rts = record { low = omega arith; high = omega arith; off = λ e. omega arith; fits = tt; decoded = decode_here c.image p Rts tt (omega arith) h.back } in
+    let here : Here c p Rts = record { from = omega arith; to = omega arith; high = omega arith; off = λ e. omega arith; fits = tt; decoded = decode_here c.image p Rts tt (omega arith) h.back } in
     let far : (at : ℕ) → 0x1800 ≤ at → get_or t.mem at 0 ≡ get_or s.mem at 0 = λ at le. g.elsewhere at (inr (omega arith)) (inr (omega arith)) in
     let er : get_or t.mem 0x1FFE 0 * 2 ^ 8 + get_or t.mem 0x1FFF 0 ≡ back =
     ap₂ (λ x y. x * 2 ^ 8 + y) (far 0x1FFE (omega arith)) (far 0x1FFF (omega arith)) ∙ k.back_is in
@@ -289,5 +297,5 @@ called go c b w back bytes before s a v facts limits h i k =
     let at : IsAtEval l b w bytes before s = record { between = record { off = inl state.temps; size = state.size; bytes = state.bytes; fits = state.fits }; pc = k.pc; eval = found l b w c.image s.mem a h.eval state.same; inputs = k.inputs; outputs = k.outputs } in
     let alone : Alone c.image s = record { temps = state.temps; stack = k.sp; unmasked = state.mask; same = state.same } in
     let r = go l b w c.flags bytes before s a v limits c.fits i at in
-    let e = interruptible_execution c.open_to l c.image c.flags r.1.ds s r.0 c.shut a h.above alone r.1.execution in
+    let e = interruptible_execution c.open_to l c.image c.flags r.1.ds s r.0 c.shut a h.above h.inside alone r.1.execution in
     returned c b w back bytes before s a v facts h k r.0 r.1 e.0 e.1

@@ -19,7 +19,7 @@ use Rattle.codegen.proofs.runs.Stepping.{Ctx, Stands, stands_of}
 use Rattle.codegen.proofs.runs.Framing.{HasFrame}
 use Rattle.codegen.proofs.steps.Decoding.{sizes, code_bytes, decode_here}
 use Rattle.codegen.proofs.phases.Law.{length-code}
-use Rattle.codegen.proofs.runs.Calling.{HasRoutine}
+use Rattle.codegen.proofs.runs.Calling.{HasRoutine, IsInCode}
 use Rattle.codegen.proofs.runs.Standing.{Rises, HasGiven, bytes_stand, code_stands}
 
 pub bytes_append : (a b : List Instr) → code_bytes (a ++ b) ≡ code_bytes a ++ code_bytes b
@@ -148,16 +148,17 @@ has_frame c shown f a h =
       ready = f.ready;
       samples = f.samples;
       shown = shown;
-      low = omega arith;
-      high = omega arith;
+      from = omega arith;
+      to = omega arith;
       load = ap (decode_at c.image) w ∙ decode_here c.image (l.code + 8) (LdaaExtended l.ready) tt (omega arith) h.load;
       rest = subst (λ p. Stands c p (turn_code l)) e3 (stands_of c (l.code + 8 + 3) (turn_code l) (tt, omega arith, (tt, omega arith, (tt, omega arith, (tt, omega arith, tt)))) h.turn (omega arith) (omega arith) (omega arith));
     }
 
 -- EVAL and a return behind it
-pub has_routine : (l : Layout) (b : Block) (w : Width) (before : List Instr) (image : List ℕ) → l.wait < l.eval → AroundEval image l b w before (Rts ∷ []) → HasRoutine l b w image
-has_routine l b w before image above h = record {
+pub has_routine : (l : Layout) (b : Block) (w : Width) (before : List Instr) (image : List ℕ) → l.wait < l.eval → IsInCode l → AroundEval image l b w before (Rts ∷ []) → HasRoutine l b w image
+has_routine l b w before image above inside h = record {
   above = above;
+  inside = inside;
   eval = h.eval;
   back = bytes_front image (l.eval + length (eval_bytes l b w)) (encode_of Rts) [] h.back;
 }

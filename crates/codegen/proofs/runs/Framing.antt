@@ -28,7 +28,7 @@ use Rattle.cpu12_isa.specs.Regions.{is_hidden}
 use Rattle.codegen.specs.Interruptible.{is_idle, IsInterruptibleStep}
 use Rattle.codegen.proofs.steps.Flags.{masked_tested, zero_tested}
 use Rattle.codegen.proofs.steps.Memory.{HasBytes, length-put, has_put, bytes_put_out, bytes_set_out, bytes_after_set, bytes_after_put, high_set, high_put}
-use Rattle.codegen.proofs.runs.Stepping.{Ctx, Here, Live, Stands, Next, next, plain_next, Goes, goes_one, goes_on, interruptible_of, low_shown, high_shown}
+use Rattle.codegen.proofs.runs.Stepping.{code_room, Ctx, Here, Live, Stands, Next, next, plain_next, Goes, goes_one, goes_on, interruptible_of, low_shown, high_shown}
 use Rattle.codegen.proofs.runs.Stepping.{not_at, clr, beq_on}
 use Rattle.codegen.proofs.steps.Executions.{execution_on, length_append, steps_append}
 use Rattle.codegen.proofs.phases.RuleFacts.{BlockFacts}
@@ -39,8 +39,8 @@ pub record HasFrame (c : Ctx) : Type 0 where
   pub ready : c.layout.ready < c.layout.inputs
   pub samples : c.layout.samples ≡ c.layout.inputs
   pub shown : c.open_to c.layout.ready ≡ false
-  pub low : 0x2000 ≤ c.layout.wait
-  pub high : c.layout.wait + 40 < 65536
+  pub from : c.layout.code ≤ c.layout.wait
+  pub to : c.layout.wait + 40 ≤ c.layout.code + code_room
   pub load : decode_at c.image c.layout.wait ≡ Ok (LdaaExtended c.layout.ready)
   pub rest : Stands c (c.layout.wait + 3) (Beq 0xFB ∷ JsrExtended c.layout.eval ∷ ClrExtended c.layout.ready ∷ Bra 0xF3 ∷ [])
 
@@ -92,9 +92,9 @@ jsr_run c s p to l ep h es =
     let over : plus s.regs.sp 65535 ≡ 0x1FFF = omega arith in
     let m = min s.regs.sp (plus s.regs.sp 65534) in
     let open_to = c.open_to in
-    let r0 : is_hidden open_to m (plus s.regs.sp 65534) ≡ false = high_shown open_to m (plus s.regs.sp 65534) (c.shut.high (plus s.regs.sp 65534) (omega arith)) (omega arith) in
-    let r1 : is_hidden open_to m (plus s.regs.sp 65535) ≡ false = high_shown open_to m (plus s.regs.sp 65535) (c.shut.high (plus s.regs.sp 65535) (omega arith)) (omega arith) in
-    plain_next c s p to (JsrExtended to) l (not_at c.layout s p ep h.off) ep h.low h.high h.decoded refl h.fits tt (r0, (r1, tt)) (λ at g. jsr_uncovers open_to s.regs.sp (plus s.regs.pc 3 / 2 ^ 8) (plus s.regs.pc 3 % 2 ^ 8) at es g) (omega arith, (omega arith, tt)) (inl low) refl refl
+    let r0 : is_hidden open_to m (plus s.regs.sp 65534) ≡ false = high_shown open_to m (plus s.regs.sp 65534) (c.shut.stack (plus s.regs.sp 65534) (omega arith) (omega arith)) (omega arith) in
+    let r1 : is_hidden open_to m (plus s.regs.sp 65535) ≡ false = high_shown open_to m (plus s.regs.sp 65535) (c.shut.stack (plus s.regs.sp 65535) (omega arith) (omega arith)) (omega arith) in
+    plain_next c s p to (JsrExtended to) l (not_at c.layout s p ep h.off) ep h.from h.to h.decoded refl h.fits tt (r0, (r1, tt)) (λ at g. jsr_uncovers open_to s.regs.sp (plus s.regs.pc 3 / 2 ^ 8) (plus s.regs.pc 3 % 2 ^ 8) at es g) (omega arith, (omega arith, tt)) (inl low) refl refl
 
 bra_back : (c : Ctx) (s : State) (p : ℕ) → Live c s → s.regs.pc ≡ p → Here c p (Bra 0xF3) → 11 ≤ p → Next c s (after_plain c.flags (Bra 0xF3) s) (p - 11)
 bra_back c s p l ep h le = next c s p (p - 11) (Bra 0xF3) l ep h refl (omega arith) tt tt tt refl refl (omega (arith, h.high))
@@ -112,12 +112,13 @@ pub call_run : (c : Ctx) (s : State) → HasFrame c → c.layout.ready < 0x1800 
     → get_or s.mem c.layout.ready 0 ≡ 1 → Called c s
 call_run c s f low l ep es er =
     let p = c.layout.wait in
-    let hi = f.high in
+    let to = f.to in
+    let high = c.shut.high in
     let s1 = after_plain c.flags (LdaaExtended c.layout.ready) s in
     let s2 = after_plain c.flags (Beq 0xFB) s1 in
     let s3 = after_plain c.flags (JsrExtended c.layout.eval) s2 in
     let n1 =
-    plain_next c s p (p + 3) (LdaaExtended c.layout.ready) l (not_ready c.layout s er) ep f.low (omega arith) f.load refl (omega arith) (low_shown c.open_to s.regs.sp c.layout.ready f.shown low, tt) tt (λ at g. inl g) tt l.stack (masked_tested s.regs.ccr _ _) (omega arith) in
+    plain_next c s p (p + 3) (LdaaExtended c.layout.ready) l (not_ready c.layout s er) ep f.from (omega arith) f.load refl (omega arith) (low_shown c.open_to s.regs.sp c.layout.ready f.shown low, tt) tt (λ at g. inl g) tt l.stack (masked_tested s.regs.ccr _ _) (omega arith) in
     let nz : (get_or s.mem c.layout.ready 0 == 0) ≡ false = grind (arith, nat_tests) in
     let z : has s1.regs.ccr 2 ≡ false = zero_tested s.regs.ccr _ (get_or s.mem c.layout.ready 0 == 0) ∙ nz in
     let n2 = beq_on c s1 (p + 3) 0xFB n1.live n1.pc_is f.rest.0 (omega arith) z in
@@ -242,6 +243,8 @@ evaluated c b w bytes before s0 h i l0 hi ho r =
     let a4 = h.apart.slots in
     let low = h.apart.eval in
     let high = h.apart.eval_end in
+    let from = h.routine.inside.from in
+    let to = h.routine.inside.to in
     let ret = c.layout.wait + 8 in
     let m1 = set s0.mem 0x1FFE (ret / 2 ^ 8) in
     let keep : HasBytes r.t.mem c.layout.inputs bytes =

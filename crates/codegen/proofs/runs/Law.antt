@@ -1,5 +1,5 @@
 -- The firmware of a block answers every list of samples by the byte answer.
-use Rattle.std.proofs.Common.{◌≡◌, inl, Bool, ℕ, ◌^◌, ◌<◌, List, [], ◌∷◌, All, refl, sym, ap, ◌∙◌, subst, arith}
+use Rattle.std.proofs.Common.{◌≡◌, ◌⊎◌, inl, inr, Bool, false, ◌≤◌, ℕ, ◌^◌, ◌<◌, List, [], ◌∷◌, All, refl, sym, ap, ◌∙◌, subst, arith}
 use Rattle.fuzzy_meaning.specs.declared.block.Block.{Block}
 use Rattle.fuzzy_meaning.specs.Blocks.{IsValid}
 use Rattle.byte_scaling.specs.Cells.{NearestIsByte}
@@ -18,20 +18,24 @@ use Rattle.codegen.specs.Bounds.{instruction_bound}
 use Rattle.codegen.specs.Images.{vector_items, block_items, firmware_items, IsApart}
 use Rattle.codegen.specs.Firing.{AreInputBytes}
 use Rattle.codegen.specs.Evaluation.{EvalAnswers}
-use Rattle.codegen.specs.Answers.{IsArrived, AreAnswered, FirmwareAnswers}
+use Rattle.codegen.specs.Evaluation.{Reads, Writes}
+use Rattle.codegen.specs.Answers.{IsArrivedBeside, AreAnsweredBeside, FirmwareAnswers, LeavesLayout, FirmwareAnswersBeside, ArrivesAlike, FirmwareArrivesAlike}
 use Rattle.codegen.proofs.Placement.{HasSizes, main_rises}
 use Rattle.codegen.proofs.phases.RuleFacts.{BlockFacts, block_facts}
 use Rattle.codegen.proofs.runs.Stepping.{IsShut, Ctx, interruptible_of}
 use Rattle.cpu12_isa.specs.Regions.{is_free}
-use Rattle.codegen.specs.Interruptible.{IsInterruptible}
+use Rattle.cpu12_isa.specs.Agreement.{Agree}
 use Rattle.std.proofs.lemmas.Bool.Decides.{nat_tests}
-use Rattle.codegen.proofs.runs.Founding.{IsFramed, stood, start_stands, around_eval, frame_bytes, has_frame, has_routine}
-use Rattle.codegen.proofs.runs.Arriving.{Arrived, arrive, zero_below}
-use Rattle.codegen.proofs.runs.Framing.{Samples, waits}
+use Rattle.codegen.proofs.runs.Founding.{IsStarted, IsFramed, start_code, stood, start_stands, around_eval, frame_bytes, has_frame, has_routine}
+use Rattle.codegen.proofs.runs.Arriving.{Arrived, arrive, arrive_alike, zero_below}
+use Rattle.codegen.proofs.runs.Calling.{IsInCode}
+use Rattle.codegen.proofs.steps.Memory.{HasBytes}
+use Rattle.codegen.specs.Data.{bytes_of_word}
+use Rattle.codegen.proofs.runs.Framing.{HasFrame, Samples, waits}
 use Rattle.codegen.proofs.runs.Sampling.{are_answered}
 use Rattle.codegen.proofs.runs.Standing.{Rises, HasGiven}
 use Rattle.codegen.proofs.runs.GivenBytes.{ItemsFit, block_fits, vectors_fit, memory_fits}
-use Rattle.codegen.proofs.steps.Decoding.{UsedCode}
+use Rattle.codegen.proofs.steps.Decoding.{UsedCode, code_bytes}
 use Rattle.cpu12_isa.specs.declared.instr.Instr.TheVariants.{Rts}
 
 -- the laws of other crates, and that on EVAL
@@ -68,8 +72,48 @@ main_framed = record {
   eval = omega arith;
 }
 
-pub main_shut : IsShut is_free main_layout
-main_shut = record { reads = λ at low r. grind (arith, nat_tests); writes = λ at low w. grind (arith, nat_tests); high = λ at h. grind (arith, nat_tests) }
+-- what leaves the layout alone
+pub main_shut : (open_to : ℕ → Bool) → LeavesLayout open_to main_layout → IsShut open_to main_layout
+main_shut open_to h = record {
+  reads = h.reads;
+  writes = h.writes;
+  stack = h.stack;
+  code = λ at from to. h.code at from (omega arith);
+  low = omega arith;
+  high = omega arith;
+}
+
+-- so do the free bytes
+pub not_free : (at : ℕ) → (at < 0x1800) ⊎ (0x1FE0 ≤ at) → is_free at ≡ false
+not_free at (inl h) = grind (arith, nat_tests)
+not_free at (inr h) = grind (arith, nat_tests)
+
+free_read : (at : ℕ) → Reads main_layout at → is_free at ≡ false
+free_read at (inl o) = not_free at (inl (omega (arith, o.1)))
+free_read at (inr (inl o)) = not_free at (inl (omega (arith, o.1)))
+free_read at (inr (inr (inl o))) = not_free at (inr (omega (arith, o.0)))
+free_read at (inr (inr (inr (inl o)))) = not_free at (inr (omega (arith, o.0)))
+free_read at (inr (inr (inr (inr (inl o))))) = not_free at (inr (omega (arith, o.0)))
+free_read at (inr (inr (inr (inr (inr (inl o)))))) = not_free at (inr (omega (arith, o.0)))
+free_read at (inr (inr (inr (inr (inr (inr o)))))) = absurd o
+
+free_written : (at : ℕ) → Writes main_layout at → is_free at ≡ false
+free_written at (inl o) = not_free at (inl (omega (arith, o.1)))
+free_written at (inr (inl o)) = not_free at (inl (omega (arith, o.1)))
+free_written at (inr (inr o)) = absurd o
+
+pub free_leaves : LeavesLayout is_free main_layout
+free_leaves = record {
+  ready = refl;
+  reads = free_read;
+  writes = free_written;
+  stack = λ at from to. not_free at (inr from);
+  code = λ at from to. not_free at (inr (omega arith));
+  reset = λ at from to. not_free at (inr (omega arith));
+}
+
+main_inside : IsInCode main_layout
+main_inside = record { from = omega arith; to = omega arith }
 
 main_frame_used : UsedCode (frame_code main_layout)
 main_frame_used = (tt, omega arith, (tt, omega arith, (tt, omega arith, (tt, omega arith, (tt, omega arith, (tt, omega arith, (tt, omega arith, (tt, omega arith, (tt, tt, tt)))))))))
@@ -77,34 +121,46 @@ main_frame_used = (tt, omega arith, (tt, omega arith, (tt, omega arith, (tt, ome
 pub sizes_of : (b : Block) → BlockFacts b → IsWithinLimits b → HasSizes b
 sizes_of b facts h = record { few_slots = facts.few_slots; few_conjunctions = h.few_conjunctions; short_list = h.short_list }
 
--- from the first arrival on, the samples are answered within a bound
-abbrev pub Answers : Layout → Block → Width → ℕ → List ℕ → ℕ → List (List ℕ) → Type 0
-Answers l b w most image flags samples = (s : State) × (IsArrived l image flags s × AreAnswered l b w most image flags (λ o. 0) samples s)
+-- what runs are under that are beside handlers to which these bytes are open
+abbrev over_main : FirmwareLaws → (open_to : ℕ → Bool) → LeavesLayout open_to main_layout → List ℕ → (flags : ℕ) → flags < 2 ^ 8 → Ctx
+over_main laws open_to leaves image flags fits =
+    record { stays_fit = laws.stays_fit; open_to = open_to; layout = main_layout; shut = main_shut open_to leaves; image = image; flags = flags; fits = fits }
 
-from_arrival : (c : Ctx) (b : Block) (w : Width) (samples : List (List ℕ)) → c.open_to ≡ is_free → Samples c b w → All (AreInputBytes b) samples → Arrived c b w
-    → Answers c.layout b w (instruction_bound w b) c.image c.flags samples
-from_arrival c b w samples free h all a =
-    let low = h.frame.low in
-    let high = h.frame.high in
-    let at = a.home.pc_is in
-    let interruptible = subst (λ (o : ℕ → Bool). IsInterruptible o c.image a.t) free (interruptible_of c a.t a.home.live (omega arith) (omega arith)) in
-    (a.t, (record { way = a.way; wait = at; idle = waits c.layout a.t at a.home.ready_is; interruptible = interruptible }, are_answered c b w samples (λ o. 0) a.t free h a.home all))
+-- what they stand on, and the first arrival
+record Founded (c : Ctx) (b : Block) (w : Width) : Type 0 where
+  samples : Samples c b w
+  vector : HasBytes c.image 0xFFFE (bytes_of_word c.layout.code)
+  start : HasBytes c.image c.layout.code (code_bytes (start_code c.layout))
+  arrived : Arrived c b w
 
-with_parts : FirmwareLaws → (b : Block) (w : Width) (image : List ℕ) (flags : ℕ) (samples : List (List ℕ)) (fits : flags < 2 ^ 8) → IsValid b → IsWithinLimits b
-    → HasGiven image (given_by (firmware_items main_layout b w)) → IsRising (firmware_items main_layout b w) → All (AreInputBytes b) samples
-    → Answers main_layout b w (instruction_bound w b) image flags samples
-with_parts laws b w image flags samples fits v limits g rise all =
+founded : (laws : FirmwareLaws) → (open_to : ℕ → Bool) (leaves : LeavesLayout open_to main_layout) (b : Block) (w : Width) (image : List ℕ) (flags : ℕ) (fits : flags < 2 ^ 8)
+    → IsValid b → IsWithinLimits b → HasGiven image (given_by (firmware_items main_layout b w)) → IsRising (firmware_items main_layout b w)
+    → Founded (over_main laws open_to leaves image flags fits) b w
+founded laws open_to leaves b w image flags fits v limits g rise =
     let facts = block_facts laws.layout_law b v in
     let frame = frame_code main_layout in
     let back = Rts ∷ [] in
-    let c : Ctx = record { stays_fit = laws.stays_fit; open_to = is_free; layout = main_layout; shut = main_shut; image = image; flags = flags; fits = fits } in
+    let c : Ctx = over_main laws open_to leaves image flags fits in
     let around = around_eval image main_layout b w frame back refl (stood laws.rises image [] (vector_items main_layout) main_layout b w frame back g rise) in
     let fb = frame_bytes image main_layout around.front in
     let vector = start_stands laws.rises image (block_items main_layout b w frame back) main_layout g rise in
     let fit : ItemsFit (firmware_items main_layout b w) =
     block_fits laws.nearest_is_byte main_layout b w frame back (vector_items main_layout) v facts main_apart main_frame_used (tt, tt, tt) (vectors_fit main_layout (omega arith) (omega arith)) in
-    from_arrival c b w samples refl (record { apart = main_apart; valid = v; facts = facts; limits = limits; eval_answers = laws.eval_answers; routine = has_routine main_layout b w frame image (omega arith) around; frame = has_frame c refl main_framed main_apart fb }) all
-    (arrive c b w main_framed.started main_apart v.few_outputs vector fb.start g.size (memory_fits (firmware_items main_layout b w) image fit g.size g.bytes) (λ q lt. zero_below laws.rises image main_layout b w frame back (vector_items main_layout) g rise q lt (omega arith)))
+    record {
+      samples = record {
+        apart = main_apart;
+        valid = v;
+        facts = facts;
+        limits = limits;
+        eval_answers = laws.eval_answers;
+        routine = has_routine main_layout b w frame image (omega arith) main_inside around;
+        frame = has_frame c leaves.ready main_framed main_apart fb;
+      };
+      vector = vector;
+      start = fb.start;
+      arrived = arrive c b w main_framed.started main_apart v.few_outputs vector fb.start g.size (memory_fits (firmware_items main_layout b w) image fit g.size g.bytes)
+          (λ q lt. zero_below laws.rises image main_layout b w frame back (vector_items main_layout) g rise q lt (omega arith));
+    }
 
 -- the memory of an image that holds what items give
 pub image_given : HoldsImage → (image given : List (ℕ × ℕ)) → Holds image given → HasGiven (image_memory image) given
@@ -112,17 +168,66 @@ image_given holds_image image given h =
     let m = holds_image image in
     record { size = m.0; bytes = λ at lt. m.1 at lt ∙ ap byte_or_zero (h.bytes at) }
 
-main_answers : FirmwareLaws → (b : Block) (w : Width) (image : List (ℕ × ℕ)) (flags : ℕ) (samples : List (List ℕ)) → IsValid b → IsWithinLimits b
-    → Holds image (given_by (firmware_items main_layout b w)) → flags < 2 ^ 8 → All (AreInputBytes b) samples
-    → Answers main_layout b w (instruction_bound w b) (image_memory image) flags samples
-main_answers laws b w image flags samples v limits h fits all =
+main_founded : (laws : FirmwareLaws) → (open_to : ℕ → Bool) (leaves : LeavesLayout open_to main_layout) (b : Block) (w : Width) (image : List (ℕ × ℕ)) (flags : ℕ) (fits : flags < 2 ^ 8)
+    → IsValid b → IsWithinLimits b → Holds image (given_by (firmware_items main_layout b w)) → Founded (over_main laws open_to leaves (image_memory image) flags fits) b w
+main_founded laws open_to leaves b w image flags fits v limits h =
     let items = firmware_items main_layout b w in
     let rise : IsRising items = main_rises b w items v (sizes_of b (block_facts laws.layout_law b v) limits) refl in
-    with_parts laws b w (image_memory image) flags samples fits v limits (image_given laws.holds_image image (given_by items) h) rise all
+    founded laws open_to leaves b w (image_memory image) flags fits v limits (image_given laws.holds_image image (given_by items) h) rise
 
-pub firmware_answers : FirmwareLaws → FirmwareAnswers
-firmware_answers laws b f v limits h flags samples fits all =
+arrived_at : (c : Ctx) (b : Block) (w : Width) → HasFrame c → (a : Arrived c b w) → IsArrivedBeside c.open_to c.layout c.image c.flags a.t
+arrived_at c b w h a =
+    let from = h.from in
+    let to = h.to in
+    let at = a.home.pc_is in
+    record { way = a.way; wait = at; idle = waits c.layout a.t at a.home.ready_is; interruptible = interruptible_of c a.t a.home.live (omega arith) (omega arith) }
+
+-- from the first arrival on, the samples are answered within a bound
+abbrev pub Answers : (ℕ → Bool) → Layout → Block → Width → ℕ → List ℕ → ℕ → List (List ℕ) → Type 0
+Answers open_to l b w most image flags samples =
+    (s : State) × (IsArrivedBeside open_to l image flags s × AreAnsweredBeside open_to l b w most image flags (λ o. 0) samples s)
+
+from_arrival : (c : Ctx) (b : Block) (w : Width) (samples : List (List ℕ)) → Founded c b w → All (AreInputBytes b) samples
+    → Answers c.open_to c.layout b w (instruction_bound w b) c.image c.flags samples
+from_arrival c b w samples h all =
+    let a = h.arrived in
+    (a.t, (arrived_at c b w h.samples.frame a, are_answered c b w samples (λ o. 0) a.t h.samples a.home all))
+
+pub firmware_answers_beside : FirmwareLaws → FirmwareAnswersBeside
+firmware_answers_beside laws open_to b f leaves v limits h flags samples fits all =
     let w = width_of f.wide in
     let image = image_memory f.image.bytes in
-    subst (λ (l : Layout). Answers l b w f.instr_bound image flags samples) (sym h.layout)
-    (subst (λ (most : ℕ). Answers main_layout b w most image flags samples) (sym h.instructions) (main_answers laws b w f.image.bytes flags samples v limits h.image.bytes fits all))
+    let mine : LeavesLayout open_to main_layout = subst (λ (l : Layout). LeavesLayout open_to l) h.layout leaves in
+    let c = over_main laws open_to mine image flags fits in
+    subst (λ (l : Layout). Answers open_to l b w f.instr_bound image flags samples) (sym h.layout)
+    (subst (λ (most : ℕ). Answers open_to main_layout b w most image flags samples) (sym h.instructions)
+    (from_arrival c b w samples (main_founded laws open_to mine b w f.image.bytes flags fits v limits h.image.bytes) all))
+
+pub firmware_answers : FirmwareAnswersBeside → FirmwareAnswers
+firmware_answers beside b f v limits h = beside is_free b f (subst (λ (l : Layout). LeavesLayout is_free l) (sym h.layout) free_leaves) v limits h
+
+-- the arrival over a memory that agrees
+alike : (c : Ctx) (b : Block) (w : Width) (mem : List ℕ) → Founded c b w → IsStarted c.layout → ((at : ℕ) → 0xFFFE ≤ at → at < 2 ^ 16 → c.open_to at ≡ false)
+    → Agree c.open_to mem c.image → ArrivesAlike c.open_to c.layout c.image mem c.flags
+alike c b w mem h started reset agree =
+    let a = h.arrived in
+    let r = arrive_alike c mem started h.samples.frame.shown reset h.vector h.start a.size agree in
+    record {
+      image_state = a.t;
+      state = r.state;
+      image_arrived = arrived_at c b w h.samples.frame a;
+      way = r.way;
+      regs = r.regs ∙ ap (λ (s : State). s.regs) (sym a.third_is);
+      temps = r.temps ∙ ap (λ (s : State). s.temps) (sym a.third_is);
+      bytes = subst (λ (s : State). Agree c.open_to r.state.mem s.mem) (sym a.third_is) r.bytes;
+      open_bytes = r.open_bytes;
+    }
+
+pub firmware_arrives_alike : FirmwareLaws → FirmwareArrivesAlike
+firmware_arrives_alike laws open_to b f mem flags fits leaves v limits h agree =
+    let w = width_of f.wide in
+    let image = image_memory f.image.bytes in
+    let mine : LeavesLayout open_to main_layout = subst (λ (l : Layout). LeavesLayout open_to l) h.layout leaves in
+    let c = over_main laws open_to mine image flags fits in
+    subst (λ (l : Layout). ArrivesAlike open_to l image mem flags) (sym h.layout)
+    (alike c b w mem (main_founded laws open_to mine b w f.image.bytes flags fits v limits h.image.bytes) main_framed.started mine.reset agree)

@@ -26,11 +26,18 @@ use Rattle.cpu12_isa.specs.declared.instr.Instr.TheVariants.{ClrExtended, Beq}
 use Rattle.codegen.proofs.steps.Flags.{masked_four}
 use Rattle.codegen.proofs.steps.Executions.{Bounded, bounded_one, bounded_on}
 
--- what is open to handlers is neither owned by EVAL nor the stack, nor above it
+-- how many bytes the code of a form has at most, with those that are fetched behind it
+abbrev pub code_room : ℕ
+code_room = 0x1000
+
+-- what is open to handlers is neither owned by EVAL, nor the stack, nor code
 pub record IsShut (open_to : ℕ → Bool) (l : Layout) : Type 0 where
-  pub reads : (at : ℕ) → at < 0x1800 → Reads l at → open_to at ≡ false
-  pub writes : (at : ℕ) → at < 0x1800 → Writes l at → open_to at ≡ false
-  pub high : (at : ℕ) → 0x1FE0 ≤ at → open_to at ≡ false
+  pub reads : (at : ℕ) → Reads l at → open_to at ≡ false
+  pub writes : (at : ℕ) → Writes l at → open_to at ≡ false
+  pub stack : (at : ℕ) → 0x1FE0 ≤ at → at < 0x2000 → open_to at ≡ false
+  pub code : (at : ℕ) → l.code ≤ at → at < l.code + code_room → open_to at ≡ false
+  pub low : 0x2000 ≤ l.code
+  pub high : l.code + code_room < 65536
 
 -- what a run is under: the bytes that are open to handlers, the layout, the image's memory and the open flags
 pub record Ctx : Type 0 where
@@ -44,7 +51,8 @@ pub record Ctx : Type 0 where
 
 -- an instruction stands in the image, and not where the code waits
 pub record Here (c : Ctx) (p : ℕ) (i : Instr) : Type 0 where
-  pub low : 0x2000 ≤ p
+  pub from : c.layout.code ≤ p
+  pub to : p + 6 ≤ c.layout.code + code_room
   pub high : p + 6 < 65536
   pub off : p ≢ c.layout.wait
   pub fits : FitsOperands i
@@ -83,13 +91,15 @@ high_shown open_to sp at a h =
     rw (a, b)
 
 -- so are the bytes of code
-pub code_shown : (open_to : ℕ → Bool) (sp pc : ℕ) → ((at : ℕ) → 0x1FE0 ≤ at → open_to at ≡ false) → sp ≤ 0x2000 → 0x2000 ≤ pc → pc + 6 < 65536
+pub code_shown : (open_to : ℕ → Bool) (l : Layout) (sp pc : ℕ) → IsShut open_to l → sp ≤ 0x2000 → l.code ≤ pc → pc + 6 ≤ l.code + code_room
     → AllShown (is_hidden open_to sp) (six_from pc)
-code_shown open_to sp pc shut a b c =
-    let at : (k : ℕ) → k ≤ 5 → is_hidden open_to sp (plus pc k) ≡ false = λ k l. high_shown open_to sp (plus pc k) (shut (plus pc k) (omega arith)) (omega arith) in
-    (high_shown open_to sp pc (shut pc (omega arith)) (omega arith), (at 1 (omega arith), (at 2 (omega arith), (at 3 (omega arith), (at 4 (omega arith), (at 5 (omega arith), tt))))))
+code_shown open_to l sp pc shut a b c =
+    let lo = shut.low in
+    let hi = shut.high in
+    let at : (k : ℕ) → k ≤ 5 → is_hidden open_to sp (plus pc k) ≡ false = λ k le. high_shown open_to sp (plus pc k) (shut.code (plus pc k) (omega arith) (omega arith)) (omega arith) in
+    (high_shown open_to sp pc (shut.code pc (omega arith) (omega arith)) (omega arith), (at 1 (omega arith), (at 2 (omega arith), (at 3 (omega arith), (at 4 (omega arith), (at 5 (omega arith), tt))))))
 
-pub steady_of : (c : Ctx) (masked : Bool) (s : State) → Lives c.image masked s → 0x2000 ≤ s.regs.pc → s.regs.pc + 6 < 65536 → IsSteady c.open_to masked c.image s
+pub steady_of : (c : Ctx) (masked : Bool) (s : State) → Lives c.image masked s → c.layout.code ≤ s.regs.pc → s.regs.pc + 6 ≤ c.layout.code + code_room → IsSteady c.open_to masked c.image s
 steady_of c masked s l lo hi = record {
   temps = l.temps;
   size = l.size;
@@ -98,10 +108,10 @@ steady_of c masked s l lo hi = record {
   stack = l.stack;
   mask = l.mask;
   same = l.same;
-  code = code_shown c.open_to s.regs.sp s.regs.pc c.shut.high (sp_high s l.stack) lo hi;
+  code = code_shown c.open_to c.layout s.regs.sp s.regs.pc c.shut (sp_high s l.stack) lo hi;
 }
 
-pub interruptible_of : (c : Ctx) (s : State) → Live c s → 0x2000 ≤ s.regs.pc → s.regs.pc + 6 < 65536 → IsInterruptible c.open_to c.image s
+pub interruptible_of : (c : Ctx) (s : State) → Live c s → c.layout.code ≤ s.regs.pc → s.regs.pc + 6 ≤ c.layout.code + code_room → IsInterruptible c.open_to c.image s
 interruptible_of c = steady_of c false
 
 writes_shown : (open_to : ℕ → Bool) (sp : ℕ) (ws : List (ℕ × ℕ)) → WriteBelow 0x1800 ws → AllShown open_to (addresses ws)
@@ -116,7 +126,7 @@ pub record Went (c : Ctx) (later : Bool) (i : Instr) (s t : State) (q : ℕ) : T
   pub pc_is : t.regs.pc ≡ q
 
 -- one that stands in the image and leaves the stack as the code has it
-pub plain_went : (c : Ctx) (masked later : Bool) (s : State) (p q : ℕ) (i : Instr) → Lives c.image masked s → s.regs.pc ≡ p → 0x2000 ≤ p → p + 6 < 65536
+pub plain_went : (c : Ctx) (masked later : Bool) (s : State) (p q : ℕ) (i : Instr) → Lives c.image masked s → s.regs.pc ≡ p → c.layout.code ≤ p → p + 6 ≤ c.layout.code + code_room
     → decode_at c.image p ≡ Ok i → is_plain i ≡ true → FitsOperands i
     → AllShown (is_hidden c.open_to s.regs.sp) (read_by (act_of c.flags i s.regs) s.mem)
     → AllShown (is_hidden c.open_to (min s.regs.sp (effect c.flags i s.regs s.mem).regs.sp)) (addresses (effect c.flags i s.regs s.mem).writes)
@@ -129,7 +139,9 @@ pub plain_went : (c : Ctx) (masked later : Bool) (s : State) (p q : ℕ) (i : In
 plain_went c masked later s p q i l ep lo hi de pl fo reads writes uncovers below stack mask pc =
     let e = effect c.flags i s.regs s.mem in
     let fit = c.stays_fit c.flags i s.regs s.mem c.fits fo l.fits l.bytes in
-    let d : decode_at s.mem s.regs.pc ≡ Ok i = ap (decode_at s.mem) ep ∙ decode_same c.image s.mem p lo hi l.same ∙ de in
+    let low = c.shut.low in
+    let high = c.shut.high in
+    let d : decode_at s.mem s.regs.pc ≡ Ok i = ap (decode_at s.mem) ep ∙ decode_same c.image s.mem p (omega arith) (omega arith) l.same ∙ de in
     record {
       shown = record { step = record { decoded = d; plain = pl; after = refl }; reads = reads; writes = writes; uncovers = uncovers };
       lives = record {
@@ -151,7 +163,7 @@ pub record Next (c : Ctx) (s t : State) (q : ℕ) : Type 0 where
   pub pc_is : t.regs.pc ≡ q
 
 -- the same where I stays 0, and the code does not wait
-pub plain_next : (c : Ctx) (s : State) (p q : ℕ) (i : Instr) → Live c s → is_idle c.layout s ≡ false → s.regs.pc ≡ p → 0x2000 ≤ p → p + 6 < 65536
+pub plain_next : (c : Ctx) (s : State) (p q : ℕ) (i : Instr) → Live c s → is_idle c.layout s ≡ false → s.regs.pc ≡ p → c.layout.code ≤ p → p + 6 ≤ c.layout.code + code_room
     → decode_at c.image p ≡ Ok i → is_plain i ≡ true → FitsOperands i
     → AllShown (is_hidden c.open_to s.regs.sp) (read_by (act_of c.flags i s.regs) s.mem)
     → AllShown (is_hidden c.open_to (min s.regs.sp (effect c.flags i s.regs s.mem).regs.sp)) (addresses (effect c.flags i s.regs s.mem).writes)
@@ -183,7 +195,7 @@ pub next : (c : Ctx) (s : State) (p q : ℕ) (i : Instr) → Live c s → s.regs
     → Next c s (after_plain c.flags i s) q
 next c s p q i l ep h pl fo reads below shut esp mask pc =
     let e = effect c.flags i s.regs s.mem in
-    plain_next c s p q i l (not_at c.layout s p ep h.off) ep h.low h.high h.decoded pl fo reads (writes_shown c.open_to (min s.regs.sp e.regs.sp) e.writes below shut) (λ at g. inl (ap (λ k. is_hidden c.open_to k at) (sym esp) ∙ g)) (below_more 0x1800 0x2000 e.writes (omega arith) below) (⊎_elim (λ a. inl (esp ∙ a)) (λ b. inr (esp ∙ b)) l.stack) mask pc
+    plain_next c s p q i l (not_at c.layout s p ep h.off) ep h.from h.to h.decoded pl fo reads (writes_shown c.open_to (min s.regs.sp e.regs.sp) e.writes below shut) (λ at g. inl (ap (λ k. is_hidden c.open_to k at) (sym esp) ∙ g)) (below_more 0x1800 0x2000 e.writes (omega arith) below) (⊎_elim (λ a. inl (esp ∙ a)) (λ b. inr (esp ∙ b)) l.stack) mask pc
 
 -- executions of at most n instructions, with at most k parts beyond their first
 abbrev pub Goes : Ctx → ℕ → ℕ → State → State → Type 0
@@ -206,16 +218,17 @@ beq_on c s p to l ep h lt z =
     next c s p (p + 2) (Beq to) l ep h refl lt tt tt tt refl refl (ap (λ b. if b then plus (plus s.regs.pc 2) (if nat_lt to 128 then to else to + 65280) else plus s.regs.pc 2) z ∙ omega (arith, h.high))
 
 -- code that stands in the image above where it waits
-pub stands_of : (c : Ctx) (p : ℕ) (is : List Instr) → UsedCode is → HasBytes c.image p (code_bytes is) → 0x2000 ≤ p → c.layout.wait < p
-    → p + sizes is + 6 < 65536 → Stands c p is
+pub stands_of : (c : Ctx) (p : ℕ) (is : List Instr) → UsedCode is → HasBytes c.image p (code_bytes is) → c.layout.code ≤ p → c.layout.wait < p
+    → p + sizes is + 6 ≤ c.layout.code + code_room → Stands c p is
 stands_of c p [] u h lo w hi = tt
 stands_of c p (i ∷ is) u h lo w hi = (
   record {
-    low = lo;
-    high = omega arith;
+    from = lo;
+    to = omega arith;
+    high = (let end = c.shut.high in omega arith);
     off = λ e. omega arith;
     fits = u.1;
-    decoded = decode_here c.image p i u.0 (omega arith) (bytes_front c.image p (encode_of i) (code_bytes is) h);
+    decoded = decode_here c.image p i u.0 (let end = c.shut.high in omega arith) (bytes_front c.image p (encode_of i) (code_bytes is) h);
   },
   stands_of c (p + length (encode_of i)) is u.2 (bytes_back c.image p (encode_of i) (code_bytes is) h) (omega arith) (omega arith) (omega arith),
 )

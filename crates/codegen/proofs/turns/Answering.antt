@@ -1,6 +1,6 @@
 -- The uninterrupted answers of the mailbox form.
-use Rattle.std.proofs.Common.{◌≡◌, ◌≢◌, ◌⊎◌, inl, inr, ℕ, zero, suc, ◌+◌, ◌-◌, ◌*◌, ◌^◌, ◌<◌, ◌≤◌, Bool, true, false, List, [], ◌∷◌, ◌++◌, length, get_or, set, All, refl, sym, ap}
-use Rattle.std.proofs.Common.{◌∙◌, subst, arith, length-set, get_or-set_same, get_or-set_other}
+use Rattle.std.proofs.Common.{◌≡◌, inl, inr, ℕ, zero, suc, ◌+◌, ◌-◌, ◌*◌, ◌^◌, ◌<◌, ◌≤◌, Bool, false, List, [], ◌∷◌, ◌++◌, length, get_or, All, refl, sym, ap}
+use Rattle.std.proofs.Common.{◌∙◌, subst, arith, get_or-set_same}
 use Rattle.std.specs.Prelude.{◌==◌, if◌then◌else◌}
 use Rattle.std.proofs.lemmas.Bool.Decides.{nat_tests}
 use Rattle.fuzzy_meaning.specs.declared.block.Block.{Block}
@@ -20,11 +20,11 @@ use Rattle.codegen.specs.Firing.{AreInputBytes}
 use Rattle.codegen.specs.Evaluation.{HasBytes, HasAnswers}
 use Rattle.codegen.specs.Interruptible.{is_idle}
 use Rattle.codegen.specs.Answers.{put, given}
-use Rattle.codegen.specs.Uninterrupted.{Answer, values_in, is_waiting, AreAnswersTo, AreAnswersOf, AreUninterrupted, AnswersUninterrupted}
+use Rattle.codegen.specs.Uninterrupted.{Answer, values_in, is_waiting, AreAnswersTo, AreAnswersOf, AreUninterrupted}
 use Rattle.codegen.specs.Mailboxes.{is_postable, mailbox_layout}
-use Rattle.codegen.specs.Turns.{IsAt, IsMaskedStep, IsCopied, IsLook, IsChoice, IsTurned, TakesTurns, MailboxTakesPosts, MailboxIsUninterrupted, call_of}
+use Rattle.codegen.specs.Turns.{IsAt, IsMaskedStep, IsCopied, IsLook, IsChoice, TakesTurns, MailboxTakesPosts, MailboxIsUninterrupted, call_of}
 use Rattle.codegen.proofs.steps.Executions.{execution_on, length_append}
-use Rattle.codegen.proofs.steps.Memory.{length-put, at_put_in, has_put, bytes_by, bytes_put_out, bytes_set_out, same_bytes}
+use Rattle.codegen.proofs.steps.Memory.{length-put, has_put, bytes_by, bytes_put_out, bytes_set_out, same_bytes}
 use Rattle.codegen.proofs.runs.Stepping.{not_at}
 use Rattle.codegen.proofs.runs.Framing.{answer_room, not_ready, given_live, waits as idle}
 use Rattle.codegen.proofs.runs.Uninterrupted.{uninterrupted, waits, arrival, plain_parts, count_from, value_from}

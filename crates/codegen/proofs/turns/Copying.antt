@@ -1,6 +1,6 @@
 -- MAIL is copied while I is 1.
 use Rattle.std.proofs.Common.{◌≡◌, ◌≢◌, ◌⊎◌, inl, inr, ⊎_elim, ℕ, zero, suc, ◌+◌, ◌*◌, ◌<◌, ◌≤◌, Bool, true, false, List, [], ◌∷◌, ◌++◌, length, get_or, set, min, refl, sym, ap, ◌∙◌}
-use Rattle.std.proofs.Common.{subst, arith, length-set, get_or-set_same, get_or-set_other}
+use Rattle.std.proofs.Common.{subst, arith, get_or-set_same, get_or-set_other}
 use Rattle.std.proofs.lemmas.Bool.Decides.{nat_tests}
 use Rattle.cpu12_isa.specs.declared.instr.Instr.{Instr}
 use Rattle.cpu12_isa.specs.declared.instr.Instr.TheVariants.{ClrExtended, Andcc, Orcc, MovbExtended}
@@ -23,7 +23,7 @@ masked_step : (p : Post) (i : Instr) (s t : State) (at q : ℕ) → Lives p.imag
     → Went (free_ctx p) later i s t q → Masked p 0 s t
 masked_step p i s t at q l e h later w = record {
   busy = not_at (mailbox_layout p.n) s at e h.off;
-  steady = (let lo = h.low in let hi = h.high in steady_of (post_ctx p) true s l (omega arith) (omega arith));
+  steady = (let lo = h.from in let hi = h.to in steady_of (post_ctx p) true s l (omega arith) (omega arith));
   instruction = i;
   shown = w.shown;
   single = refl;
@@ -46,8 +46,9 @@ record Moved (p : Post) (n at from to : ℕ) (rest : List Instr) (s : State) : T
 movb_run : (p : Post) (at from to : ℕ) (s : State) → Lives p.image true s → s.regs.pc ≡ at → Here (free_ctx p) at (MovbExtended from to) → from < 0x1800 → to < 0x1800
     → Went (free_ctx p) true (MovbExtended from to) s (after_plain p.flags (MovbExtended from to) s) (at + 6)
 movb_run p at from to s l e h lf lt =
-    let lo = h.low in
-    let hi = h.high in
+    let lo = h.from in
+    let hi = h.to in
+    let high = h.high in
     plain_went (free_ctx p) true true s at (at + 6) (MovbExtended from to) l e lo hi h.decoded refl h.fits (low_shown is_free s.regs.sp from (below from lf) lf, tt) (low_shown is_free _ to (below to lt) lt, tt) (λ at g. inl g) (omega arith, tt) l.stack l.mask (omega arith)
   where
     below : (q : ℕ) → q < 0x1800 → is_free q ≡ false
@@ -112,16 +113,18 @@ set_run p h s at =
 clear_run : (p : Post) (at : ℕ) (s : State) → Lives p.image true s → s.regs.pc ≡ at → Here (free_ctx p) at (ClrExtended 0x1028)
     → Went (free_ctx p) true (ClrExtended 0x1028) s (after_plain p.flags (ClrExtended 0x1028) s) (at + 3)
 clear_run p at s l e h =
-    let lo = h.low in
-    let hi = h.high in
+    let lo = h.from in
+    let hi = h.to in
+    let high = h.high in
     plain_went (free_ctx p) true true s at (at + 3) (ClrExtended 0x1028) l e lo hi h.decoded refl h.fits tt (low_shown is_free (min s.regs.sp s.regs.sp) 0x1028 refl (omega arith), tt) (λ at g. inl g) (omega arith, tt) l.stack (masked_four s.regs.ccr false true false false ∙ l.mask) (omega arith)
 
 -- ANDCC
 allow_run : (p : Post) (at : ℕ) (s : State) → Lives p.image true s → s.regs.pc ≡ at → Here (free_ctx p) at (Andcc 0xEF)
     → Went (free_ctx p) false (Andcc 0xEF) s (after_plain p.flags (Andcc 0xEF) s) (at + 2)
 allow_run p at s l e h =
-    let lo = h.low in
-    let hi = h.high in
+    let lo = h.from in
+    let hi = h.to in
+    let high = h.high in
     plain_went (free_ctx p) true false s at (at + 2) (Andcc 0xEF) l e lo hi h.decoded refl h.fits tt tt (λ at g. inl g) tt l.stack (unmasked s.regs.ccr.0) (omega arith)
 
 pub copies_run : (p : Post) → HasTurn p → (s : State) → IsAt p.image 0xC00D s → (t : State) × IsCopied (mailbox_layout p.n) p.n p.image p.flags s t

@@ -1,12 +1,11 @@
 -- The mailbox form's code stands in its memory.
-use Rattle.std.proofs.Common.{◌≡◌, inr, ℕ, zero, suc, ◌+◌, ◌-◌, ◌*◌, ◌^◌, ◌<◌, ◌≤◌, Ok, List, [], ◌∷◌, ◌++◌, length, refl, sym, ap, ap₂, ◌∙◌, subst, arith, length-append}
+use Rattle.std.proofs.Common.{◌≡◌, inr, ℕ, zero, suc, ◌+◌, ◌-◌, ◌*◌, ◌^◌, ◌<◌, ◌≤◌, List, [], ◌∷◌, ◌++◌, length, refl, sym, ap, ap₂, ◌∙◌, subst, arith, length-append}
 use Rattle.fuzzy_meaning.specs.declared.block.Block.{Block}
 use Rattle.fuzzy_meaning.specs.Blocks.{IsValid}
 use Rattle.cpu12_isa.specs.declared.instr.Instr.{Instr}
 use Rattle.cpu12_isa.specs.declared.instr.Instr.TheVariants.{LdaaExtended, Beq, Bra, JsrExtended, MovbExtended, Orcc, Rts}
-use Rattle.cpu12_isa.specs.Code.{encode_of, decode_at}
+use Rattle.cpu12_isa.specs.Code.{encode_of}
 use Rattle.cpu12_asm.specs.Items.{IsRising}
-use Rattle.codegen.specs.declared.layout.Layout.{Layout}
 use Rattle.codegen.specs.declared.width.Width.{Width}
 use Rattle.codegen.specs.Images.{vector_items, block_items, IsApart}
 use Rattle.codegen.specs.Evaluation.{HasBytes}
@@ -17,6 +16,7 @@ use Rattle.codegen.proofs.steps.Decoding.{sizes, sizes_append, UsedCode, used_ap
 use Rattle.codegen.proofs.steps.Memory.{bytes_front, bytes_back}
 use Rattle.codegen.proofs.phases.Used.{sizes_is}
 use Rattle.codegen.proofs.runs.Stepping.{Ctx, Here, Stands, stands_of}
+use Rattle.codegen.proofs.runs.Calling.{IsInCode}
 use Rattle.codegen.proofs.runs.Founding.{IsStarted, start_code}
 use Rattle.codegen.proofs.turns.Posting.{Post, HasTurn, free_ctx, post_ctx}
 
@@ -66,6 +66,9 @@ mailbox_started n = record { low = omega arith; high = omega arith; wait = refl;
 
 mailbox_spaced : (n : ℕ) → IsSpaced (mailbox_layout n)
 mailbox_spaced n = record { tables = omega arith; singletons = omega arith; weights = omega arith }
+
+pub mailbox_inside : (n : ℕ) → n ≤ 8 → IsInCode (mailbox_layout n)
+mailbox_inside n few = record { from = omega arith; to = omega arith }
 
 -- its items can be placed
 pub mailbox_rises : (b : Block) (w : Width) (n : ℕ) → length b.inputs ≡ n → n ≤ 8 → IsValid b → HasSizes b → IsRising (mailbox_items (mailbox_layout n) b w)
@@ -127,7 +130,7 @@ stands_back c p (x ∷ xs) ys h =
 
 here_too : (p : Post) (at q : ℕ) (i : Instr) → at ≡ q → Here (free_ctx p) at i → Here (post_ctx p) q i
 here_too p at q i e h =
-    let again : Here (post_ctx p) at i = record { low = h.low; high = h.high; off = h.off; fits = h.fits; decoded = h.decoded } in
+    let again : Here (post_ctx p) at i = record { from = h.from; to = h.to; high = h.high; off = h.off; fits = h.fits; decoded = h.decoded } in
     subst (λ (k : ℕ). Here (post_ctx p) k i) e again
 
 pub record HasCall (p : Post) : Type 0 where

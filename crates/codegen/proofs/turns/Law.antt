@@ -1,5 +1,5 @@
 -- The mailbox firmware of a block takes its turns.
-use Rattle.std.proofs.Common.{◌≡◌, ℕ, ◌+◌, ◌*◌, ◌^◌, ◌<◌, ◌≤◌, List, [], ◌∷◌, ◌++◌, length, refl, sym, ap, ◌∙◌, subst, arith}
+use Rattle.std.proofs.Common.{◌≡◌, ℕ, ◌+◌, ◌^◌, ◌<◌, ◌≤◌, List, [], ◌∷◌, length, refl, sym, subst, arith}
 use Rattle.fuzzy_meaning.specs.declared.block.Block.{Block}
 use Rattle.fuzzy_meaning.specs.Blocks.{IsValid}
 use Rattle.rule_layout.specs.Layouts.{IsWithinLimits}
@@ -23,7 +23,7 @@ use Rattle.codegen.proofs.turns.Looking.{look_run, choose_run}
 use Rattle.codegen.proofs.turns.Copying.{copies_run}
 use Rattle.codegen.proofs.steps.Decoding.{sizes}
 use Rattle.codegen.proofs.turns.Turning.{Turns, turn_run}
-use Rattle.codegen.proofs.turns.Founding.{sizes-mailbox, mailbox_apart, mailbox_started, mailbox_rises, used_mailbox, start_bytes, has_turn, has_call}
+use Rattle.codegen.proofs.turns.Founding.{sizes-mailbox, mailbox_apart, mailbox_started, mailbox_inside, mailbox_rises, used_mailbox, start_bytes, has_turn, has_call}
 
 -- what its runs are under
 abbrev post_of : FirmwareLaws → (b : Block) → length b.inputs ≤ 8 → List ℕ → (flags : ℕ) → flags < 2 ^ 8 → Post
@@ -41,7 +41,7 @@ with_code laws b w image flags fits v limits facts around arrive_by =
     let p = post_of laws b few image flags fits in
     let turn = has_turn p around.front in
     let call = has_call p turn in
-    let routine = has_routine l b w (mailbox_code l n) image (omega arith) around in
+    let routine = has_routine l b w (mailbox_code l n) image (omega arith) (mailbox_inside n few) around in
     let turns : Turns p b w = record { apart = mailbox_apart n few; inputs = refl; valid = v; facts = facts; limits = limits; eval_answers = laws.eval_answers; routine = routine; call = call.call; back = call.back } in
     let arrived = arrive_by turn in
     let home = arrived.home in

@@ -1,5 +1,5 @@
 -- The code looks at POSTED.
-use Rattle.std.proofs.Common.{◌≡◌, inl, ℕ, ◌+◌, ◌<◌, ◌≤◌, nat_lt, Bool, true, false, [], get_or, refl, ap, ◌∙◌, arith}
+use Rattle.std.proofs.Common.{◌≡◌, inl, ℕ, ◌+◌, ◌≤◌, nat_lt, Bool, true, false, get_or, refl, ◌∙◌, arith}
 use Rattle.std.specs.Prelude.{◌==◌, if◌then◌else◌}
 use Rattle.cpu12_isa.specs.declared.instr.Instr.TheVariants.{LdaaExtended, Beq}
 use Rattle.cpu12_isa.specs.Flags.{has}
@@ -33,11 +33,11 @@ jump_to : (z : Bool) (pc : ℕ) → pc ≡ 0xC00B
 jump_to true pc e = omega arith
 jump_to false pc e = omega arith
 
-jump_low : (z : Bool) → 0x2000 ≤ (if z then 0xC008 else 0xC00D)
+jump_low : (z : Bool) → 0xC000 ≤ (if z then 0xC008 else 0xC00D)
 jump_low true = omega arith
 jump_low false = omega arith
 
-jump_high : (z : Bool) → (if z then 0xC008 else 0xC00D) + 6 < 65536
+jump_high : (z : Bool) → (if z then 0xC008 else 0xC00D) + 6 ≤ 0xD000
 jump_high true = omega arith
 jump_high false = omega arith
 

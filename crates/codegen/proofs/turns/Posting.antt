@@ -1,5 +1,5 @@
 -- What the turns of the mailbox form are under.
-use Rattle.std.proofs.Common.{◌≡◌, ◌⊎◌, inl, inr, ℕ, ◌+◌, ◌*◌, ◌^◌, ◌<◌, ◌≤◌, Bool, false, Ok, List, ◌∷◌, ◌++◌, arith}
+use Rattle.std.proofs.Common.{◌≡◌, ◌⊎◌, inl, inr, ℕ, ◌+◌, ◌^◌, ◌<◌, ◌≤◌, Bool, false, Ok, List, ◌∷◌, ◌++◌, arith}
 use Rattle.std.proofs.lemmas.Bool.Decides.{nat_tests}
 use Rattle.cpu12_isa.specs.declared.instr.Instr.TheVariants.{LdaaExtended, Beq, Orcc}
 use Rattle.cpu12_isa.specs.Code.{decode_at}
@@ -10,6 +10,7 @@ use Rattle.codegen.specs.Evaluation.{Reads, Writes}
 use Rattle.codegen.specs.Interruptible.{IsSteady}
 use Rattle.codegen.specs.Mailboxes.{is_postable, mailbox_layout, copy_code, call_code}
 use Rattle.codegen.specs.Turns.{IsAt}
+use Rattle.codegen.proofs.runs.Law.{free_leaves}
 use Rattle.codegen.proofs.runs.Stepping.{IsShut, Ctx, Lives, Stands, steady_of}
 
 -- the number of inputs, the image's memory and the open flags
@@ -23,32 +24,43 @@ pub record Post : Type 0 where
 
 pub free_shut : (n : ℕ) → IsShut is_free (mailbox_layout n)
 free_shut n = record {
-  reads = λ at low r. grind (arith, nat_tests);
-  writes = λ at low w. grind (arith, nat_tests);
-  high = λ at h. grind (arith, nat_tests);
+  reads = free_leaves.reads;
+  writes = free_leaves.writes;
+  stack = free_leaves.stack;
+  code = λ at from to. free_leaves.code at from (omega arith);
+  low = omega arith;
+  high = omega arith;
 }
 
--- what EVAL owns below FREE is not the mailbox
-below_mail : (at : ℕ) → at < 0x1800 → (at < 0x1020) ⊎ (0x1029 ≤ at) → is_postable at ≡ false
-below_mail at low (inl h) = grind (arith, nat_tests)
-below_mail at low (inr h) = grind (arith, nat_tests)
+-- what EVAL owns is not the mailbox, nor is the stack or what stands above it
+not_postable : (at : ℕ) → (at < 0x1020) ⊎ (((0x1029 ≤ at) × (at < 0x1800)) ⊎ (0x1FE0 ≤ at)) → is_postable at ≡ false
+not_postable at (inl h) = grind (arith, nat_tests)
+not_postable at (inr (inl h)) = let lo = h.0 in let hi = h.1 in grind (arith, nat_tests)
+not_postable at (inr (inr h)) = grind (arith, nat_tests)
 
-read_below : (n at : ℕ) → at < 0x1800 → Reads (mailbox_layout n) at → is_postable at ≡ false
-read_below n at low (inl o) = below_mail at low (inl (omega (arith, o.1)))
-read_below n at low (inr (inl o)) = below_mail at low (inr (omega (arith, o.0)))
-read_below n at low (inr (inr (inl o))) = absurd (omega (arith, o.0))
-read_below n at low (inr (inr (inr (inl o)))) = absurd (omega (arith, o.0))
-read_below n at low (inr (inr (inr (inr (inl o))))) = absurd (omega (arith, o.0))
-read_below n at low (inr (inr (inr (inr (inr (inl o)))))) = absurd (omega (arith, o.0))
-read_below n at low (inr (inr (inr (inr (inr (inr o)))))) = absurd o
+read_else : (n at : ℕ) → Reads (mailbox_layout n) at → is_postable at ≡ false
+read_else n at (inl o) = not_postable at (inl (omega (arith, o.1)))
+read_else n at (inr (inl o)) = not_postable at (inr (inl (omega (arith, o.0), omega (arith, o.1))))
+read_else n at (inr (inr (inl o))) = not_postable at (inr (inr (omega (arith, o.0))))
+read_else n at (inr (inr (inr (inl o)))) = not_postable at (inr (inr (omega (arith, o.0))))
+read_else n at (inr (inr (inr (inr (inl o))))) = not_postable at (inr (inr (omega (arith, o.0))))
+read_else n at (inr (inr (inr (inr (inr (inl o)))))) = not_postable at (inr (inr (omega (arith, o.0))))
+read_else n at (inr (inr (inr (inr (inr (inr o)))))) = absurd o
 
-written_below : (n at : ℕ) → at < 0x1800 → Writes (mailbox_layout n) at → is_postable at ≡ false
-written_below n at low (inl o) = below_mail at low (inl (omega (arith, o.1)))
-written_below n at low (inr (inl o)) = below_mail at low (inr (omega (arith, o.0)))
-written_below n at low (inr (inr o)) = absurd o
+written_else : (n at : ℕ) → Writes (mailbox_layout n) at → is_postable at ≡ false
+written_else n at (inl o) = not_postable at (inl (omega (arith, o.1)))
+written_else n at (inr (inl o)) = not_postable at (inr (inl (omega (arith, o.0), omega (arith, o.1))))
+written_else n at (inr (inr o)) = absurd o
 
 pub postable_shut : (n : ℕ) → IsShut is_postable (mailbox_layout n)
-postable_shut n = record { reads = read_below n; writes = written_below n; high = λ at h. grind (arith, nat_tests) }
+postable_shut n = record {
+  reads = read_else n;
+  writes = written_else n;
+  stack = λ at from to. not_postable at (inr (inr from));
+  code = λ at from to. not_postable at (inr (inr (omega arith)));
+  low = omega arith;
+  high = omega arith;
+}
 
 -- up to the copy's end the free bytes are open, from there on the mailbox too
 abbrev pub free_ctx : Post → Ctx
@@ -66,5 +78,5 @@ pub record HasTurn (p : Post) : Type 0 where
 pub lives_of : (open_to : ℕ → Bool) (masked : Bool) (image : List ℕ) (s : State) → IsSteady open_to masked image s → Lives image masked s
 lives_of open_to masked image s h = record { temps = h.temps; size = h.size; bytes = h.bytes; fits = h.fits; stack = h.stack; mask = h.mask; same = h.same }
 
-pub at_of : (p : Post) (pc : ℕ) (s : State) → Lives p.image false s → s.regs.pc ≡ pc → 0x2000 ≤ pc → pc + 6 < 65536 → s.regs.sp ≡ 0x2000 → IsAt p.image pc s
+pub at_of : (p : Post) (pc : ℕ) (s : State) → Lives p.image false s → s.regs.pc ≡ pc → 0xC000 ≤ pc → pc + 6 ≤ 0xD000 → s.regs.sp ≡ 0x2000 → IsAt p.image pc s
 at_of p pc s l e lo hi sp = record { steady = steady_of (post_ctx p) false s l (omega arith) (omega arith); pc = e; sp = sp }

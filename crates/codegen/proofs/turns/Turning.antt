@@ -1,31 +1,28 @@
 -- EVAL is called on the copy, and the code waits again.
-use Rattle.std.proofs.Common.{◌≡◌, ◌≢◌, ◌⊎◌, inl, inr, ⊎_elim, ℕ, ◌+◌, ◌-◌, ◌*◌, ◌/◌, ◌%◌, ◌^◌, ◌<◌, ◌≤◌, nat_lt, Bool, true, false, List, [], ◌∷◌, ◌++◌, length}
-use Rattle.std.proofs.Common.{get_or, set, refl, sym, ap, ap₂, ◌∙◌, subst, arith, length-set, get_or-set_same, get_or-set_other}
+use Rattle.std.proofs.Common.{◌≡◌, inl, inr, ℕ, ◌+◌, ◌-◌, ◌*◌, ◌/◌, ◌%◌, ◌^◌, ◌<◌, ◌≤◌, nat_lt, Bool, false, List, [], ◌∷◌, ◌++◌, length}
+use Rattle.std.proofs.Common.{get_or, set, refl, sym, ap, ap₂, ◌∙◌, subst, arith, get_or-set_other}
 use Rattle.std.specs.Prelude.{if◌then◌else◌}
 use Rattle.std.proofs.lemmas.Bool.Decides.{nat_tests}
 use Rattle.fuzzy_meaning.specs.declared.block.Block.{Block}
 use Rattle.fuzzy_meaning.specs.Blocks.{IsValid}
 use Rattle.rule_layout.specs.Layouts.{IsWithinLimits}
-use Rattle.cpu12_isa.specs.declared.instr.Instr.{Instr}
 use Rattle.cpu12_isa.specs.declared.instr.Instr.TheVariants.{JsrExtended, Bra}
 use Rattle.cpu12_isa.specs.Memory.{plus}
 use Rattle.cpu12_parts.specs.State.{State}
 use Rattle.cpu12_parts.specs.Whole.{after_plain}
-use Rattle.cpu12_parts.specs.Executions.{Execution, all_steps}
-use Rattle.codegen.specs.declared.layout.Layout.{Layout}
 use Rattle.codegen.specs.declared.width.Width.{Width}
-use Rattle.codegen.specs.Widths.{places, bytes_of, answer}
-use Rattle.codegen.specs.Bounds.{instruction_bound, steps_by, step_bound}
+use Rattle.codegen.specs.Widths.{places, bytes_of}
+use Rattle.codegen.specs.Bounds.{instruction_bound, steps_by}
 use Rattle.codegen.specs.Firing.{AreInputBytes}
 use Rattle.codegen.specs.Images.{IsApart}
 use Rattle.codegen.specs.Evaluation.{HasBytes, HasAnswers, EvalAnswers}
 use Rattle.codegen.specs.Interruptible.{IsInterruptibleStep}
-use Rattle.codegen.specs.Mailboxes.{is_mail, is_postable, mailbox_layout, mailbox_bound}
-use Rattle.codegen.specs.Turns.{IsAt, IsTurned, call_of}
+use Rattle.codegen.specs.Mailboxes.{is_postable, mailbox_layout, mailbox_bound}
+use Rattle.codegen.specs.Turns.{IsAt, IsTurned}
 use Rattle.codegen.proofs.phases.RuleFacts.{BlockFacts}
 use Rattle.codegen.proofs.steps.Executions.{execution_on, length_append, steps_append}
 use Rattle.codegen.proofs.steps.Memory.{bytes_set_out}
-use Rattle.codegen.proofs.runs.Stepping.{Ctx, Here, Live, Next, next, interruptible_of}
+use Rattle.codegen.proofs.runs.Stepping.{Here, Live, Next, next, interruptible_of}
 use Rattle.codegen.proofs.runs.Calling.{HasRoutine, IsCalled, Back, called}
 use Rattle.codegen.proofs.runs.Framing.{answer_room, pushed_word, jsr_run}
 use Rattle.codegen.proofs.turns.Posting.{Post, post_ctx, lives_of, at_of}

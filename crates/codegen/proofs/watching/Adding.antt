@@ -51,11 +51,15 @@ addb c s p v l ep h lt = next c s p (p + 2) (AddbImmediate v) l ep h refl lt tt 
 pub addb_zero : (c : Ctx) (s : State) (v : ℕ) → has (after_plain c.flags (AddbImmediate v) s).regs.ccr 2 ≡ ((s.regs.b + v) % 2 ^ 8 == 0)
 addb_zero c s v = zero_five s.regs.ccr _ _ ((s.regs.b + v) % 2 ^ 8 == 0) _ _
 
-addb_next : (c : Ctx) (s : State) (p : ℕ) → Live c s → s.regs.pc ≡ p → Here c p AddbPostIncrementX → 0x2000 ≤ s.regs.x
+-- no byte that stands high is open
+abbrev pub IsShutAbove : Ctx → Type 0
+IsShutAbove c = (at : ℕ) → 0x2000 ≤ at → c.open_to at ≡ false
+
+addb_next : (c : Ctx) → IsShutAbove c → (s : State) (p : ℕ) → Live c s → s.regs.pc ≡ p → Here c p AddbPostIncrementX → 0x2000 ≤ s.regs.x
     → Next c s (after_plain c.flags AddbPostIncrementX s) (p + 2)
-addb_next c s p l ep h low =
+addb_next c u s p l ep h low =
     let top = sp_high s l.stack in
-    next c s p (p + 2) AddbPostIncrementX l ep h refl tt (high_shown c.open_to s.regs.sp s.regs.x (c.shut.high s.regs.x (omega arith)) (omega arith), tt) tt tt refl (masked_five s.regs.ccr _ _ _ _ _) (omega (arith, h.high))
+    next c s p (p + 2) AddbPostIncrementX l ep h refl tt (high_shown c.open_to s.regs.sp s.regs.x (u s.regs.x low) (omega arith), tt) tt tt refl (masked_five s.regs.ccr _ _ _ _ _) (omega (arith, h.high))
 
 cpx : (c : Ctx) (s : State) (p v : ℕ) → Live c s → s.regs.pc ≡ p → Here c p (CpxImmediate v) → v < 2 ^ 16
     → Next c s (after_plain c.flags (CpxImmediate v) s) (p + 3)
@@ -136,11 +140,11 @@ record Turned (c : Ctx) (s : State) (p end : ℕ) : Type 0 where
 abbrev loop_code : ℕ → List Instr
 loop_code end = AddbPostIncrementX ∷ CpxImmediate end ∷ Bne 0xF9 ∷ []
 
-turn : (c : Ctx) (s : State) (p end : ℕ) → Live c s → s.regs.pc ≡ p → Stands c p (loop_code end) → 0x2000 ≤ s.regs.x → s.regs.x < end → end < 2 ^ 16 → Turned c s p end
-turn c s p end l ep h low less top =
+turn : (c : Ctx) → IsShutAbove c → (s : State) (p end : ℕ) → Live c s → s.regs.pc ≡ p → Stands c p (loop_code end) → 0x2000 ≤ s.regs.x → s.regs.x < end → end < 2 ^ 16 → Turned c s p end
+turn c above s p end l ep h low less top =
     let s1 = after_plain c.flags AddbPostIncrementX s in
     let s2 = after_plain c.flags (CpxImmediate end) s1 in
-    let n1 = addb_next c s p l ep h.0 low in
+    let n1 = addb_next c above s p l ep h.0 low in
     let n2 = cpx c s1 (p + 2) end n1.live n1.pc_is h.1.0 top in
     let x1 : s1.regs.x ≡ s.regs.x + 1 = omega arith in
     record {
@@ -163,10 +167,10 @@ goes_none : (c : Ctx) (s : State) → Goes c 0 0 s s
 goes_none c = bounded_none (IsInterruptibleStep c.open_to c.layout c.image c.flags)
 
 -- the loop: three instructions a byte
-pub loop : (c : Ctx) (s : State) (p end n : ℕ) → Live c s → s.regs.pc ≡ p → Stands c p (loop_code end) → 0x2000 ≤ s.regs.x → s.regs.x + suc n ≡ end → end < 2 ^ 16
+pub loop : (c : Ctx) → IsShutAbove c → (s : State) (p end n : ℕ) → Live c s → s.regs.pc ≡ p → Stands c p (loop_code end) → 0x2000 ≤ s.regs.x → s.regs.x + suc n ≡ end → end < 2 ^ 16
     → Adds c (3 * suc n) s (p + 7) ((s.regs.b + sum_from s.mem s.regs.x (suc n)) % 2 ^ 8)
-loop c s p end zero l ep h low e top =
-    let r = turn c s p end l ep h low (omega arith) top in
+loop c above s p end zero l ep h low e top =
+    let r = turn c above s p end l ep h low (omega arith) top in
     let at : p + 5 ≡ p + 2 + 3 = omega arith in
     let n = bne_on c r.t (p + 2 + 3) 0xF9 r.live (r.pc_is ∙ at) h.1.1.0 (omega arith) (r.last (omega arith)) in
     let u = after_plain c.flags (Bne 0xF9) r.t in
@@ -179,13 +183,13 @@ loop c s p end zero l ep h low e top =
       mem_is = r.mem_is;
       b_is = r.b_is ∙ omega arith;
     }
-loop c s p end (suc n) l ep h low e top =
-    let r = turn c s p end l ep h low (omega arith) top in
+loop c above s p end (suc n) l ep h low e top =
+    let r = turn c above s p end l ep h low (omega arith) top in
     let at : p + 5 ≡ p + 2 + 3 = omega arith in
     let k = bne_back c r.t (p + 2 + 3) 0xF9 p r.live (r.pc_is ∙ at) h.1.1.0 (omega arith) (omega arith) (omega arith) (r.more (omega arith)) in
     let u = after_plain c.flags (Bne 0xF9) r.t in
     let ex = r.x_is in
-    let rest = loop c u p end n k.live k.pc_is h (omega arith) (omega arith) top in
+    let rest = loop c above u p end n k.live k.pc_is h (omega arith) (omega arith) top in
     let same : sum_from u.mem u.regs.x (suc n) ≡ sum_from s.mem (s.regs.x + 1) (suc n) = ap₂ (λ (m : List ℕ) (x : ℕ). sum_from m x (suc n)) r.mem_is ex in
     let total : (u.regs.b + sum_from u.mem u.regs.x (suc n)) % 2 ^ 8 ≡ (s.regs.b + sum_from s.mem s.regs.x (suc (suc n))) % 2 ^ 8 =
     ap₂ (λ (x y : ℕ). (x + y) % 2 ^ 8) r.b_is same ∙ sum_on s.regs.b (get_or s.mem s.regs.x 0) (sum_from s.mem (s.regs.x + 1) (suc n)) in
@@ -201,9 +205,9 @@ abbrev pub count_in : List Segment → ℕ
 count_in [] = 0
 count_in (g ∷ gs) = 1 + 3 * length g.bytes + count_in gs
 
-segment_run : (c : Ctx) (s : State) (p : ℕ) (g : Segment) → Live c s → s.regs.pc ≡ p → Stands c p (segment_code g) → IsSegment g
+segment_run : (c : Ctx) → IsShutAbove c → (s : State) (p : ℕ) (g : Segment) → Live c s → s.regs.pc ≡ p → Stands c p (segment_code g) → IsSegment g
     → Adds c (1 + 3 * length g.bytes) s (p + 10) ((s.regs.b + sum_from s.mem g.at (length g.bytes)) % 2 ^ 8)
-segment_run c s p g l ep h q = by_size (length g.bytes) refl
+segment_run c above s p g l ep h q = by_size (length g.bytes) refl
   where
     by_size : (n : ℕ) → length g.bytes ≡ n → Adds c (1 + 3 * length g.bytes) s (p + 10) ((s.regs.b + sum_from s.mem g.at (length g.bytes)) % 2 ^ 8)
     by_size zero e = absurd (let some = q.1 in omega arith)
@@ -212,7 +216,7 @@ segment_run c s p g l ep h q = by_size (length g.bytes) refl
         let top = q.2 in
         let u = after_plain c.flags (LdxImmediate g.at) s in
         let k = ldx c s p g.at l ep h.0 (omega arith) in
-        let r = loop c u (p + 3) (g.at + length g.bytes) n k.live k.pc_is h.1 low (omega arith) (omega arith) in
+        let r = loop c above u (p + 3) (g.at + length g.bytes) n k.live k.pc_is h.1 low (omega arith) (omega arith) in
         let total : (s.regs.b + sum_from s.mem g.at (suc n)) % 2 ^ 8 ≡ (s.regs.b + sum_from s.mem g.at (length g.bytes)) % 2 ^ 8 =
         ap (λ (m : ℕ). (s.regs.b + sum_from s.mem g.at m) % 2 ^ 8) (sym e) in
         adds_at c (1 + 3 * suc n) (1 + 3 * length g.bytes) s (p + 3 + 7) (p + 10) _ _ (omega arith) (omega arith) total
@@ -240,16 +244,16 @@ added_on c s p q g gs rest r k =
       behind = k.behind;
     }
 
-pub segments_run : (c : Ctx) (s : State) (p q : ℕ) (gs : List Segment) (rest : List Instr) → Live c s → s.regs.pc ≡ p → Stands c p (segments_code gs ++ rest) → AreSegments gs
+pub segments_run : (c : Ctx) → IsShutAbove c → (s : State) (p q : ℕ) (gs : List Segment) (rest : List Instr) → Live c s → s.regs.pc ≡ p → Stands c p (segments_code gs ++ rest) → AreSegments gs
     → p + 10 * length gs ≡ q → Added c s gs rest q
-segments_run c s p q [] rest l ep h g e =
+segments_run c above s p q [] rest l ep h g e =
     let fit = l.fits.b in
     let at : p ≡ q = omega arith in
     record {
       adds = record { t = s; goes = goes_none c s; live = l; pc_is = ep ∙ at; sp_is = refl; mem_is = refl; b_is = omega arith };
       behind = subst (λ (k : ℕ). Stands c k rest) at h;
     }
-segments_run c s p q (g ∷ gs) rest l ep h k e =
-    let r = segment_run c s p g l ep (h.0, (h.1.0, (h.1.1.0, (h.1.1.1.0, tt)))) k.0 in
+segments_run c above s p q (g ∷ gs) rest l ep h k e =
+    let r = segment_run c above s p g l ep (h.0, (h.1.0, (h.1.1.0, (h.1.1.1.0, tt)))) k.0 in
     let at : p + 3 + 2 + 3 + 2 ≡ p + 10 = omega arith in
-    added_on c s (p + 10) q g gs rest r (segments_run c r.t (p + 10) q gs rest r.live r.pc_is (subst (λ (n : ℕ). Stands c n (segments_code gs ++ rest)) at h.1.1.1.1) k.1 (omega arith))
+    added_on c s (p + 10) q g gs rest r (segments_run c above r.t (p + 10) q gs rest r.live r.pc_is (subst (λ (n : ℕ). Stands c n (segments_code gs ++ rest)) at h.1.1.1.1) k.1 (omega arith))

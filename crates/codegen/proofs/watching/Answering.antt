@@ -1,5 +1,5 @@
 -- From the image of a firmware with watched tables to its answers.
-use Rattle.std.proofs.Common.{◌≡◌, inl, ℕ, ◌+◌, ◌^◌, ◌<◌, ◌≤◌, List, [], ◌∷◌, length, All, refl, sym, ap, ◌∙◌, subst, arith, length-append}
+use Rattle.std.proofs.Common.{inr, ◌≡◌, inl, ℕ, ◌+◌, ◌^◌, ◌<◌, ◌≤◌, List, [], ◌∷◌, length, All, refl, sym, ap, ◌∙◌, subst, arith, length-append}
 use Rattle.std.specs.Prelude.{Option, Some, None}
 use Rattle.fuzzy_meaning.specs.declared.block.Block.{Block}
 use Rattle.fuzzy_meaning.specs.Blocks.{IsValid}
@@ -31,7 +31,7 @@ use Rattle.codegen.proofs.runs.Founding.{AroundEval, stood, start_stands, around
 use Rattle.codegen.proofs.runs.GivenBytes.{ItemsFit, block_fits, vectors_fit, memory_fits}
 use Rattle.codegen.proofs.runs.Arriving.{Arrived, arrive, zero_below}
 use Rattle.codegen.proofs.runs.Standing.{HasGiven}
-use Rattle.codegen.proofs.runs.Law.{FirmwareLaws, sizes_of, image_given, main_shut}
+use Rattle.codegen.proofs.runs.Law.{FirmwareLaws, sizes_of, image_given, not_free, free_leaves}
 use Rattle.codegen.proofs.watching.Adding.{count_in}
 use Rattle.codegen.proofs.watching.Fronts.{IsWatchedLayout, sized, length-bad, length-front, used_front, fit_defaults, front_bytes, calls}
 use Rattle.codegen.proofs.watching.Tables.{are_segments, are_apart, are_few, stand, counted}
@@ -131,7 +131,14 @@ unfolding watched_bound
 bound_is b = ap (λ (n : ℕ). instruction_bound Byte b + 4 + n) (counted (segments_of main_layout b))
 
 shut : (b : Block) → IsShut is_free (watched_layout b)
-shut b = record { reads = main_shut.reads; writes = main_shut.writes; high = main_shut.high }
+shut b = record {
+  reads = free_leaves.reads;
+  writes = free_leaves.writes;
+  stack = free_leaves.stack;
+  code = λ at from to. free_leaves.code at from (omega arith);
+  low = omega arith;
+  high = omega arith;
+}
 
 -- the run of its image
 abbrev over : FirmwareLaws → Block → List ℕ → (flags : ℕ) → flags < 2 ^ 8 → Ctx
@@ -153,6 +160,7 @@ grounds laws b image flags fits h =
       outputs_end = omega arith;
       slots_from = omega arith;
       free = refl;
+      above = λ at from. not_free at (inr (omega arith));
       ready_shown = refl;
       fault_shown = refl;
       defaults = fit_defaults laws.nearest_is_byte b.outputs h.valid.outputs;
@@ -163,7 +171,7 @@ grounds laws b image flags fits h =
       bytes = memory_bytes laws b image h;
       front = here.front;
       front_end = (let size = length-code (watched_front main_layout b) in omega arith);
-      routine = has_routine (watched_layout b) b Byte (watched_front main_layout b) image (omega arith) here;
+      routine = has_routine (watched_layout b) b Byte (watched_front main_layout b) image (omega arith) (record { from = omega arith; to = omega arith }) here;
       stands = stand image b here.eval.tables here.eval.singletons here.eval.weights here.eval.rules;
     }
 

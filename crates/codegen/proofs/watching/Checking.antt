@@ -9,7 +9,7 @@ use Rattle.cpu12_parts.specs.Whole.{after_plain}
 use Rattle.codegen.specs.declared.segments.Segment.{Segment}
 use Rattle.codegen.specs.WatchedCode.{segments_code, fault_at}
 use Rattle.codegen.proofs.runs.Stepping.{Ctx, Live, Stands, Goes, goes_on, goes_one, clr}
-use Rattle.codegen.proofs.watching.Adding.{AreSegments, Added, segments_run, sum_in, count_in, ldab, addb, addb_zero, bne_on, bne_back}
+use Rattle.codegen.proofs.watching.Adding.{IsShutAbove, AreSegments, Added, segments_run, sum_in, count_in, ldab, addb, addb_zero, bne_on, bne_back}
 
 -- the check's last three instructions
 abbrev pub decision : ℕ → ℕ → List Instr
@@ -23,6 +23,7 @@ pub record HasCheck (c : Ctx) (at bad check to : ℕ) (gs : List Segment) : Type
   pub back : 128 ≤ to
   pub to_fits : to < 2 ^ 8
   pub shown : c.open_to fault_at ≡ false
+  pub above : IsShutAbove c
   pub bad_is : at + 2 + 10 * length gs + 4 + to ≡ bad + 256
 
 -- before the branch
@@ -65,7 +66,7 @@ decided c s at bad check to gs h l ep =
     let u = after_plain c.flags (LdabImmediate 0) s in
     let n = ldab c s at 0 l ep h.code.0 (omega arith) in
     decided_by c s at check to gs h.check_fits n.live (goes_one c s u (at + 2) n)
-    (segments_run c u (at + 2) (at + 2 + 10 * length gs) gs (decision check to) n.live n.pc_is h.code.1 h.segments refl)
+    (segments_run c h.above u (at + 2) (at + 2 + 10 * length gs) gs (decision check to) n.live n.pc_is h.code.1 h.segments refl)
 
 -- where the check leads
 pub record Leads (c : Ctx) (n : ℕ) (s : State) (pc : ℕ) (mem : List ℕ) : Type 0 where

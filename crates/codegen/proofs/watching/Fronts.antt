@@ -21,7 +21,7 @@ use Rattle.codegen.proofs.steps.Decoding.{UsedCode, used_append, code_bytes}
 use Rattle.codegen.proofs.phases.Law.{length-code}
 use Rattle.codegen.proofs.runs.Stepping.{Ctx, Stands, stands_of}
 use Rattle.codegen.proofs.runs.Founding.{IsStarted, IsFramed, bytes_append, frame_bytes, has_frame}
-use Rattle.codegen.proofs.watching.Adding.{AreSegments}
+use Rattle.codegen.proofs.watching.Adding.{IsShutAbove, AreSegments}
 use Rattle.codegen.proofs.watching.Checking.{HasCheck, decision}
 use Rattle.codegen.proofs.watching.Defaults.{FitDefault, FitDefaults, default_byte}
 use Rattle.codegen.proofs.watching.Sampling.{calling, HasFront}
@@ -197,9 +197,9 @@ bad_found c os gs h fit bytes =
     let a2 = h.apart.slots in
     stands_of c (bad_at l) (bad_code l os) (used_bad l os fit (omega arith)) bytes (omega arith) (omega arith) (omega arith)
 
-check_found : (c : Ctx) (os : List Output) (gs : List Segment) → IsWatchedLayout c.layout os gs → c.open_to fault_at ≡ false → AreSegments gs → HasBytes c.image (check_at c.layout os) (code_bytes (check_code c.layout os gs))
+check_found : (c : Ctx) (os : List Output) (gs : List Segment) → IsWatchedLayout c.layout os gs → c.open_to fault_at ≡ false → IsShutAbove c → AreSegments gs → HasBytes c.image (check_at c.layout os) (code_bytes (check_code c.layout os gs))
     → HasCheck c (check_at c.layout os) (bad_at c.layout) (check_byte (segment_bytes gs)) (2 ^ 8 - back_to_bad c.layout os gs) gs
-check_found c os gs h shown are bytes =
+check_found c os gs h shown above are bytes =
     let l = c.layout in
     let low = h.started.low in
     let high = h.started.high in
@@ -216,12 +216,13 @@ check_found c os gs h shown are bytes =
       back = omega arith;
       to_fits = omega arith;
       shown = shown;
+      above = above;
       bad_is = omega arith;
     }
 
-pub has_front : (c : Ctx) (os : List Output) (gs : List Segment) → IsWatchedLayout c.layout os gs → c.open_to c.layout.ready ≡ false → c.open_to fault_at ≡ false → FitDefaults os → AreSegments gs
+pub has_front : (c : Ctx) (os : List Output) (gs : List Segment) → IsWatchedLayout c.layout os gs → c.open_to c.layout.ready ≡ false → c.open_to fault_at ≡ false → IsShutAbove c → FitDefaults os → AreSegments gs
     → HasBytes c.image c.layout.code (code_bytes (watched_front_over c.layout os gs)) → HasFront c os gs
-has_front c os gs h ready shown fit are bytes =
+has_front c os gs h ready shown above fit are bytes =
     let l = c.layout in
     let at = check_at l os in
     let parts = front_bytes c.image l os gs bytes in
@@ -232,7 +233,7 @@ has_front c os gs h ready shown fit are bytes =
       bad = bad_at l;
       to = 2 ^ 8 - back_to_bad l os gs;
       frame = has_frame (calling c at) ready (called_framed l os gs h) (called_apart l os gs h) (frame_bytes c.image (calls l os) parts.frame);
-      check = check_found c os gs h shown are parts.check;
+      check = check_found c os gs h shown above are parts.check;
       bad_stands = bad_found c os gs h fit parts.bad;
       behind = omega arith;
     }

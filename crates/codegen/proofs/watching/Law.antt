@@ -29,7 +29,7 @@ use Rattle.codegen.proofs.phases.RuleFacts.{BlockFacts}
 use Rattle.codegen.proofs.runs.Stepping.{Ctx, Live, interruptible_of}
 use Rattle.codegen.proofs.runs.Calling.{HasRoutine}
 use Rattle.codegen.proofs.runs.Framing.{Home, given_live, waits}
-use Rattle.codegen.proofs.watching.Adding.{AreSegments, sum_in, count_in}
+use Rattle.codegen.proofs.watching.Adding.{IsShutAbove, AreSegments, sum_in, count_in}
 use Rattle.codegen.proofs.watching.Segments.{Apart, In, Stand, stand_passes, change_fails}
 use Rattle.codegen.proofs.watching.Defaults.{FitDefaults}
 use Rattle.codegen.proofs.watching.Sampling.{Watches, IsGiven, WatchSampled, answered_well, answered_badly}
@@ -61,6 +61,7 @@ pub record Grounds (c : Ctx) (b : Block) (gs : List Segment) (most : ℕ) : Type
   pub outputs_end : c.layout.outputs + 8 ≤ fault_at
   pub slots_from : fault_at < c.layout.slots
   pub free : c.open_to ≡ is_free
+  pub above : IsShutAbove c
   pub ready_shown : c.open_to c.layout.ready ≡ false
   pub fault_shown : c.open_to fault_at ≡ false
   pub defaults : FitDefaults b.outputs
@@ -91,7 +92,7 @@ watches c b gs most change h x = record {
   fault_shown = h.fault_shown;
   defaults = h.defaults;
   most_is = h.most_is;
-  front = has_front (under c (changed change c.image)) b.outputs gs h.layout h.ready_shown h.fault_shown h.defaults h.are
+  front = has_front (under c (changed change c.image)) b.outputs gs h.layout h.ready_shown h.fault_shown h.above h.defaults h.are
       (front_stays c.image c.layout.code (code_bytes (watched_front_over c.layout b.outputs gs)) change c gs x h.front_end h.front);
 }
 

@@ -29,7 +29,7 @@ use Rattle.codegen.proofs.steps.Executions.{execution_on, length_append, steps_a
 use Rattle.codegen.proofs.steps.Memory.{bytes_set_out}
 use Rattle.codegen.proofs.phases.RuleFacts.{BlockFacts}
 use Rattle.codegen.proofs.runs.Stepping.{Ctx, Live, Stands, Goes, goes_on, goes_one, interruptible_of}
-use Rattle.codegen.proofs.runs.Calling.{HasRoutine, IsCalled, Back, called, rts_run}
+use Rattle.codegen.proofs.runs.Calling.{HasRoutine, IsInCode, IsCalled, Back, called, rts_run}
 use Rattle.codegen.proofs.runs.Framing.{HasFrame, Home, Called, Left, call_run, leave_run, pushed_word}
 use Rattle.codegen.proofs.watching.Adding.{sum_in, count_in, ldab, stab}
 use Rattle.codegen.proofs.watching.Checking.{HasCheck, Leads, passed, failed}
@@ -45,7 +45,7 @@ calling c at = record {
   stays_fit = c.stays_fit;
   open_to = c.open_to;
   layout = calls_at c.layout at;
-  shut = record { reads = c.shut.reads; writes = c.shut.writes; high = c.shut.high };
+  shut = record { reads = c.shut.reads; writes = c.shut.writes; stack = c.shut.stack; code = c.shut.code; low = c.shut.low; high = c.shut.high };
   image = c.image;
   flags = c.flags;
   fits = c.fits;
@@ -151,10 +151,12 @@ record Ended (c : Ctx) (b : Block) (most back : ℕ) (answers : ℕ → ℕ) (fa
 
 -- ---- the tables are what they were: EVAL
 
-eval_called : (c : Ctx) (b : Block) (gs : List Segment) (most at back n : ℕ) (bytes : List ℕ) (before : ℕ → ℕ) (s : State) → Watches c b gs most → AreInputBytes b bytes
+eval_called : (c : Ctx) (b : Block) (gs : List Segment) (most at back n : ℕ) (bytes : List ℕ) (before : ℕ → ℕ) (s : State) → Watches c b gs most → IsInCode c.layout → AreInputBytes b bytes
     → AtCheck c b at back bytes before s → (r : Leads c n s c.layout.eval (set s.mem fault_at 0)) → IsCalled c.open_to c.layout b Byte c.image back bytes before r.t
-eval_called c b gs most at back n bytes before s h i k r =
+eval_called c b gs most at back n bytes before s h inside i k r =
     let l = c.layout in
+    let from = inside.from in
+    let to = inside.to in
     let a1 = h.apart.inputs in
     let a2 = h.outputs_end in
     let few = h.valid.few_outputs in
@@ -209,7 +211,7 @@ ended_well c b gs most back bytes before s h routine i k fine =
     let r : Leads c (4 + count_in gs) s c.layout.eval (set s.mem fault_at 0) =
     record { t = p.t; goes = p.goes; live = p.live; pc_is = p.pc_is ∙ f.behind; sp_is = p.sp_is; mem_is = p.mem_is } in
     evaluated_by c b gs most back bytes before s h k.live.size r
-    (called h.eval_answers c b Byte back bytes before r.t h.apart h.valid h.facts h.limits routine i (eval_called c b gs most f.at back (4 + count_in gs) bytes before s h i k r))
+    (called h.eval_answers c b Byte back bytes before r.t h.apart h.valid h.facts h.limits routine i (eval_called c b gs most f.at back (4 + count_in gs) bytes before s h routine.inside i k r))
 
 -- ---- they are not: BAD
 
@@ -281,7 +283,7 @@ ended_badly c b gs most back bytes before s h k wrong =
     let a1 = h.outputs_end in
     let r = failed c s f.at f.bad (check_byte (segment_bytes gs)) f.to gs f.check k.live k.pc_is wrong in
     let m = marked c r.t f.bad (defaults_code l.outputs b.outputs ++ Rts ∷ []) h.fault_shown r.live r.pc_is f.bad_stands in
-    defaulted_by c b gs most f.at back bytes before s h k f.bad r m (defaults_run c m.t m.at l.outputs b.outputs (Rts ∷ []) m.live m.pc_is m.behind h.defaults (omega arith) (λ q lo hi. c.shut.writes q (omega arith) (inl (lo, omega arith))))
+    defaulted_by c b gs most f.at back bytes before s h k f.bad r m (defaults_run c m.t m.at l.outputs b.outputs (Rts ∷ []) m.live m.pc_is m.behind h.defaults (omega arith) (λ q lo hi. c.shut.writes q (inl (lo, omega arith))))
 
 -- ---- around both
 

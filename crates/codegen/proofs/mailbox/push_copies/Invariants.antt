@@ -1,4 +1,4 @@
-use Rattle.std.proofs.Common.{◌≡◌, ◌++◌, ◌+◌, ◌≤◌}
+use Rattle.std.proofs.Common.{◌≡◌, ◌++◌}
 use Rattle.codegen.specs.Mailboxes.{copy_code}
 use Rattle.codegen.proofs.mailbox.push_copies.Given as goal
 

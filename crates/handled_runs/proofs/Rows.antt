@@ -1,0 +1,128 @@
+-- The rows of a run whose interrupts run code.
+use Rattle.std.proofs.Common.{◌≡◌, ℕ, suc, ◌+◌, ◌≤◌, ◌<◌, ◌^◌, List, [], ◌∷◌, length, refl, ap, ap₂, sym, ◌∙◌, subst, arith}
+use Rattle.std.specs.Prelude.{All, take, map}
+use Rattle.std.proofs.lemmas.List.{take_all}
+use Rattle.std.proofs.lemmas.List.Elements.{All-cons}
+use Rattle.fuzzy_meaning.specs.declared.block.Block.{Block}
+use Rattle.fuzzy_meaning.specs.Blocks.{IsValid}
+use Rattle.rule_layout.specs.Layouts.{IsWithinLimits}
+use Rattle.cpu12_isa.specs.Regions.{is_hidden}
+use Rattle.cpu12_isa.proofs.Algebra.{agree_self}
+use Rattle.cpu12_parts.specs.State.{State}
+use Rattle.cpu12_emul.specs.Image.{HoldsImage}
+use Rattle.cpu12_emul.specs.Simulation.{Same}
+use Rattle.run_law.specs.Forms.{RowSeen, Rows}
+use Rattle.run_law.specs.Uninterrupted.{uninterrupted}
+use Rattle.run_law.specs.Following.{Completes, AllComplete, onto, all_onto, AllFollow, RunsFollow, expected_row, expected_rows}
+use Rattle.handler_check.specs.Images.{IsHandler}
+use Rattle.interrupt_plan.specs.declared.Request.{Request}
+use Rattle.interrupt_plan.specs.Plans.{IsGoodRequest, IsGood}
+use Rattle.codegen.specs.declared.layout.Layout.{Layout}
+use Rattle.codegen.specs.declared.firmware.Firmware.{Firmware}
+use Rattle.codegen.specs.Answers.{LeavesLayout}
+use Rattle.codegen.specs.Firing.{AreInputBytes}
+use Rattle.codegen.specs.Firmwares.{IsFirmwareOf}
+use Rattle.fz_run.specs.Forms.{given, with_writes}
+use Rattle.fz_run.specs.Rows.{requests_of, first_state, firmware_rows}
+use Rattle.fz_run.specs.Facts.{FactsBeside}
+use Rattle.fz_run.specs.Following.{RunsFollowBeside, RequestsAreGood}
+use Rattle.fz_run.specs.Answering.{FirmwareRunsBeside, FirstAlike, FirstStatesAlike}
+use Rattle.handled_runs.specs.Open.{is_open_to_code}
+use Rattle.handled_runs.specs.Joint.{joint_memory}
+use Rattle.handled_runs.specs.Forms.{with_code, first_handled, handled_rows}
+use Rattle.handled_runs.specs.Answering.{AreShort, AnswersHandled, HandledAnswers}
+use Rattle.handled_runs.specs.SoundHandled.{CodeLaws, Handled, HandlerStands, opens_free}
+use Rattle.handled_runs.proofs.Beginnings.{code_leaves, joint_agrees, joint_has, first_same, first_stands}
+
+-- samples of at most eight bytes
+abbrev AreFew : List (List ℕ) → Type 0
+AreFew [] = Unit {0}
+AreFew (x ∷ xs) = (length x ≤ 8) × AreFew xs
+
+all_few : (b : Block) (samples : List (List ℕ)) → length b.inputs ≤ 8 → All (AreInputBytes b) samples → AreFew samples
+all_few b [] few all = tt
+all_few b (x ∷ xs) few all = (let i = all 0 x (omega arith) in omega (arith, i.count), all_few b xs few (λ k d lt. all (suc k) d (omega arith)))
+
+given_same : (l : Layout) (x : List ℕ) (s : State) → length x ≤ 8 → given l (take 8 x) s ≡ given l x s
+given_same l x s few = ap (λ (v : List ℕ). given l v s) (take_all 8 x few)
+
+-- the run without interrupts is that of listed writes
+complete : (P : State → Type 0) (flags : ℕ) (f : Firmware) (most : ℕ) (ns : List ℕ) (samples : List (List ℕ)) (s : State) → AreFew samples
+    → AllComplete P (with_writes flags f) ns samples s → AllComplete P (with_code flags f most) ns samples s
+complete P flags f most [] [] s few h = h
+complete P flags f most (n ∷ ns) [] s few h = h
+complete P flags f most [] (x ∷ xs) s few h = h
+complete P flags f most (n ∷ ns) (x ∷ xs) s few h =
+    let e = given_same f.layout x s few.0 in
+    let one = h.0 in
+    let moved : Completes P (with_code flags f most) 0 n n (given f.layout x s) = record { sum = one.sum; holds = one.holds; on = one.on; ended = one.ended } in (
+      subst (λ (u : State). Completes P (with_code flags f most) 0 n n u) (sym e) moved,
+      subst (λ (u : State). AllComplete P (with_code flags f most) ns xs (uninterrupted flags n u)) (sym e)
+          (complete P flags f most ns xs (uninterrupted flags n (given f.layout x s)) few.1 h.1),
+    )
+
+-- so are the rows that are expected
+expected : (flags : ℕ) (f : Firmware) (most : ℕ) (asks : ℕ → List Request) (k : ℕ) (ns : List ℕ) (samples : List (List ℕ)) (s : State) → AreFew samples
+    → expected_rows (with_code flags f most) asks k ns samples s ≡ expected_rows (with_writes flags f) asks k ns samples s
+expected flags f most asks k [] samples s few = refl
+expected flags f most asks k (n ∷ ns) [] s few = refl
+expected flags f most asks k (n ∷ ns) (x ∷ xs) s few =
+    let e = given_same f.layout x s few.0 in
+    let code = with_code flags f most in
+    ap (λ (u : State). expected_row code (asks k) n x u ∷ expected_rows code asks (suc k) ns xs (uninterrupted flags n u)) e
+    ∙ ap (λ (rows : List (RowSeen (List ℕ))). expected_row (with_writes flags f) (asks k) n x (given f.layout x s) ∷ rows)
+    (expected flags f most asks (suc k) ns xs (uninterrupted flags n (given f.layout x s)) few.1)
+
+-- what is short of all that was told is short of each sample
+onto_short : (most : ℕ) (xs done : List (Request × ℕ)) → AreShort most (onto xs done) → AreShort most xs × AreShort most done
+onto_short most [] done h = (λ k x lt. absurd (omega arith), h)
+onto_short most (x ∷ xs) done h =
+    let rest = onto_short most xs (x ∷ done) h in
+    (short x xs (let one = rest.1 in one 0 x (omega arith)) rest.0, λ k y lt. (let later = rest.1 in later (suc k) y (omega arith)))
+  where
+    short : (x : Request × ℕ) (xs : List (Request × ℕ)) → x.1 ≤ most → AreShort most xs → AreShort most (x ∷ xs)
+    short x xs l h = All-cons (λ (t : Request × ℕ). t.1 ≤ most) x xs l h
+
+all_short : (most : ℕ) (xss : List (List (Request × ℕ))) (done : List (Request × ℕ)) → AreShort most (all_onto xss done) → All (AreShort most) xss × AreShort most done
+all_short most [] done h = (λ k x lt. absurd (omega arith), h)
+all_short most (xs ∷ xss) done h =
+    let rest = all_short most xss (onto xs done) h in
+    let here = onto_short most xs done rest.1 in
+    (All-cons (AreShort most) xs xss here.0 rest.0, here.1)
+
+-- the laws of lower crates, and the law on runs
+pub record Laws : Type 0 where
+  pub code : CodeLaws
+  pub holds_image : HoldsImage
+  pub firmware_runs_beside : FirmwareRunsBeside
+  pub first_states_alike : FirstStatesAlike
+  pub runs_follow_beside : RunsFollowBeside
+  pub requests_are_good : RequestsAreGood
+  pub runs_follow : (x : Handled)
+      → RunsFollow is_open_to_code (with_code x.flags x.firmware x.most) (FactsBeside is_open_to_code x.flags x.firmware) IsGoodRequest (HandlerStands x.handler x.most)
+
+pub handled_answers : Laws → HandledAnswers
+handled_answers laws b f handler most flags samples plan hf good is v limits h all =
+    let leaves : LeavesLayout is_open_to_code f.layout = subst (λ (l : Layout). LeavesLayout is_open_to_code l) (sym h.layout) code_leaves in
+    let runs = laws.firmware_runs_beside is_open_to_code b f flags samples hf leaves v limits h all in
+    let ns = runs.ns in
+    let few = all_few b samples v.few_inputs all in
+    let mem = joint_memory f.image.bytes handler in
+    let w = first_handled f handler flags in
+    let s = first_state f flags in
+    let alike : FirstAlike is_open_to_code f flags mem w = laws.first_states_alike is_open_to_code b f flags mem hf leaves v limits h (joint_agrees laws.holds_image f.image.bytes handler is.whole) in
+    let stands : HandlerStands handler most [] w = first_stands f flags handler most mem w is.whole alike (joint_has laws.holds_image f.image.bytes handler is.whole) in
+    let inputs : f.layout.samples + 8 ≤ 0x1800 = subst (λ (l : Layout). l.samples + 8 ≤ 0x1800) (sym h.layout) (omega arith) in
+    let x : Handled = record { laws = laws.code; flags = flags; firmware = f; low = runs.low; samples = inputs; handler = handler; most = most; is_handler = is } in
+    let asks : ℕ → List Request = λ k. requests_of k plan in
+    let P = FactsBeside is_open_to_code flags f in
+    let code = laws.runs_follow x asks (λ k. laws.requests_are_good plan k good) [] 1 f.step_bound ns samples w s runs.within
+    (complete P flags f most ns samples s few runs.complete) (first_same f flags mem w alike) stands in
+    let listed = laws.runs_follow_beside is_open_to_code flags f opens_free runs.low asks (λ k. laws.requests_are_good plan k good) [] 1 f.step_bound ns samples s s runs.within
+    runs.complete (record { regs = refl; temps = refl; mem = agree_self (is_hidden is_open_to_code s.regs.sp) s.mem }) tt in
+    let own = code.own in
+    record {
+      arrived = code.arrived;
+      rows_are = code.rows_are ∙ expected flags f most asks 1 ns samples s few ∙ sym listed.rows_are;
+      short = (all_short most (handled_rows f handler most samples plan flags).told [] own.short).0;
+    }

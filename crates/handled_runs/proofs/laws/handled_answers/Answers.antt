@@ -1,0 +1,20 @@
+use Rattle.handled_runs.proofs.Rows.{handled_answers}
+use Rattle.handled_runs.proofs.laws.handled_answers.Goals as goal
+
+pub returns : goal.returns
+returns c = handled_answers (record {
+  code = record {
+    step_agrees = c.step_agrees.ensures;
+    wavr_goes_on = c.wavr_goes_on.ensures;
+    writes_stay = c.writes_stay.ensures;
+    pushes_running = c.wav_suspends.ensures.running;
+    pushes_none = c.wav_suspends.ensures.none;
+    handlers_are_quiet = c.handlers_are_quiet.ensures;
+  };
+  holds_image = c.holds_image.ensures;
+  firmware_runs_beside = c.firmware_runs_beside.ensures;
+  first_states_alike = c.first_states_alike.ensures;
+  runs_follow_beside = c.runs_follow_beside.ensures;
+  requests_are_good = c.requests_are_good.ensures;
+  runs_follow = c.runs_follow.ensures;
+})

@@ -1,0 +1,13 @@
+-- The image that runs: a firmware's with a handler's bytes, and $4000 in the interrupt's vector.
+use Rattle.std.specs.Prelude.{ℕ, ◌+◌, ◌/◌, ◌%◌, List, ◌∷◌, ◌++◌}
+use Rattle.cpu12_emul.specs.Image.{image_memory}
+use Rattle.handler_check.specs.Cut.{code_start}
+use Rattle.handled_runs.specs.Open.{vector}
+
+-- its bytes, of which the first at an address stands there: the vector's, then the handler's, then the firmware's
+abbrev pub joint_bytes : List (ℕ × ℕ) → List (ℕ × ℕ) → List (ℕ × ℕ)
+joint_bytes firmware handler =
+    (vector, code_start / 256) ∷ (vector + 1, code_start % 256) ∷ (handler ++ firmware)
+
+abbrev pub joint_memory : List (ℕ × ℕ) → List (ℕ × ℕ) → List ℕ
+joint_memory firmware handler = image_memory (joint_bytes firmware handler)

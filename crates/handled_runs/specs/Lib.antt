@@ -1,0 +1,5 @@
+pub mod Open
+pub mod Joint
+pub mod Forms
+pub mod Answering
+pub mod SoundHandled

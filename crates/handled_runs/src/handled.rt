@@ -1,0 +1,35 @@
+// A firmware whose interrupts run an accepted handler is a sound form.
+ghost use Rattle.std.specs.Prelude.{ℕ, List};
+ghost use Rattle.interrupt_plan.specs.Plans.{IsGoodRequest};
+ghost use Rattle.interrupt_plan.specs.declared.Request as plan;
+ghost use Rattle.fz_run.specs.Facts.{FactsBeside};
+ghost use Rattle.handled_runs.specs.Open.{is_open_to_code};
+ghost use Rattle.handled_runs.specs.Forms.{with_code};
+ghost use Rattle.handled_runs.specs.SoundHandled.{Handled, HandlerStands, sound};
+
+use run_law::laws::SoundForm;
+
+/// A firmware that stands alone in memory, whose interrupts run an accepted handler.
+pub struct HandledForm;
+
+impl SoundForm for HandledForm {
+    ghost Setting = { Handled };
+
+    ghost Sample = { List ℕ };
+
+    ghost Request = { plan.Request };
+
+    ghost Told = { ℕ };
+
+    ghost form = { λ x. with_code x.flags x.firmware x.most };
+
+    ghost open_to = { λ _. is_open_to_code };
+
+    ghost holds = { λ x. FactsBeside is_open_to_code x.flags x.firmware };
+
+    ghost good = { λ _. IsGoodRequest };
+
+    ghost own = { λ x. HandlerStands x.handler x.most };
+
+    ghost sound = { λ x agree quiet. sound x agree quiet };
+}

@@ -1,0 +1,31 @@
+//! Laws of runs whose interrupts run code.
+ghost use Rattle.handled_runs.specs.Answering.{HandledAnswers};
+
+use crate::handled::HandledForm;
+use cpu12_emul::laws::{holds_image, step_agrees, wavr_goes_on};
+use cpu12_isa::laws::writes_stay;
+use cpu12_parts::laws::wav_suspends;
+use fz_run::laws::{
+    firmware_runs_beside, first_states_alike, requests_are_good, runs_follow_beside,
+};
+use handler_check::laws::handlers_are_quiet;
+use run_law::laws::runs_follow;
+
+/// Under every good plan a block's firmware whose interrupts run an accepted handler gives the rows of
+/// the run in which they do the listed writes alone, and each interrupt does at most as many steps as
+/// the handler has instructions on a path.
+pub fn handled_answers()
+    ensures { HandledAnswers }
+{
+    step_agrees();
+    wavr_goes_on();
+    writes_stay();
+    wav_suspends();
+    handlers_are_quiet();
+    holds_image();
+    firmware_runs_beside();
+    first_states_alike();
+    runs_follow_beside();
+    requests_are_good();
+    runs_follow::<HandledForm>();
+}
