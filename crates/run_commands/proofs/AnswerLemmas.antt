@@ -76,10 +76,9 @@ module _ (near : AnswersAreWithinErrors) (w : Width) (flags : ℕ) (text : List 
     (gives : GivesFirmware w text block firmware) (cert : Cert) (errors : List ℕ)
     (accepted : IsAccepted block (parts w) cert errors) (trace : List ℕ) (samples slice : List Sample)
     (in_range : Spells block.inputs trace samples) (same : slice ≡ samples)
-    (plan : List Request) (rows : List (RowSeen (List ℕ))) (left : ℕ)
+    (plan : List Request) (rows : List (RowSeen (List ℕ)))
     (ran : rows ≡ (firmware_rows firmware (map input_bytes slice) plan flags).rows)
-    (answers : AnswersItsBlock firmware flags (map input_bytes slice) plan rows)
-    (left_is : left ≡ left_of (firmware_rows firmware (map input_bytes slice) plan flags).state.mem) where
+    (answers : AnswersItsBlock firmware flags (map input_bytes slice) plan rows) where
   width : width_of firmware.wide ≡ w
   width = ap width_of gives.wide ∙ width_again w
 
@@ -96,7 +95,7 @@ module _ (near : AnswersAreWithinErrors) (w : Width) (flags : ℕ) (text : List 
       subst (λ (v : Width). AreWithinErrors (parts v) block errors samples rows) width
       (near block firmware flags cert errors trace samples rows gives.spelled.valid in_range under.answers accepted_there)
 
-  pub reports : IsReportOf w flags block firmware samples plan (report_of errors firmware.instr_bound rows left)
+  pub reports : IsReportOf w flags block firmware samples plan (report_of errors firmware.instr_bound rows)
   reports = record {
     ran =
         subst (λ (ss : List Sample). rows ≡ (firmware_rows firmware (map input_bytes ss) plan flags).rows) same ran;
@@ -108,7 +107,6 @@ module _ (near : AnswersAreWithinErrors) (w : Width) (flags : ℕ) (text : List 
         under.answers.answers;
     steps = subst (λ (v : Width). All (λ (r : RowSeen (List ℕ)). r.steps ≤ step_bound v block) rows) width under.answers.steps;
     follows = under;
-    left = subst (λ (ss : List Sample). left ≡ left_of (firmware_rows firmware (map input_bytes ss) plan flags).state.mem) same left_is;
   }
 
 -- what it answers of accepted files is a certified run
@@ -118,7 +116,7 @@ pub certifies : (near : AnswersAreWithinErrors) (run : Run) (files : Files) (blo
     → rows ≡ (firmware_rows firmware (map input_bytes slice) plan run.flags).rows
     → AnswersItsBlock firmware run.flags (map input_bytes slice) plan rows
     → left ≡ left_of (firmware_rows firmware (map input_bytes slice) plan run.flags).state.mem
-    → CertifiedRun run.width run.flags files (report_of errors firmware.instr_bound rows left)
+    → CertifiedRun run.width run.flags files (report_of errors firmware.instr_bound rows)
 certifies near run files block firmware errors samples slice plan rows left a same ran answers left_is = record {
   block = block;
   firmware = firmware;
@@ -130,5 +128,8 @@ certifies near run files block firmware errors samples slice plan rows left a sa
   plan = plan;
   good_plan = a.good_plan;
   reported = reports near run.width run.flags files.fcl block firmware a.compiled a.accepted.cert errors
-      a.accepted.accepted files.trace samples slice a.in_range same plan rows left ran answers left_is;
+      a.accepted.accepted files.trace samples slice a.in_range same plan rows ran answers;
+  left = left;
+  left_is = subst (λ (ss : List Sample). left ≡ left_of (firmware_rows firmware (map input_bytes ss) plan run.flags).state.mem)
+      same left_is;
 }

@@ -8,7 +8,6 @@ use Rattle.std.proofs.lemmas.List.{append-nil}
 use Rattle.fz_shelf.specs.Lines.{text_of}
 use Rattle.fz_run.specs.Rows.{boundary_seen, frames_seen, row_seen}
 use Rattle.fz_run.specs.declared.rows.Row.{Row}
-use Rattle.fz_status.specs.FaultLines.{newline}
 use Rattle.run_law.specs.Forms.{RowSeen}
 use Rattle.build_commands.specs.Lines.{counted, error_line, line}
 use Rattle.build_commands.proofs.Algebra.{counted-map, flat-map, text_of-snoc}
@@ -31,26 +30,25 @@ number_more before now next ns i d lt so_far step =
 
 -- ---- the lines of a run
 
-module _ (k instructions steps resumed frames : ℕ) (bytes answers : List ℕ) where
+module _ (k instructions steps resumed frames : ℕ) (bytes answers rest : List ℕ) where
   abbrev pub sample_text : List ℕ
   sample_text = codes "sample " ++ (decimal k ++ (codes " bytes" ++ (numbers bytes
       ++ (codes " answers" ++ (numbers answers ++ (codes " instructions " ++ (decimal instructions
       ++ (codes " steps " ++ (decimal steps ++ (codes " resumed " ++ (decimal resumed
-      ++ (codes " frames " ++ (decimal frames ++ newline)))))))))))))
+      ++ (codes " frames " ++ (decimal frames ++ rest)))))))))))))
 
-  pub sample_written : (t0 t1 t2 t3 t4 t5 t6 t7 t8 t9 : List ℕ) → t0 ≡ codes "sample "
+  pub sample_written : (t0 t1 t2 t3 t4 t5 t6 t7 t8 : List ℕ) → t0 ≡ codes "sample "
       → t1 ≡ t0 ++ (decimal k ++ codes " bytes")
       → t2 ≡ t1 ++ numbers bytes → t3 ≡ t2 ++ codes " answers" → t4 ≡ t3 ++ numbers answers
       → t5 ≡ t4 ++ (codes " instructions " ++ decimal instructions) → t6 ≡ t5 ++ (codes " steps " ++ decimal steps)
       → t7 ≡ t6 ++ (codes " resumed " ++ decimal resumed) → t8 ≡ t7 ++ (codes " frames " ++ decimal frames)
-      → t9 ≡ t8 ++ newline → t9 ≡ sample_text
-  sample_written t0 t1 t2 t3 t4 t5 t6 t7 t8 t9 e0 e1 e2 e3 e4 e5 e6 e7 e8 e9 =
-      let x1 = decimal k ++ codes " bytes" in
-      let s8 : t9 ≡ t7 ++ (codes " frames " ++ (decimal frames ++ newline)) =
-      e9 ∙ ap (λ (l : List ℕ). l ++ newline) e8 ∙ append_assoc t7 (codes " frames " ++ decimal frames) newline in
-      let s7 : t9 ≡ t6 ++ (codes " resumed " ++ (decimal resumed ++ (codes " frames " ++ (decimal frames ++ newline)))) =
-      s8 ∙ next t6 (codes " resumed ") (decimal resumed) (codes " frames " ++ (decimal frames ++ newline)) t7 e7 in
-      let r6 = codes " resumed " ++ (decimal resumed ++ (codes " frames " ++ (decimal frames ++ newline))) in
+      → t8 ++ rest ≡ sample_text
+  sample_written t0 t1 t2 t3 t4 t5 t6 t7 t8 e0 e1 e2 e3 e4 e5 e6 e7 e8 =
+      let t9 = t8 ++ rest in
+      let r7 = codes " frames " ++ (decimal frames ++ rest) in
+      let s8 : t9 ≡ t7 ++ r7 = next t7 (codes " frames ") (decimal frames) rest t8 e8 in
+      let r6 = codes " resumed " ++ (decimal resumed ++ r7) in
+      let s7 : t9 ≡ t6 ++ r6 = s8 ∙ next t6 (codes " resumed ") (decimal resumed) r7 t7 e7 in
       let s6 : t9 ≡ t5 ++ (codes " steps " ++ (decimal steps ++ r6)) = s7 ∙ next t5 (codes " steps ") (decimal steps) r6 t6 e6 in
       let r5 = codes " steps " ++ (decimal steps ++ r6) in
       let s5 : t9 ≡ t4 ++ (codes " instructions " ++ (decimal instructions ++ r5)) =
@@ -63,11 +61,11 @@ module _ (k instructions steps resumed frames : ℕ) (bytes answers : List ℕ) 
       s2 ∙ next t0 (decimal k) (codes " bytes") (numbers bytes ++ r2) t1 e1
       ∙ ap (λ (l : List ℕ). l ++ (decimal k ++ (codes " bytes" ++ (numbers bytes ++ r2)))) e0
     where
-      one : (t x rest u : List ℕ) → u ≡ t ++ x → u ++ rest ≡ t ++ (x ++ rest)
-      one t x rest u e = ap (λ (l : List ℕ). l ++ rest) e ∙ append_assoc t x rest
+      one : (t x more u : List ℕ) → u ≡ t ++ x → u ++ more ≡ t ++ (x ++ more)
+      one t x more u e = ap (λ (l : List ℕ). l ++ more) e ∙ append_assoc t x more
 
-      next : (t x y rest u : List ℕ) → u ≡ t ++ (x ++ y) → u ++ rest ≡ t ++ (x ++ (y ++ rest))
-      next t x y rest u e = one t (x ++ y) rest u e ∙ ap (λ (l : List ℕ). t ++ l) (append_assoc x y rest)
+      next : (t x y more u : List ℕ) → u ≡ t ++ (x ++ y) → u ++ more ≡ t ++ (x ++ (y ++ more))
+      next t x y more u e = one t (x ++ y) more u e ∙ ap (λ (l : List ℕ). t ++ l) (append_assoc x y more)
 
 pub row_written : (before next now : List (String Global)) (line : String Global) (k : ℕ) (row : Row)
     → now ≡ before ++ line ∷ [] → string_bytes line ≡ sample_line k (row_seen row)
@@ -85,7 +83,7 @@ pub run_written : (none errors bounded rows lines : List (String Global)) (bound
     → bounded ≡ errors ++ bound_line ∷ [] → string_bytes bound_line ≡ line (codes "instructions ") bound
     → text_of rows ≡ text_of bounded ++ counted (λ k r. row_lines k (row_seen r)) 1 rs
     → lines ≡ rows ++ left_line ∷ [] → string_bytes left_line ≡ line (codes "left ") left
-    → text_of lines ≡ run_lines (report_of es bound (map row_seen rs) left)
+    → text_of lines ≡ run_lines (report_of es bound (map row_seen rs)) left
 run_written none errors bounded rows lines bound_line left_line es bound left rs start e0 e1 b e2 e3 l =
     let d0 : text_of errors ≡ counted error_line 1 es = e0 ∙ ap (λ (x : List (String Global)). text_of x ++ counted error_line 1 es) start in
     let d1 : text_of bounded ≡ counted error_line 1 es ++ line (codes "instructions ") bound =

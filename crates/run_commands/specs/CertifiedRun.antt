@@ -27,14 +27,14 @@ pub record Files : Type 0 where
   pub trace : List ℕ
   pub plan : List ℕ
 
--- what is printed: an error for each output, in millionths of its range, the bound on instructions, a row for each
--- sample, and the sum of the bytes from the first free one to the end of the stack
+-- what is told of a run: an error for each output, in millionths of its range, the bound on instructions, and a row for
+-- each sample
 pub record Report : Type 0 where
   pub errors : List ℕ
   pub bound : ℕ
   pub rows : List (RowSeen (List ℕ))
-  pub left : ℕ
 
+-- the sum of the bytes from the first free one to the end of the stack
 abbrev pub left_of : List ℕ → ℕ
 left_of memory = sum (take (stack_end - free_start) (drop free_start memory))
 
@@ -51,11 +51,10 @@ pub record IsReportOf (width : Width) (flags : ℕ) (block : Block) (firmware : 
   pub instructions : All (λ row. row.instrs ≤ report.bound) report.rows
   pub steps : All (λ row. row.steps ≤ step_bound width block) report.rows
   pub follows : AnswersUnder block firmware flags (map input_bytes samples) plan report.rows
-  pub left : report.left ≡ left_of (firmware_rows firmware (map input_bytes samples) plan flags).state.mem
 
 -- Compile accepts the FCL text, IMAGE holds exactly its firmware's image, the checker accepts the certificate, the
 -- trace spells samples within their inputs' ranges, and the plan interrupts that write only free bytes. The report is
--- of that.
+-- of that, and so is what the run leaves in the free bytes and the stack.
 pub record CertifiedRun (width : Width) (flags : ℕ) (files : Files) (report : Report) : Type 0 where
   pub block : Block
   pub firmware : Firmware
@@ -67,3 +66,5 @@ pub record CertifiedRun (width : Width) (flags : ℕ) (files : Files) (report : 
   pub plan : List Request
   pub good_plan : SpellsPlan files.plan plan
   pub reported : IsReportOf width flags block firmware samples plan report
+  pub left : ℕ
+  pub left_is : left ≡ left_of (firmware_rows firmware (map input_bytes samples) plan flags).state.mem

@@ -61,32 +61,35 @@ frame_line k f = codes "frame " ++ (decimal k ++ (codes " " ++ (decimal f.0
     ++ (codes " " ++ (address_digits f.1.pc ++ (codes " " ++ (address_digits f.1.sp
     ++ (codes " " ++ (decimal (length f.1.bytes) ++ newline)))))))))
 
--- the line of the k-th sample
-abbrev pub sample_line : ℕ → RowSeen (List ℕ) → List ℕ
-sample_line k r = codes "sample " ++ (decimal k ++ (codes " bytes" ++ (numbers r.sample
+-- the line of the k-th sample, and what stands behind the number of its frames
+abbrev pub sample_line_with : ℕ → RowSeen (List ℕ) → List ℕ → List ℕ
+sample_line_with k r rest = codes "sample " ++ (decimal k ++ (codes " bytes" ++ (numbers r.sample
     ++ (codes " answers" ++ (numbers r.answers ++ (codes " instructions " ++ (decimal r.instrs
     ++ (codes " steps " ++ (decimal r.steps ++ (codes " resumed " ++ (decimal r.resumed
-    ++ (codes " frames " ++ (decimal (length r.frames) ++ newline)))))))))))))
+    ++ (codes " frames " ++ (decimal (length r.frames) ++ rest)))))))))))))
+
+abbrev pub sample_line : ℕ → RowSeen (List ℕ) → List ℕ
+sample_line k r = sample_line_with k r newline
 
 -- followed by its frames
 abbrev pub row_lines : ℕ → RowSeen (List ℕ) → List ℕ
 row_lines k r = sample_line k r ++ flat_map (frame_line k) r.frames
 
-abbrev pub report_of : List ℕ → ℕ → List (RowSeen (List ℕ)) → ℕ → Report
-report_of errors bound rows left = record { errors = errors; bound = bound; rows = rows; left = left }
+abbrev pub report_of : List ℕ → ℕ → List (RowSeen (List ℕ)) → Report
+report_of errors bound rows = record { errors = errors; bound = bound; rows = rows }
 
 -- the errors, the bound on instructions, each sample, and the sum
-abbrev pub run_lines : Report → List ℕ
-run_lines r = counted error_line 1 r.errors
-    ++ (line (codes "instructions ") r.bound ++ (counted row_lines 1 r.rows ++ line (codes "left ") r.left))
+abbrev pub run_lines : Report → ℕ → List ℕ
+run_lines r left = counted error_line 1 r.errors
+    ++ (line (codes "instructions ") r.bound ++ (counted row_lines 1 r.rows ++ line (codes "left ") left))
 
 -- ---- what it makes of its files
 
--- the run is certified, and the lines are those of its report
+-- the run is certified, and the lines are those of its report and of what it leaves
 pub record RunGives (run : Run) (files : Files) (deed : Deed) : Type 0 where
   pub report : Report
   pub certified : CertifiedRun run.width run.flags files report
-  pub deed_is : deed ≡ record { text = run_lines report; file = None }
+  pub deed_is : deed ≡ record { text = run_lines report certified.left; file = None }
 
 -- FCL gives firmware of which this holds
 abbrev pub OfFirmware : Width → List ℕ → (Block → Firmware → Type 0) → Type 0

@@ -1,10 +1,11 @@
 //! The lines of a run.
-ghost use Rattle.std.specs.Prelude.{◌≡◌, ◌++◌, decimal, map, string_bytes, IfOk, OnOk};
+ghost use Rattle.std.specs.Prelude.{ℕ, List, ◌≡◌, ◌++◌, decimal, map, string_bytes, IfOk, OnOk};
 ghost use Rattle.std.specs.List.{flat_map};
 ghost use Rattle.fz_shelf.specs.Lines.{text_of};
 ghost use Rattle.fz_run.specs.Rows.{boundary_seen, frames_seen, row_seen};
 ghost use Rattle.build_commands.specs.Lines.{counted};
 ghost use Rattle.run_commands.specs.Run.{frame_line, numbers, report_of, row_lines, run_lines, sample_line};
+ghost use Rattle.run_commands.specs.Run.{sample_line_with};
 
 use build_commands::lines::{labelled, push_address, push_errors};
 use cpu12_emul::ends::Frame;
@@ -21,7 +22,7 @@ pub(crate) fn lines(
     left: u32,
 ) -> Result<Vec<String>, AllocError>
     ensures { IfOk result (λ lines. text_of lines.items
-        ≡ run_lines (report_of errors.now bound (map row_seen rows.now) left)) }
+        ≡ run_lines (report_of errors.now bound (map row_seen rows.now)) left) }
 {
     let mut lines = Vec::new(alloc);
     push_errors(alloc, &mut lines, errors)?;
@@ -109,6 +110,15 @@ fn push_numbers(text: &mut String, values: &[u16]) -> Result<(), AllocError>
 fn line_of_sample(alloc: Global, k: usize, row: &Row) -> Result<String, AllocError>
     ensures { IfOk result (λ s. string_bytes s ≡ sample_line k (row_seen row.now)) }
 {
+    let mut text = sample_text(alloc, k, row)?;
+    text.push_str("\n")?;
+    Ok(text)
+}
+
+/// The line of the k-th sample, up to the number of its frames.
+pub(crate) fn sample_text(alloc: Global, k: usize, row: &Row) -> Result<String, AllocError>
+    ensures { IfOk result (λ s. (rest : List ℕ) → string_bytes s ++ rest ≡ sample_line_with k (row_seen row.now) rest) }
+{
     let mut text = String::from_str(alloc, "sample ")?;
     write!(&mut text, "{k} bytes")?;
     push_bytes(&mut text, row.bytes.as_slice())?;
@@ -118,7 +128,6 @@ fn line_of_sample(alloc: Global, k: usize, row: &Row) -> Result<String, AllocErr
     push_count(&mut text, " steps ", row.steps as usize)?;
     push_count(&mut text, " resumed ", row.resumed as usize)?;
     push_count(&mut text, " frames ", row.frames.len())?;
-    text.push_str("\n")?;
     Ok(text)
 }
 

@@ -1,14 +1,6 @@
-use Rattle.std.proofs.Common.{◌≡◌, ◌∙◌, length, sym}
-use Rattle.std.proofs.lemmas.List.{length-map}
-use Rattle.fz_run.specs.Rows.{boundary_seen, frames_seen}
-use Rattle.run_commands.proofs.LineLemmas.{sample_written}
+use Rattle.std.proofs.Common.{◌∙◌}
+use Rattle.fz_status.specs.FaultLines.{newline}
 use Rattle.run_commands.proofs.run_lines.line_of_sample.Goals as goal
 
 pub returns : goal.returns
-returns c =
-    let frames : c.len.result ≡ length (frames_seen c.args.row.now.frames) =
-    c.len.ensures ∙ sym (length-map c.args.row.now.frames boundary_seen) in
-    sample_written _ _ _ _ _ _ _ _ _ _ _ _ _ _ _ _ _ c.in_ok-text.ensures.ok c.in_ok-write.ensures.bytes
-    (rw c.as_slice.ensures.value at c.in_ok-push_bytes.ensures) c.in_ok-push_str.ensures.bytes
-    (rw c.as_slice-2.ensures.value at c.in_ok-push_numbers.ensures) c.in_ok-push_count.ensures c.in_ok-push_count-2.ensures
-    c.in_ok-push_count-3.ensures (rw frames at c.in_ok-push_count-4.ensures) c.in_ok-push_str-2.ensures.bytes
+returns c = c.in_ok-push_str.ensures.bytes ∙ c.in_ok-text.ensures newline

@@ -1,10 +1,9 @@
 use Rattle.std.proofs.Common.{ℕ, List, ap, ap₂, ◌∙◌, map, refl}
 use Rattle.std.specs.Prelude.{None}
 use Rattle.codegen.specs.declared.width.Width.TheVariants.{Byte}
-use Rattle.fz_run.specs.Rows.{firmware_rows, input_bytes, row_seen}
+use Rattle.fz_run.specs.Rows.{row_seen}
 use Rattle.fz_run.specs.declared.rows.Row.{Row}
 use Rattle.workload.specs.Draws.{draw}
-use Rattle.run_commands.specs.CertifiedRun.{left_of}
 use Rattle.build_commands.specs.Deeds.{Deed}
 use Rattle.build_commands.specs.Firmwares.{GivesFirmware}
 use Rattle.run_commands.specs.Generate.{generate_lines}
@@ -31,7 +30,6 @@ returns-in-Ok-lines c =
     let halving = c.in-Ok-halved.ensures.halving in
     let samples = c.as_slice-samples.result.now in
     let rows = map row_seen c.in-Ok-run.rows.items in
-    let left = left_of (firmware_rows firmware (map input_bytes samples) w.requests 0).state.mem in
     let gives : GivesFirmware Byte w.text.items w.block firmware = record {
       spelled = drawn.spelled;
       limits = c.drawn_blocks_are_within_limits.ensures (draw number 0 5) w.block drawn.drawn_block;
@@ -51,10 +49,10 @@ returns-in-Ok-lines c =
       gives = gives;
       cert = cert;
       halving = halving;
-      report = report_of cert.claims bound rows left;
+      report = report_of cert.claims bound rows;
       errors = refl;
       reported = reports c.answers_are_within_errors.ensures Byte 0 w.text.items w.block firmware gives cert cert.claims
           halving.claims w.trace.items w.samples.items samples drawn.in_trace c.as_slice-samples.ensures.value w.requests
-          rows left c.in-Ok-run.ensures.rows c.in-Ok-run.ensures.answers refl;
+          rows c.in-Ok-run.ensures.rows c.in-Ok-run.ensures.answers;
       deed_is = ap only_text (c.in-Ok-lines.ensures ∙ ap₂ lines_of c.as_slice-errors.ensures c.deref.ensures.value);
     }

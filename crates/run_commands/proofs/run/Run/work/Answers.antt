@@ -16,9 +16,9 @@ pub returns-in-Ok-lines : goal.returns-in-Ok-lines
 returns-in-Ok-lines c =
     let a = c.in-Ok.accepted in
     let bound = a.compiled.firmware.instr_bound in
-    let lines_of = λ (es : List ℕ) (rs : List Row). run_lines (report_of es bound (map row_seen rs) c.left_in.result) in
+    let lines_of = λ (es : List ℕ) (rs : List Row). run_lines (report_of es bound (map row_seen rs)) c.left_in.result in
     record {
-      report = report_of a.errors.items bound (map row_seen c.in-Ok-ran.rows.items) c.left_in.result;
+      report = report_of a.errors.items bound (map row_seen c.in-Ok-ran.rows.items);
       certified = certifies c.answers_are_within_errors.ensures c.args.self (files_in (bytes_of c.args.contents.now))
           a.compiled.block a.compiled.firmware a.errors.items a.samples.items c.deref.result.now a.plan
           (map row_seen c.in-Ok-ran.rows.items) c.left_in.result c.in-Ok.ensures.accepted c.deref.ensures.value
