@@ -1,2 +1,5 @@
 mod Beginnings
-mod Rows
+mod HandledAnswers
+mod Returns
+mod JointBytes
+mod SampleBytes

@@ -9,8 +9,8 @@ use Rattle.interrupt_plan.specs.Plans.{IsGood}
 use Rattle.codegen.specs.declared.firmware.Firmware.{Firmware}
 use Rattle.codegen.specs.Firing.{AreInputBytes}
 use Rattle.codegen.specs.Firmwares.{IsFirmwareOf}
-use Rattle.fz_run.specs.Rows.{firmware_rows}
-use Rattle.handled_runs.specs.Forms.{handled_rows}
+use Rattle.fz_run.specs.Rows.{firmware_rows, steps_told}
+use Rattle.handled_runs.specs.Forms.{handled_rows, HandledSeen}
 
 -- each interrupt of a sample does at most so many steps
 abbrev pub AreShort : ℕ → List (Request × ℕ) → Type 0
@@ -31,3 +31,16 @@ HandledAnswers =
     (b : Block) (f : Firmware) (handler : List (ℕ × ℕ)) (most flags : ℕ) (samples : List (List ℕ))
     (plan : List Request) → flags < 2 ^ 8 → IsGood plan → IsHandler handler most → IsValid b → IsWithinLimits b
     → IsFirmwareOf b f → All (AreInputBytes b) samples → AnswersHandled f handler most flags samples plan
+
+-- Rows with their handlers' steps: the rows are those of listed writes, and the run is as above.
+pub record AreListedRows (f : Firmware) (handler : List (ℕ × ℕ)) (most flags : ℕ) (samples : List (List ℕ))
+    (plan : List Request) (rows : List HandledSeen) : Type 0 where
+  pub listed : map (λ r. r.row) rows ≡ (firmware_rows f samples plan flags).rows
+  pub run : AnswersHandled f handler most flags samples plan
+  pub steps : map (λ r. r.handler) rows ≡ map steps_told (handled_rows f handler most samples plan flags).told
+
+-- so are they where the firmware is one of a valid block
+abbrev pub HandlesItsBlock : Firmware → List (ℕ × ℕ) → ℕ → ℕ → List (List ℕ) → List Request → List HandledSeen → Type 0
+HandlesItsBlock f handler most flags samples plan rows =
+    (b : Block) → IsValid b → IsWithinLimits b → IsFirmwareOf b f → All (AreInputBytes b) samples
+    → AreListedRows f handler most flags samples plan rows

@@ -1,40 +1,62 @@
 -- A firmware that stands alone, whose interrupts run code, as a form of the law on runs.
-use Rattle.std.specs.Prelude.{ℕ, List, take}
+use Rattle.std.specs.Prelude.{ℕ, List, take, map}
 use Rattle.cpu12_parts.specs.State.{State}
-use Rattle.cpu12_emul.specs.Step.{reset_with}
-use Rattle.run_law.specs.Forms.{Form, Rows, rows_from}
+use Rattle.run_law.specs.Forms.{RowSeen, Rows, rows_from}
 use Rattle.handler_check.specs.Running.{Returned, until_rti, at_code}
 use Rattle.interrupt_plan.specs.declared.Request.{Request}
 use Rattle.codegen.specs.declared.firmware.Firmware.{Firmware}
-use Rattle.codegen.specs.Interruptible.{is_idle}
-use Rattle.fz_run.specs.Forms.{given, answers_in}
-use Rattle.fz_run.specs.Rows.{requests_of, arrival}
-use Rattle.handled_runs.specs.Joint.{joint_memory}
+use Rattle.trace_io.specs.declared.sample.Sample.{Sample}
+use Rattle.fz_run.specs.Forms.{given, FormParts, PlanForm, plan_form, stand_alone, Harness}
+use Rattle.fz_run.specs.Rows.{requests_of, arrived_at, input_bytes, shown}
+use Rattle.fz_run.specs.Rows as rows
+use Rattle.handled_runs.specs.declared.rows.HandledRow as declared
+use Rattle.handled_runs.specs.Joint.{joint_bytes}
 
 -- A request's handler, from a state in which no sums run: the nine bytes are pushed, I is set, the request's writes are
 -- done, and steps from the vector on up to an RTI, at most so many.
 abbrev pub served : ℕ → ℕ → Request → State → Returned
 served flags most r v = until_rti flags most (at_code r.writes v)
 
--- A sample is given by at most eight bytes. A request is due from its moment on, and tells the steps of its handler.
-abbrev pub with_code : ℕ → Firmware → ℕ → Form (List ℕ) Request ℕ
-with_code flags f most = record {
-  flags = flags;
-  give = λ bytes. given f.layout (take 8 bytes);
-  leave = λ x s. s;
-  ends = λ m s. is_idle f.layout s;
-  answers = answers_in f;
-  moment = λ r. r.moment;
-  handle = λ r v. (served flags most r v).state;
-  tells = λ r v. (served flags most r v).steps;
-}
+-- The parts of the form: a sample is given by at most eight bytes, and a request tells the steps of its handler.
+abbrev pub code_parts : Firmware → ℕ → FormParts (List ℕ)
+code_parts f most =
+    record (stand_alone f (λ flags r v. (served flags most r v).state) (λ flags r v. (served flags most r v).steps)) {
+      give = λ bytes. given f.layout (take 8 bytes);
+    }
+
+abbrev pub with_code : ℕ → Firmware → ℕ → PlanForm (List ℕ)
+with_code flags f most = plan_form flags (code_parts f most)
 
 -- the state in which the firmware waits for its first sample, where the handler's bytes stand beside it
 abbrev pub first_handled : Firmware → List (ℕ × ℕ) → ℕ → State
 first_handled f handler flags =
-    arrival flags f.layout.wait f.step_bound (reset_with (joint_memory f.image.bytes handler))
+    arrived_at flags f.layout.wait f.step_bound (joint_bytes f.image.bytes handler)
 
 -- the run over a list of samples under a plan, in which a handler does at most so many steps
 abbrev pub handled_rows : Firmware → List (ℕ × ℕ) → ℕ → List (List ℕ) → List Request → ℕ → Rows (List ℕ) Request ℕ
 handled_rows f handler most samples plan flags =
     rows_from (with_code flags f most) f.step_bound (λ k. requests_of k plan) 1 samples (first_handled f handler flags)
+
+-- a row, and how many steps of the handler the interrupts of its sample did
+pub record HandledSeen : Type 0 where
+  pub row : RowSeen (List ℕ)
+  pub handler : ℕ
+
+abbrev pub with_steps : RowSeen (List ℕ) → ℕ → HandledSeen
+with_steps row steps = record { row = row; handler = steps }
+
+-- the rows of the run so
+abbrev pub handled_seen : Firmware → List (ℕ × ℕ) → ℕ → List (List ℕ) → List Request → ℕ → List HandledSeen
+handled_seen f handler most samples plan flags = shown with_steps (handled_rows f handler most samples plan flags)
+
+-- those of the code
+abbrev pub row_seen : declared.HandledRow → HandledSeen
+row_seen r = record { row = rows.row_seen r.row; handler = r.handler }
+
+abbrev pub code_harness : Firmware → ℕ → List Sample → Harness declared.HandledRow (List ℕ) HandledSeen
+code_harness f most samples = record {
+  samples = map input_bytes samples;
+  parts = code_parts f most;
+  shows = with_steps;
+  seen = row_seen;
+}

@@ -1,5 +1,5 @@
 -- The image that runs: a firmware's with a handler's bytes, and $4000 in the interrupt's vector.
-use Rattle.std.specs.Prelude.{ℕ, ◌+◌, ◌/◌, ◌%◌, List, ◌∷◌, ◌++◌}
+use Rattle.std.specs.Prelude.{ℕ, ◌+◌, ◌/◌, ◌%◌, Option, Some, None, List, ◌∷◌, ◌++◌}
 use Rattle.cpu12_emul.specs.Image.{image_memory}
 use Rattle.handler_check.specs.Cut.{code_start}
 use Rattle.handled_runs.specs.Open.{vector}
@@ -11,3 +11,8 @@ joint_bytes firmware handler =
 
 abbrev pub joint_memory : List (ℕ × ℕ) → List (ℕ × ℕ) → List ℕ
 joint_memory firmware handler = image_memory (joint_bytes firmware handler)
+
+-- a byte, or another where there is none
+abbrev pub either : Option ℕ → Option ℕ → Option ℕ
+either (Some byte) other = Some byte
+either None other = other

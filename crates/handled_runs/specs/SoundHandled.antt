@@ -1,5 +1,5 @@
 -- A firmware whose interrupts run an accepted handler is a sound form. The proof stands here, where an impl can cite it.
-use Rattle.std.proofs.Common.{◌≡◌, ℕ, zero, suc, ◌+◌, ◌^◌, ◌<◌, ◌≤◌, ◌⊎◌, inl, inr, Bool, true, false, Ok, Result, Option, Some, List, [], ◌∷◌, ◌++◌, length, get_or, refl, ap, sym, ◌∙◌, subst, arith, nat_lt, nat_le}
+use Rattle.std.proofs.Common.{◌≡◌, ℕ, zero, suc, ◌+◌, ◌<◌, ◌≤◌, ◌⊎◌, inl, inr, Bool, true, false, Ok, Result, Some, List, [], ◌∷◌, ◌++◌, length, get_or, refl, ap, sym, ◌∙◌, subst, arith, nat_lt, nat_le}
 use Rattle.std.specs.Prelude.{All, min, take, ◌&&◌, ◌||◌}
 use Rattle.std.specs.Option.{is_some}
 use Rattle.std.proofs.lemmas.Bool.{or_parts, cases_lt}
@@ -20,11 +20,11 @@ use Rattle.cpu12_parts.specs.Cuts.{suspended, wav}
 use Rattle.cpu12_parts.specs.Inside.{PushesRunning, PushesNone}
 use Rattle.cpu12_parts.specs.Laws.{IsOff, addresses}
 use Rattle.cpu12_emul.specs.Step.{Left, Next, step_act, applied, next_of}
-use Rattle.cpu12_emul.specs.Simulation.{AreOpen, Same, Parked, Simulates, AreSumsReady, HasRoom, IsShownStep, StepAgrees, WavrGoesOn}
+use Rattle.cpu12_emul.specs.Simulation.{AreOpen, Simulates, AreSumsReady, HasRoom, IsShownStep, StepAgrees, WavrGoesOn}
 use Rattle.run_law.specs.Uninterrupted.{stepped, state_by}
 use Rattle.run_law.specs.Soundness.{below_sums, Begins, Quiet, Sound, WritesAreQuiet}
 use Rattle.handler_check.specs.Images.{IsWhole, IsHandler}
-use Rattle.handler_check.specs.Running.{until_rti, at_code, HasImage, CanEnter, IsQuietCode, HandlersAreQuiet}
+use Rattle.handler_check.specs.Running.{HasImage, CanEnter, IsQuietCode, HandlersAreQuiet}
 use Rattle.interrupt_plan.specs.declared.Request.{Request}
 use Rattle.interrupt_plan.specs.Plans.{IsGoodRequest}
 use Rattle.codegen.specs.declared.firmware.Firmware.{Firmware}

@@ -1,5 +1,17 @@
 //! Runs of a firmware whose interrupts run code.
+//!
+//! [`run_handler`] runs an image of a firmware and a handler that [`handler_check`] accepted: an interrupt pushes its
+//! frame, sets I, does the writes that its request lists, and does steps from the word at `$FFF2` on up to an RTI. Where
+//! the firmware is a block's, the rows are those of `fz_run::run`, by which a request's writes alone are done, beside the
+//! number of steps of the handler.
 #![tactic(auto)]
 
+mod back;
+mod form;
 mod handled;
+mod joint;
 pub mod laws;
+mod rows;
+
+pub use joint::joint_image;
+pub use rows::{HandledRow, run_handler};

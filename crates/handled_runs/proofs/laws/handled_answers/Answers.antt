@@ -1,4 +1,4 @@
-use Rattle.handled_runs.proofs.Rows.{handled_answers}
+use Rattle.handled_runs.proofs.HandledAnswers.{handled_answers}
 use Rattle.handled_runs.proofs.laws.handled_answers.Goals as goal
 
 pub returns : goal.returns

@@ -1,19 +1,16 @@
 -- The rows of a run whose interrupts run code.
-use Rattle.std.proofs.Common.{◌≡◌, ℕ, suc, ◌+◌, ◌≤◌, ◌<◌, ◌^◌, List, [], ◌∷◌, length, refl, ap, ap₂, sym, ◌∙◌, subst, arith}
+use Rattle.std.proofs.Common.{◌≡◌, ℕ, suc, ◌+◌, ◌≤◌, ◌<◌, ◌^◌, List, [], ◌∷◌, length, refl, ap, sym, ◌∙◌, subst, arith}
 use Rattle.std.specs.Prelude.{All, take, map}
 use Rattle.std.proofs.lemmas.List.{take_all}
 use Rattle.std.proofs.lemmas.List.Elements.{All-cons}
 use Rattle.fuzzy_meaning.specs.declared.block.Block.{Block}
-use Rattle.fuzzy_meaning.specs.Blocks.{IsValid}
-use Rattle.rule_layout.specs.Layouts.{IsWithinLimits}
 use Rattle.cpu12_isa.specs.Regions.{is_hidden}
 use Rattle.cpu12_isa.proofs.Algebra.{agree_self}
 use Rattle.cpu12_parts.specs.State.{State}
 use Rattle.cpu12_emul.specs.Image.{HoldsImage}
-use Rattle.cpu12_emul.specs.Simulation.{Same}
-use Rattle.run_law.specs.Forms.{RowSeen, Rows}
+use Rattle.run_law.specs.Forms.{RowSeen}
 use Rattle.run_law.specs.Uninterrupted.{uninterrupted}
-use Rattle.run_law.specs.Following.{Completes, AllComplete, onto, all_onto, AllFollow, RunsFollow, expected_row, expected_rows}
+use Rattle.run_law.specs.Following.{Completes, AllComplete, onto, all_onto, RunsFollow, expected_row, expected_rows}
 use Rattle.handler_check.specs.Images.{IsHandler}
 use Rattle.interrupt_plan.specs.declared.Request.{Request}
 use Rattle.interrupt_plan.specs.Plans.{IsGoodRequest, IsGood}
@@ -21,16 +18,17 @@ use Rattle.codegen.specs.declared.layout.Layout.{Layout}
 use Rattle.codegen.specs.declared.firmware.Firmware.{Firmware}
 use Rattle.codegen.specs.Answers.{LeavesLayout}
 use Rattle.codegen.specs.Firing.{AreInputBytes}
-use Rattle.codegen.specs.Firmwares.{IsFirmwareOf}
-use Rattle.fz_run.specs.Forms.{given, with_writes}
-use Rattle.fz_run.specs.Rows.{requests_of, first_state, firmware_rows}
+use Rattle.fz_run.specs.Forms.{given, with_writes, Harness}
+use Rattle.fz_run.specs.Showing.{RowsAreShown}
+use Rattle.fz_run.specs.Rows.{requests_of, first_state}
 use Rattle.fz_run.specs.Facts.{FactsBeside}
 use Rattle.fz_run.specs.Following.{RunsFollowBeside, RequestsAreGood}
 use Rattle.fz_run.specs.Answering.{FirmwareRunsBeside, FirstAlike, FirstStatesAlike}
 use Rattle.handled_runs.specs.Open.{is_open_to_code}
 use Rattle.handled_runs.specs.Joint.{joint_memory}
-use Rattle.handled_runs.specs.Forms.{with_code, first_handled, handled_rows}
-use Rattle.handled_runs.specs.Answering.{AreShort, AnswersHandled, HandledAnswers}
+use Rattle.handled_runs.specs.declared.rows.HandledRow as declared
+use Rattle.handled_runs.specs.Forms.{code_parts, with_code, first_handled, handled_rows, HandledSeen, with_steps, row_seen, handled_seen}
+use Rattle.handled_runs.specs.Answering.{AreShort, HandledAnswers, HandlesItsBlock}
 use Rattle.handled_runs.specs.SoundHandled.{CodeLaws, Handled, HandlerStands, opens_free}
 use Rattle.handled_runs.proofs.Beginnings.{code_leaves, joint_agrees, joint_has, first_same, first_stands}
 
@@ -125,4 +123,17 @@ handled_answers laws b f handler most flags samples plan hf good is v limits h a
       arrived = code.arrived;
       rows_are = code.rows_are ∙ expected flags f most asks 1 ns samples s few ∙ sym listed.rows_are;
       short = (all_short most (handled_rows f handler most samples plan flags).told [] own.short).0;
+    }
+
+-- the rows as they are shown
+pub handles_block : HandledAnswers → RowsAreShown declared.HandledRow (List ℕ) HandledSeen → (f : Firmware) (handler : List (ℕ × ℕ)) (most flags : ℕ) (samples : List (List ℕ)) (plan : List Request) (rows : List HandledSeen)
+    → flags < 2 ^ 8 → IsGood plan → IsHandler handler most → rows ≡ handled_seen f handler most samples plan flags → HandlesItsBlock f handler most flags samples plan rows
+handles_block law shows f handler most flags samples plan rows hf good is same b v limits h all =
+    let harness : Harness declared.HandledRow (List ℕ) HandledSeen = record { samples = samples; parts = code_parts f most; shows = with_steps; seen = row_seen } in
+    let parts = shows harness flags f.step_bound plan (first_handled f handler flags) (λ r. r.row) (λ r. r.handler) (record { row = λ row steps. refl; told = λ row steps. refl }) in
+    let run = law b f handler most flags samples plan hf good is v limits h all in
+    record {
+      listed = ap (λ (rs : List HandledSeen). map (λ (r : HandledSeen). r.row) rs) same ∙ parts.rows ∙ run.rows_are;
+      run = run;
+      steps = ap (λ (rs : List HandledSeen). map (λ (r : HandledSeen). r.handler) rs) same ∙ parts.told;
     }

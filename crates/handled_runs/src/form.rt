@@ -1,0 +1,62 @@
+// A firmware whose interrupts run code, as a form of runs.
+ghost use Rattle.std.specs.Prelude.{ℕ, ◌≡◌, ◌≤◌, List};
+ghost use Rattle.handled_runs.specs.Forms.{HandledSeen, code_harness};
+
+use crate::back::until_rti;
+use crate::rows::HandledRow;
+use codegen::Firmware;
+use cpu12_emul::ends::Frame;
+use cpu12_emul::machine::Machine;
+use cpu12_isa::mem::Mem;
+use fz_run::form::RunForm;
+use fz_run::ports::{answers, give, is_idle};
+use fz_run::{Tally, row_of};
+use interrupt_plan::Request;
+use trace_io::Sample;
+
+/// A firmware that stands alone beside a handler in memory, with a trace.
+#[derive(Drop)]
+pub(crate) struct WithCode<'a> {
+    /// The firmware, of at most four outputs.
+    pub(crate) firmware: &'a Firmware,
+    /// The trace.
+    pub(crate) samples: &'a [Sample],
+    /// How many steps a handler does at most.
+    pub(crate) most: u16,
+    ghost outputs: { firmware.now.outputs ≤ 4 },
+}
+
+impl<'a> RunForm<HandledRow> for WithCode<'a> {
+    ghost Given = { List ℕ };
+
+    ghost Shown = { HandledSeen };
+
+    ghost harness = { λ x. code_harness x.firmware.now x.most x.samples.now };
+
+    fn count(&self) -> usize {
+        self.samples.len()
+    }
+
+    fn give<M: Mem>(&self, m: &mut Machine<M>, k: usize) {
+        give(&self.firmware.layout, m, self.samples[k].bytes.as_slice());
+    }
+
+    fn leave<M: Mem>(&self, _m: &mut Machine<M>, _k: usize) {}
+
+    fn ends<M: Mem>(&self, m: &Machine<M>) -> bool {
+        is_idle(&self.firmware.layout, m)
+    }
+
+    fn take<M: Mem>(&self, m: &mut Machine<M>, request: &Request) -> (Frame, u16) {
+        let frame = m.enter(request.writes.as_slice());
+        let steps = until_rti(m, self.most);
+        (frame, steps)
+    }
+
+    fn row<M: Mem>(&self, m: &Machine<M>, k: usize, tally: Tally) -> HandledRow {
+        let handler = tally.handler;
+        let bytes = self.samples[k].bytes.as_slice();
+        let row = row_of(bytes, answers(self.firmware, m), tally);
+        HandledRow { row, handler }
+    }
+}

@@ -1,0 +1,90 @@
+//! The rows of a firmware whose interrupts run code.
+ghost use Rattle.std.specs.Prelude.{ℕ, ◌≡◌, ◌≤◌, map, IfOk};
+ghost use Rattle.handler_check.specs.Images.{IsHandler};
+ghost use Rattle.interrupt_plan.specs.Plans.{IsGood};
+ghost use Rattle.fz_run.specs.Rows.{input_bytes};
+ghost use Rattle.handled_runs.specs.Forms.{row_seen, handled_seen};
+ghost use Rattle.handled_runs.specs.Answering.{HandlesItsBlock};
+
+use crate::form::WithCode;
+use crate::joint::joint_image;
+use crate::laws::handled_answers;
+use codegen::Firmware;
+use cpu12_asm::Image;
+use cpu12_emul::laws::images_load_alike;
+use cpu12_isa::pages::PageMem;
+use fz_list::Memory;
+use fz_run::laws::rows_are_shown;
+use fz_run::{Row, Start, run_form};
+use handler_check::Handler;
+use handler_check::laws::handlers_are_short;
+use interrupt_plan::Plan;
+use std::alloc::Global;
+use trace_io::Sample;
+
+/// What a sample's run gave, and how many steps of the handler the interrupts of the sample did.
+#[derive(Drop)]
+pub struct HandledRow {
+    pub row: Row,
+    pub handler: u32,
+}
+
+/// The rows of the run over the joint image.
+fn joint_rows(
+    alloc: Global,
+    firmware: &Firmware,
+    image: &Image,
+    handler: &Handler,
+    samples: &[Sample],
+    plan: &Plan,
+    flags: u8,
+) -> Result<Vec<HandledRow>, Memory>
+    requires outputs { firmware.now.outputs ≤ 4 }
+    requires plan { IsGood plan.now }
+    requires handler { IsHandler image.now.bytes handler.now.instrs }
+    ensures { IfOk result (λ rows. map row_seen rows.items
+        ≡ handled_seen firmware.now image.now.bytes handler.now.instrs (map input_bytes samples.now) plan.now flags) }
+{
+    handlers_are_short();
+    images_load_alike();
+    let joint = joint_image(alloc, &firmware.image, image)?;
+    let form = WithCode {
+        firmware,
+        samples,
+        most: handler.instrs as u16,
+    };
+    let start = Start {
+        image: &joint,
+        wait: firmware.layout.wait,
+        most: firmware.step_bound,
+    };
+    let (rows, _memory): (Vec<HandledRow>, PageMem) = run_form(alloc, &form, &start, plan, flags)?;
+    Ok(rows)
+}
+
+/// Runs a firmware over a trace under a plan, where each interrupt runs the code of a handler that was accepted, and
+/// answers a row for each sample. Bits of `flags` give the flags that the CPU12 Reference Manual leaves undefined. Where
+/// the firmware is a block's, the rows are those of `fz_run::run`, and no interrupt does more steps than the handler has
+/// instructions on a path. Want of memory is the one error.
+pub fn run_handler(
+    alloc: Global,
+    firmware: &Firmware,
+    image: &Image,
+    handler: &Handler,
+    samples: &[Sample],
+    plan: &Plan,
+    flags: u8,
+) -> Result<Vec<HandledRow>, Memory>
+    requires outputs { firmware.now.outputs ≤ 4 }
+    requires plan { IsGood plan.now }
+    requires handler { IsHandler image.now.bytes handler.now.instrs }
+    ensures rows { IfOk result (λ rows. map row_seen rows.items
+        ≡ handled_seen firmware.now image.now.bytes handler.now.instrs (map input_bytes samples.now) plan.now flags) }
+    ensures answers { IfOk result (λ rows. HandlesItsBlock firmware.now image.now.bytes handler.now.instrs flags
+        (map input_bytes samples.now) plan.now (map row_seen rows.items)) }
+{
+    handled_answers();
+    rows_are_shown::<HandledRow, WithCode>();
+    let rows = joint_rows(alloc, firmware, image, handler, samples, plan, flags)?;
+    Ok(rows)
+}
