@@ -28,7 +28,7 @@ use Rattle.build_commands.specs.Firmwares.{GivesFirmware}
 use Rattle.run_commands.specs.Run.{report_of}
 use Rattle.run_commands.specs.declared.run.Run.{Run}
 
-none : {X : Type 0} (P : X → Type 0) → All P []
+pub none : {X : Type 0} (P : X → Type 0) → All P []
 none P = λ k d lt. absurd (omega arith)
 
 byte_small : (i : Input) (x : Dec) → byte_of i x < 2 ^ 8
@@ -110,7 +110,7 @@ module _ (near : AnswersAreWithinErrors) (w : Width) (flags : ℕ) (text : List 
   }
 
 -- what it answers of accepted files is a certified run
-pub certifies : (near : AnswersAreWithinErrors) (run : Run) (files : Files) (block : Block) (firmware : Firmware)
+abbrev pub certifies : (near : AnswersAreWithinErrors) (run : Run) (files : Files) (block : Block) (firmware : Firmware)
     (errors : List ℕ) (samples slice : List Sample) (plan : List Request) (rows : List (RowSeen (List ℕ))) (left : ℕ)
     → Accepts run.width files block firmware errors samples plan → slice ≡ samples
     → rows ≡ (firmware_rows firmware (map input_bytes slice) plan run.flags).rows
