@@ -14,6 +14,7 @@ mod exec;
 mod failures;
 mod generate;
 mod hcheck;
+mod hrun;
 mod images;
 mod malicious;
 mod reads;

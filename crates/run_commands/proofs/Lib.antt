@@ -1,4 +1,5 @@
 pub mod AnswerLemmas
 pub mod DebugLemmas
+pub mod HandledLemmas
 pub mod LineLemmas
 pub mod SumLemmas

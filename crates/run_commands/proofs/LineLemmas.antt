@@ -8,6 +8,7 @@ use Rattle.std.proofs.lemmas.List.{append-nil}
 use Rattle.fz_shelf.specs.Lines.{text_of}
 use Rattle.fz_run.specs.Rows.{boundary_seen, frames_seen, row_seen}
 use Rattle.fz_run.specs.declared.rows.Row.{Row}
+use Rattle.cpu12_emul.specs.declared.ends.Frame.{Frame}
 use Rattle.run_law.specs.Forms.{RowSeen}
 use Rattle.build_commands.specs.Lines.{counted, error_line, line}
 use Rattle.build_commands.proofs.Algebra.{counted-map, flat-map, text_of-snoc}
@@ -67,15 +68,27 @@ module _ (k instructions steps resumed frames : ℕ) (bytes answers rest : List 
       next : (t x y more u : List ℕ) → u ≡ t ++ (x ++ y) → u ++ more ≡ t ++ (x ++ (y ++ more))
       next t x y more u e = one t (x ++ y) more u e ∙ ap (λ (l : List ℕ). t ++ l) (append_assoc x y more)
 
-pub row_written : (before next now : List (String Global)) (line : String Global) (k : ℕ) (row : Row)
-    → now ≡ before ++ line ∷ [] → string_bytes line ≡ sample_line k (row_seen row)
-    → text_of next ≡ text_of now ++ flat_map (λ f. frame_line k (boundary_seen f)) row.frames
-    → text_of next ≡ text_of before ++ row_lines k (row_seen row)
-row_written before next now line k row pushed is frames =
-    frames
-    ∙ ap₂ (λ (x y : List ℕ). x ++ y) (ap text_of pushed ∙ text_of-snoc before line) (sym (flat-map (frame_line k) boundary_seen row.frames))
-    ∙ append_assoc (text_of before) (string_bytes line) (flat_map (frame_line k) (frames_seen row.frames))
-    ∙ ap (λ (l : List ℕ). text_of before ++ (l ++ flat_map (frame_line k) (frames_seen row.frames))) is
+pub row_written : (before next now : List (String Global)) (line : String Global) (k : ℕ) (text : List ℕ)
+    (frames : List (ℕ × Frame))
+    → now ≡ before ++ line ∷ [] → string_bytes line ≡ text
+    → text_of next ≡ text_of now ++ flat_map (λ f. frame_line k (boundary_seen f)) frames
+    → text_of next ≡ text_of before ++ (text ++ flat_map (frame_line k) (frames_seen frames))
+row_written before next now line k text frames pushed is frames_so =
+    let seen = flat_map (frame_line k) (frames_seen frames) in
+    frames_so
+    ∙ ap₂ (λ (x y : List ℕ). x ++ y) (ap text_of pushed ∙ text_of-snoc before line)
+    (sym (flat-map (frame_line k) boundary_seen frames))
+    ∙ append_assoc (text_of before) (string_bytes line) seen ∙ ap (λ (l : List ℕ). text_of before ++ (l ++ seen)) is
+
+-- the errors and the bound on instructions
+pub begun_written : (none errors bounded : List (String Global)) (bound_line : String Global) (es : List ℕ) (bound : ℕ)
+    → none ≡ [] → text_of errors ≡ text_of none ++ counted error_line 1 es
+    → bounded ≡ errors ++ bound_line ∷ [] → string_bytes bound_line ≡ line (codes "instructions ") bound
+    → text_of bounded ≡ counted error_line 1 es ++ line (codes "instructions ") bound
+begun_written none errors bounded bound_line es bound start e0 e1 b =
+    let d0 : text_of errors ≡ counted error_line 1 es =
+    e0 ∙ ap (λ (x : List (String Global)). text_of x ++ counted error_line 1 es) start in
+    ap text_of e1 ∙ text_of-snoc errors bound_line ∙ ap₂ (λ (x y : List ℕ). x ++ y) d0 b
 
 pub run_written : (none errors bounded rows lines : List (String Global)) (bound_line left_line : String Global)
     (es : List ℕ) (bound left : ℕ) (rs : List Row)
@@ -85,9 +98,7 @@ pub run_written : (none errors bounded rows lines : List (String Global)) (bound
     → lines ≡ rows ++ left_line ∷ [] → string_bytes left_line ≡ line (codes "left ") left
     → text_of lines ≡ run_lines (report_of es bound (map row_seen rs)) left
 run_written none errors bounded rows lines bound_line left_line es bound left rs start e0 e1 b e2 e3 l =
-    let d0 : text_of errors ≡ counted error_line 1 es = e0 ∙ ap (λ (x : List (String Global)). text_of x ++ counted error_line 1 es) start in
-    let d1 : text_of bounded ≡ counted error_line 1 es ++ line (codes "instructions ") bound =
-    ap text_of e1 ∙ text_of-snoc errors bound_line ∙ ap₂ (λ (x y : List ℕ). x ++ y) d0 b in
+    let d1 = begun_written none errors bounded bound_line es bound start e0 e1 b in
     let each = counted-map row_lines row_seen 1 rs in
     let d2 : text_of rows ≡ (counted error_line 1 es ++ line (codes "instructions ") bound) ++ counted row_lines 1 (map row_seen rs) =
     e2 ∙ ap₂ (λ (x y : List ℕ). x ++ y) d1 (sym each) in

@@ -57,7 +57,7 @@ fn push_row(alloc: Global, lines: &mut Vec<String>, k: usize, row: &Row) -> Resu
 }
 
 /// The frames of the k-th sample.
-fn push_frames(
+pub(crate) fn push_frames(
     alloc: Global,
     lines: &mut Vec<String>,
     k: usize,

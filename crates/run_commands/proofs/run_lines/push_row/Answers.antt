@@ -3,5 +3,5 @@ use Rattle.run_commands.proofs.run_lines.push_row.Goals as goal
 
 pub returns : goal.returns
 returns c = row_written c.args.lines.now.items c.push_frames.new.lines.items c.push.new.self.items
-    c.in_ok-line_of_sample.field-0 c.args.k c.args.row.now c.in_ok-push.ensures.items c.in_ok-line_of_sample.ensures
+    c.in_ok-line_of_sample.field-0 c.args.k _ c.args.row.now.frames c.in_ok-push.ensures.items c.in_ok-line_of_sample.ensures
     (rw c.as_slice.ensures at c.in_ok-push_frames.ensures)
