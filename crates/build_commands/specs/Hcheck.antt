@@ -14,19 +14,28 @@ use Rattle.fz_status.specs.declared.status.Status.TheVariants as status
 abbrev pub hcheck_inputs : List ℕ
 hcheck_inputs = 2 ∷ []
 
--- the text gives an accepted handler, and the line says how many instructions its longest path has
-pub record HcheckGives (text : List ℕ) (deed : Deed) : Type 0 where
-  pub image : Image
+-- the text gives this image, which is an accepted handler; its longest path has so many instructions
+pub record GivesHandler (text : List ℕ) (image : Image) (instrs : ℕ) : Type 0 where
   pub spelled : GivesImage text image
-  pub instrs : ℕ
   pub handler : IsHandler image.bytes instrs
-  pub deed_is : deed ≡ record { text = line (codes "handler instructions ") instrs; file = None }
 
 -- the text gives no image, or the image is no handler, and has this first fault
-abbrev pub hcheck_refusals : List ℕ → Refusals
-hcheck_refusals text (status.Handler f) = (image : Image) × GivesImage text image × IsFault image.bytes f
-hcheck_refusals text s = records_refusals text s
+abbrev pub handler_refusals : List ℕ → Refusals
+handler_refusals text (status.Handler f) = (image : Image) × GivesImage text image × IsFault image.bytes f
+handler_refusals text s = records_refusals text s
+
+-- a text that gives a handler is not refused
+abbrev pub GivenHandlersHaveNoFault : Type 0
+GivenHandlersHaveNoFault = (text : List ℕ) (image : Image) (instrs : ℕ) (s : Status) → GivesHandler text image instrs
+    → Refuses (handler_refusals text) s → ⊥
+
+-- the text gives a handler, and the line says how many instructions its longest path has
+pub record HcheckGives (text : List ℕ) (deed : Deed) : Type 0 where
+  pub image : Image
+  pub instrs : ℕ
+  pub gives : GivesHandler text image instrs
+  pub deed_is : deed ≡ record { text = line (codes "handler instructions ") instrs; file = None }
 
 abbrev pub HcheckMakes : List ℕ → Result Deed Status → Type 0
 HcheckMakes text (Ok deed) = HcheckGives text deed
-HcheckMakes text (Err s) = Refuses (hcheck_refusals text) s
+HcheckMakes text (Err s) = Refuses (handler_refusals text) s

@@ -1,13 +1,15 @@
-//! The command `hcheck HANDLER`.
-ghost use Rattle.std.specs.Prelude.{◌≡◌, ◌≤◌, codes, length, IfOk, List, ℕ};
+//! The command `hcheck HANDLER`, and the handler that a text of records gives.
+ghost use Rattle.std.specs.Prelude.{◌≡◌, ◌≤◌, codes, length, IfOk, IfErr, List, ℕ};
 ghost use Rattle.fz_shelf.specs.Lines.{text_of};
 ghost use Rattle.build_commands.specs.Deeds.{DeedHasNoFault, IsResultOf};
-ghost use Rattle.build_commands.specs.Hcheck.{HcheckMakes};
+ghost use Rattle.build_commands.specs.Hcheck.{GivesHandler, GivenHandlersHaveNoFault, HcheckMakes, handler_refusals};
 ghost use Rattle.build_commands.specs.Lines.{line};
+ghost use Rattle.fz_status.specs.Refusals.{IsRefusal};
 
 use crate::images::image_of;
 use crate::lines::labelled;
 use crate::work::Work;
+use cpu12_asm::Image;
 use fz_status::Status;
 use handler_check::laws::handlers_have_no_fault;
 use handler_check::{Handler, HandlerFault, check_handler};
@@ -17,21 +19,43 @@ use std::alloc::{AllocError, Global};
 /// The word HANDLER.
 pub static INPUTS: [u32; 1] = [2];
 
-/// Checks the handler that the records give, and writes down how many instructions its longest path has.
-pub fn work(alloc: Global, records: &[u8]) -> Result<Work, Status>
+/// A handler that was accepted, with its image.
+#[derive(Drop)]
+pub struct AcceptedHandler {
+    /// The image that the records give.
+    pub image: Image,
+    /// What is known of its code.
+    pub handler: Handler,
+}
+
+/// The handler that the records give. The faults come in their order: of the records, then the first
+/// of the handler.
+pub fn handler_of(alloc: Global, records: &[u8]) -> Result<AcceptedHandler, Status>
     requires { length records.now ≤ 1048576 }
-    ensures { IsResultOf (HcheckMakes records.now) result }
+    ensures handler { IfOk result (λ a. GivesHandler records.now a.image a.handler.instrs) }
+    ensures fault { IfErr result (IsRefusal (handler_refusals records.now)) }
 {
     let image = match image_of(alloc, records) {
         Ok(image) => image,
         Err(status) => return Err(status),
     };
-    let handler = match check_handler(alloc, &image) {
-        Ok(handler) => handler,
-        Err(HandlerFault::Memory) => return Err(Status::Memory),
-        Err(fault) => return Err(Status::Handler(fault)),
+    match check_handler(alloc, &image) {
+        Ok(handler) => Ok(AcceptedHandler { image, handler }),
+        Err(HandlerFault::Memory) => Err(Status::Memory),
+        Err(fault) => Err(Status::Handler(fault)),
+    }
+}
+
+/// Checks the handler that the records give, and writes down how many instructions its longest path has.
+pub fn work(alloc: Global, records: &[u8]) -> Result<Work, Status>
+    requires { length records.now ≤ 1048576 }
+    ensures { IsResultOf (HcheckMakes records.now) result }
+{
+    let accepted = match handler_of(alloc, records) {
+        Ok(accepted) => accepted,
+        Err(status) => return Err(status),
     };
-    match lines(alloc, handler) {
+    match lines(alloc, accepted.handler) {
         Ok(lines) => Ok(Work { lines, file: None }),
         Err(_) => Err(Status::Memory),
     }
@@ -46,10 +70,17 @@ fn lines(alloc: Global, handler: Handler) -> Result<Vec<String>, AllocError>
     Ok(lines)
 }
 
+/// Records that give a handler have no fault.
+pub fn given_handlers_have_no_fault()
+    ensures { GivenHandlersHaveNoFault }
+{
+    images_are_one();
+    handlers_have_no_fault()
+}
+
 /// Records that make a deed make no fault.
 pub fn checked_handlers_have_no_fault()
     ensures { (text : List ℕ) → DeedHasNoFault (HcheckMakes text) }
 {
-    images_are_one();
-    handlers_have_no_fault()
+    given_handlers_have_no_fault()
 }

@@ -23,6 +23,7 @@ use fz_status::Status;
 use fz_words::Refusal;
 use run_commands::debug::{self, DebugRun};
 use run_commands::generate::{self, Generate};
+use run_commands::hrun::{self, Hrun};
 use run_commands::run::{self, Run};
 use run_commands::srun::{self, Srun};
 use std::alloc::Global;
@@ -41,6 +42,7 @@ pub(crate) enum Name {
     Exec,
     Generate,
     Hcheck,
+    Hrun,
     Mcompile,
     Run,
     Run16,
@@ -61,6 +63,7 @@ static COMMANDS: [(&str, usize, Name); 16] = [
     ("exec", 3, Name::Exec),
     ("gen", 1, Name::Generate),
     ("hcheck", 1, Name::Hcheck),
+    ("hrun", 6, Name::Hrun),
     ("mcompile", 2, Name::Mcompile),
     ("run", 6, Name::Run),
     ("run16", 6, Name::Run16),
@@ -87,6 +90,8 @@ pub enum Command {
     Generate(Generate),
     /// `hcheck HANDLER`
     Hcheck,
+    /// `hrun FCL HANDLER CERT TRACE PLAN FLAGS`
+    Hrun(Hrun),
     /// `mcompile FCL OUT`
     Mcompile,
     /// `run FCL IMAGE CERT TRACE PLAN FLAGS`, and `run16 ..`
@@ -114,6 +119,7 @@ fn formed(name: Name, words: &[String]) -> Option<Command>
         Name::Exec => Exec::of(words).map(Command::Exec),
         Name::Generate => Generate::of(words).map(Command::Generate),
         Name::Hcheck => Some(Command::Hcheck),
+        Name::Hrun => Hrun::of(words).map(Command::Hrun),
         Name::Mcompile => Some(Command::Mcompile),
         Name::Run => Run::of(Width::Byte, words).map(Command::Run),
         Name::Run16 => Run::of(Width::Word, words).map(Command::Run),
@@ -137,6 +143,7 @@ impl Command {
             Command::Exec(_) => exec::INPUTS.as_slice(),
             Command::Generate(_) => generate::INPUTS.as_slice(),
             Command::Hcheck => hcheck::INPUTS.as_slice(),
+            Command::Hrun(_) => hrun::INPUTS.as_slice(),
             Command::Mcompile => compile::INPUTS.as_slice(),
             Command::Run(_) => run::INPUTS.as_slice(),
             Command::Scompile => scompile::INPUTS.as_slice(),
@@ -159,6 +166,7 @@ impl Command {
             Command::Exec(exec) => exec.work(alloc, content(contents, 0)),
             Command::Generate(generate) => generate.work(alloc),
             Command::Hcheck => hcheck::work(alloc, content(contents, 0)),
+            Command::Hrun(hrun) => hrun.work(alloc, contents),
             Command::Mcompile => mcompile::work(alloc, content(contents, 0)),
             Command::Run(run) => run.work(alloc, contents),
             Command::Scompile => scompile::work(alloc, content(contents, 0)),

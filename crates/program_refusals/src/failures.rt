@@ -35,7 +35,7 @@ struct Accepted {
     start: &'static str,
 }
 
-static COMMANDS: [Accepted; 14] = [
+static COMMANDS: [Accepted; 15] = [
     Accepted {
         line: &["fuzz12", "asm", "small.asm", "out"],
         reads: &["small.asm"],
@@ -84,6 +84,26 @@ static COMMANDS: [Accepted; 14] = [
         writes: false,
         lines: &["handler instructions 2\n"],
         start: "han",
+    },
+    Accepted {
+        line: &[
+            "fuzz12",
+            "hrun",
+            "a.fcl",
+            "handler.s19",
+            "a.cert",
+            "a.csv",
+            "empty",
+            "00",
+        ],
+        reads: &["a.fcl", "handler.s19", "a.cert", "a.csv", "empty"],
+        writes: false,
+        lines: &[
+            "error 1 19609\n",
+            "instructions 28\n",
+            "sample 1 bytes 64 answers 64 instructions 28 steps 36 resumed 0 frames 0 handler 0\n",
+        ],
+        start: "err",
     },
     Accepted {
         line: &["fuzz12", "mcompile", "a.fcl", "out"],

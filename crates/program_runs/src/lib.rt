@@ -1,5 +1,5 @@
-//! Tests of the program's runs: of the heater under plans, from files that are read in order, under a debugger's
-//! script, and of workloads.
+//! Tests of the program's runs: of the heater under plans, from files that are read in order, whose
+//! interrupts run code, of firmware with upset tables, under a debugger's script, and of workloads.
 #![tactic(auto)]
 
 #[cfg(test)]
@@ -7,8 +7,12 @@ mod debug;
 #[cfg(test)]
 mod generate;
 #[cfg(test)]
+mod hrun;
+#[cfg(test)]
 mod reads;
 #[cfg(test)]
 mod runs;
+#[cfg(test)]
+mod srun;
 #[cfg(test)]
 mod words;

@@ -1,5 +1,6 @@
 pub mod AnswerLemmas
 pub mod DebugLemmas
+pub mod HandledLemmas
 pub mod LineLemmas
 pub mod SumLemmas
 pub mod WatchedLemmas

@@ -1,5 +1,6 @@
 use Rattle.build_commands.specs.Contents.{content_at}
 use Rattle.run_commands.specs.Debug.{debug_files}
+use Rattle.run_commands.specs.Hrun.{handled_files}
 use Rattle.run_commands.specs.Run.{files_in}
 use Rattle.run_commands.specs.Srun.{watched_files}
 use Rattle.fz_top.specs.Commands.{Makes}
@@ -24,6 +25,8 @@ returns c (command.Generate generate) contents deed s makes fault =
     c.generated_runs_have_no_fault.ensures generate deed s makes fault
 returns c command.Hcheck contents deed s makes fault =
     c.checked_handlers_have_no_fault.ensures (content_at contents 0) deed s makes fault
+returns c (command.Hrun hrun) contents deed s makes fault =
+    c.handled_runs_have_no_fault.ensures hrun (handled_files contents) deed s makes fault
 returns c command.Mcompile contents deed s makes fault =
     c.mailbox_texts_have_no_fault.ensures (content_at contents 0) deed s makes fault
 returns c (command.Run run) contents deed s makes fault =

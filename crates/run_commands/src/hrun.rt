@@ -1,0 +1,138 @@
+//! The command `hrun FCL HANDLER CERT TRACE PLAN FLAGS`: the certified run whose interrupts run a handler's code.
+ghost use Rattle.std.specs.Prelude.{◌≡◌, ◌≤◌, length, IfOk, IfErr};
+ghost use Rattle.std.specs.List.{All};
+ghost use Rattle.fz_status.specs.Refusals.{IsRefusal};
+ghost use Rattle.fz_status.specs.Words.{texts_of};
+ghost use Rattle.build_commands.specs.Contents.{bytes_of};
+ghost use Rattle.build_commands.specs.Deeds.{DeedHasNoFault, IsResultOf};
+ghost use Rattle.run_commands.specs.HandledRun.{AcceptsHandled, HandledFiles};
+ghost use Rattle.run_commands.specs.Hrun.{HrunMakes, handled_files, hrun_in, hrun_refusals};
+ghost use Rattle.run_commands.specs.declared.hrun.Hrun.{Hrun as TheHrun};
+
+use crate::handled_lines::lines;
+use crate::run::{plan_of, samples_of};
+use build_commands::certs::{accepted_certs_have_no_fault, errors_under};
+use build_commands::contents::content;
+use build_commands::firmware::{Compiled, firmware_of, spelled_texts_have_no_fault};
+use build_commands::hcheck::{AcceptedHandler, given_handlers_have_no_fault, handler_of};
+use build_commands::words::flags;
+use build_commands::work::Work;
+use certified_run::answers_are_within_errors;
+use codegen::Width;
+use fcl_check::spelled_blocks_are_one;
+use fz_run::laws::answers_under_plans;
+use fz_status::{Status, word};
+use handled_runs::run_handler;
+use interrupt_plan::{Plan, spelled_plans_have_no_fault};
+use std::alloc::Global;
+use trace_io::{Sample, spelled_traces_have_no_fault};
+
+/// `hrun FCL HANDLER CERT TRACE PLAN FLAGS`
+#[derive(Clone, Copy, Debug, PartialEq, Eq)]
+pub struct Hrun {
+    /// The condition codes that the machine leaves open.
+    flags: u8,
+}
+
+/// The words FCL, HANDLER, CERT, TRACE and PLAN.
+pub static INPUTS: [u32; 5] = [2, 3, 4, 5, 6];
+
+/// What the files give, where all of them are accepted.
+#[derive(Drop)]
+struct Accepted {
+    compiled: Compiled,
+    handler: AcceptedHandler,
+    errors: Vec<u32>,
+    samples: Vec<Sample>,
+    plan: Plan,
+}
+
+impl Hrun {
+    /// The command of these words.
+    pub fn of(words: &[String]) -> Option<Hrun>
+        ensures { result ≡ hrun_in (texts_of words.now) }
+    {
+        match flags(word(words, 7)) {
+            Some(flags) => Some(Hrun { flags }),
+            None => None,
+        }
+    }
+
+    /// Runs the samples of the trace under the plan, each interrupt by the handler's code, once all files
+    /// are accepted, and writes down what came of them.
+    pub fn work(self, alloc: Global, contents: &[Vec<u8>]) -> Result<Work, Status>
+        requires { All (λ c. length c.items ≤ 1048576) contents.now }
+        ensures { IsResultOf (HrunMakes self (handled_files (bytes_of contents.now))) result }
+    {
+        answers_are_within_errors();
+        answers_under_plans();
+        let accepted = match Hrun::accepted(alloc, contents) {
+            Ok(accepted) => accepted,
+            Err(status) => return Err(status),
+        };
+        let firmware = &accepted.compiled.firmware;
+        let ran = run_handler(
+            alloc,
+            firmware,
+            &accepted.handler.image,
+            &accepted.handler.handler,
+            &accepted.samples,
+            &accepted.plan,
+            self.flags,
+        );
+        let Ok(rows) = ran else {
+            return Err(Status::Memory);
+        };
+        match lines(alloc, &accepted.errors, firmware.instr_bound, &rows) {
+            Ok(lines) => Ok(Work { lines, file: None }),
+            Err(_) => Err(Status::Memory),
+        }
+    }
+
+    /// What the files give, or the first fault in their order.
+    fn accepted(alloc: Global, contents: &[Vec<u8>]) -> Result<Accepted, Status>
+        requires { All (λ c. length c.items ≤ 1048576) contents.now }
+        ensures accepted { IfOk result (λ a. AcceptsHandled (handled_files (bytes_of contents.now)) a.compiled.block
+            a.compiled.firmware a.handler.image a.handler.handler.instrs a.errors.items a.samples.items a.plan) }
+        ensures fault { IfErr result (IsRefusal (hrun_refusals (handled_files (bytes_of contents.now)))) }
+    {
+        let compiled = match firmware_of(alloc, Width::Byte, content(contents, 0)) {
+            Ok(compiled) => compiled,
+            Err(status) => return Err(status),
+        };
+        let handler = match handler_of(alloc, content(contents, 1)) {
+            Ok(handler) => handler,
+            Err(status) => return Err(status),
+        };
+        let errors = match errors_under(alloc, Width::Byte, &compiled.block, content(contents, 2)) {
+            Ok(errors) => errors,
+            Err(status) => return Err(status),
+        };
+        let samples = match samples_of(alloc, &compiled.block, content(contents, 3)) {
+            Ok(samples) => samples,
+            Err(status) => return Err(status),
+        };
+        match plan_of(alloc, content(contents, 4)) {
+            Ok(plan) => Ok(Accepted {
+                compiled,
+                handler,
+                errors,
+                samples,
+                plan,
+            }),
+            Err(status) => Err(status),
+        }
+    }
+}
+
+/// Files that make a deed make no fault.
+pub fn handled_runs_have_no_fault()
+    ensures { (hrun : TheHrun) (files : HandledFiles) → DeedHasNoFault (HrunMakes hrun files) }
+{
+    spelled_texts_have_no_fault();
+    given_handlers_have_no_fault();
+    accepted_certs_have_no_fault();
+    spelled_blocks_are_one();
+    spelled_traces_have_no_fault();
+    spelled_plans_have_no_fault()
+}
