@@ -1,6 +1,7 @@
 //! The reaches of all rules over a box.
-ghost use Rattle.std.specs.Prelude.{◌≡◌, ◌≤◌, ◌+◌, ◌*◌, ◌/◌, ◌≤ℤ◌, pos, unsigned_abs, if◌then◌else◌, ◌==◌, IfSome};
+ghost use Rattle.std.specs.Prelude.{◌≡◌, ◌≤◌, ◌+◌, ◌*◌, ◌/◌, ◌≤ℤ◌, ℕ, length, pos, unsigned_abs, if◌then◌else◌, ◌==◌, IfSome, Some, slice_get};
 ghost use Rattle.fz_num.specs.Fractions.{up_div};
+ghost use Rattle.fuzzy_meaning.specs.declared.block.Rule.{Rule as TheRule};
 ghost use Rattle.fuzzy_meaning.specs.Blocks.{IsValid, IsValidRule};
 ghost use Rattle.fuzzy_meaning.specs.Conditions.{condition_of};
 ghost use Rattle.error_bound.specs.Boxes.{IsBoxOf};
@@ -57,12 +58,25 @@ impl BoxTable {
         ensures table { IsTable block.now result }
     {
         let mut rules = [NOTHING; 256];
-        let all = block.rules.as_slice();
-        for n in 0..all.len() {
-            rules[n] = reach_of_rule(kept, n, &all[n], block, &terms);
-        }
+        fill(&mut rules, kept, block, &terms);
         let BoxTerms { bytes, .. } = terms;
         BoxTable { bytes, rules }
+    }
+}
+
+/// Puts the reach of each rule's strength at its place.
+#[inline(never)]
+fn fill(rules: &mut [Reach; 256], kept: Option<&BlockTable>, block: &Block, terms: &BoxTerms)
+    requires block { IsValid block.now }
+    requires terms { AreBoxTerms block.now terms.now }
+    requires kept { IfSome kept (λ table. IsBlockTable block.now table.now) }
+    ensures count { length rules.new ≡ 256 }
+    ensures each { (k : ℕ) (r : TheRule) → slice_get block.now.rules k ≡ Some r
+        → (q : Reach) × (slice_get rules.new k ≡ Some q) × IsReachOfRule block.now terms.now.bytes.0.items r q }
+{
+    let all = block.rules.as_slice();
+    for n in 0..all.len() {
+        rules[n] = reach_of_rule(kept, n, &all[n], block, terms);
     }
 }
 

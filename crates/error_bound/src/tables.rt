@@ -100,6 +100,7 @@ const NO_TERMS: Row = Row {
 
 impl BoxTerms {
     /// Of a box, from the block's table where that is kept.
+    #[inline(never)]
     pub(crate) fn new(block: &Block, bytes: ByteBox, kept: Option<&BlockTable>) -> BoxTerms
         requires block { IsValid block.now }
         requires bytes { IsBoxOf block.now bytes.0.items }
@@ -126,8 +127,19 @@ fn row_in(kept: Option<&BlockTable>, place: usize, input: &Input, bytes: Interva
 {
     match kept {
         Some(table) => row_of(input, &table.inputs[place], bytes),
-        None => row_of(input, &InputCells::new(input, bytes), bytes),
+        None => row_anew(input, bytes),
     }
+}
+
+/// The reaches of an input's terms, from cells that are made for this interval alone. They take a frame of
+/// 20 KB, which is cleared at each call.
+#[inline(never)]
+fn row_anew(input: &Input, bytes: Interval) -> Row
+    requires input { IsValidInput input.now }
+    requires order { bytes.from ≤ bytes.to }
+    ensures { AreInputReaches input.now bytes result.reaches }
+{
+    row_of(input, &InputCells::new(input, bytes), bytes)
 }
 
 /// The reaches of an input's terms over an interval.
