@@ -6,12 +6,13 @@ use program_calls::{
 };
 use std::alloc::Global;
 use std::test::Fail;
-use worked_texts::{BLOCK, HALVES, RECORDS, SOURCE, SOURCE_RECORDS, joined};
+use worked_texts::{BLOCK, HALVES, RECORDS, SOURCE, SOURCE_RECORDS, WATCHED_RECORDS, joined};
 
 // The files, but for OUT and the records of 16 bits.
-static FILES: [(&str, &[&str]); 10] = [
+static FILES: [(&str, &[&str]); 11] = [
     ("a.fcl", &[BLOCK]),
     ("a.s19", &[RECORDS]),
+    ("watched.s19", &[WATCHED_RECORDS]),
     ("a.cert", &["FZC 1\nclaim 19609\n", HALVES]),
     ("wide.cert", &["FZC 2\nclaim 15702\n", HALVES]),
     ("a.csv", &["64\n"]),
@@ -35,7 +36,7 @@ struct Accepted {
     start: &'static str,
 }
 
-static COMMANDS: [Accepted; 15] = [
+static COMMANDS: [Accepted; 16] = [
     Accepted {
         line: &["fuzz12", "asm", "small.asm", "out"],
         reads: &["small.asm"],
@@ -180,6 +181,27 @@ static COMMANDS: [Accepted; 15] = [
         writes: true,
         lines: &["instructions 89\n", "steps 97\n", "bytes 149\n"],
         start: "ins",
+    },
+    Accepted {
+        line: &[
+            "fuzz12",
+            "srun",
+            "a.fcl",
+            "watched.s19",
+            "a.cert",
+            "a.csv",
+            "empty",
+            "empty",
+            "00",
+        ],
+        reads: &["a.fcl", "watched.s19", "a.cert", "a.csv", "empty", "empty"],
+        writes: false,
+        lines: &[
+            "error 1 19609\n",
+            "instructions 89\n",
+            "sample 1 bytes 64 answers 64 instructions 89 steps 97 resumed 0 frames 0 fault 0\n",
+        ],
+        start: "err",
     },
 ];
 
