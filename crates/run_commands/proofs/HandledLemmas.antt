@@ -11,7 +11,7 @@ use Rattle.trace_io.specs.Traces.{Spells as SpellsTrace}
 use Rattle.trace_io.specs.declared.sample.Sample.{Sample}
 use Rattle.run_law.specs.Forms.{RowSeen}
 use Rattle.fz_run.specs.Answering.{AnswersItsBlock, AnswersUnderPlans}
-use Rattle.fz_run.specs.Rows.{firmware_rows, input_bytes}
+use Rattle.fz_run.specs.Rows.{input_bytes}
 use Rattle.handled_runs.specs.Answering.{AreListedRows, HandlesItsBlock}
 use Rattle.handled_runs.specs.Forms.{HandledSeen, handled_seen, row_seen}
 use Rattle.handled_runs.specs.declared.rows.HandledRow.{HandledRow}
