@@ -276,30 +276,80 @@ struct Byte {
     value: u8,
 }
 
-const fn byte(at: &'static str, value: u8) -> Byte {
-    Byte { at, value }
-}
-
 /// All of them: the terms' table, the singletons and the rule list.
 static BYTES: [Byte; 18] = [
-    byte("D000", 0x00),
-    byte("D001", 0xFF),
-    byte("D002", 0x00),
-    byte("D003", 0x01),
-    byte("D004", 0x00),
-    byte("D005", 0xFF),
-    byte("D006", 0x01),
-    byte("D007", 0x00),
-    byte("D200", 0x00),
-    byte("D201", 0xFF),
-    byte("D800", 0x00),
-    byte("D801", 0xFE),
-    byte("D802", 0x02),
-    byte("D803", 0xFE),
-    byte("D804", 0x01),
-    byte("D805", 0xFE),
-    byte("D806", 0x03),
-    byte("D807", 0xFF),
+    Byte {
+        at: "D000",
+        value: 0x00,
+    },
+    Byte {
+        at: "D001",
+        value: 0xFF,
+    },
+    Byte {
+        at: "D002",
+        value: 0x00,
+    },
+    Byte {
+        at: "D003",
+        value: 0x01,
+    },
+    Byte {
+        at: "D004",
+        value: 0x00,
+    },
+    Byte {
+        at: "D005",
+        value: 0xFF,
+    },
+    Byte {
+        at: "D006",
+        value: 0x01,
+    },
+    Byte {
+        at: "D007",
+        value: 0x00,
+    },
+    Byte {
+        at: "D200",
+        value: 0x00,
+    },
+    Byte {
+        at: "D201",
+        value: 0xFF,
+    },
+    Byte {
+        at: "D800",
+        value: 0x00,
+    },
+    Byte {
+        at: "D801",
+        value: 0xFE,
+    },
+    Byte {
+        at: "D802",
+        value: 0x02,
+    },
+    Byte {
+        at: "D803",
+        value: 0xFE,
+    },
+    Byte {
+        at: "D804",
+        value: 0x01,
+    },
+    Byte {
+        at: "D805",
+        value: 0xFE,
+    },
+    Byte {
+        at: "D806",
+        value: 0x03,
+    },
+    Byte {
+        at: "D807",
+        value: 0xFF,
+    },
 ];
 
 /// A trace with a sample for each bit of a byte, the upsets that flip them, and the lines of both.
