@@ -269,6 +269,9 @@ fn runs_under_upsets(rt: HostRuntime) -> Result<(), Fail> {
     Ok(())
 }
 
+/// The bits of a byte.
+static BITS: [u8; 8] = [0x01, 0x02, 0x04, 0x08, 0x10, 0x20, 0x40, 0x80];
+
 /// A byte of the heater's tables, with its address.
 #[derive(Clone, Copy)]
 struct Byte {
@@ -377,12 +380,8 @@ fn flips_of(alloc: Global, byte: Byte) -> Result<Flips, AllocError> {
         upsets: String::new(alloc),
         lines: String::from_str(alloc, "error 1 19609\ninstructions 89\n")?,
     };
-    let mut sample = 0;
-    let mut bit = 1u8;
-    while sample < 8 {
-        sample += 1;
-        push_flip(&mut flips, sample, byte.at, byte.value ^ bit)?;
-        bit = bit.wrapping_shl(1);
+    for (at, bit) in BITS.iter().enumerate() {
+        push_flip(&mut flips, at + 1, byte.at, byte.value ^ *bit)?;
     }
     Ok(flips)
 }
