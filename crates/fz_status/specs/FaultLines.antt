@@ -49,6 +49,10 @@ with_number label n rest = label ++ (decimal n ++ (rest ++ newline))
 abbrev pub with_two : Text → ℕ → Text → ℕ → Text → List ℕ
 with_two label n middle m rest = label ++ (decimal n ++ (middle ++ (decimal m ++ (rest ++ newline))))
 
+-- a row at which a file is refused, and an address that it names
+abbrev pub row_at : Text → ℕ → Text → ℕ → List ℕ
+row_at label row why at = label ++ (decimal row ++ (why ++ (address_digits at ++ newline)))
+
 abbrev pub want_of_memory : List ℕ
 want_of_memory = codes "memory" ++ newline
 
@@ -181,16 +185,14 @@ not_reached_line stop.Memory = want_of_memory
 abbrev pub plan_line : PlanFault → List ℕ
 plan_line plan.TooMany = codes "plan: too many rows" ++ newline
 plan_line (plan.BadRow row) = with_number (codes "plan: row ") row (codes ": bad row")
-plan_line (plan.NotFree row address) =
-    codes "plan: row " ++ (decimal row ++ (codes ": not free " ++ (address_digits address ++ newline)))
+plan_line (plan.NotFree row at) = row_at (codes "plan: row ") row (codes ": not free ") at
 plan_line (plan.NotAscending row) = with_number (codes "plan: row ") row (codes ": not ascending")
 plan_line plan.Memory = want_of_memory
 
 abbrev pub upset_line : UpsetFault → List ℕ
 upset_line upset.TooMany = codes "upset: too many rows" ++ newline
 upset_line (upset.BadRow row) = with_number (codes "upset: row ") row (codes ": bad row")
-upset_line (upset.NotTable row address) =
-    codes "upset: row " ++ (decimal row ++ (codes ": not table " ++ (address_digits address ++ newline)))
+upset_line (upset.NotTable row at) = row_at (codes "upset: row ") row (codes ": not table ") at
 upset_line (upset.NotAscending row) = with_number (codes "upset: row ") row (codes ": not ascending")
 upset_line upset.Memory = want_of_memory
 

@@ -4,7 +4,7 @@ ghost use Rattle.fz_shelf.specs.Parts.{part_text, parts_text};
 ghost use Rattle.fz_status.specs.Errors.{Puts};
 ghost use Rattle.fz_status.specs.FaultLines.{asm_line, at_address, at_addresses, byte_or_none, cert_line, check_line, fcl_line, handler_line, image_line};
 ghost use Rattle.fz_status.specs.FaultLines.{layout_line, leaf_line, load_kind, load_line, newline, not_reached_line};
-ghost use Rattle.fz_status.specs.FaultLines.{plan_line, records_line, syntax_line, text_line, trace_line, upset_line, with_number, with_two};
+ghost use Rattle.fz_status.specs.FaultLines.{plan_line, records_line, row_at, syntax_line, text_line, trace_line, upset_line, with_number, with_two};
 
 use crate::{CertRefusal, FclFault, ImageFault};
 use box_tree::CertFault;
@@ -78,6 +78,29 @@ fn put_two<'a, F: Sink>(
             Part::Text(middle),
             Part::Number(u64::from(m)),
             Part::Text(rest),
+            Part::Text(b"\n"),
+        ],
+    )
+}
+
+/// A row and an address behind two texts, and the end of the line.
+fn put_row_at<'a, F: Sink>(
+    err: &mut F,
+    label: &'a [u8],
+    row: u32,
+    why: &'a [u8],
+    at: u16,
+) -> Result<(), Failed>
+    ensures { Puts (row_at label.now row why.now at) (F.told err.old) (F.told err.new)
+        (F.faults err.old) (F.faults err.new) (F.sound err.old) (F.sound err.new) result }
+{
+    put(
+        err,
+        &[
+            Part::Text(label),
+            Part::Number(u64::from(row)),
+            Part::Text(why),
+            Part::Address(at),
             Part::Text(b"\n"),
         ],
     )
@@ -378,16 +401,7 @@ pub(crate) fn put_plan<F: Sink>(err: &mut F, fault: &PlanFault) -> Result<(), Fa
     match fault {
         PlanFault::TooMany => put_text(err, b"plan: too many rows"),
         PlanFault::BadRow(row) => put_number(err, b"plan: row ", *row, b": bad row"),
-        PlanFault::NotFree(row, address) => put(
-            err,
-            &[
-                Part::Text(b"plan: row "),
-                Part::Number(u64::from(*row)),
-                Part::Text(b": not free "),
-                Part::Address(*address),
-                Part::Text(b"\n"),
-            ],
-        ),
+        PlanFault::NotFree(row, at) => put_row_at(err, b"plan: row ", *row, b": not free ", *at),
         PlanFault::NotAscending(row) => put_number(err, b"plan: row ", *row, b": not ascending"),
         PlanFault::Memory => put_text(err, b"memory"),
     }
@@ -400,15 +414,12 @@ pub(crate) fn put_upset<F: Sink>(err: &mut F, fault: &UpsetFault) -> Result<(), 
     match fault {
         UpsetFault::TooMany => put_text(err, b"upset: too many rows"),
         UpsetFault::BadRow(row) => put_number(err, b"upset: row ", *row, b": bad row"),
-        UpsetFault::NotTable(row, address) => put(
+        UpsetFault::NotTable(row, at) => put_row_at(
             err,
-            &[
-                Part::Text(b"upset: row "),
-                Part::Number(u64::from(*row)),
-                Part::Text(b": not table "),
-                Part::Address(*address),
-                Part::Text(b"\n"),
-            ],
+            b"upset: row ",
+            *row,
+            b": not table ",
+            *at,
         ),
         UpsetFault::NotAscending(row) => put_number(err, b"upset: row ", *row, b": not ascending"),
         UpsetFault::Memory => put_text(err, b"memory"),
