@@ -22,10 +22,13 @@ use Rattle.run_law.specs.Forms.{RowSeen}
 use Rattle.fz_run.specs.Answering.{AnswersItsBlock, AnswersUnder, answer_of_row}
 use Rattle.fz_run.specs.Rows.{firmware_rows, input_bytes}
 use Rattle.certified_run.specs.Nearness.{AnswersAreWithinErrors, AreWithinErrors}
-use Rattle.run_commands.specs.Accepted.{Accepts}
+use Rattle.srecord.specs.Texts.{GivesImage}
+use Rattle.fz_status.specs.declared.status.Status.{Status}
+use Rattle.fz_status.specs.declared.status.Status.TheVariants as status
+use Rattle.run_commands.specs.Accepted.{Accepts, input_refusals}
 use Rattle.run_commands.specs.CertifiedRun.{CertifiedRun, Files, IsReportOf, left_of}
 use Rattle.build_commands.specs.Firmwares.{GivesFirmware}
-use Rattle.run_commands.specs.Run.{report_of}
+use Rattle.run_commands.specs.Run.{report_of, run_refusals}
 use Rattle.run_commands.specs.declared.run.Run.{Run}
 
 pub none : {X : Type 0} (P : X → Type 0) → All P []
@@ -122,14 +125,22 @@ certifies near run files block firmware errors samples slice plan rows left a sa
   firmware = firmware;
   compiled = a.compiled;
   image = a.image;
-  accepted = a.accepted;
+  accepted = a.inputs.accepted;
   samples = samples;
-  in_range = a.in_range;
+  in_range = a.inputs.in_range;
   plan = plan;
-  good_plan = a.good_plan;
-  reported = reports near run.width run.flags files.fcl block firmware a.compiled a.accepted.cert errors
-      a.accepted.accepted files.trace samples slice a.in_range same plan rows ran answers;
+  good_plan = a.inputs.good_plan;
+  reported = reports near run.width run.flags files.fcl block firmware a.compiled a.inputs.accepted.cert errors
+      a.inputs.accepted.accepted files.trace samples slice a.inputs.in_range same plan rows ran answers;
   left = left;
   left_is = subst (λ (ss : List Sample). left ≡ left_of (firmware_rows firmware (map input_bytes ss) plan run.flags).state.mem)
       same left_is;
 }
+
+-- what refuses the files behind IMAGE refuses the run
+pub run_refused : (run : Run) (files : Files) (block : Block) (firmware : Firmware)
+    → GivesFirmware run.width files.fcl block firmware → GivesImage files.image firmware.image → (s : Status)
+    → input_refusals run.width block files.cert files.trace files.plan s → run_refusals run files s
+run_refused run files block firmware gives image (status.Fcl f) r = absurd r.2
+run_refused run files block firmware gives image (status.Image f) r = absurd r.2
+run_refused run files block firmware gives image s r = (block, firmware, gives, (image, r))

@@ -17,7 +17,14 @@ use Rattle.fz_shelf.specs.Lines.{text_of}
 use Rattle.debug_script.specs.Showing.{shown}
 use Rattle.debug_script.specs.declared.order.Order.{Order}
 use Rattle.debug_script.specs.declared.shown.Shown.{Shown}
-use Rattle.run_commands.specs.Debug.{DebugFiles, DebugGives, Debugs, debug_lines, run_positions, shown_line}
+use Rattle.codegen.specs.declared.width.Width.TheVariants.{Byte}
+use Rattle.srecord.specs.Texts.{GivesImage}
+use Rattle.fz_status.specs.declared.status.Status.{Status}
+use Rattle.fz_status.specs.declared.status.Status.TheVariants as status
+use Rattle.build_commands.specs.Firmwares.{GivesFirmware}
+use Rattle.run_commands.specs.Accepted.{sample_refusals}
+use Rattle.run_commands.specs.Debug.{DebugFiles, DebugGives, Debugs, debug_lines, debug_refusals, run_positions}
+use Rattle.run_commands.specs.Debug.{shown_line}
 use Rattle.build_commands.specs.Deeds.{Deed}
 use Rattle.build_commands.specs.Lines.{counted}
 use Rattle.run_commands.specs.Run.{row_lines}
@@ -71,6 +78,15 @@ gives debug files block firmware samples slice plan script orders items items' r
           (input_bytes_fit block a.in_range.rows samples a.in_range.spelled);
       deed_is = ap only_text (written ∙ ap₂ debug_lines shown_is same_rows);
     }
+
+-- what refuses the trace or the plan refuses the run
+pub debug_refused : (files : DebugFiles) (block : Block) (firmware : Firmware)
+    → GivesFirmware Byte files.fcl block firmware → GivesImage files.image firmware.image → (s : Status)
+    → sample_refusals block files.trace files.plan s → debug_refusals files s
+debug_refused files block firmware gives image (status.Fcl f) r = absurd r
+debug_refused files block firmware gives image (status.Image f) r = absurd r
+debug_refused files block firmware gives image (status.Script n) r = absurd r
+debug_refused files block firmware gives image s r = (block, firmware, gives, (image, r))
 
 -- the lines of what is shown, and those of the rows behind them
 pub lines_written : (none begun lines : List (String Global)) (items : List Shown) (rows : List Row) → none ≡ []

@@ -13,7 +13,7 @@ use Rattle.run_law.specs.Forms.{RowSeen}
 use Rattle.build_commands.specs.Lines.{counted, error_line, line}
 use Rattle.build_commands.proofs.Algebra.{counted-map, flat-map, text_of-snoc}
 use Rattle.run_commands.specs.Generate.{answers_of, frames_of, generate_lines, resumed_of}
-use Rattle.run_commands.specs.Run.{frame_line, numbers, report_of, row_lines, run_lines, sample_line}
+use Rattle.run_commands.specs.Run.{begun_lines, frame_line, numbers, report_of, row_lines, run_lines}
 
 pub numbers-snoc : (ns : List ℕ) (n : ℕ) → numbers (ns ++ n ∷ []) ≡ numbers ns ++ (codes " " ++ decimal n)
 numbers-snoc [] n = ap (λ (l : List ℕ). codes " " ++ l) (append-nil (decimal n))
@@ -84,27 +84,24 @@ row_written before next now line k text frames pushed is frames_so =
 pub begun_written : (none errors bounded : List (String Global)) (bound_line : String Global) (es : List ℕ) (bound : ℕ)
     → none ≡ [] → text_of errors ≡ text_of none ++ counted error_line 1 es
     → bounded ≡ errors ++ bound_line ∷ [] → string_bytes bound_line ≡ line (codes "instructions ") bound
-    → text_of bounded ≡ counted error_line 1 es ++ line (codes "instructions ") bound
+    → text_of bounded ≡ begun_lines es bound
 begun_written none errors bounded bound_line es bound start e0 e1 b =
     let d0 : text_of errors ≡ counted error_line 1 es =
     e0 ∙ ap (λ (x : List (String Global)). text_of x ++ counted error_line 1 es) start in
     ap text_of e1 ∙ text_of-snoc errors bound_line ∙ ap₂ (λ (x y : List ℕ). x ++ y) d0 b
 
-pub run_written : (none errors bounded rows lines : List (String Global)) (bound_line left_line : String Global)
-    (es : List ℕ) (bound left : ℕ) (rs : List Row)
-    → none ≡ [] → text_of errors ≡ text_of none ++ counted error_line 1 es
-    → bounded ≡ errors ++ bound_line ∷ [] → string_bytes bound_line ≡ line (codes "instructions ") bound
-    → text_of rows ≡ text_of bounded ++ counted (λ k r. row_lines k (row_seen r)) 1 rs
+pub run_written : (begun rows lines : List (String Global)) (left_line : String Global) (es : List ℕ)
+    (bound left : ℕ) (rs : List Row)
+    → text_of begun ≡ begun_lines es bound
+    → text_of rows ≡ text_of begun ++ counted (λ k r. row_lines k (row_seen r)) 1 rs
     → lines ≡ rows ++ left_line ∷ [] → string_bytes left_line ≡ line (codes "left ") left
     → text_of lines ≡ run_lines (report_of es bound (map row_seen rs)) left
-run_written none errors bounded rows lines bound_line left_line es bound left rs start e0 e1 b e2 e3 l =
-    let d1 = begun_written none errors bounded bound_line es bound start e0 e1 b in
-    let each = counted-map row_lines row_seen 1 rs in
-    let d2 : text_of rows ≡ (counted error_line 1 es ++ line (codes "instructions ") bound) ++ counted row_lines 1 (map row_seen rs) =
-    e2 ∙ ap₂ (λ (x y : List ℕ). x ++ y) d1 (sym each) in
-    ap text_of e3 ∙ text_of-snoc rows left_line ∙ ap₂ (λ (x y : List ℕ). x ++ y) d2 l
-    ∙ append_assoc (counted error_line 1 es ++ line (codes "instructions ") bound) (counted row_lines 1 (map row_seen rs)) (line (codes "left ") left)
-    ∙ append_assoc (counted error_line 1 es) (line (codes "instructions ") bound) (counted row_lines 1 (map row_seen rs) ++ line (codes "left ") left)
+run_written begun rows lines left_line es bound left rs begun_so rows_so added is =
+    let seen = counted row_lines 1 (map row_seen rs) in
+    let so_far : text_of rows ≡ begun_lines es bound ++ seen =
+    rows_so ∙ ap₂ (λ (x y : List ℕ). x ++ y) begun_so (sym (counted-map row_lines row_seen 1 rs)) in
+    ap text_of added ∙ text_of-snoc rows left_line ∙ ap₂ (λ (x y : List ℕ). x ++ y) so_far is
+    ∙ append_assoc (begun_lines es bound) seen (line (codes "left ") left)
 
 -- ---- the lines of a workload
 

@@ -1,8 +1,7 @@
 -- What a run under upsets gives.
-use Rattle.std.proofs.Common.{◌≡◌, ◌≤◌, ◌∙◌, ℕ, Bool, List, [], ◌∷◌, ◌++◌, ap, ap₂, append_assoc, sym, subst}
-use Rattle.std.specs.Prelude.{◌&&◌, All, String, codes, map, nat_le, string_bytes}
+use Rattle.std.proofs.Common.{◌≡◌, ◌≤◌, ◌∙◌, ℕ, Bool, List, [], ◌∷◌, ap, sym, subst}
+use Rattle.std.specs.Prelude.{◌&&◌, All, map, nat_le}
 use Rattle.std.proofs.lemmas.List.Elements.{All-cons}
-use Rattle.std.specs.declared.alloc.Global.{Global}
 use Rattle.fuzzy_meaning.specs.declared.block.Block.{Block}
 use Rattle.cpu12_asm.specs.Bytes.{byte_at}
 use Rattle.cpu12_emul.specs.Image.{image_memory}
@@ -10,32 +9,23 @@ use Rattle.codegen.specs.Watched.{Watched, watched_answer}
 use Rattle.codegen.specs.declared.firmware.Firmware.{Firmware}
 use Rattle.codegen.specs.declared.width.Width.TheVariants.{Byte}
 use Rattle.srecord.specs.Texts.{GivesImage}
-use Rattle.interrupt_plan.specs.PlanTexts.{Spells as SpellsPlan}
 use Rattle.interrupt_plan.specs.UpsetTexts.{SpellsUpsets}
 use Rattle.interrupt_plan.specs.Upsets.{AreGoodUpsets, IsGoodUpset, is_there}
 use Rattle.interrupt_plan.specs.declared.Request.{Request}
 use Rattle.interrupt_plan.specs.declared.upsets.Upset.{Upset}
-use Rattle.trace_io.specs.Traces.{Spells as SpellsTrace}
 use Rattle.trace_io.specs.declared.sample.Sample.{Sample}
 use Rattle.fz_run.specs.Rows.{input_bytes}
 use Rattle.watched_runs.specs.Answering.{AnswersItsSamples, AnswersUnderUpsets, AreWatchedRows}
-use Rattle.watched_runs.specs.Rows.{FaultSeen, faults_of, row_seen, upset_rows}
+use Rattle.watched_runs.specs.Rows.{FaultSeen, faults_of, upset_rows}
 use Rattle.watched_runs.specs.Samples.{with_upsets}
-use Rattle.watched_runs.specs.declared.form.WatchedRow.{WatchedRow}
 use Rattle.certified_run.specs.Faultless.{FaultlessAnswersAreNear}
-use Rattle.fz_shelf.specs.Lines.{text_of}
-use Rattle.fz_status.specs.Refusals.{IsRefusal}
 use Rattle.fz_status.specs.declared.status.Status.{Status}
 use Rattle.fz_status.specs.declared.status.Status.TheVariants as status
-use Rattle.build_commands.specs.Certs.{AcceptsCert}
 use Rattle.build_commands.specs.Firmwares.{GivesWatched}
-use Rattle.build_commands.specs.Lines.{counted, error_line, line}
-use Rattle.build_commands.proofs.Algebra.{counted-map}
-use Rattle.run_commands.specs.Srun.{AcceptsWatched, srun_lines, srun_refusals, upset_refusals}
-use Rattle.run_commands.specs.Srun.{watched_report, watched_row_lines}
+use Rattle.run_commands.specs.Accepted.{AcceptsInputs, input_refusals}
+use Rattle.run_commands.specs.Srun.{AcceptsWatched, srun_refusals, upset_refusals, watched_report}
 use Rattle.run_commands.specs.WatchedRun.{WatchedFiles, WatchedRun}
 use Rattle.run_commands.proofs.AnswerLemmas.{input_bytes_fit, none}
-use Rattle.run_commands.proofs.LineLemmas.{begun_written}
 
 instructions_within : (b : Block) (f : Firmware) (before : ℕ → ℕ) (xs : List Watched) (rs : List FaultSeen)
     → AreWatchedRows b f before xs rs → All (λ r. r.row.instrs ≤ f.instr_bound) rs
@@ -58,11 +48,11 @@ watches near flags files block firmware errors samples slice plan upsets rows a 
   firmware = firmware;
   compiled = a.compiled;
   image = a.image;
-  accepted = a.accepted;
+  accepted = a.inputs.accepted;
   samples = samples;
-  in_range = a.in_range;
+  in_range = a.inputs.in_range;
   plan = plan;
-  good_plan = a.good_plan;
+  good_plan = a.inputs.good_plan;
   upsets = upsets;
   good_upsets = a.good_upsets;
   ran = subst (λ (ss : List Sample). rows ≡ faults_of firmware (upset_rows firmware (map input_bytes ss) plan upsets flags))
@@ -71,8 +61,8 @@ watches near flags files block firmware errors samples slice plan upsets rows a 
   bound = a.compiled.compiled.instructions;
   instructions = instructions_within block firmware (λ o. 0) (with_upsets upsets (map input_bytes samples)) rows
       under.answers;
-  within = near block firmware a.accepted.cert errors files.trace samples upsets rows a.compiled.spelled.valid a.in_range
-      under.answers a.accepted.accepted;
+  within = near block firmware a.inputs.accepted.cert errors files.trace samples upsets rows a.compiled.spelled.valid
+      a.inputs.in_range under.answers a.inputs.accepted.accepted;
 }
   where
     all : AnswersItsSamples firmware flags (map input_bytes samples) plan upsets rows
@@ -80,22 +70,24 @@ watches near flags files block firmware errors samples slice plan upsets rows a 
 
     under : AnswersUnderUpsets block firmware flags (map input_bytes samples) plan upsets rows
     under = all block a.compiled.spelled.valid a.compiled.limits a.compiled.compiled
-        (input_bytes_fit block a.in_range.rows samples a.in_range.spelled)
+        (input_bytes_fit block a.inputs.in_range.rows samples a.inputs.in_range.spelled)
 
--- why upsets are refused, all files before them being accepted
-pub refused_last : (files : WatchedFiles) (block : Block) (firmware : Firmware) (errors : List ℕ) (samples : List Sample)
-    (plan : List Request) (s : Status)
-    → GivesWatched files.fcl block firmware → GivesImage files.image firmware.image
-    → AcceptsCert Byte block files.cert errors → SpellsTrace block.inputs files.trace samples
-    → SpellsPlan files.plan plan
-    → IsRefusal (upset_refusals firmware.image.bytes files.upsets) s → IsRefusal (srun_refusals files) s
-refused_last files block firmware errors samples plan status.Memory compiled image accepted in_range good_plan refused = tt
-refused_last files block firmware errors samples plan (status.Upset f) compiled image accepted in_range good_plan refused = (
-  refused.0,
-  (block, firmware, compiled, (image, errors, accepted, samples, in_range, plan, good_plan, refused.1)),
-)
-refused_last files block firmware errors samples plan s compiled image accepted in_range good_plan refused =
-    absurd refused.1
+module _ (files : WatchedFiles) (block : Block) (firmware : Firmware) (gives : GivesWatched files.fcl block firmware)
+    (image : GivesImage files.image firmware.image) where
+  -- what refuses the files behind IMAGE refuses the run
+  pub srun_refused : (s : Status) → input_refusals Byte block files.cert files.trace files.plan s → srun_refusals files s
+  srun_refused (status.Fcl f) r = absurd r.2
+  srun_refused (status.Image f) r = absurd r.2
+  srun_refused (status.Upset f) r = absurd r.2
+  srun_refused s r = (block, firmware, gives, (image, r))
+
+  -- and so does what refuses UPSETS
+  pub upsets_refused : (errors : List ℕ) (samples : List Sample) (plan : List Request)
+      → AcceptsInputs Byte block files.cert files.trace files.plan errors samples plan → (s : Status)
+      → upset_refusals firmware.image.bytes files.upsets s → srun_refusals files s
+  upsets_refused errors samples plan inputs (status.Upset f) r =
+      (block, firmware, gives, (image, errors, samples, plan, inputs, r))
+  upsets_refused errors samples plan inputs s r = absurd r
 
 -- ---- upsets of images that are one
 
@@ -119,18 +111,3 @@ module _ (a b : List (ℕ × ℕ)) (one : (at : ℕ) → byte_at a at ≡ byte_a
       ascend = spells.good.ascend;
     };
   }
-
--- ---- the lines
-
-pub watched_written : (none errors bounded rows : List (String Global)) (bound_line : String Global) (es : List ℕ)
-    (bound : ℕ) (rs : List WatchedRow)
-    → none ≡ [] → text_of errors ≡ text_of none ++ counted error_line 1 es
-    → bounded ≡ errors ++ bound_line ∷ [] → string_bytes bound_line ≡ line (codes "instructions ") bound
-    → text_of rows ≡ text_of bounded ++ counted (λ k r. watched_row_lines k (row_seen r)) 1 rs
-    → text_of rows ≡ srun_lines (watched_report es bound (map row_seen rs))
-watched_written none errors bounded rows bound_line es bound rs start e0 e1 b e2 =
-    e2
-    ∙ ap₂ (λ (x y : List ℕ). x ++ y) (begun_written none errors bounded bound_line es bound start e0 e1 b)
-    (sym (counted-map watched_row_lines row_seen 1 rs))
-    ∙ append_assoc (counted error_line 1 es) (line (codes "instructions ") bound)
-    (counted watched_row_lines 1 (map row_seen rs))

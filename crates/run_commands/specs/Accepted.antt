@@ -9,19 +9,24 @@ use Rattle.srecord.specs.Texts.{GivesImage}
 use Rattle.trace_io.specs.Traces.{HasFault as TraceHasFault, Spells as SpellsTrace}
 use Rattle.trace_io.specs.declared.sample.Sample.{Sample}
 use Rattle.run_commands.specs.CertifiedRun.{Files}
-use Rattle.build_commands.specs.Certs.{AcceptsCert}
+use Rattle.build_commands.specs.Certs.{AcceptsCert, HasCertFault}
 use Rattle.build_commands.specs.Firmwares.{GivesFirmware}
 use Rattle.fz_status.specs.Refusals.{Refusals}
 use Rattle.fz_status.specs.declared.status.Status.TheVariants as status
+
+-- CERT, TRACE and PLAN are accepted, and give this
+pub record AcceptsInputs (width : Width) (block : Block) (cert trace plan : List ℕ) (errors : List ℕ)
+    (samples : List Sample) (requests : List Request) : Type 0 where
+  pub accepted : AcceptsCert width block cert errors
+  pub in_range : SpellsTrace block.inputs trace samples
+  pub good_plan : SpellsPlan plan requests
 
 -- all are accepted, and give this
 pub record Accepts (width : Width) (files : Files) (block : Block) (firmware : Firmware) (errors : List ℕ)
     (samples : List Sample) (plan : List Request) : Type 0 where
   pub compiled : GivesFirmware width files.fcl block firmware
   pub image : GivesImage files.image firmware.image
-  pub accepted : AcceptsCert width block files.cert errors
-  pub in_range : SpellsTrace block.inputs files.trace samples
-  pub good_plan : SpellsPlan files.plan plan
+  pub inputs : AcceptsInputs width block files.cert files.trace files.plan errors samples plan
 
 abbrev pub trace_refusals : Block → List ℕ → Refusals
 trace_refusals block text (status.Trace f) = TraceHasFault block.inputs text f
@@ -30,3 +35,16 @@ trace_refusals block text s = ⊥
 abbrev pub plan_refusals : List ℕ → Refusals
 plan_refusals text (status.Plan f) = PlanHasFault text f
 plan_refusals text s = ⊥
+
+-- why a trace is refused, and why a plan is, the trace spelling samples beside
+abbrev pub sample_refusals : Block → List ℕ → List ℕ → Refusals
+sample_refusals block trace plan (status.Trace f) = TraceHasFault block.inputs trace f
+sample_refusals block trace plan (status.Plan f) =
+    (samples : List Sample) × SpellsTrace block.inputs trace samples × PlanHasFault plan f
+sample_refusals block trace plan s = ⊥
+
+-- why a certificate is refused, and why a trace or a plan is, the certificate being accepted beside
+abbrev pub input_refusals : Width → Block → List ℕ → List ℕ → List ℕ → Refusals
+input_refusals width block cert trace plan (status.Cert f) = HasCertFault width block cert f
+input_refusals width block cert trace plan s =
+    (errors : List ℕ) × AcceptsCert width block cert errors × sample_refusals block trace plan s

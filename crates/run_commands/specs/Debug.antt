@@ -6,11 +6,11 @@ use Rattle.fuzzy_meaning.specs.declared.block.Block.{Block}
 use Rattle.codegen.specs.declared.firmware.Firmware.{Firmware}
 use Rattle.codegen.specs.declared.width.Width.TheVariants.{Byte}
 use Rattle.fz_shelf.specs.Parts.{address_digits, byte_digits}
-use Rattle.interrupt_plan.specs.PlanTexts.{HasFault as PlanHasFault, Spells as SpellsPlan}
+use Rattle.interrupt_plan.specs.PlanTexts.{Spells as SpellsPlan}
 use Rattle.interrupt_plan.specs.declared.Request.{Request}
 use Rattle.run_law.specs.Forms.{RowSeen}
 use Rattle.srecord.specs.Texts.{GivesImage}
-use Rattle.trace_io.specs.Traces.{HasFault as TraceHasFault, Spells as SpellsTrace}
+use Rattle.trace_io.specs.Traces.{Spells as SpellsTrace}
 use Rattle.trace_io.specs.declared.sample.Sample.{Sample}
 use Rattle.fz_run.specs.Answering.{AnswersUnder}
 use Rattle.fz_run.specs.Positions.{Position, positions}
@@ -25,6 +25,7 @@ use Rattle.build_commands.specs.Deeds.{Deed}
 use Rattle.build_commands.specs.Firmwares.{GivesFirmware, RefusesText}
 use Rattle.build_commands.specs.Images.{RefusesImage}
 use Rattle.build_commands.specs.Lines.{counted, with_registers}
+use Rattle.run_commands.specs.Accepted.{sample_refusals}
 use Rattle.run_commands.specs.Run.{OfFirmware, row_lines}
 use Rattle.build_commands.specs.Words.{flags_of}
 use Rattle.run_commands.specs.declared.debug.DebugRun.{DebugRun}
@@ -113,23 +114,19 @@ pub record DebugGives (debug : DebugRun) (files : DebugFiles) (deed : Deed) : Ty
     file = None;
   }
 
--- why FCL is refused; why IMAGE is, FCL giving firmware; why a trace is, IMAGE holding its image; why a plan is, the
--- trace spelling samples beside; and why a script is, the plan being one beside
-abbrev pub debug_refusals : DebugRun → DebugFiles → Refusals
-debug_refusals debug files (status.Fcl f) = RefusesText files.fcl f
-debug_refusals debug files (status.Image f) =
+-- why FCL is refused; why IMAGE is, FCL giving firmware; why a script is, all other files being accepted; and why the
+-- files between are, IMAGE holding its image
+abbrev pub debug_refusals : DebugFiles → Refusals
+debug_refusals files (status.Fcl f) = RefusesText files.fcl f
+debug_refusals files (status.Image f) =
     OfFirmware Byte files.fcl (λ block firmware. RefusesImage files.image firmware.image f)
-debug_refusals debug files (status.Trace f) = OfFirmware Byte files.fcl (λ block firmware.
-    GivesImage files.image firmware.image × TraceHasFault block.inputs files.trace f)
-debug_refusals debug files (status.Plan f) = OfFirmware Byte files.fcl (λ block firmware.
-    GivesImage files.image firmware.image
-    × (samples : List Sample) × SpellsTrace block.inputs files.trace samples × PlanHasFault files.plan f)
-debug_refusals debug files (status.Script n) = OfFirmware Byte files.fcl (λ block firmware.
+debug_refusals files (status.Script n) = OfFirmware Byte files.fcl (λ block firmware.
     GivesImage files.image firmware.image
     × (samples : List Sample) × SpellsTrace block.inputs files.trace samples
     × (plan : List Request) × SpellsPlan files.plan plan × (script_of files.script ≡ Err n))
-debug_refusals debug files s = ⊥
+debug_refusals files s = OfFirmware Byte files.fcl (λ block firmware.
+    GivesImage files.image firmware.image × sample_refusals block files.trace files.plan s)
 
 abbrev pub DebugMakes : DebugRun → DebugFiles → Result Deed Status → Type 0
 DebugMakes debug files (Ok deed) = DebugGives debug files deed
-DebugMakes debug files (Err s) = Refuses (debug_refusals debug files) s
+DebugMakes debug files (Err s) = Refuses (debug_refusals files) s

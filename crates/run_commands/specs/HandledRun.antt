@@ -14,6 +14,7 @@ use Rattle.handled_runs.specs.Forms.{HandledSeen, handled_seen}
 use Rattle.build_commands.specs.Certs.{AcceptsCert}
 use Rattle.build_commands.specs.Firmwares.{GivesFirmware}
 use Rattle.build_commands.specs.Hcheck.{GivesHandler}
+use Rattle.run_commands.specs.Accepted.{AcceptsInputs}
 use Rattle.run_commands.specs.CertifiedRun.{IsReportOf, Report}
 
 -- the contents of the five files
@@ -40,9 +41,7 @@ pub record AcceptsHandled (files : HandledFiles) (block : Block) (firmware : Fir
     (errors : List ℕ) (samples : List Sample) (plan : List Request) : Type 0 where
   pub compiled : GivesFirmware Byte files.fcl block firmware
   pub handles : GivesHandler files.handler handler instrs
-  pub accepted : AcceptsCert Byte block files.cert errors
-  pub in_range : SpellsTrace block.inputs files.trace samples
-  pub good_plan : SpellsPlan files.plan plan
+  pub inputs : AcceptsInputs Byte block files.cert files.trace files.plan errors samples plan
 
 -- Compile accepts the FCL text, HANDLER gives a handler that is accepted, the checker accepts the certificate, the trace
 -- spells samples within their inputs' ranges, and the plan interrupts that write only free bytes. The rows are those of

@@ -7,13 +7,10 @@ use Rattle.codegen.specs.declared.firmware.Firmware.{Firmware}
 use Rattle.codegen.specs.declared.width.Width.{Width}
 use Rattle.cpu12_emul.specs.Take.{FrameSeen}
 use Rattle.fz_shelf.specs.Parts.{address_digits}
-use Rattle.interrupt_plan.specs.PlanTexts.{HasFault as PlanHasFault}
 use Rattle.run_law.specs.Forms.{RowSeen}
 use Rattle.srecord.specs.Texts.{GivesImage}
-use Rattle.trace_io.specs.Traces.{HasFault as TraceHasFault, Spells as SpellsTrace}
-use Rattle.trace_io.specs.declared.sample.Sample.{Sample}
+use Rattle.run_commands.specs.Accepted.{input_refusals}
 use Rattle.run_commands.specs.CertifiedRun.{CertifiedRun, Files, Report}
-use Rattle.build_commands.specs.Certs.{AcceptsCert, HasCertFault}
 use Rattle.build_commands.specs.Deeds.{Deed}
 use Rattle.build_commands.specs.Firmwares.{GivesFirmware, RefusesText}
 use Rattle.build_commands.specs.Images.{RefusesImage}
@@ -68,20 +65,27 @@ sample_line_with k r rest = codes "sample " ++ (decimal k ++ (codes " bytes" ++ 
     ++ (codes " steps " ++ (decimal r.steps ++ (codes " resumed " ++ (decimal r.resumed
     ++ (codes " frames " ++ (decimal (length r.frames) ++ rest)))))))))))))
 
-abbrev pub sample_line : ℕ → RowSeen (List ℕ) → List ℕ
-sample_line k r = sample_line_with k r newline
-
 -- followed by its frames
+abbrev pub row_lines_with : ℕ → RowSeen (List ℕ) → List ℕ → List ℕ
+row_lines_with k r rest = sample_line_with k r rest ++ flat_map (frame_line k) r.frames
+
 abbrev pub row_lines : ℕ → RowSeen (List ℕ) → List ℕ
-row_lines k r = sample_line k r ++ flat_map (frame_line k) r.frames
+row_lines k r = row_lines_with k r newline
+
+-- the same, with a number behind a label at the end of the sample's line
+abbrev pub labelled_row_lines : Text → ℕ → RowSeen (List ℕ) → ℕ → List ℕ
+labelled_row_lines label k r n = row_lines_with k r (line label n)
 
 abbrev pub report_of : List ℕ → ℕ → List (RowSeen (List ℕ)) → Report
 report_of errors bound rows = record { errors = errors; bound = bound; rows = rows }
 
--- the errors, the bound on instructions, each sample, and the sum
+-- the errors and the bound on instructions, with which the lines of a run begin
+abbrev pub begun_lines : List ℕ → ℕ → List ℕ
+begun_lines errors bound = counted error_line 1 errors ++ line (codes "instructions ") bound
+
+-- and then each sample, and the sum
 abbrev pub run_lines : Report → ℕ → List ℕ
-run_lines r left = counted error_line 1 r.errors
-    ++ (line (codes "instructions ") r.bound ++ (counted row_lines 1 r.rows ++ line (codes "left ") left))
+run_lines r left = begun_lines r.errors r.bound ++ (counted row_lines 1 r.rows ++ line (codes "left ") left)
 
 -- ---- what it makes of its files
 
@@ -96,23 +100,13 @@ abbrev pub OfFirmware : Width → List ℕ → (Block → Firmware → Type 0) �
 OfFirmware width fcl holds =
     (block : Block) × (firmware : Firmware) × GivesFirmware width fcl block firmware × holds block firmware
 
--- why a certificate is refused, FCL giving firmware whose image is IMAGE's; why a trace is, the certificate being
--- accepted beside; and why a plan is, the trace spelling samples beside
+-- why FCL is refused; why IMAGE is, FCL giving firmware; and why the files behind are, IMAGE holding its image
 abbrev pub run_refusals : Run → Files → Refusals
 run_refusals run files (status.Fcl f) = RefusesText files.fcl f
 run_refusals run files (status.Image f) =
     OfFirmware run.width files.fcl (λ block firmware. RefusesImage files.image firmware.image f)
-run_refusals run files (status.Cert f) = OfFirmware run.width files.fcl (λ block firmware.
-    GivesImage files.image firmware.image × HasCertFault run.width block files.cert f)
-run_refusals run files (status.Trace f) = OfFirmware run.width files.fcl (λ block firmware.
-    GivesImage files.image firmware.image
-    × (errors : List ℕ) × AcceptsCert run.width block files.cert errors
-    × TraceHasFault block.inputs files.trace f)
-run_refusals run files (status.Plan f) = OfFirmware run.width files.fcl (λ block firmware.
-    GivesImage files.image firmware.image
-    × (errors : List ℕ) × AcceptsCert run.width block files.cert errors
-    × (samples : List Sample) × SpellsTrace block.inputs files.trace samples × PlanHasFault files.plan f)
-run_refusals run files s = ⊥
+run_refusals run files s = OfFirmware run.width files.fcl (λ block firmware.
+    GivesImage files.image firmware.image × input_refusals run.width block files.cert files.trace files.plan s)
 
 abbrev pub RunMakes : Run → Files → Result Deed Status → Type 0
 RunMakes run files (Ok deed) = RunGives run files deed

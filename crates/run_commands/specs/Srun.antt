@@ -1,29 +1,26 @@
 -- The command `srun FCL IMAGE CERT TRACE PLAN UPSETS FLAGS`.
 use Rattle.std.specs.Prelude.{◌≡◌, ℕ, List, [], ◌∷◌, ◌++◌, codes, Option, None, option_map, Result, Ok, Err}
-use Rattle.std.specs.List.{flat_map}
 use Rattle.fuzzy_meaning.specs.declared.block.Block.{Block}
 use Rattle.codegen.specs.declared.firmware.Firmware.{Firmware}
 use Rattle.codegen.specs.declared.width.Width.TheVariants.{Byte}
-use Rattle.interrupt_plan.specs.PlanTexts.{HasFault as PlanHasFault, Spells as SpellsPlan}
 use Rattle.interrupt_plan.specs.UpsetTexts.{HasUpsetFault, SpellsUpsets}
 use Rattle.interrupt_plan.specs.declared.Request.{Request}
 use Rattle.interrupt_plan.specs.declared.upsets.Upset.{Upset}
 use Rattle.srecord.specs.Texts.{GivesImage}
-use Rattle.trace_io.specs.Traces.{HasFault as TraceHasFault, Spells as SpellsTrace}
 use Rattle.trace_io.specs.declared.sample.Sample.{Sample}
 use Rattle.watched_runs.specs.Rows.{FaultSeen}
 use Rattle.fz_status.specs.Refusals.{Refusals, Refuses}
 use Rattle.fz_status.specs.Words.{Text, word_at}
 use Rattle.fz_status.specs.declared.status.Status.{Status}
 use Rattle.fz_status.specs.declared.status.Status.TheVariants as status
-use Rattle.build_commands.specs.Certs.{AcceptsCert, HasCertFault}
 use Rattle.build_commands.specs.Contents.{content_at}
 use Rattle.build_commands.specs.Deeds.{Deed}
 use Rattle.build_commands.specs.Firmwares.{GivesWatched, RefusesText}
 use Rattle.build_commands.specs.Images.{RefusesImage}
-use Rattle.build_commands.specs.Lines.{counted, error_line, line}
+use Rattle.build_commands.specs.Lines.{counted}
 use Rattle.build_commands.specs.Words.{flags_of}
-use Rattle.run_commands.specs.Run.{frame_line, sample_line_with}
+use Rattle.run_commands.specs.Accepted.{AcceptsInputs, input_refusals}
+use Rattle.run_commands.specs.Run.{begun_lines, labelled_row_lines}
 use Rattle.run_commands.specs.WatchedRun.{WatchedFiles, WatchedReport, WatchedRun}
 use Rattle.run_commands.specs.declared.srun.Srun.{Srun}
 
@@ -50,21 +47,16 @@ watched_files contents = record {
 
 -- ---- its lines
 
--- the line of the k-th sample, as `run` has it, with FAULT behind it
-abbrev pub watched_line : ℕ → FaultSeen → List ℕ
-watched_line k r = sample_line_with k r.row (line (codes " fault ") r.fault)
-
--- followed by its frames
+-- the lines of the k-th sample, as `run` has them, with FAULT at the end of the first
 abbrev pub watched_row_lines : ℕ → FaultSeen → List ℕ
-watched_row_lines k r = watched_line k r ++ flat_map (frame_line k) r.row.frames
+watched_row_lines k r = labelled_row_lines (codes " fault ") k r.row r.fault
 
 abbrev pub watched_report : List ℕ → ℕ → List FaultSeen → WatchedReport
 watched_report errors bound rows = record { errors = errors; bound = bound; rows = rows }
 
 -- the errors, the bound on instructions, and each sample
 abbrev pub srun_lines : WatchedReport → List ℕ
-srun_lines r = counted error_line 1 r.errors
-    ++ (line (codes "instructions ") r.bound ++ counted watched_row_lines 1 r.rows)
+srun_lines r = begun_lines r.errors r.bound ++ counted watched_row_lines 1 r.rows
 
 -- ---- what it makes of its files
 
@@ -73,9 +65,7 @@ pub record AcceptsWatched (files : WatchedFiles) (block : Block) (firmware : Fir
     (samples : List Sample) (plan : List Request) (upsets : List Upset) : Type 0 where
   pub compiled : GivesWatched files.fcl block firmware
   pub image : GivesImage files.image firmware.image
-  pub accepted : AcceptsCert Byte block files.cert errors
-  pub in_range : SpellsTrace block.inputs files.trace samples
-  pub good_plan : SpellsPlan files.plan plan
+  pub inputs : AcceptsInputs Byte block files.cert files.trace files.plan errors samples plan
   pub good_upsets : SpellsUpsets firmware.image.bytes files.upsets upsets
 
 -- the run is one of the files, and the lines are those of its report
@@ -88,28 +78,18 @@ pub record SrunGives (srun : Srun) (files : WatchedFiles) (deed : Deed) : Type 0
 abbrev pub OfWatched : List ℕ → (Block → Firmware → Type 0) → Type 0
 OfWatched fcl holds = (block : Block) × (firmware : Firmware) × GivesWatched fcl block firmware × holds block firmware
 
--- why a certificate is refused, FCL giving firmware whose image is IMAGE's; why a trace is, the certificate being
--- accepted beside; why a plan is, the trace spelling samples beside; and why upsets are, the plan being one beside
+-- why FCL is refused; why IMAGE is, FCL giving firmware; why upsets are, all other files being accepted; and why the
+-- files between are, IMAGE holding its image
 abbrev pub srun_refusals : WatchedFiles → Refusals
 srun_refusals files (status.Fcl f) = RefusesText files.fcl f
 srun_refusals files (status.Image f) = OfWatched files.fcl (λ block firmware. RefusesImage files.image firmware.image f)
-srun_refusals files (status.Cert f) = OfWatched files.fcl (λ block firmware.
-    GivesImage files.image firmware.image × HasCertFault Byte block files.cert f)
-srun_refusals files (status.Trace f) = OfWatched files.fcl (λ block firmware.
-    GivesImage files.image firmware.image
-    × (errors : List ℕ) × AcceptsCert Byte block files.cert errors
-    × TraceHasFault block.inputs files.trace f)
-srun_refusals files (status.Plan f) = OfWatched files.fcl (λ block firmware.
-    GivesImage files.image firmware.image
-    × (errors : List ℕ) × AcceptsCert Byte block files.cert errors
-    × (samples : List Sample) × SpellsTrace block.inputs files.trace samples × PlanHasFault files.plan f)
 srun_refusals files (status.Upset f) = OfWatched files.fcl (λ block firmware.
     GivesImage files.image firmware.image
-    × (errors : List ℕ) × AcceptsCert Byte block files.cert errors
-    × (samples : List Sample) × SpellsTrace block.inputs files.trace samples
-    × (plan : List Request) × SpellsPlan files.plan plan
+    × (errors : List ℕ) × (samples : List Sample) × (plan : List Request)
+    × AcceptsInputs Byte block files.cert files.trace files.plan errors samples plan
     × HasUpsetFault firmware.image.bytes files.upsets f)
-srun_refusals files s = ⊥
+srun_refusals files s = OfWatched files.fcl (λ block firmware.
+    GivesImage files.image firmware.image × input_refusals Byte block files.cert files.trace files.plan s)
 
 -- why a text gives no upsets of an image
 abbrev pub upset_refusals : List (ℕ × ℕ) → List ℕ → Refusals

@@ -8,7 +8,7 @@ ghost use Rattle.run_commands.specs.Debug.{DebugFiles, DebugMakes, Debugs, debug
 ghost use Rattle.build_commands.specs.Deeds.{DeedHasNoFault, IsResultOf};
 ghost use Rattle.run_commands.specs.declared.debug.DebugRun.{DebugRun as TheDebug};
 
-use crate::run::{plan_of, samples_of};
+use crate::run::samples_and_plan;
 use crate::shown_lines::lines;
 use build_commands::contents::content;
 use build_commands::firmware::{Compiled, firmware_of, spelled_texts_have_no_fault};
@@ -59,7 +59,7 @@ impl DebugRun {
         requires { All (λ c. length c.items ≤ 1048576) contents.now }
         ensures { IsResultOf (DebugMakes self (debug_files (bytes_of contents.now))) result }
     {
-        let accepted = match self.accepted(alloc, contents) {
+        let accepted = match DebugRun::accepted(alloc, contents) {
             Ok(accepted) => accepted,
             Err(status) => return Err(status),
         };
@@ -81,11 +81,11 @@ impl DebugRun {
     }
 
     /// What the files give, or the first fault in their order.
-    fn accepted(self, alloc: Global, contents: &[Vec<u8>]) -> Result<Accepted, Status>
+    fn accepted(alloc: Global, contents: &[Vec<u8>]) -> Result<Accepted, Status>
         requires { All (λ c. length c.items ≤ 1048576) contents.now }
         ensures accepted { IfOk result (λ a. Debugs (debug_files (bytes_of contents.now))
             a.compiled.block a.compiled.firmware a.samples.items a.plan a.script) }
-        ensures fault { IfErr result (IsRefusal (debug_refusals self (debug_files (bytes_of contents.now)))) }
+        ensures fault { IfErr result (IsRefusal (debug_refusals (debug_files (bytes_of contents.now)))) }
     {
         let compiled = match firmware_of(alloc, Width::Byte, content(contents, 0)) {
             Ok(compiled) => compiled,
@@ -95,12 +95,14 @@ impl DebugRun {
             Ok(()) => {}
             Err(status) => return Err(status),
         }
-        let samples = match samples_of(alloc, &compiled.block, content(contents, 2)) {
-            Ok(samples) => samples,
-            Err(status) => return Err(status),
-        };
-        let plan = match plan_of(alloc, content(contents, 3)) {
-            Ok(plan) => plan,
+        let inputs = samples_and_plan(
+            alloc,
+            &compiled.block,
+            content(contents, 2),
+            content(contents, 3),
+        );
+        let (samples, plan) = match inputs {
+            Ok(inputs) => inputs,
             Err(status) => return Err(status),
         };
         match read_script(alloc, content(contents, 4)) {

@@ -1,17 +1,21 @@
 //! The command `hrun FCL HANDLER CERT TRACE PLAN FLAGS`: the certified run whose interrupts run a handler's code.
-ghost use Rattle.std.specs.Prelude.{◌≡◌, ◌≤◌, length, IfOk, IfErr};
+ghost use Rattle.std.specs.Prelude.{◌≡◌, ◌≤◌, ◌++◌, length, IfOk, IfErr};
 ghost use Rattle.std.specs.List.{All};
 ghost use Rattle.fz_status.specs.Refusals.{IsRefusal};
 ghost use Rattle.fz_status.specs.Words.{texts_of};
 ghost use Rattle.build_commands.specs.Contents.{bytes_of};
 ghost use Rattle.build_commands.specs.Deeds.{DeedHasNoFault, IsResultOf};
 ghost use Rattle.run_commands.specs.HandledRun.{AcceptsHandled, HandledFiles};
-ghost use Rattle.run_commands.specs.Hrun.{HrunMakes, handled_files, hrun_in, hrun_refusals};
+ghost use Rattle.build_commands.specs.Lines.{counted};
+ghost use Rattle.fz_shelf.specs.Lines.{text_of};
+ghost use Rattle.handled_runs.specs.Forms.{row_seen};
+ghost use Rattle.run_commands.specs.Hrun.{HrunMakes, handled_files, handled_row_lines, hrun_in, hrun_refusals};
+ghost use Rattle.run_commands.specs.Run.{begun_lines};
 ghost use Rattle.run_commands.specs.declared.hrun.Hrun.{Hrun as TheHrun};
 
-use crate::handled_lines::lines;
-use crate::run::{plan_of, samples_of};
-use build_commands::certs::{accepted_certs_have_no_fault, errors_under};
+use crate::run::{Inputs, inputs_of};
+use crate::run_lines::{begun, push_labelled_row};
+use build_commands::certs::accepted_certs_have_no_fault;
 use build_commands::contents::content;
 use build_commands::firmware::{Compiled, firmware_of, spelled_texts_have_no_fault};
 use build_commands::hcheck::{AcceptedHandler, given_handlers_have_no_fault, handler_of};
@@ -22,10 +26,10 @@ use codegen::Width;
 use fcl_check::spelled_blocks_are_one;
 use fz_run::laws::answers_under_plans;
 use fz_status::{Status, word};
-use handled_runs::run_handler;
-use interrupt_plan::{Plan, spelled_plans_have_no_fault};
-use std::alloc::Global;
-use trace_io::{Sample, spelled_traces_have_no_fault};
+use handled_runs::{HandledRow, run_handler};
+use interrupt_plan::spelled_plans_have_no_fault;
+use std::alloc::{AllocError, Global};
+use trace_io::spelled_traces_have_no_fault;
 
 /// `hrun FCL HANDLER CERT TRACE PLAN FLAGS`
 #[derive(Clone, Copy, Debug, PartialEq, Eq)]
@@ -42,9 +46,7 @@ pub static INPUTS: [u32; 5] = [2, 3, 4, 5, 6];
 struct Accepted {
     compiled: Compiled,
     handler: AcceptedHandler,
-    errors: Vec<u32>,
-    samples: Vec<Sample>,
-    plan: Plan,
+    inputs: Inputs,
 }
 
 impl Hrun {
@@ -76,14 +78,14 @@ impl Hrun {
             firmware,
             &accepted.handler.image,
             &accepted.handler.handler,
-            &accepted.samples,
-            &accepted.plan,
+            &accepted.inputs.samples,
+            &accepted.inputs.plan,
             self.flags,
         );
         let Ok(rows) = ran else {
             return Err(Status::Memory);
         };
-        match lines(alloc, &accepted.errors, firmware.instr_bound, &rows) {
+        match lines(alloc, &accepted.inputs.errors, firmware.instr_bound, &rows) {
             Ok(lines) => Ok(Work { lines, file: None }),
             Err(_) => Err(Status::Memory),
         }
@@ -93,7 +95,8 @@ impl Hrun {
     fn accepted(alloc: Global, contents: &[Vec<u8>]) -> Result<Accepted, Status>
         requires { All (λ c. length c.items ≤ 1048576) contents.now }
         ensures accepted { IfOk result (λ a. AcceptsHandled (handled_files (bytes_of contents.now)) a.compiled.block
-            a.compiled.firmware a.handler.image a.handler.handler.instrs a.errors.items a.samples.items a.plan) }
+            a.compiled.firmware a.handler.image a.handler.handler.instrs a.inputs.errors.items
+            a.inputs.samples.items a.inputs.plan) }
         ensures fault { IfErr result (IsRefusal (hrun_refusals (handled_files (bytes_of contents.now)))) }
     {
         let compiled = match firmware_of(alloc, Width::Byte, content(contents, 0)) {
@@ -104,25 +107,33 @@ impl Hrun {
             Ok(handler) => handler,
             Err(status) => return Err(status),
         };
-        let errors = match errors_under(alloc, Width::Byte, &compiled.block, content(contents, 2)) {
-            Ok(errors) => errors,
-            Err(status) => return Err(status),
-        };
-        let samples = match samples_of(alloc, &compiled.block, content(contents, 3)) {
-            Ok(samples) => samples,
-            Err(status) => return Err(status),
-        };
-        match plan_of(alloc, content(contents, 4)) {
-            Ok(plan) => Ok(Accepted {
+        match inputs_of(alloc, Width::Byte, &compiled.block, contents) {
+            Ok(inputs) => Ok(Accepted {
                 compiled,
                 handler,
-                errors,
-                samples,
-                plan,
+                inputs,
             }),
             Err(status) => Err(status),
         }
     }
+}
+
+/// The errors, the bound on instructions, and each sample with its frames.
+fn lines(
+    alloc: Global,
+    errors: &[u32],
+    bound: u32,
+    rows: &[HandledRow],
+) -> Result<Vec<String>, AllocError>
+    ensures { IfOk result (λ lines. text_of lines.items
+        ≡ begun_lines errors.now bound ++ counted (λ k r. handled_row_lines k (row_seen r)) 1 rows.now) }
+{
+    let mut lines = begun(alloc, errors, bound)?;
+    for (at, row) in rows.iter().enumerate() {
+        let handler = row.handler;
+        push_labelled_row(alloc, &mut lines, at + 1, &row.row, " handler ", handler)?;
+    }
+    Ok(lines)
 }
 
 /// Files that make a deed make no fault.

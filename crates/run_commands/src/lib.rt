@@ -9,10 +9,8 @@
 
 pub mod debug;
 pub mod generate;
-mod handled_lines;
 pub mod hrun;
 pub mod run;
 mod run_lines;
 mod shown_lines;
 pub mod srun;
-mod watched_lines;

@@ -4,13 +4,14 @@ ghost use Rattle.std.specs.List.{All};
 ghost use Rattle.fuzzy_meaning.specs.Blocks.{IsValid};
 ghost use Rattle.interrupt_plan.specs.PlanTexts.{Spells as SpellsPlan};
 ghost use Rattle.trace_io.specs.Traces.{Spells};
-ghost use Rattle.run_commands.specs.Accepted.{Accepts, plan_refusals, trace_refusals};
+ghost use Rattle.run_commands.specs.Accepted.{Accepts, AcceptsInputs, input_refusals, plan_refusals};
+ghost use Rattle.run_commands.specs.Accepted.{sample_refusals, trace_refusals};
 ghost use Rattle.run_commands.specs.CertifiedRun.{Files, left_of};
 ghost use Rattle.build_commands.specs.Deeds.{DeedHasNoFault, IsResultOf};
 ghost use Rattle.fz_status.specs.Refusals.{IsRefusal};
 ghost use Rattle.run_commands.specs.Run.{RunMakes, files_in, run_in, run_refusals};
 ghost use Rattle.fz_status.specs.Words.{texts_of};
-ghost use Rattle.build_commands.specs.Contents.{bytes_of};
+ghost use Rattle.build_commands.specs.Contents.{bytes_of, content_at};
 ghost use Rattle.run_commands.specs.declared.run.Run.{Run as TheRun};
 
 use crate::run_lines::lines;
@@ -48,9 +49,15 @@ pub static INPUTS: [u32; 5] = [2, 3, 4, 5, 6];
 #[derive(Drop)]
 struct Accepted {
     compiled: Compiled,
-    errors: Vec<u32>,
-    samples: Vec<Sample>,
-    plan: Plan,
+    inputs: Inputs,
+}
+
+/// What a certificate, a trace and a plan give, where all three are accepted.
+#[derive(Drop)]
+pub(crate) struct Inputs {
+    pub(crate) errors: Vec<u32>,
+    pub(crate) samples: Vec<Sample>,
+    pub(crate) plan: Plan,
 }
 
 impl Run {
@@ -79,15 +86,21 @@ impl Run {
         let ran = run_on::<PageMem>(
             alloc,
             firmware,
-            &accepted.samples,
-            &accepted.plan,
+            &accepted.inputs.samples,
+            &accepted.inputs.plan,
             self.flags,
         );
         let Ok((rows, memory)) = ran else {
             return Err(Status::Memory);
         };
         let bound = firmware.instr_bound;
-        match lines(alloc, &accepted.errors, bound, &rows, left_in(&memory)) {
+        match lines(
+            alloc,
+            &accepted.inputs.errors,
+            bound,
+            &rows,
+            left_in(&memory),
+        ) {
             Ok(lines) => Ok(Work { lines, file: None }),
             Err(_) => Err(Status::Memory),
         }
@@ -97,7 +110,7 @@ impl Run {
     fn accepted(self, alloc: Global, contents: &[Vec<u8>]) -> Result<Accepted, Status>
         requires { All (λ c. length c.items ≤ 1048576) contents.now }
         ensures accepted { IfOk result (λ a. Accepts self.width (files_in (bytes_of contents.now))
-            a.compiled.block a.compiled.firmware a.errors.items a.samples.items a.plan) }
+            a.compiled.block a.compiled.firmware a.inputs.errors.items a.inputs.samples.items a.inputs.plan) }
         ensures fault { IfErr result (IsRefusal (run_refusals self (files_in (bytes_of contents.now)))) }
     {
         let compiled = match firmware_of(alloc, self.width, content(contents, 0)) {
@@ -108,23 +121,63 @@ impl Run {
             Ok(()) => {}
             Err(status) => return Err(status),
         }
-        let errors = match errors_under(alloc, self.width, &compiled.block, content(contents, 2)) {
-            Ok(errors) => errors,
-            Err(status) => return Err(status),
-        };
-        let samples = match samples_of(alloc, &compiled.block, content(contents, 3)) {
-            Ok(samples) => samples,
-            Err(status) => return Err(status),
-        };
-        match plan_of(alloc, content(contents, 4)) {
-            Ok(plan) => Ok(Accepted {
-                compiled,
-                errors,
-                samples,
-                plan,
-            }),
+        match inputs_of(alloc, self.width, &compiled.block, contents) {
+            Ok(inputs) => Ok(Accepted { compiled, inputs }),
             Err(status) => Err(status),
         }
+    }
+}
+
+/// What CERT, TRACE and PLAN give, which are the third file and those behind it, or the first fault in their order.
+pub(crate) fn inputs_of(
+    alloc: Global,
+    width: Width,
+    block: &Block,
+    contents: &[Vec<u8>],
+) -> Result<Inputs, Status>
+    requires block { IsValid block.now }
+    requires small { All (λ c. length c.items ≤ 1048576) contents.now }
+    ensures inputs { IfOk result (λ i. AcceptsInputs width block.now (content_at (bytes_of contents.now) 2)
+        (content_at (bytes_of contents.now) 3) (content_at (bytes_of contents.now) 4)
+        i.errors.items i.samples.items i.plan) }
+    ensures fault { IfErr result (IsRefusal (input_refusals width block.now (content_at (bytes_of contents.now) 2)
+        (content_at (bytes_of contents.now) 3) (content_at (bytes_of contents.now) 4))) }
+{
+    let errors = match errors_under(alloc, width, block, content(contents, 2)) {
+        Ok(errors) => errors,
+        Err(status) => return Err(status),
+    };
+    match samples_and_plan(alloc, block, content(contents, 3), content(contents, 4)) {
+        Ok((samples, plan)) => Ok(Inputs {
+            errors,
+            samples,
+            plan,
+        }),
+        Err(status) => Err(status),
+    }
+}
+
+/// The samples that a trace spells for a block, and the plan that a text spells.
+pub(crate) fn samples_and_plan(
+    alloc: Global,
+    block: &Block,
+    trace: &[u8],
+    plan: &[u8],
+) -> Result<(Vec<Sample>, Plan), Status>
+    requires block { IsValid block.now }
+    requires trace { length trace.now ≤ 1048576 }
+    requires plan { length plan.now ≤ 1048576 }
+    ensures samples { IfOk result (λ r. Spells block.now.inputs trace.now r.0.items) }
+    ensures plan { IfOk result (λ r. SpellsPlan plan.now r.1) }
+    ensures fault { IfErr result (IsRefusal (sample_refusals block.now trace.now plan.now)) }
+{
+    let samples = match samples_of(alloc, block, trace) {
+        Ok(samples) => samples,
+        Err(status) => return Err(status),
+    };
+    match plan_of(alloc, plan) {
+        Ok(plan) => Ok((samples, plan)),
+        Err(status) => Err(status),
     }
 }
 

@@ -4,8 +4,8 @@ ghost use Rattle.std.specs.List.{flat_map};
 ghost use Rattle.fz_shelf.specs.Lines.{text_of};
 ghost use Rattle.fz_run.specs.Rows.{boundary_seen, frames_seen, row_seen};
 ghost use Rattle.build_commands.specs.Lines.{counted};
-ghost use Rattle.run_commands.specs.Run.{frame_line, numbers, report_of, row_lines, run_lines, sample_line};
-ghost use Rattle.run_commands.specs.Run.{sample_line_with};
+ghost use Rattle.run_commands.specs.Run.{begun_lines, frame_line, labelled_row_lines, numbers, report_of, row_lines};
+ghost use Rattle.run_commands.specs.Run.{row_lines_with, run_lines, sample_line_with};
 
 use build_commands::lines::{labelled, push_address, push_errors};
 use cpu12_emul::ends::Frame;
@@ -24,11 +24,19 @@ pub(crate) fn lines(
     ensures { IfOk result (λ lines. text_of lines.items
         ≡ run_lines (report_of errors.now bound (map row_seen rows.now)) left) }
 {
+    let mut lines = begun(alloc, errors, bound)?;
+    push_rows(alloc, &mut lines, rows)?;
+    lines.push(labelled(alloc, "left ", u128::from(left))?)?;
+    Ok(lines)
+}
+
+/// The errors and the bound on instructions, with which the lines of a run begin.
+pub(crate) fn begun(alloc: Global, errors: &[u32], bound: u32) -> Result<Vec<String>, AllocError>
+    ensures { IfOk result (λ lines. text_of lines.items ≡ begun_lines errors.now bound) }
+{
     let mut lines = Vec::new(alloc);
     push_errors(alloc, &mut lines, errors)?;
     lines.push(labelled(alloc, "instructions ", u128::from(bound))?)?;
-    push_rows(alloc, &mut lines, rows)?;
-    lines.push(labelled(alloc, "left ", u128::from(left))?)?;
     Ok(lines)
 }
 
@@ -42,16 +50,41 @@ pub(crate) fn push_rows(
         ++ counted (λ k r. row_lines k (row_seen r)) 1 rows.now) }
 {
     for (at, row) in rows.iter().enumerate() {
-        push_row(alloc, lines, at + 1, row)?;
+        push_row(alloc, lines, at + 1, row, "\n")?;
     }
     Ok(())
 }
 
-/// The k-th sample with its frames.
-fn push_row(alloc: Global, lines: &mut Vec<String>, k: usize, row: &Row) -> Result<(), AllocError>
-    ensures { OnOk result (text_of lines.new.items ≡ text_of lines.old.items ++ row_lines k (row_seen row.now)) }
+/// The k-th sample with a number behind a label at the end of its line, and its frames.
+pub(crate) fn push_labelled_row(
+    alloc: Global,
+    lines: &mut Vec<String>,
+    k: usize,
+    row: &Row,
+    label: &str,
+    number: u32,
+) -> Result<(), AllocError>
+    ensures { OnOk result (text_of lines.new.items
+        ≡ text_of lines.old.items ++ labelled_row_lines label.now k (row_seen row.now) number) }
 {
-    lines.push(line_of_sample(alloc, k, row)?)?;
+    let rest = labelled(alloc, label, u128::from(number))?;
+    push_row(alloc, lines, k, row, rest.as_str())
+}
+
+/// The k-th sample, whose line ends with the rest, and its frames.
+fn push_row(
+    alloc: Global,
+    lines: &mut Vec<String>,
+    k: usize,
+    row: &Row,
+    rest: &str,
+) -> Result<(), AllocError>
+    ensures { OnOk result (text_of lines.new.items
+        ≡ text_of lines.old.items ++ row_lines_with k (row_seen row.now) rest.now) }
+{
+    let mut text = sample_text(alloc, k, row)?;
+    text.push_str(rest)?;
+    lines.push(text)?;
     push_frames(alloc, lines, k, row.frames.as_slice())?;
     Ok(())
 }
@@ -104,15 +137,6 @@ fn push_numbers(text: &mut String, values: &[u16]) -> Result<(), AllocError>
         write!(text, " {number}")?;
     }
     Ok(())
-}
-
-/// The line of the k-th sample.
-fn line_of_sample(alloc: Global, k: usize, row: &Row) -> Result<String, AllocError>
-    ensures { IfOk result (λ s. string_bytes s ≡ sample_line k (row_seen row.now)) }
-{
-    let mut text = sample_text(alloc, k, row)?;
-    text.push_str("\n")?;
-    Ok(text)
 }
 
 /// The line of the k-th sample, up to the number of its frames.

@@ -1,6 +1,6 @@
 //! The command `srun FCL IMAGE CERT TRACE PLAN UPSETS FLAGS`: the run of a firmware with watched tables, whose
 //! bytes are upset.
-ghost use Rattle.std.specs.Prelude.{◌≡◌, ◌≤◌, length, IfOk, IfErr};
+ghost use Rattle.std.specs.Prelude.{◌≡◌, ◌≤◌, ◌++◌, length, IfOk, IfErr};
 ghost use Rattle.std.specs.List.{All};
 ghost use Rattle.interrupt_plan.specs.UpsetTexts.{SpellsUpsets};
 ghost use Rattle.fz_status.specs.Refusals.{IsRefusal};
@@ -8,13 +8,17 @@ ghost use Rattle.fz_status.specs.Words.{texts_of};
 ghost use Rattle.build_commands.specs.Contents.{bytes_of};
 ghost use Rattle.build_commands.specs.Deeds.{DeedHasNoFault, IsResultOf};
 ghost use Rattle.run_commands.specs.Srun.{AcceptsWatched, SrunMakes, srun_in, srun_refusals};
-ghost use Rattle.run_commands.specs.Srun.{upset_refusals, watched_files};
+ghost use Rattle.run_commands.specs.Srun.{upset_refusals, watched_files, watched_row_lines};
+ghost use Rattle.build_commands.specs.Lines.{counted};
+ghost use Rattle.fz_shelf.specs.Lines.{text_of};
+ghost use Rattle.watched_runs.specs.Rows.{row_seen};
+ghost use Rattle.run_commands.specs.Run.{begun_lines};
 ghost use Rattle.run_commands.specs.WatchedRun.{WatchedFiles};
 ghost use Rattle.run_commands.specs.declared.srun.Srun.{Srun as TheSrun};
 
-use crate::run::{plan_of, samples_of};
-use crate::watched_lines::lines;
-use build_commands::certs::{accepted_certs_have_no_fault, errors_under};
+use crate::run::{Inputs, inputs_of};
+use crate::run_lines::{begun, push_labelled_row};
+use build_commands::certs::accepted_certs_have_no_fault;
 use build_commands::contents::content;
 use build_commands::firmware::{Compiled, spelled_texts_have_no_fault, watched_firmware_of};
 use build_commands::images::{require_image, watched_images_have_no_fault};
@@ -26,13 +30,12 @@ use cpu12_asm::Image;
 use fcl_check::spelled_blocks_are_one;
 use fz_status::{Status, word};
 use interrupt_plan::{
-    Plan, UpsetFault, Upsets, read_upsets, spelled_plans_have_no_fault,
-    spelled_upsets_have_no_fault,
+    UpsetFault, Upsets, read_upsets, spelled_plans_have_no_fault, spelled_upsets_have_no_fault,
 };
 use srecord::images_are_one;
-use std::alloc::Global;
-use trace_io::{Sample, spelled_traces_have_no_fault};
-use watched_runs::run_upsets;
+use std::alloc::{AllocError, Global};
+use trace_io::spelled_traces_have_no_fault;
+use watched_runs::{WatchedRow, run_upsets};
 
 /// `srun FCL IMAGE CERT TRACE PLAN UPSETS FLAGS`
 #[derive(Clone, Copy, Debug, PartialEq, Eq)]
@@ -48,9 +51,7 @@ pub static INPUTS: [u32; 6] = [2, 3, 4, 5, 6, 7];
 #[derive(Drop)]
 struct Accepted {
     compiled: Compiled,
-    errors: Vec<u32>,
-    samples: Vec<Sample>,
-    plan: Plan,
+    inputs: Inputs,
     upsets: Upsets,
 }
 
@@ -59,7 +60,7 @@ impl Accepted {
     fn of(alloc: Global, contents: &[Vec<u8>]) -> Result<Accepted, Status>
         requires { All (λ c. length c.items ≤ 1048576) contents.now }
         ensures accepted { IfOk result (λ a. AcceptsWatched (watched_files (bytes_of contents.now))
-            a.compiled.block a.compiled.firmware a.errors.items a.samples.items a.plan a.upsets) }
+            a.compiled.block a.compiled.firmware a.inputs.errors.items a.inputs.samples.items a.inputs.plan a.upsets) }
         ensures fault { IfErr result (IsRefusal (srun_refusals (watched_files (bytes_of contents.now)))) }
     {
         let compiled = match watched_firmware_of(alloc, content(contents, 0)) {
@@ -70,24 +71,14 @@ impl Accepted {
             Ok(()) => {}
             Err(status) => return Err(status),
         }
-        let errors = match errors_under(alloc, Width::Byte, &compiled.block, content(contents, 2)) {
-            Ok(errors) => errors,
-            Err(status) => return Err(status),
-        };
-        let samples = match samples_of(alloc, &compiled.block, content(contents, 3)) {
-            Ok(samples) => samples,
-            Err(status) => return Err(status),
-        };
-        let plan = match plan_of(alloc, content(contents, 4)) {
-            Ok(plan) => plan,
+        let inputs = match inputs_of(alloc, Width::Byte, &compiled.block, contents) {
+            Ok(inputs) => inputs,
             Err(status) => return Err(status),
         };
         match upsets_of(alloc, content(contents, 5), &compiled.firmware.image) {
             Ok(upsets) => Ok(Accepted {
                 compiled,
-                errors,
-                samples,
-                plan,
+                inputs,
                 upsets,
             }),
             Err(status) => Err(status),
@@ -121,15 +112,15 @@ impl Srun {
         let ran = run_upsets(
             alloc,
             firmware,
-            &accepted.samples,
-            &accepted.plan,
+            &accepted.inputs.samples,
+            &accepted.inputs.plan,
             &accepted.upsets,
             self.flags,
         );
         let Ok(rows) = ran else {
             return Err(Status::Memory);
         };
-        match lines(alloc, &accepted.errors, firmware.instr_bound, &rows) {
+        match lines(alloc, &accepted.inputs.errors, firmware.instr_bound, &rows) {
             Ok(lines) => Ok(Work { lines, file: None }),
             Err(_) => Err(Status::Memory),
         }
@@ -147,6 +138,24 @@ fn upsets_of(alloc: Global, text: &[u8], image: &Image) -> Result<Upsets, Status
         Err(UpsetFault::Memory) => Err(Status::Memory),
         Err(fault) => Err(Status::Upset(fault)),
     }
+}
+
+/// The errors, the bound on instructions, and each sample with its frames.
+fn lines(
+    alloc: Global,
+    errors: &[u32],
+    bound: u32,
+    rows: &[WatchedRow],
+) -> Result<Vec<String>, AllocError>
+    ensures { IfOk result (λ lines. text_of lines.items
+        ≡ begun_lines errors.now bound ++ counted (λ k r. watched_row_lines k (row_seen r)) 1 rows.now) }
+{
+    let mut lines = begun(alloc, errors, bound)?;
+    for (at, row) in rows.iter().enumerate() {
+        let fault = u32::from(row.fault);
+        push_labelled_row(alloc, &mut lines, at + 1, &row.row, " fault ", fault)?;
+    }
+    Ok(lines)
 }
 
 /// Files that make a deed make no fault.

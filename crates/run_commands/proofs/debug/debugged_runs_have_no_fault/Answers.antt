@@ -1,9 +1,8 @@
-use Rattle.std.proofs.Common.{◌≡◌, Err, List, sym, subst}
-use Rattle.fuzzy_meaning.specs.declared.block.Input.{Input}
-use Rattle.trace_io.specs.Traces.{Spells}
+use Rattle.std.proofs.Common.{◌≡◌, Err}
 use Rattle.codegen.specs.declared.width.Width.TheVariants.{Byte}
 use Rattle.debug_script.specs.Scripts.{script_of}
 use Rattle.fz_status.specs.declared.status.Status.TheVariants as status
+use Rattle.run_commands.proofs.RefusalLemmas.{samples_stand}
 use Rattle.run_commands.proofs.debug.debugged_runs_have_no_fault.Goals as goal
 
 pub returns : goal.returns
@@ -14,15 +13,12 @@ returns c debug files deed (status.Image f) gives (carries, (other, others, give
     let a = gives.accepts in
     c.firmware_images_have_no_fault.ensures Byte files.fcl files.image gives.block other gives.firmware others f a.compiled
     gives_other a.image refuses
-returns c debug files deed (status.Trace f) gives (carries, (other, others, gives_other, refuses)) =
-    let a = gives.accepts in
-    let same = c.spelled_blocks_are_one.ensures files.fcl other gives.block gives_other.spelled a.compiled.spelled in
-    c.spelled_traces_have_no_fault.ensures other.inputs files.trace gives.samples f
-    (subst (λ (is : List Input). Spells is files.trace gives.samples) (sym same.inputs) a.in_range) refuses.1
-returns c debug files deed (status.Plan f) gives (carries, (other, others, gives_other, refuses)) =
-    c.spelled_plans_have_no_fault.ensures files.plan gives.plan f gives.accepts.good_plan refuses.3
 returns c debug files deed (status.Script n) gives (carries, (other, others, gives_other, refuses)) =
     let yes = gives.accepts.spelled in
     let no : script_of files.script ≡ Err n = refuses.5 in
     cc
-returns c debug files deed s gives is = is.1
+returns c debug files deed s gives (carries, (other, others, gives_other, refuses)) =
+    let a = gives.accepts in
+    samples_stand c.spelled_blocks_are_one.ensures c.spelled_traces_have_no_fault.ensures
+    c.spelled_plans_have_no_fault.ensures files.fcl gives.block other a.compiled.spelled gives_other.spelled files.trace
+    files.plan gives.samples gives.plan a.in_range a.good_plan s refuses.1

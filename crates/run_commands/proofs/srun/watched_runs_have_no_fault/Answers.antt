@@ -1,8 +1,6 @@
-use Rattle.std.proofs.Common.{List, sym, subst}
-use Rattle.fuzzy_meaning.specs.declared.block.Input.{Input}
-use Rattle.trace_io.specs.Traces.{Spells}
 use Rattle.codegen.specs.declared.width.Width.TheVariants.{Byte}
 use Rattle.fz_status.specs.declared.status.Status.TheVariants as status
+use Rattle.run_commands.proofs.RefusalLemmas.{inputs_stand}
 use Rattle.run_commands.proofs.WatchedLemmas.{spelled_there}
 use Rattle.run_commands.proofs.srun.watched_runs_have_no_fault.Goals as goal
 
@@ -14,21 +12,14 @@ returns c srun files deed (status.Image f) gives (carries, (other, others, gives
     let r = gives.watched in
     c.watched_images_have_no_fault.ensures files.fcl files.image r.block other r.firmware others f r.compiled gives_other
     r.image refuses
-returns c srun files deed (status.Cert f) gives (carries, (other, others, gives_other, refuses)) =
-    let r = gives.watched in
-    c.accepted_certs_have_no_fault.ensures Byte files.fcl files.cert gives.report.errors r.block other f r.compiled.spelled
-    gives_other.spelled r.accepted refuses.1
-returns c srun files deed (status.Trace f) gives (carries, (other, others, gives_other, refuses)) =
-    let r = gives.watched in
-    let same = c.spelled_blocks_are_one.ensures files.fcl other r.block gives_other.spelled r.compiled.spelled in
-    c.spelled_traces_have_no_fault.ensures other.inputs files.trace r.samples f
-    (subst (λ (is : List Input). Spells is files.trace r.samples) (sym same.inputs) r.in_range) refuses.3
-returns c srun files deed (status.Plan f) gives (carries, (other, others, gives_other, refuses)) =
-    let r = gives.watched in
-    c.spelled_plans_have_no_fault.ensures files.plan r.plan f r.good_plan refuses.5
 returns c srun files deed (status.Upset f) gives (carries, (other, others, gives_other, refuses)) =
     let r = gives.watched in
     let one = (c.images_are_one.ensures.one files.image r.firmware.image others.image r.image refuses.0).1 in
     c.spelled_upsets_have_no_fault.ensures others.image.bytes files.upsets r.upsets f
-    (spelled_there r.firmware.image.bytes others.image.bytes one files.upsets r.upsets r.good_upsets) refuses.7
-returns c srun files deed s gives is = is.1
+    (spelled_there r.firmware.image.bytes others.image.bytes one files.upsets r.upsets r.good_upsets) refuses.5
+returns c srun files deed s gives (carries, (other, others, gives_other, refuses)) =
+    let r = gives.watched in
+    inputs_stand c.accepted_certs_have_no_fault.ensures c.spelled_blocks_are_one.ensures
+    c.spelled_traces_have_no_fault.ensures c.spelled_plans_have_no_fault.ensures Byte files.fcl r.block other
+    r.compiled.spelled gives_other.spelled files.cert files.trace files.plan gives.report.errors r.samples r.plan
+    r.accepted r.in_range r.good_plan s refuses.1

@@ -1,0 +1,16 @@
+use Rattle.build_commands.specs.Contents.{bytes_of}
+use Rattle.run_commands.specs.Accepted.{input_refusals}
+use Rattle.run_commands.specs.Run.{files_in, run_refusals}
+use Rattle.run_commands.proofs.AnswerLemmas.{run_refused}
+use Rattle.run_commands.proofs.RefusalLemmas.{refused}
+use Rattle.run_commands.proofs.run.Run.accepted.Goals as goal
+
+pub returns-in-Err-inputs_of-clause-fault : goal.returns-in-Err-inputs_of-clause-fault
+returns-in-Err-inputs_of-clause-fault c =
+    let files = files_in (bytes_of c.args.contents.now) in
+    let compiled = c.in-Ok.compiled in
+    refused (input_refusals c.args.self.width compiled.block files.cert files.trace files.plan)
+    (run_refusals c.args.self files)
+    (run_refused c.args.self files compiled.block compiled.firmware (rw c.content.ensures.value at c.in-Ok.ensures.gives)
+    (rw c.content-2.ensures.value at c.in-Ok-require_image.ensures.image))
+    c.in-Err-inputs_of.status c.in-Err-inputs_of.ensures.fault
