@@ -10,7 +10,7 @@ use Rattle.codegen.specs.declared.firmware.Firmware.{Firmware}
 use Rattle.codegen.specs.declared.width.Width.TheVariants.{Byte}
 use Rattle.srecord.specs.Texts.{GivesImage}
 use Rattle.interrupt_plan.specs.UpsetTexts.{SpellsUpsets}
-use Rattle.interrupt_plan.specs.Upsets.{AreGoodUpsets, IsGoodUpset, is_there}
+use Rattle.interrupt_plan.specs.Upsets.{IsGoodUpset, is_there}
 use Rattle.interrupt_plan.specs.declared.Request.{Request}
 use Rattle.interrupt_plan.specs.declared.upsets.Upset.{Upset}
 use Rattle.trace_io.specs.declared.sample.Sample.{Sample}
