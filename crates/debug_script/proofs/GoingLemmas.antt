@@ -1,15 +1,14 @@
 -- A session by its next position.
-use Rattle.std.proofs.Common.{◌≡◌, ℕ, zero, suc, ◌+◌, ◌-◌, ◌<◌, ◌≤◌, ◌==◌, ◌||◌, Bool, true, false, not, List, [], ◌∷◌, ◌++◌, drop, length, refl, sym, ap, ap₂, ◌∙◌, subst, inl, inr, arith}
+use Rattle.std.proofs.Common.{◌≡◌, ℕ, zero, suc, ◌+◌, ◌-◌, ◌<◌, ◌≤◌, ◌==◌, ◌||◌, Bool, true, false, not, List, [], ◌∷◌, ◌++◌, drop, length, refl, sym, ap, ap₂, ◌∙◌, arith}
 use Rattle.std.proofs.Common.{append_assoc}
 use Rattle.std.specs.Prelude.{map, slice_index}
 use Rattle.std.specs.BTreeSet.{contains_by}
 use Rattle.std.specs.List.{list_any}
 use Rattle.std.specs.Ordering.{nat_cmp}
-use Rattle.std.proofs.lemmas.Bool.{cases_Bool}
 use Rattle.std.proofs.lemmas.Bool.Decides.{nat_tests}
 use Rattle.cpu12_isa.specs.Memory.{bytes_at, from, plus}
 use Rattle.cpu12_parts.specs.State.{State}
-use Rattle.run_law.specs.Forms.{Form, Rows, rows_from}
+use Rattle.run_law.specs.Forms.{Form, rows_from}
 use Rattle.fz_run.specs.Outlooks.{Outlook, at_position, from_here}
 use Rattle.fz_run.specs.Positions.{Position, all_numbered, numbered, positions, positions_or}
 use Rattle.debug_script.specs.Going.{AreTold, Leads, is_other, place_of, with_byte}
@@ -19,7 +18,7 @@ use Rattle.debug_script.specs.declared.marks.Marks.{Marks}
 use Rattle.debug_script.specs.declared.order.Order.{Order}
 use Rattle.debug_script.specs.declared.order.Order.TheVariants as order
 use Rattle.debug_script.specs.declared.shown.Shown.{Shown}
-use Rattle.debug_script.proofs.PlaceLemmas.{go_more, go_stops, on_last, on_more, on_nothing}
+use Rattle.debug_script.proofs.PlaceLemmas.{go_more, go_stops, on_last, on_more}
 
 -- ---- one position on
 

@@ -1,5 +1,5 @@
 -- A text by its first line.
-use Rattle.std.proofs.Common.{◌≡◌, ℕ, ◌+◌, ◌-◌, ◌<◌, ◌≤◌, ◌==◌, Bool, List, [], ◌∷◌, ◌++◌, take, drop, length, refl, sym, ap, ◌∙◌, subst, inl, inr, arith}
+use Rattle.std.proofs.Common.{◌≡◌, ℕ, ◌+◌, ◌-◌, ◌<◌, ◌≤◌, ◌==◌, List, [], ◌∷◌, ◌++◌, take, drop, length, refl, sym, ap, ◌∙◌, subst, inl, inr, arith}
 use Rattle.std.proofs.Common.{append_assoc, append-nil}
 use Rattle.std.specs.Prelude.{Option, Some, None, Result, Ok, Err}
 use Rattle.std.proofs.lemmas.List.{take_rest}
@@ -7,7 +7,7 @@ use Rattle.std.proofs.lemmas.Bool.{cases_Bool}
 use Rattle.std.proofs.lemmas.List.Splits.{slice_split_first, length-slice_split}
 use Rattle.std.specs.List.{position_or_len}
 use Rattle.debug_script.specs.declared.order.Order.{Order}
-use Rattle.debug_script.specs.Scripts.{at_end, order_of, orders_from, pieces, script_of, with_order}
+use Rattle.debug_script.specs.Scripts.{order_of, orders_from, pieces, script_of, with_order}
 
 -- the orders of the lines read, before those of the others
 abbrev pub before : List Order → Result (List Order) ℕ → Result (List Order) ℕ

@@ -1,4 +1,4 @@
-use Rattle.std.proofs.Common.{◌≡◌, ◌∙◌, ◌+◌, drop, refl, sym, subst, arith}
+use Rattle.std.proofs.Common.{◌∙◌, ◌+◌, drop, sym, subst}
 use Rattle.std.proofs.lemmas.List.{drop_more}
 use Rattle.debug_script.specs.Going.{AreTold, place_of}
 use Rattle.debug_script.specs.Showing.{shown}
