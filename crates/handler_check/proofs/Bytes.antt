@@ -1,5 +1,5 @@
 -- What a handler writes, beside what is written to free bytes alone.
-use Rattle.std.proofs.Common.{◌≡◌, ℕ, ◌+◌, ◌<◌, ◌≤◌, Bool, true, false, ◌&&◌, nat_lt, nat_le, List, [], ◌∷◌, ◌++◌, length, get_or, refl, ap, sym, ◌∙◌, subst, arith, inl, inr, ◌⊎◌, get_or-set_other, length-append}
+use Rattle.std.proofs.Common.{◌≡◌, ℕ, ◌+◌, ◌<◌, ◌≤◌, Bool, true, false, ◌&&◌, nat_lt, nat_le, List, [], ◌∷◌, ◌++◌, length, get_or, refl, sym, ◌∙◌, subst, arith, inl, inr, ◌⊎◌, get_or-set_other}
 use Rattle.std.proofs.lemmas.Bool.{false≢true, or_parts}
 use Rattle.std.proofs.lemmas.Bool.Decides.{nat_tests}
 use Rattle.std.proofs.lemmas.List.{length-set}
@@ -14,7 +14,7 @@ use Rattle.cpu12_isa.proofs.Algebra.{unwritten}
 use Rattle.cpu12_emul.specs.Take.{pairs_of}
 use Rattle.cpu12_isa.specs.Regions.{is_free, is_hidden}
 use Rattle.cpu12_emul.specs.Simulation.{AreOpen}
-use Rattle.handler_check.specs.Cut.{size_of, code_bytes, IsFrom, HasCode}
+use Rattle.handler_check.specs.Cut.{size_of, code_bytes, HasCode}
 use Rattle.handler_check.specs.Paths.{IsIn}
 use Rattle.handler_check.proofs.Places.{within}
 use Rattle.cpu12_parts.specs.Laws.{addresses}

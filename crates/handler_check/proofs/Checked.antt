@@ -1,5 +1,5 @@
 -- What is judged of an image's cut is said of the image.
-use Rattle.std.proofs.Common.{◌≡◌, ◌≢◌, ℕ, Bool, false, List, refl, sym, ◌∙◌, subst}
+use Rattle.std.proofs.Common.{◌≡◌, ◌≢◌, ℕ, Bool, false, List, ◌∙◌}
 use Rattle.std.specs.Prelude.{Result, Ok, Err, IfOk, IfErr}
 use Rattle.cpu12_isa.specs.declared.instr.Instr.{Instr}
 use Rattle.handler_check.specs.declared.faults.Handler.{Handler}

@@ -1,5 +1,5 @@
 -- The interrupts of an accepted handler.
-use Rattle.std.proofs.Common.{◌≡◌, ℕ, ◌+◌, ◌-◌, ◌^◌, ◌<◌, ◌≤◌, Bool, true, false, ◌&&◌, nat_lt, nat_le, Some, List, length, get_or, refl, ap, sym, ◌∙◌, subst, arith, inl, inr}
+use Rattle.std.proofs.Common.{◌≡◌, ℕ, ◌-◌, ◌^◌, ◌<◌, ◌≤◌, Bool, true, false, ◌&&◌, nat_lt, nat_le, Some, List, get_or, refl, ap, sym, ◌∙◌, subst, arith, inl, inr}
 use Rattle.std.specs.Option.{is_some}
 use Rattle.std.proofs.lemmas.Bool.{or_parts}
 use Rattle.std.proofs.lemmas.Bool.Decides.{nat_tests}
@@ -21,9 +21,8 @@ use Rattle.cpu12_parts.specs.Cuts.{suspended, wav}
 use Rattle.cpu12_parts.specs.Laws.{IsOff}
 use Rattle.cpu12_parts.specs.Inside.{PushesRunning, PushesNone}
 use Rattle.cpu12_emul.specs.Take.{framed}
-use Rattle.cpu12_emul.specs.Simulation.{AreOpen, Same, TakesQuietly}
-use Rattle.run_law.specs.Soundness.{below_sums, Begins, AreLeft, Quiet}
-use Rattle.handler_check.specs.Cut.{code_end}
+use Rattle.cpu12_emul.specs.Simulation.{AreOpen, TakesQuietly}
+use Rattle.run_law.specs.Soundness.{below_sums, Begins, AreLeft}
 use Rattle.handler_check.specs.Images.{IsWhole, IsHandler}
 use Rattle.handler_check.specs.Running.{until_rti, at_code, HasHandler, HasImage, CanBegin, CanEnter, IsTake, AcceptedIsTake, HandlersRunAsTakes, HandlersAreQuiet}
 use Rattle.handler_check.proofs.Given.{code_by}

@@ -1,14 +1,14 @@
 -- Where the bytes of an image stand.
-use Rattle.std.proofs.Common.{◌≡◌, ◌≢◌, ℕ, zero, suc, ◌+◌, ◌-◌, ◌^◌, ◌<◌, ◌≤◌, Bool, true, false, ◌&&◌, nat_lt, nat_le, Ok, Option, Some, None, unwrap_or, List, [], ◌∷◌, length, get_or, refl, ap, sym, ◌∙◌, subst, arith, inl, inr, ◌⊎◌}
+use Rattle.std.proofs.Common.{◌≡◌, ◌≢◌, ℕ, ◌+◌, ◌-◌, ◌^◌, ◌<◌, ◌≤◌, Bool, true, false, ◌&&◌, nat_lt, nat_le, Ok, Option, Some, None, unwrap_or, List, length, get_or, refl, ap, sym, ◌∙◌, subst, arith, inl, inr, ◌⊎◌}
 use Rattle.std.specs.Prelude.{if◌then◌else◌, IsSome, is_some}
 use Rattle.std.proofs.lemmas.Bool.{false≢true, cases_lt, cases_eq}
 use Rattle.std.proofs.lemmas.Bool.Decides.{nat_tests}
 use Rattle.cpu12_isa.specs.declared.instr.Instr.{Instr}
-use Rattle.cpu12_isa.specs.Code.{encode_of, FitsOperands, StandsAt, decode_at, DecodesEncoded}
+use Rattle.cpu12_isa.specs.Code.{encode_of, FitsOperands, decode_at, DecodesEncoded}
 use Rattle.cpu12_asm.specs.Bytes.{byte_at, IsFirstDifference}
 use Rattle.handler_check.specs.declared.faults.HandlerFault.{HandlerFault}
 use Rattle.handler_check.specs.declared.faults.HandlerFault.TheVariants.{Empty, Outside, Dead, Trap, Refused, NotFree, Backward, Target, Height, Falls, Memory}
-use Rattle.handler_check.specs.Cut.{size_of, code_bytes, code_end, AllFit, IsAt, HasCode}
+use Rattle.handler_check.specs.Cut.{size_of, code_end, AllFit, IsAt, HasCode}
 use Rattle.handler_check.specs.Faults.{IsFirstFault}
 use Rattle.handler_check.specs.Images.{Gives, IsCut, is_trapped, IsOutside, IsWhole, IsRun, IsFault}
 use Rattle.handler_check.specs.Judging.{AreFirsts}

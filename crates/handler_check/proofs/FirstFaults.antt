@@ -1,5 +1,5 @@
 -- The first fault of code; and that accepted code has none.
-use Rattle.std.proofs.Common.{◌≡◌, ℕ, suc, ◌+◌, ◌<◌, ◌≤◌, Bool, true, false, Option, Some, None, List, refl, ap, sym, ◌∙◌, subst, arith, inl, inr, ◌⊎◌}
+use Rattle.std.proofs.Common.{◌≡◌, ℕ, suc, ◌<◌, ◌≤◌, Bool, true, false, Option, Some, None, List, refl, ap, sym, ◌∙◌, subst, arith, inl, inr, ◌⊎◌}
 use Rattle.std.proofs.lemmas.Bool.{false≢true, cases_lt}
 use Rattle.cpu12_isa.specs.declared.instr.Instr.{Instr}
 use Rattle.handler_check.specs.declared.faults.HandlerFault.{HandlerFault}
@@ -10,7 +10,7 @@ use Rattle.handler_check.specs.Paths.{is_allowed, IsIn, written_by, branches_to,
 use Rattle.handler_check.specs.Accepted.{May, IsAccepted}
 use Rattle.handler_check.specs.Faults.{IsFirst, Meets, Applies, place_of, rank, IsFirstFault}
 use Rattle.handler_check.specs.Ways.{IsWay}
-use Rattle.handler_check.specs.Judging.{Passes, Fails, Has, Judged, AreJudged}
+use Rattle.handler_check.specs.Judging.{Passes, Fails, AreJudged}
 use Rattle.handler_check.proofs.Places.{below_end, one_instr}
 use Rattle.handler_check.proofs.Leading.{one_way, in_left, in_right}
 use Rattle.handler_check.proofs.Marking.{below_of}

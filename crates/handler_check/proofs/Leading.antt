@@ -1,11 +1,11 @@
 -- One more way leads to places.
-use Rattle.std.proofs.Common.{◌≡◌, ℕ, zero, suc, ◌+◌, ◌<◌, ◌≤◌, Bool, true, false, ◌||◌, not, nat_lt, Option, Some, None, List, [], ◌∷◌, ◌++◌, refl, ap, sym, ◌∙◌, subst, arith, inl, inr, ◌⊎◌}
+use Rattle.std.proofs.Common.{◌≡◌, ℕ, ◌+◌, ◌≤◌, Bool, true, false, ◌||◌, not, nat_lt, Option, Some, None, List, [], ◌∷◌, ◌++◌, refl, ap, sym, ◌∙◌, subst, arith, inl, inr, ◌⊎◌}
 use Rattle.std.specs.Prelude.{◌==◌, if◌then◌else◌}
 use Rattle.std.proofs.lemmas.Bool.{cases_eq, false≢true}
 use Rattle.std.proofs.lemmas.Bool.Decides.{nat_tests}
 use Rattle.cpu12_isa.specs.declared.instr.Instr.{Instr}
 use Rattle.handler_check.specs.declared.ways.Way.{Way}
-use Rattle.handler_check.specs.Paths.{IsIn, Path}
+use Rattle.handler_check.specs.Paths.{IsIn}
 use Rattle.handler_check.specs.Faults.{Meets}
 use Rattle.handler_check.specs.Ways.{join, led, led_all, IsWay}
 use Rattle.handler_check.specs.Judging.{Has}

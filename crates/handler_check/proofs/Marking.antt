@@ -1,13 +1,13 @@
 -- Judged place by place, code is accepted.
-use Rattle.std.proofs.Common.{◌≡◌, ℕ, zero, suc, ◌+◌, ◌<◌, ◌≤◌, Bool, true, false, Option, Some, None, List, [], ◌∷◌, ◌++◌, length, refl, ap, sym, ◌∙◌, subst, arith, inl, inr, ◌⊎◌}
+use Rattle.std.proofs.Common.{◌≡◌, ℕ, zero, suc, ◌+◌, ◌<◌, ◌≤◌, Bool, true, false, Option, Some, None, List, [], ◌∷◌, length, refl, ap, sym, ◌∙◌, subst, arith, inl, inr, ◌⊎◌}
 use Rattle.std.proofs.lemmas.Bool.{false≢true}
 use Rattle.cpu12_isa.specs.declared.instr.Instr.{Instr}
 use Rattle.cpu12_isa.specs.declared.instr.Instr.TheVariants.{Beq, Bne, Bcc, Bcs, Bra, Rti}
 use Rattle.handler_check.specs.declared.ways.Way.{Way}
-use Rattle.handler_check.specs.Cut.{size_of, code_bytes, code_end, AllFit, IsFrom, IsAt}
-use Rattle.handler_check.specs.Paths.{IsIn, leads, falls_to, branches_to, GoesForward, height_after, FitsHeight, Path}
+use Rattle.handler_check.specs.Cut.{size_of, code_bytes, code_end, AllFit, IsAt}
+use Rattle.handler_check.specs.Paths.{IsIn, leads, falls_to, branches_to, GoesForward, height_after, Path}
 use Rattle.handler_check.specs.Accepted.{May, IsAccepted}
-use Rattle.handler_check.specs.Faults.{IsFirst, Meets}
+use Rattle.handler_check.specs.Faults.{IsFirst}
 use Rattle.handler_check.specs.Ways.{led_all, IsWay}
 use Rattle.handler_check.specs.Judging.{Passes, PathBelow, Has, Judged, AreJudged}
 use Rattle.handler_check.proofs.Decoding.{size_low, is_stepping, rti_or}

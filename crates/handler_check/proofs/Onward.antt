@@ -1,5 +1,5 @@
 -- What is needed where one instruction is judged.
-use Rattle.std.proofs.Common.{◌≡◌, ℕ, suc, ◌+◌, ◌<◌, ◌≤◌, Bool, true, false, Option, Some, None, List, [], ◌∷◌, ◌++◌, ◌-◌, zero, nat_le, nat_lt, get_or, unwrap_or, replicate, length, refl, ap, sym, ◌∙◌, subst, arith, inl, inr}
+use Rattle.std.proofs.Common.{◌≡◌, ℕ, suc, ◌+◌, ◌<◌, ◌≤◌, Bool, true, false, Option, Some, None, List, [], ◌∷◌, ◌-◌, zero, nat_le, nat_lt, get_or, unwrap_or, replicate, length, refl, ap, sym, ◌∙◌, subst, arith, inl, inr}
 use Rattle.std.specs.Prelude.{IfSome, MatchOption, slice_get, if◌then◌else◌}
 use Rattle.cpu12_isa.specs.declared.instr.Instr.{Instr}
 use Rattle.cpu12_isa.specs.declared.instr.Instr.TheVariants.{LdaaImmediate, Psha, Pula}
@@ -7,13 +7,13 @@ use Rattle.std.proofs.lemmas.Bool.Decides.{nat_tests}
 use Rattle.handler_check.specs.declared.faults.HandlerFault.{HandlerFault}
 use Rattle.handler_check.specs.declared.faults.HandlerFault.TheVariants.{Dead, Trap}
 use Rattle.handler_check.specs.declared.ways.Way.{Way}
-use Rattle.handler_check.specs.Cut.{code_end, AllFit, IsAt}
+use Rattle.handler_check.specs.Cut.{code_end, AllFit}
 use Rattle.handler_check.specs.Paths.{IsIn, leads, falls_to, branches_to, height_after, FitsHeight}
 use Rattle.handler_check.specs.Faults.{IsFirst, IsFirstFault}
 use Rattle.handler_check.specs.Accepted.{IsAccepted}
 use Rattle.handler_check.specs.Ways.{way_at, led_all, list_of}
 use Rattle.handler_check.specs.Judging.{AreFirsts, AreJudged}
-use Rattle.handler_check.proofs.Places.{below_end, is_at-here}
+use Rattle.handler_check.proofs.Places.{is_at-here}
 use Rattle.handler_check.proofs.Marking.{accepted_of}
 use Rattle.handler_check.proofs.FirstFaults.{dead_first, trap_first}
 use Rattle.handler_check.proofs.Leading.{all_append, all_same}

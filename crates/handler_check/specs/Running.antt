@@ -1,5 +1,5 @@
 -- A handler that runs: steps up to its RTI.
-use Rattle.std.specs.Prelude.{◌≡◌, ℕ, zero, suc, ◌+◌, ◌^◌, ◌<◌, ◌≤◌, ◌==◌, Bool, true, false, if◌then◌else◌, Result, Ok, Err, Some, List, length, slice_index}
+use Rattle.std.specs.Prelude.{◌≡◌, ℕ, zero, suc, ◌+◌, ◌≤◌, ◌==◌, Bool, true, false, if◌then◌else◌, Result, Ok, Err, Some, List, length, slice_index}
 use Rattle.cpu12_isa.specs.declared.instr.Instr.{Instr}
 use Rattle.cpu12_isa.specs.declared.instr.Write.{Write}
 use Rattle.cpu12_isa.specs.Memory.{word_of}
@@ -7,11 +7,10 @@ use Rattle.cpu12_isa.specs.Fits.{FitsRegs}
 use Rattle.cpu12_isa.specs.Regions.{is_free, stack_start, stack_end}
 use Rattle.cpu12_asm.specs.Bytes.{byte_at}
 use Rattle.cpu12_parts.specs.State.{State}
-use Rattle.cpu12_parts.specs.Cuts.{suspended, wav}
 use Rattle.cpu12_parts.specs.Laws.{IsOff}
 use Rattle.cpu12_emul.specs.Step.{Next, next_of}
 use Rattle.cpu12_emul.specs.Take.{pushed, written, vectored, framed, entered, taken}
-use Rattle.cpu12_emul.specs.Simulation.{AreOpen, Same, HasRoom}
+use Rattle.cpu12_emul.specs.Simulation.{AreOpen, Same}
 use Rattle.run_law.specs.Soundness.{Begins, Quiet}
 use Rattle.handler_check.specs.Cut.{code_start, code_limit, HasCode}
 use Rattle.handler_check.specs.Accepted.{IsAccepted}

@@ -1,4 +1,3 @@
-use Rattle.std.proofs.Common.{◌≡◌, ℕ}
 use Rattle.handler_check.proofs.Extents.{whole_of, has_bytes, cut_is, trapped_is}
 use Rattle.handler_check.proofs.Checked.{accepted_by, fault_by}
 use Rattle.handler_check.proofs.check.check_in.Goals as goal

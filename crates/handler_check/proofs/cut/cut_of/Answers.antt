@@ -1,4 +1,4 @@
-use Rattle.std.proofs.Common.{◌≡◌, ◌≤◌, ◌<◌, ◌+◌, ◌++◌, ℕ, length, arith, subst, sym, ap, ◌∙◌, List, [], ◌∷◌, true}
+use Rattle.std.proofs.Common.{◌≡◌, ◌<◌, ◌+◌, ◌++◌, ℕ, length, arith, subst, sym, ap, List, [], ◌∷◌, true}
 use Rattle.std.proofs.lemmas.List.{length-set}
 use Rattle.std.proofs.Math.ListN.{set}
 use Rattle.cpu12_isa.specs.declared.instr.Instr.{Instr}

@@ -1,5 +1,4 @@
-use Rattle.std.proofs.Common.{◌≡◌, ℕ, List, Option, None, false, replicate, refl}
-use Rattle.handler_check.specs.declared.ways.Way.{Way}
+use Rattle.std.proofs.Common.{◌≡◌, None, false, replicate, refl}
 use Rattle.handler_check.specs.Ways.{way_at}
 use Rattle.handler_check.proofs.Marking.{mark_first}
 use Rattle.handler_check.proofs.Onward.{first_on}

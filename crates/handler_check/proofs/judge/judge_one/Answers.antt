@@ -1,11 +1,6 @@
-use Rattle.std.proofs.Common.{◌≡◌, ◌+◌, ◌≤◌, ◌<◌, ℕ, suc, Some, None, length, arith, subst, sym, ap, ◌∙◌, refl, inl, inr, List, false}
-use Rattle.cpu12_isa.specs.declared.instr.Instr.{Instr}
-use Rattle.cpu12_isa.specs.declared.instr.Instr.TheVariants.{Rti}
-use Rattle.handler_check.specs.declared.ways.Way.{Way}
-use Rattle.handler_check.specs.Cut.{size_of, code_end, IsAt}
-use Rattle.handler_check.specs.Paths.{height_after, FitsHeight, falls_to, branches_to}
-use Rattle.handler_check.specs.Ways.{way_at, IsWay}
-use Rattle.handler_check.specs.Judging.{AreJudged, Passes}
+use Rattle.std.proofs.Common.{◌≡◌, ◌+◌, ◌≤◌, ℕ, Some, None, length, arith, subst, sym, ◌∙◌, refl, inl, inr, false}
+use Rattle.handler_check.specs.Paths.{height_after, falls_to, branches_to}
+use Rattle.handler_check.specs.Ways.{way_at}
 use Rattle.handler_check.proofs.Places.{below_end}
 use Rattle.handler_check.proofs.Marking.{short, Seen, mark_on}
 use Rattle.handler_check.proofs.FirstFaults.{dead_first, fails_first}
