@@ -13,6 +13,7 @@ use Rattle.interrupt_plan.specs.declared.upsets.UpsetFault.TheVariants.{TooMany}
 use Rattle.interrupt_plan.specs.Rows.{count_of, write_of, the_write, word_of, byte_of}
 use Rattle.interrupt_plan.specs.Upsets.{AreGoodUpsets, IsGoodUpset, SamplesAscend, is_table}
 use Rattle.interrupt_plan.specs.UpsetTexts.{FirstUpsetFault, SpellUpsets, SpellsUpset, SpellsUpsets, HasUpsetFault, SpelledUpsetsHaveNoFault, UpsetRowFails, at_row, more, unread, not_table, not_ascending}
+use Rattle.interrupt_plan.proofs.ByteLemmas.{write_small}
 use Rattle.interrupt_plan.proofs.PlanLemmas.{count_small, fields_more, fields_split, length-fields}
 
 -- three fields, by their places
@@ -29,6 +30,7 @@ good_upset image fields u spelled table = record {
   sample_from = spelled.some;
   sample_to = count_small spelled.sample_text u.sample spelled.sample_is;
   table = table;
+  value = write_small spelled.address spelled.value (record { at = u.at; value = u.value }) spelled.write_is;
 }
 
 -- ---- one upset more
