@@ -16,12 +16,12 @@ use Rattle.cpu12_emul.specs.declared.ends.Stepped.TheVariants.{Plain}
 use Rattle.cpu12_emul.specs.Simulation.{AreSumsReady, PlainIsStep}
 use Rattle.cpu12_emul.specs.Step.{Left, Next, applied, next_of}
 use Rattle.fz_run.specs.Facts.{Facts, AreNoneOrRunning}
+use Rattle.fz_run.specs.Instructions.{PlainIsOneStep}
 use Rattle.fz_run.proofs.Stretches.{Stretch, Kept, AtInstruction}
 use Rattle.fz_run.proofs.Stretching.{plain_stretch}
 
 -- its step, whatever the state keeps beside
-pub plain_next : PlainIsStep → (flags : ℕ) (i : Instr) (s t : State) → s.temps ≡ Free → IsPlainStep flags i s t
-    → next_of flags s ≡ Ok (record { state = t; kind = Plain })
+pub plain_next : PlainIsStep → PlainIsOneStep
 plain_next law flags i s t free p =
     ap (λ (o : Result Left ℕ). applied o s.mem) (law flags i s (inl free) p.decoded p.plain).0 ∙ ap by (sym p.after)
   where

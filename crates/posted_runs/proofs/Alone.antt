@@ -1,5 +1,5 @@
 -- Turns without posts: the run of a turn is that without interrupts.
-use Rattle.std.proofs.Common.{◌≡◌, ℕ, zero, suc, ◌<◌, ◌≤◌, ◌==◌, ◌&&◌, nat_lt, Bool, true, false, Ok, List, [], ◌∷◌, refl, sym, ap, ◌∙◌, subst, arith}
+use Rattle.std.proofs.Common.{◌≡◌, ℕ, zero, suc, ◌≤◌, ◌&&◌, nat_lt, Bool, true, false, Ok, List, [], refl, sym, ap, ◌∙◌, subst, arith}
 use Rattle.std.proofs.lemmas.Bool.Decides.{nat_tests}
 use Rattle.cpu12_parts.specs.State.{State}
 use Rattle.cpu12_emul.specs.Step.{Next, next_of}
@@ -9,7 +9,7 @@ use Rattle.run_law.specs.Soundness.{Before}
 use Rattle.interrupt_plan.specs.declared.Post.{Post}
 use Rattle.codegen.specs.declared.firmware.Firmware.{Firmware}
 use Rattle.codegen.specs.Uninterrupted.{is_waiting}
-use Rattle.posted_runs.specs.Runs.{TurnForm, turn_form}
+use Rattle.posted_runs.specs.Runs.{turn_form}
 use Rattle.posted_runs.proofs.WholeTurns.{IsOnWay}
 
 -- a run is the one without interrupts, and ends behind n steps

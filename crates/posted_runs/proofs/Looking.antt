@@ -1,5 +1,5 @@
 -- What an idle turn changes is forgotten at the next look.
-use Rattle.std.proofs.Common.{◌≡◌, ℕ, ◌^◌, ◌<◌, ◌==◌, nat_le, Bool, true, false, Ok, List, [], ◌∷◌, get_or, set, refl, sym, ap, ap₂, ◌∙◌, arith}
+use Rattle.std.proofs.Common.{◌≡◌, ℕ, ◌^◌, ◌<◌, ◌==◌, nat_le, Bool, true, false, List, [], ◌∷◌, get_or, set, refl, sym, ap, ap₂, ◌∙◌, arith}
 use Rattle.cpu12_isa.specs.declared.instr.Ccr.{Ccr}
 use Rattle.cpu12_isa.specs.declared.instr.Regs.{Regs}
 use Rattle.cpu12_isa.specs.declared.instr.Instr.TheVariants.{LdaaExtended, Beq}
@@ -8,7 +8,6 @@ use Rattle.cpu12_isa.specs.Memory.{plus}
 use Rattle.cpu12_isa.specs.Registers.{loaded_a, branched}
 use Rattle.cpu12_isa.proofs.Algebra.{bit, bit_or_is, bit_and_is, same_ccr, fits_put}
 use Rattle.cpu12_parts.specs.declared.temps.Temps.{Temps}
-use Rattle.cpu12_parts.specs.declared.temps.Temps.TheVariants.{Free}
 use Rattle.cpu12_parts.specs.State.{State}
 use Rattle.cpu12_parts.specs.Whole.{after_plain}
 use Rattle.codegen.specs.declared.layout.Layout.{Layout}
@@ -29,7 +28,7 @@ three_bits : (c : Ccr) (n z : Bool) → bits (three c n z).0 ≡ bit c.0 7 ∷ b
 three_bits c true true = simp (bit_or_is, bit_and_is)
 three_bits c true false = simp (bit_or_is, bit_and_is)
 three_bits c false true = simp (bit_or_is, bit_and_is)
-three_bits c false false = simp (bit_or_is, bit_and_is)
+three_bits c false false = simp bit_and_is
 
 three_again : (c : Ccr) (m y n z : Bool) → c.0 < 2 ^ 8 → three (three c m y) n z ≡ three c n z
 three_again c m y n z f =

@@ -1,64 +1,62 @@
 -- A block's mailbox firmware runs its turns, from reset on.
-use Rattle.std.proofs.Common.{◌≡◌, ℕ, zero, suc, ◌+◌, ◌-◌, ◌^◌, ◌<◌, ◌≤◌, ◌==◌, Bool, true, false, List, [], ◌∷◌, ◌++◌, All, length, map, get_or, refl, sym, ap, ◌∙◌, subst, arith}
-use Rattle.std.specs.Prelude.{if◌then◌else◌, sum_by}
+use Rattle.std.proofs.Common.{◌≡◌, ℕ, zero, suc, ◌≤◌, ◌==◌, Bool, true, false, List, [], ◌∷◌, ◌++◌, All, length, map, refl, sym, ap, ◌∙◌, subst, arith}
+use Rattle.std.specs.Prelude.{if◌then◌else◌}
 use Rattle.std.proofs.lemmas.Bool.Decides.{nat_tests}
 use Rattle.std.proofs.lemmas.List.Elements.{All-cons}
 use Rattle.fuzzy_meaning.specs.declared.block.Block.{Block}
-use Rattle.fuzzy_meaning.specs.Blocks.{IsValid}
 use Rattle.cpu12_parts.specs.declared.temps.Temps.TheVariants.{Free}
-use Rattle.cpu12_parts.specs.Executions.{IsUntil, all_steps}
+use Rattle.cpu12_parts.specs.Executions.{IsUntil}
 use Rattle.cpu12_parts.specs.State.{State}
 use Rattle.cpu12_parts.specs.Whole.{PlainWay}
 use Rattle.cpu12_emul.specs.declared.ends.Stepped.TheVariants.{Plain}
 use Rattle.cpu12_emul.specs.Image.{image_memory}
-use Rattle.cpu12_emul.specs.Simulation.{PlainIsStep}
-use Rattle.cpu12_emul.specs.Step.{Next, reset_with}
+use Rattle.cpu12_emul.specs.Step.{reset_with}
 use Rattle.run_law.specs.Uninterrupted.{uninterrupted, state_by}
 use Rattle.codegen.specs.declared.firmware.Firmware.{Firmware}
 use Rattle.codegen.specs.declared.layout.Layout.{Layout}
 use Rattle.codegen.specs.declared.width.Width.{Width}
 use Rattle.codegen.specs.Bounds.{instruction_bound, steps_by}
 use Rattle.codegen.specs.Firing.{AreInputBytes}
-use Rattle.codegen.specs.Mailboxes.{IsMailboxOf, mailbox_bound}
+use Rattle.codegen.specs.Mailboxes.{mailbox_bound}
 use Rattle.codegen.specs.SampleTurns.{MailboxTakesSamples}
-use Rattle.codegen.specs.Turns.{IsReady, MailboxTakesPosts, MailboxIsUninterrupted}
+use Rattle.codegen.specs.Turns.{MailboxTakesPosts, MailboxIsUninterrupted}
 use Rattle.codegen.specs.Uninterrupted.{is_waiting, AreUninterrupted, AreAnswersOf, UninterruptedAreOne}
 use Rattle.codegen.specs.Widths.{width_of}
-use Rattle.fz_run.specs.Instructions.{AreSteps, InstructionsAreSteps}
+use Rattle.fz_run.specs.Instructions.{AreSteps, InstructionsAreSteps, PlainIsOneStep}
 use Rattle.posted_runs.specs.Turns.{Turn, samples_of}
 use Rattle.posted_runs.specs.Runs.{bytes_of, arrival}
 use Rattle.posted_runs.specs.Answering.{run_of_turns, answer_in}
 use Rattle.posted_runs.specs.UninterruptedTurns.{steps_of, HasSteps, HaveSteps, MailboxRunsTurns}
-use Rattle.posted_runs.proofs.WholeTurns.{IsOnWay, plain_next, one_step, steps_on}
+use Rattle.posted_runs.proofs.WholeTurns.{IsOnWay, one_step, steps_on}
 use Rattle.posted_runs.proofs.Alone.{IsAlone, alone}
-use Rattle.posted_runs.proofs.Looking.{AreAlike, alike_self}
+use Rattle.posted_runs.proofs.Looking.{alike_self}
 use Rattle.posted_runs.proofs.TurnSteps.{Setting, Waits}
-use Rattle.posted_runs.proofs.TurnRuns.{AllRun, Stands, all_run, sample_bytes}
+use Rattle.posted_runs.proofs.TurnRuns.{all_run, sample_bytes}
 
 abbrev plain_parts : ℕ → List ℕ
 plain_parts zero = []
 plain_parts (suc n) = 0 ∷ plain_parts n
 
-way_steps : PlainIsStep → (l : Layout) (flags n : ℕ) (s t : State) → s.temps ≡ Free → PlainWay flags l.wait n s t → AreSteps (IsOnWay l flags) flags (plain_parts n) s t
+way_steps : PlainIsOneStep → (l : Layout) (flags n : ℕ) (s t : State) → s.temps ≡ Free → PlainWay flags l.wait n s t → AreSteps (IsOnWay l flags) flags (plain_parts n) s t
 way_steps law l flags zero s t free w = record { goes = w; counts = refl; each = tt }
 way_steps law l flags (suc n) s t free w =
     let u = w.0 in
     let step = w.1.1.1 in
-    let next = plain_next law flags w.1.1.0 s u free step in
+    let next = law flags w.1.1.0 s u free step in
     let kept : u.temps ≡ Free = ap (λ (v : State). v.temps) step.after ∙ free in
     steps_on (IsOnWay l flags) flags (0 ∷ []) (plain_parts n) s u t
     (one_step (IsOnWay l flags) flags s u (record { next = record { state = u; kind = Plain }; goes = next; away = w.1.0 }) next)
     (way_steps law l flags n u t kept w.1.2)
 
 -- the first arrival
-arrives : PlainIsStep → (f : Firmware) (flags : ℕ) (samples : List (List ℕ)) (t : State) → 3 ≤ f.step_bound
+arrives : PlainIsOneStep → (f : Firmware) (flags : ℕ) (samples : List (List ℕ)) (t : State) → 3 ≤ f.step_bound
     → PlainWay flags f.layout.wait 3 (reset_with (image_memory f.image.bytes)) t → t.regs.pc ≡ f.layout.wait
     → ((arrival f samples flags).arrived ≡ true) × ((arrival f samples flags).state ≡ t)
 arrives law f flags samples t le w at =
     let s = reset_with (image_memory f.image.bytes) in
     let u = w.0 in
     let step = w.1.1.1 in
-    let next = plain_next law flags w.1.1.0 s u refl step in
+    let next = law flags w.1.1.0 s u refl step in
     let kept : u.temps ≡ Free = ap (λ (v : State). v.temps) step.after in
     let rest = way_steps law f.layout flags 2 u t kept w.1.2 in
     let r : IsAlone flags 3 s (arrival f samples flags) =
@@ -87,7 +85,7 @@ answered_bytes b samples steps done (t ∷ ts) all have =
 
 -- the laws that this rests on
 pub record Laws : Type 0 where
-  pub plain_is_step : PlainIsStep
+  pub plain_is_one_step : PlainIsOneStep
   pub instructions_are_steps : InstructionsAreSteps
   pub takes_posts : MailboxTakesPosts
   pub takes_samples : MailboxTakesSamples
@@ -102,9 +100,9 @@ mailbox_runs_turns laws b f flags samples turns v limits h fits all have =
     let takes = laws.takes_samples b f flags v limits h fits in
     let ready = takes.ready in
     let home = ready.at in
-    let arrived = arrives laws.plain_is_step f flags samples takes.first (let enough = enough_steps w b v.few_outputs in omega (arith, enough, h.steps)) ready.way home.pc in
+    let arrived = arrives laws.plain_is_one_step f flags samples takes.first (let enough = enough_steps w b v.few_outputs in omega (arith, enough, h.steps)) ready.way home.pc in
     let x : Setting b f flags samples = record {
-      plain_is_step = laws.plain_is_step;
+      plain_is_one_step = laws.plain_is_one_step;
       instructions_are_steps = laws.instructions_are_steps;
       mailbox = h;
       fits = fits;

@@ -1,5 +1,5 @@
 -- The turn of a sample by its steps.
-use Rattle.std.proofs.Common.{◌≡◌, ◌≢◌, ℕ, zero, suc, ◌+◌, ◌-◌, ◌*◌, ◌^◌, ◌<◌, ◌≤◌, Bool, true, Ok, List, [], ◌∷◌, ◌++◌, length, get_or, refl, sym, ap, ◌∙◌, subst, arith}
+use Rattle.std.proofs.Common.{◌≡◌, ◌≢◌, ℕ, suc, ◌+◌, ◌-◌, ◌^◌, ◌<◌, ◌≤◌, true, Ok, List, [], ◌∷◌, ◌++◌, length, sym, ap, ◌∙◌, subst, arith}
 use Rattle.fuzzy_meaning.specs.declared.block.Block.{Block}
 use Rattle.cpu12_isa.specs.declared.instr.Instr.TheVariants.{LdaaExtended, Beq, Orcc}
 use Rattle.cpu12_parts.specs.Executions.{IsUntil, all_steps}
@@ -7,8 +7,7 @@ use Rattle.cpu12_parts.specs.declared.temps.Temps.TheVariants.{Free}
 use Rattle.cpu12_parts.specs.State.{State}
 use Rattle.cpu12_emul.specs.declared.ends.Stepped.TheVariants.{Plain}
 use Rattle.cpu12_emul.specs.Image.{image_memory}
-use Rattle.cpu12_emul.specs.Simulation.{PlainIsStep}
-use Rattle.cpu12_emul.specs.Step.{Next, next_of}
+use Rattle.cpu12_emul.specs.Step.{next_of}
 use Rattle.run_law.specs.Uninterrupted.{state_by, uninterrupted}
 use Rattle.run_law.specs.Soundness.{Before}
 use Rattle.codegen.specs.declared.firmware.Firmware.{Firmware}
@@ -20,11 +19,10 @@ use Rattle.codegen.specs.Mailboxes.{is_postable, IsMailboxOf}
 use Rattle.codegen.specs.SampleTurns.{IsSampleTurn}
 use Rattle.codegen.specs.Turns.{IsAt, IsLook, IsChoice, IsCopied, call_of}
 use Rattle.codegen.specs.Widths.{width_of}
-use Rattle.fz_run.specs.Facts.{FactsBeside}
-use Rattle.fz_run.specs.Instructions.{AreSteps, IsServing, InstructionsAreSteps}
+use Rattle.fz_run.specs.Instructions.{AreSteps, IsServing, InstructionsAreSteps, PlainIsOneStep}
 use Rattle.fz_run.proofs.Algebra.{before_at, before_weaker, uninterrupted_add}
 use Rattle.posted_runs.specs.UninterruptedTurns.{IsAnswerRun}
-use Rattle.posted_runs.proofs.WholeTurns.{IsOnWay, plain_next, one_step, steps_append, steps_on, masked_steps, masked_count}
+use Rattle.posted_runs.proofs.WholeTurns.{IsOnWay, one_step, steps_append, steps_on, masked_steps, masked_count}
 use Rattle.posted_runs.proofs.Serving.{IsServed, served, on_way_by, facts_by}
 
 -- a plain step of an instruction, on the way
@@ -46,7 +44,7 @@ record Calls (f : Firmware) (flags n : ℕ) (g looked chosen called : State) (co
   steps : AreSteps (IsOnWay f.layout flags) flags (0 ∷ 0 ∷ copy.ds) looked called
   count : all_steps copy.ds ≡ n + 2
 
-calls : PlainIsStep → (f : Firmware) (flags n : ℕ) (g looked chosen called : State) → g.temps ≡ Free
+calls : PlainIsOneStep → (f : Firmware) (flags n : ℕ) (g looked chosen called : State) → g.temps ≡ Free
     → IsLook f.layout (image_memory f.image.bytes) flags g looked → IsChoice f.layout (image_memory f.image.bytes) flags looked chosen
     → IsAt (image_memory f.image.bytes) (f.layout.wait + 5) chosen
     → (copy : IsCopied f.layout n (image_memory f.image.bytes) flags chosen called) → Calls f flags n g looked chosen called copy
@@ -57,10 +55,10 @@ calls law f flags n g looked chosen called free look choice on copy =
     let look_at = look.at in
     let state1 = look_at.steady in
     let state2 = on.steady in
-    let next = plain_next law flags (LdaaExtended l.ready) g looked free (let shown = look.step in shown.step) in
-    let next2 = plain_next law flags (Beq 0xFB) looked chosen state1.temps (let shown = choice.step in shown.step) in
+    let next = law flags (LdaaExtended l.ready) g looked free (let shown = look.step in shown.step) in
+    let next2 = law flags (Beq 0xFB) looked chosen state1.temps (let shown = choice.step in shown.step) in
     let masked = copy.masked in
-    let next3 = plain_next law flags (Orcc 0x10) chosen masked state2.temps (let shown = copy.sets in shown.step) in
+    let next3 = law flags (Orcc 0x10) chosen masked state2.temps (let shown = copy.sets in shown.step) in
     let first : uninterrupted flags 1 g ≡ looked = ap (state_by g) next in
     let second : uninterrupted flags 2 g ≡ chosen = ap (uninterrupted flags 1) first ∙ ap (state_by looked) next2 in
     let third : uninterrupted flags 3 g ≡ masked = ap (uninterrupted flags 1) second ∙ ap (state_by chosen) next3 in
@@ -141,7 +139,7 @@ answer_run f flags n m g looked chosen called e = subst by e
     by k = (copy : IsCopied f.layout k (image_memory f.image.bytes) flags chosen called) → Calls f flags k g looked chosen called copy → 1 ≤ m
         → k + 5 + m ≤ f.step_bound → Before (IsServed f flags) flags m called → IsAnswerRun f flags (k + 5 + m) g
 
-pub sample_run : PlainIsStep → InstructionsAreSteps → (b : Block) (f : Firmware) (flags : ℕ) (before : ℕ → ℕ) (bytes : List ℕ) (s t : State)
+pub sample_run : PlainIsOneStep → InstructionsAreSteps → (b : Block) (f : Firmware) (flags : ℕ) (before : ℕ → ℕ) (bytes : List ℕ) (s t : State)
     → IsMailboxOf b f → flags < 2 ^ 8 → s.temps ≡ Free
     → (turn : IsSampleTurn f.layout b (width_of f.wide) f.instr_bound (image_memory f.image.bytes) flags before bytes s t)
     → IsSampleRun f flags (given f.layout bytes s) turn.looked t

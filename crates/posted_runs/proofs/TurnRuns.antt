@@ -1,5 +1,5 @@
 -- A list of turns, one after another.
-use Rattle.std.proofs.Common.{◌≡◌, ◌≢◌, ◌⊎◌, inl, inr, ℕ, zero, suc, ◌+◌, ◌-◌, ◌<◌, ◌≤◌, ◌==◌, Bool, true, false, List, [], ◌∷◌, ◌++◌, All, length, map, get_or, refl, sym, ap, ap₂, ◌∙◌, subst, arith}
+use Rattle.std.proofs.Common.{◌≡◌, ◌≢◌, ◌⊎◌, inl, inr, ℕ, zero, suc, ◌+◌, ◌-◌, ◌≤◌, ◌==◌, Bool, true, false, List, [], ◌∷◌, ◌++◌, All, length, map, refl, sym, ap, ap₂, ◌∙◌, subst, arith}
 use Rattle.std.specs.Prelude.{if◌then◌else◌}
 use Rattle.std.proofs.lemmas.Bool.Decides.{nat_tests}
 use Rattle.fuzzy_meaning.specs.declared.block.Block.{Block}
@@ -9,15 +9,15 @@ use Rattle.codegen.specs.declared.firmware.Firmware.{Firmware}
 use Rattle.codegen.specs.Answers.{given}
 use Rattle.codegen.specs.Firing.{AreInputBytes}
 use Rattle.codegen.specs.Mailboxes.{is_postable}
-use Rattle.codegen.specs.Uninterrupted.{Answer, values_in, AreAnswersTo}
+use Rattle.codegen.specs.Uninterrupted.{values_in, AreAnswersTo}
 use Rattle.codegen.specs.Widths.{width_of, answer}
 use Rattle.fz_run.specs.Facts.{FactsBeside}
 use Rattle.posted_runs.specs.Turns.{Turn, samples_of}
 use Rattle.posted_runs.specs.Runs.{AnswerSeen, bytes_of, arrival}
-use Rattle.posted_runs.specs.Answering.{begun, ended, answer_of, run_of_turns, answer_in, KeepsFacts, AllKeepFacts}
+use Rattle.posted_runs.specs.Answering.{begun, ended, answer_of, run_of_turns, answer_in, AllKeepFacts}
 use Rattle.posted_runs.specs.UninterruptedTurns.{answered_alone, steps_from, steps_of, HasSteps, HaveSteps, IsIdleRun, IsAnswerRun, IsTurnRun, AllTurnRuns}
 use Rattle.posted_runs.proofs.Looking.{AreAlike, alike_self}
-use Rattle.posted_runs.proofs.TurnSteps.{Setting, Waits, Idled, idled, Answered, answered}
+use Rattle.posted_runs.proofs.TurnSteps.{Setting, Waits, idled, Answered, answered}
 
 -- the state behind samples that are answered one after another
 abbrev pub chain : ℕ → Firmware → List (List ℕ) → State → List ℕ → State

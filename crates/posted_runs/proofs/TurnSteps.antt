@@ -1,5 +1,5 @@
 -- Turns from where the code waits.
-use Rattle.std.proofs.Common.{◌≡◌, ℕ, zero, suc, ◌+◌, ◌-◌, ◌^◌, ◌<◌, ◌≤◌, ◌==◌, true, not, Bool, Result, Ok, List, [], ◌∷◌, All, length, get_or, refl, sym, ap, ap₂, ◌∙◌, subst, arith}
+use Rattle.std.proofs.Common.{◌≡◌, ℕ, suc, ◌+◌, ◌^◌, ◌<◌, ◌==◌, true, not, Bool, Result, Ok, List, ◌∷◌, All, length, get_or, sym, ap, ap₂, ◌∙◌, subst, arith}
 use Rattle.std.specs.Prelude.{if◌then◌else◌}
 use Rattle.std.proofs.lemmas.Bool.Decides.{nat_tests}
 use Rattle.fuzzy_meaning.specs.declared.block.Block.{Block}
@@ -9,7 +9,6 @@ use Rattle.cpu12_parts.specs.Executions.{IsUntil, all_steps}
 use Rattle.cpu12_parts.specs.State.{State}
 use Rattle.cpu12_emul.specs.declared.ends.Stepped.TheVariants.{Plain}
 use Rattle.cpu12_emul.specs.Image.{image_memory}
-use Rattle.cpu12_emul.specs.Simulation.{PlainIsStep}
 use Rattle.cpu12_emul.specs.Step.{Next, next_of}
 use Rattle.run_law.specs.Forms.{is_part, one_if}
 use Rattle.run_law.specs.Uninterrupted.{state_by, kind_by, uninterrupted, counted}
@@ -21,19 +20,18 @@ use Rattle.codegen.specs.Interruptible.{is_idle}
 use Rattle.codegen.specs.Mailboxes.{IsMailboxOf}
 use Rattle.codegen.specs.SampleTurns.{TakesSamples}
 use Rattle.codegen.specs.Turns.{IsAt, IsLook, TakesTurns}
-use Rattle.codegen.specs.Uninterrupted.{Answer, values_in, IsAnswerTo}
+use Rattle.codegen.specs.Uninterrupted.{values_in, IsAnswerTo}
 use Rattle.codegen.specs.Widths.{width_of, answer}
-use Rattle.fz_run.specs.Instructions.{InstructionsAreSteps}
+use Rattle.fz_run.specs.Instructions.{InstructionsAreSteps, PlainIsOneStep}
 use Rattle.posted_runs.specs.Runs.{bytes_of}
 use Rattle.posted_runs.specs.UninterruptedTurns.{answered_alone, IsIdleRun, IsAnswerRun}
-use Rattle.posted_runs.proofs.WholeTurns.{plain_next}
 use Rattle.posted_runs.proofs.Alone.{IsAlone, alone, same_alone}
 use Rattle.posted_runs.proofs.Looking.{AreAlike, idle_alike, same_look}
-use Rattle.posted_runs.proofs.SampleRuns.{IsSampleRun, sample_run}
+use Rattle.posted_runs.proofs.SampleRuns.{sample_run}
 
 -- what turns stand on
 pub record Setting (b : Block) (f : Firmware) (flags : ℕ) (samples : List (List ℕ)) : Type 0 where
-  pub plain_is_step : PlainIsStep
+  pub plain_is_one_step : PlainIsOneStep
   pub instructions_are_steps : InstructionsAreSteps
   pub mailbox : IsMailboxOf b f
   pub fits : flags < 2 ^ 8
@@ -75,8 +73,8 @@ idled b f flags samples before s x h =
     let z : has looked.regs.ccr zero_result ≡ true = look.1.found ∙ none in
     let back : IsAt image l.wait t = subst (λ (y : Bool). IsAt image (chosen l.wait y) t) z choice.1.at in
     let mem : t.mem ≡ s.mem = choice.1.mem ∙ look.1.mem in
-    let next = plain_next x.plain_is_step flags (LdaaExtended l.ready) s looked state.temps (let shown = look.1.step in shown.step) in
-    let next2 = plain_next x.plain_is_step flags (Beq 0xFB) looked t state1.temps (let shown = choice.1.step in shown.step) in
+    let next = x.plain_is_one_step flags (LdaaExtended l.ready) s looked state.temps (let shown = look.1.step in shown.step) in
+    let next2 = x.plain_is_one_step flags (Beq 0xFB) looked t state1.temps (let shown = choice.1.step in shown.step) in
     let first : uninterrupted flags 1 s ≡ looked = ap (state_by s) next in
     let second : uninterrupted flags 2 s ≡ t = ap (uninterrupted flags 1) first ∙ ap (state_by looked) next2 in
     let fit = state.fits in (
@@ -129,7 +127,7 @@ single b f flags samples before k s x i h =
     let one = takes.answers before bytes s i at h.outputs in
     let turned = one.1.turned in
     let back = turned.at in
-    let r = sample_run x.plain_is_step x.instructions_are_steps b f flags before bytes s one.0 x.mailbox x.fits state.temps one.1 in
+    let r = sample_run x.plain_is_one_step x.instructions_are_steps b f flags before bytes s one.0 x.mailbox x.fits state.temps one.1 in
     let steps = r.steps in
     let run = r.run in
     let looked = one.1.looked in

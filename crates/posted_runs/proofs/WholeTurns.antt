@@ -1,19 +1,15 @@
 -- Steps one after another on the way to where the code waits, and plain instructions as such.
-use Rattle.std.proofs.Common.{◌≡◌, ◌≢◌, ℕ, suc, ◌+◌, not, Result, Ok, List, [], ◌∷◌, ◌++◌, length, refl, sym, ap, ◌∙◌, subst, arith, inl}
-use Rattle.cpu12_isa.specs.declared.instr.Instr.{Instr}
-use Rattle.cpu12_parts.specs.declared.temps.Temps.TheVariants.{Free}
+use Rattle.std.proofs.Common.{◌≡◌, ◌≢◌, ℕ, ◌+◌, not, Result, Ok, List, [], ◌∷◌, ◌++◌, length, refl, sym, ap, ◌∙◌, subst, arith}
 use Rattle.cpu12_parts.specs.Executions.{Execution, all_steps}
 use Rattle.cpu12_parts.specs.State.{State}
-use Rattle.cpu12_parts.specs.Whole.{IsPlainStep}
 use Rattle.cpu12_emul.specs.declared.ends.Stepped.TheVariants.{Plain}
-use Rattle.cpu12_emul.specs.Simulation.{PlainIsStep}
-use Rattle.cpu12_emul.specs.Step.{Left, Next, applied, next_of}
+use Rattle.cpu12_emul.specs.Step.{Next, next_of}
 use Rattle.run_law.specs.Forms.{is_part, one_if}
 use Rattle.run_law.specs.Uninterrupted.{state_by, kind_by, uninterrupted, counted}
 use Rattle.run_law.specs.Soundness.{Before}
 use Rattle.codegen.specs.declared.layout.Layout.{Layout}
 use Rattle.codegen.specs.Turns.{IsMaskedStep}
-use Rattle.fz_run.specs.Instructions.{AreSteps}
+use Rattle.fz_run.specs.Instructions.{AreSteps, PlainIsOneStep}
 use Rattle.fz_run.proofs.Algebra.{uninterrupted_add, counted_add, before_add}
 
 -- a step is defined, and PC is not where the code waits
@@ -21,14 +17,6 @@ pub record IsOnWay (l : Layout) (flags : ℕ) (s : State) : Type 0 where
   pub next : Next
   pub goes : next_of flags s ≡ Ok next
   pub away : s.regs.pc ≢ l.wait
-
-pub plain_next : PlainIsStep → (flags : ℕ) (i : Instr) (s t : State) → s.temps ≡ Free → IsPlainStep flags i s t
-    → next_of flags s ≡ Ok (record { state = t; kind = Plain })
-plain_next law flags i s t free p =
-    ap (λ (o : Result Left ℕ). applied o s.mem) (law flags i s (inl free) p.decoded p.plain).0 ∙ ap by (sym p.after)
-  where
-    by : State → Result Next ℕ
-    by u = Ok (record { state = u; kind = Plain })
 
 pub one_step : (P : State → Type 0) (flags : ℕ) (s t : State) → P s → next_of flags s ≡ Ok (record { state = t; kind = Plain })
     → AreSteps P flags (0 ∷ []) s t
@@ -61,14 +49,14 @@ steps_on P flags ds es s t u a b =
     }
 
 -- the masked instructions of a copy
-pub masked_steps : PlainIsStep → (l : Layout) (image : List ℕ) (flags : ℕ) (ds : List ℕ) (s t : State) → Execution (IsMaskedStep l image flags) ds s t
+pub masked_steps : PlainIsOneStep → (l : Layout) (image : List ℕ) (flags : ℕ) (ds : List ℕ) (s t : State) → Execution (IsMaskedStep l image flags) ds s t
     → AreSteps (IsOnWay l flags) flags ds s t
 masked_steps law l image flags [] s t e = record { goes = e; counts = refl; each = tt }
 masked_steps law l image flags (d ∷ ds) s t e =
     let u = e.0 in
     let m : IsMaskedStep l image flags d s u = e.1.0 in
     let steady = m.steady in
-    let next : next_of flags s ≡ Ok (record { state = u; kind = Plain }) = plain_next law flags m.instruction s u steady.temps (let shown = m.shown in shown.step) in
+    let next : next_of flags s ≡ Ok (record { state = u; kind = Plain }) = law flags m.instruction s u steady.temps (let shown = m.shown in shown.step) in
     let first = one_step (IsOnWay l flags) flags s u (record { next = record { state = u; kind = Plain }; goes = next; away = m.away }) next in
     subst (λ (k : ℕ). AreSteps (IsOnWay l flags) flags (k ∷ ds) s t) (sym m.single)
     (steps_on (IsOnWay l flags) flags (0 ∷ []) ds s u t first (masked_steps law l image flags ds u t e.1.1))

@@ -5,8 +5,7 @@ ghost use Rattle.posted_runs.specs.UninterruptedTurns.{MailboxRunsTurns, TurnsHa
 use codegen::laws::{
     mailbox_is_uninterrupted, mailbox_takes_posts, mailbox_takes_samples, uninterrupted_are_one,
 };
-use cpu12_emul::laws::plain_is_step;
-use fz_run::laws::instructions_are_steps;
+use fz_run::laws::{instructions_are_steps, plain_is_one_step};
 
 /// Posts have one list of turns, whatever the turns' lengths are.
 pub fn turns_are_one()
@@ -35,7 +34,7 @@ pub fn turns_have_steps()
 pub fn mailbox_runs_turns()
     ensures { MailboxRunsTurns }
 {
-    plain_is_step();
+    plain_is_one_step();
     instructions_are_steps();
     mailbox_takes_posts();
     mailbox_takes_samples();
