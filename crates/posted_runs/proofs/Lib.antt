@@ -6,3 +6,12 @@ pub mod Takings
 pub mod Turnings
 pub mod OutputValues
 pub mod Running
+pub mod HavingSteps
+pub mod WholeTurns
+pub mod Alone
+pub mod Looking
+pub mod Serving
+pub mod SampleRuns
+pub mod TurnSteps
+pub mod TurnRuns
+pub mod RunsOfTurns

@@ -2,3 +2,4 @@ pub mod Turns
 pub mod Runs
 pub mod Tallies
 pub mod Answering
+pub mod UninterruptedTurns

@@ -21,5 +21,7 @@ mod tally;
 mod turn;
 mod turns;
 
-pub use laws::{all_are_taken, last_is_answered, turns_are_one};
+pub use laws::{
+    all_are_taken, last_is_answered, mailbox_runs_turns, turns_are_one, turns_have_steps,
+};
 pub use run::{Answer, PostRun, run_posts};

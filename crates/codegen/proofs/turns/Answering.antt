@@ -177,8 +177,7 @@ more f b flags before bytes samples s t e one rest both =
     let w = width_of f.wide in
     let copy = one.copy in
     let turned = one.turned in
-    let ds : List ℕ = 0 ∷ 0 ∷ 0 ∷ (copy.ds ++ turned.ds) in
-    (
+    let ds : List ℕ = 0 ∷ 0 ∷ 0 ∷ (copy.ds ++ turned.ds) in (
       record { values = values_in f t; instructions = length ds } ∷ rest,
       (
         (t, (record { ds = ds; until = one.until; values = refl; instructions = refl }, both.0)),
