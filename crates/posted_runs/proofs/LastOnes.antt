@@ -14,23 +14,23 @@ split_by : (b : Bool) (k : ℕ) (p : Post) (ps : List Post) → nat_le p.moment 
 split_by true k p ps e r = rw e (ap (λ (l : List Post). p ∷ l) r)
 split_by false k p ps e r = rw e refl
 
-split : (k : ℕ) (ps : List Post) → up_to k ps ++ behind k ps ≡ ps
+pub split : (k : ℕ) (ps : List Post) → up_to k ps ++ behind k ps ≡ ps
 split k [] = refl
 split k (p ∷ ps) = split_by (nat_le p.moment k) k p ps refl (split k ps)
 
-waiting_append : (w : ℕ) (xs ys : List Post) → waiting w (xs ++ ys) ≡ waiting (waiting w xs) ys
+pub waiting_append : (w : ℕ) (xs ys : List Post) → waiting w (xs ++ ys) ≡ waiting (waiting w xs) ys
 waiting_append w [] ys = refl
 waiting_append w (x ∷ xs) ys = waiting_append (if x.sample == 0 then w else x.sample) xs ys
 
 -- which sample waits behind posts, by those up to a moment and those behind them
-waiting_split : (w k : ℕ) (ps : List Post) → waiting (waiting w (up_to k ps)) (behind k ps) ≡ waiting w ps
+pub waiting_split : (w k : ℕ) (ps : List Post) → waiting (waiting w (up_to k ps)) (behind k ps) ≡ waiting w ps
 waiting_split w k ps = sym (waiting_append w (up_to k ps) (behind k ps)) ∙ ap (waiting w) (split k ps)
 
-zero_or : (n : ℕ) → (n ≡ 0) ⊎ (1 ≤ n)
+pub zero_or : (n : ℕ) → (n ≡ 0) ⊎ (1 ≤ n)
 zero_or zero = inl refl
 zero_or (suc n) = inr (omega arith)
 
-not_zero : (n : ℕ) → n ≢ 0 → 1 ≤ n
+pub not_zero : (n : ℕ) → n ≢ 0 → 1 ≤ n
 not_zero zero h = absurd (h refl)
 not_zero (suc n) h = omega arith
 
@@ -40,7 +40,7 @@ picked_none true w k xs e r z = r z
 picked_none false w k xs e r z = (let some : 1 ≤ k = grind (arith, nat_tests) in let h = waits_some k xs some in absurd (omega (arith, h, z)))
 
 -- where posts put no sample, that before waits
-none_put : (w : ℕ) (xs : List Post) → waiting 0 xs ≡ 0 → waiting w xs ≡ w
+pub none_put : (w : ℕ) (xs : List Post) → waiting 0 xs ≡ 0 → waiting w xs ≡ w
 none_put w [] z = refl
 none_put w (x ∷ xs) z = picked_none (x.sample == 0) w x.sample xs refl (none_put w xs) z
 
@@ -50,7 +50,7 @@ picked_some true w k xs r h = r h
 picked_some false w k xs r h = refl
 
 -- else it is as if none had waited
-some_put : (w : ℕ) (xs : List Post) → 1 ≤ waiting 0 xs → waiting w xs ≡ waiting 0 xs
+pub some_put : (w : ℕ) (xs : List Post) → 1 ≤ waiting 0 xs → waiting w xs ≡ waiting 0 xs
 some_put w [] h = absurd (omega arith)
 some_put w (x ∷ xs) h = picked_some (x.sample == 0) w x.sample xs (some_put w xs) h
 
@@ -60,7 +60,7 @@ further_by : (b : Bool) (k j : ℕ) (p : Post) (ps : List Post) → nat_le p.mom
 further_by true k j p ps e le r = (let due : nat_le p.moment j ≡ true = grind (arith, nat_tests) in rw e (rw due (ap (λ (l : List Post). p ∷ l) r)))
 further_by false k j p ps e le r = rw e refl
 
-further : (k j : ℕ) (ps : List Post) → k ≤ j → up_to j ps ≡ up_to k ps ++ up_to j (behind k ps)
+pub further : (k j : ℕ) (ps : List Post) → k ≤ j → up_to j ps ≡ up_to k ps ++ up_to j (behind k ps)
 further k j [] le = refl
 further k j (p ∷ ps) le = further_by (nat_le p.moment k) k j p ps refl le (further k j ps le)
 

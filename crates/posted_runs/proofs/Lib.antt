@@ -1,5 +1,16 @@
 pub mod OneList
 pub mod Postings
+pub mod Existing
+pub mod Shifting
+pub mod Mailing
+pub mod Posting
+pub mod Behind
+pub mod Passing
+pub mod TakenLists
+pub mod TwoSteps
+pub mod CopyRuns
+pub mod IdleRuns
+pub mod AnswerRuns
 pub mod LastOnes
 pub mod Instances
 pub mod Takings

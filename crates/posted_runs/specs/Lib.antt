@@ -3,3 +3,8 @@ pub mod Runs
 pub mod Tallies
 pub mod Answering
 pub mod UninterruptedTurns
+pub mod TurnsExist
+pub mod Shifts
+pub mod Postings
+pub mod PostedTurns
+pub mod Behind
