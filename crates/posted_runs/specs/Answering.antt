@@ -1,6 +1,7 @@
 -- A run of a block's mailbox firmware under posts, by its turns: what each answers and takes is read off its own steps
 -- without interrupts.
-use Rattle.std.specs.Prelude.{◌≡◌, ℕ, ◌+◌, ◌-◌, ◌^◌, ◌<◌, ◌≤◌, ◌≢◌, ◌==◌, true, if◌then◌else◌, List, [], ◌∷◌, All, None, length, map}
+use Rattle.std.specs.Prelude.{◌≡◌, ℕ, ◌+◌, ◌-◌, ◌^◌, ◌<◌, ◌≤◌, ◌≢◌, ◌==◌, true, if◌then◌else◌}
+use Rattle.std.specs.Prelude.{List, [], ◌∷◌, All, None, length, map}
 use Rattle.fuzzy_meaning.specs.declared.block.Block.{Block}
 use Rattle.fuzzy_meaning.specs.Blocks.{IsValid}
 use Rattle.rule_layout.specs.Layouts.{IsWithinLimits}

@@ -1,5 +1,6 @@
 -- The turns of the mailbox form under posts, by their lengths alone.
-use Rattle.std.specs.Prelude.{◌≡◌, ◌≢◌, ℕ, ◌+◌, ◌-◌, ◌==◌, max, nat_le, if◌then◌else◌, List, [], ◌∷◌, ◌++◌, map, flat_map}
+use Rattle.std.specs.Prelude.{◌≡◌, ◌≢◌, ℕ, ◌+◌, ◌-◌, ◌==◌, max, nat_le, if◌then◌else◌}
+use Rattle.std.specs.Prelude.{List, [], ◌∷◌, ◌++◌, map, flat_map}
 use Rattle.interrupt_plan.specs.declared.Post.{Post}
 
 -- the first posts whose moments are at most m, and those behind them
@@ -20,8 +21,8 @@ waiting w (p ∷ ps) = waiting (if p.sample == 0 then w else p.sample) ps
 abbrev pub taken_from : ℕ → List Post → List (ℕ × Post)
 taken_from m posts = map (λ p. (max m p.moment, p)) posts
 
--- A turn: the boundary where it begins, counted over the whole run; the sample that it answers, 0 where it answers none;
--- how many steps it takes; and the posts that are taken in it, each with its boundary.
+-- A turn: the boundary where it begins, counted over the whole run; the sample that it answers, 0 where it answers
+-- none; how many steps it takes; and the posts that are taken in it, each with its boundary.
 pub record Turn : Type 0 where
   pub begin : ℕ
   pub sample : ℕ

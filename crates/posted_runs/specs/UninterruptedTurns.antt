@@ -1,5 +1,6 @@
 -- The turns of a block's mailbox firmware without interrupts: how many steps each takes, and what its steps are.
-use Rattle.std.specs.Prelude.{◌≡◌, ◌≢◌, ℕ, ◌+◌, ◌^◌, ◌<◌, ◌≤◌, ◌⊎◌, ◌==◌, true, false, if◌then◌else◌, List, [], ◌∷◌, ◌++◌, All, length, map, slice_index}
+use Rattle.std.specs.Prelude.{◌≡◌, ◌≢◌, ℕ, ◌+◌, ◌^◌, ◌<◌, ◌≤◌, ◌⊎◌, ◌==◌, true, false, if◌then◌else◌}
+use Rattle.std.specs.Prelude.{List, [], ◌∷◌, ◌++◌, All, length, map, slice_index}
 use Rattle.fuzzy_meaning.specs.declared.block.Block.{Block}
 use Rattle.fuzzy_meaning.specs.Blocks.{IsValid}
 use Rattle.rule_layout.specs.Layouts.{IsWithinLimits}
@@ -37,7 +38,7 @@ steps_from flags f samples s (k ∷ j ∷ ks) =
 abbrev pub steps_of : ℕ → Firmware → List (List ℕ) → List ℕ → ℕ
 steps_of flags f samples = steps_from flags f samples (arrival f samples flags).state
 
--- a turn of one of n samples, after those that are done, takes as many steps as `steps` says, another 2 or, as the last,
+-- a turn that answers one of n samples, after those that are done, takes as many steps as `steps` says, another 2 or
 -- none
 pub record HasSteps (n : ℕ) (steps : List ℕ → ℕ) (done : List ℕ) (t : Turn) : Type 0 where
   pub within : t.sample ≤ n

@@ -12,6 +12,12 @@
 //! memory and no flag. [`turns_are_one`] says that posts have one list of turns, [`last_is_answered`]
 //! that the sample posted last is answered last, and [`all_are_taken`] that each post is taken once.
 //!
+//! Of a block's mailbox firmware [`mailbox_runs_turns`] says what such turns are without interrupts:
+//! each begins and ends where the code waits and no sample is posted, an idle one by two steps, and
+//! one that answers by as many as the samples up to its own say, whatever idle turns came between. The
+//! answers are the uninterrupted ones of the samples that are answered. The turns of good posts are
+//! such turns ([`turns_have_steps`]).
+//!
 //! A run goes along with its turns without interrupts: [`posted_turns_follow`] says it of a turn that
 //! answers, and [`idle_turns_follow`] of one that does not.
 #![tactic(auto)]
