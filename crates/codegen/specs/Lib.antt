@@ -13,6 +13,7 @@ pub mod Answers
 pub mod Uninterrupted
 pub mod Mailboxes
 pub mod Turns
+pub mod SampleTurns
 pub mod Checksums
 pub mod WatchedCode
 pub mod Watched

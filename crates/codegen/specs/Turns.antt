@@ -19,7 +19,7 @@ use Rattle.codegen.specs.Widths.{width_of, answer}
 use Rattle.codegen.specs.Bounds.{steps_by}
 use Rattle.codegen.specs.Firing.{AreInputBytes}
 use Rattle.codegen.specs.Evaluation.{HasBytes, HasAnswers}
-use Rattle.codegen.specs.Interruptible.{is_idle, IsSteady, IsShownPlain, IsInterruptibleStep}
+use Rattle.codegen.specs.Interruptible.{IsSteady, IsShownPlain, IsInterruptibleStep}
 use Rattle.codegen.specs.Uninterrupted.{AnswersUninterrupted}
 use Rattle.codegen.specs.Mailboxes.{is_mail, is_postable, IsMailboxOf}
 
@@ -43,9 +43,9 @@ pub record IsChoice (l : Layout) (image : List ℕ) (flags : ℕ) (s t : State) 
   pub at : IsAt image (if has s.regs.ccr zero_result then l.wait else l.wait + 5) t
   pub mem : t.mem ≡ s.mem
 
--- a plain instruction while I is 1, so that no interrupt comes before it
+-- a plain instruction while I is 1, so that no interrupt comes before it, away from where the code waits
 pub record IsMaskedStep (l : Layout) (image : List ℕ) (flags d : ℕ) (s t : State) : Type 0 where
-  pub busy : is_idle l s ≡ false
+  pub away : s.regs.pc ≢ l.wait
   pub steady : IsSteady is_postable true image s
   pub instruction : Instr
   pub shown : IsShownPlain is_free flags instruction s t

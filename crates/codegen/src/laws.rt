@@ -4,6 +4,7 @@ ghost use Rattle.codegen.specs.Answers.{FirmwareAnswers, FirmwareAnswersBeside, 
 ghost use Rattle.codegen.specs.Evaluation.{EvalAnswers};
 ghost use Rattle.codegen.specs.Checksums.{OneChangeIsSeen, TwoChangesMayPass, UnchangedSumIsZero};
 ghost use Rattle.codegen.specs.Firing.{RulesGiveMasses};
+ghost use Rattle.codegen.specs.SampleTurns.{MailboxTakesSamples};
 ghost use Rattle.codegen.specs.Turns.{MailboxTakesPosts, MailboxIsUninterrupted};
 ghost use Rattle.codegen.specs.Watched.{WatchedAnswers};
 ghost use Rattle.codegen.specs.Uninterrupted.{AnsweredAreUninterrupted, FirmwareIsUninterrupted, UninterruptedAreOne};
@@ -89,12 +90,20 @@ pub fn mailbox_takes_posts()
     eval_answers();
 }
 
+/// The mailbox firmware of a block answers each sample that is given where it waits in one turn without
+/// interrupts, from its first arrival on.
+pub fn mailbox_takes_samples()
+    ensures { MailboxTakesSamples }
+{
+    stays_fit();
+    mailbox_takes_posts();
+}
+
 /// The uninterrupted answers of the mailbox firmware of a block exist, and are the block's over bytes.
 pub fn mailbox_is_uninterrupted()
     ensures { MailboxIsUninterrupted }
 {
-    stays_fit();
-    mailbox_takes_posts();
+    mailbox_takes_samples();
 }
 
 /// The answers of samples that whole instructions answer, on which interrupts may come, are the

@@ -1,5 +1,5 @@
 -- A plain instruction is one step, before which the state keeps the facts.
-use Rattle.std.proofs.Common.{◌≡◌, ℕ, Bool, Result, Ok, ap, sym, ◌∙◌, subst, inl, min}
+use Rattle.std.proofs.Common.{ℕ, Bool, Result, Ok, ap, sym, ◌∙◌, subst, inl, min}
 use Rattle.cpu12_isa.specs.declared.instr.Instr.{Instr}
 use Rattle.cpu12_isa.specs.Act.{read_by}
 use Rattle.cpu12_isa.specs.Agreement.{AllShown, Uncovers}
@@ -8,20 +8,19 @@ use Rattle.cpu12_isa.specs.Meaning.{Effect, act_of, effect}
 use Rattle.cpu12_isa.specs.Regions.{is_hidden}
 use Rattle.cpu12_isa.proofs.Algebra.{shown_append}
 use Rattle.cpu12_parts.specs.declared.temps.Temps.{Temps}
-use Rattle.cpu12_parts.specs.declared.temps.Temps.TheVariants.{Free}
 use Rattle.cpu12_parts.specs.Laws.{addresses}
 use Rattle.cpu12_parts.specs.State.{State}
 use Rattle.cpu12_parts.specs.Whole.{IsPlainStep}
 use Rattle.cpu12_emul.specs.declared.ends.Stepped.TheVariants.{Plain}
 use Rattle.cpu12_emul.specs.Simulation.{AreSumsReady, PlainIsStep}
-use Rattle.cpu12_emul.specs.Step.{Left, Next, applied, next_of}
+use Rattle.cpu12_emul.specs.Step.{Left, Next, applied}
 use Rattle.fz_run.specs.Facts.{Facts, AreNoneOrRunning}
+use Rattle.fz_run.specs.Instructions.{PlainIsOneStep}
 use Rattle.fz_run.proofs.Stretches.{Stretch, Kept, AtInstruction}
 use Rattle.fz_run.proofs.Stretching.{plain_stretch}
 
 -- its step, whatever the state keeps beside
-pub plain_next : PlainIsStep → (flags : ℕ) (i : Instr) (s t : State) → s.temps ≡ Free → IsPlainStep flags i s t
-    → next_of flags s ≡ Ok (record { state = t; kind = Plain })
+pub plain_next : PlainIsStep → PlainIsOneStep
 plain_next law flags i s t free p =
     ap (λ (o : Result Left ℕ). applied o s.mem) (law flags i s (inl free) p.decoded p.plain).0 ∙ ap by (sym p.after)
   where

@@ -1,5 +1,5 @@
 -- Stretches of steps, put together.
-use Rattle.std.proofs.Common.{◌≡◌, ℕ, zero, suc, ◌+◌, not, Result, Ok, List, [], ◌∷◌, refl, ap, ap₂, sym, ◌∙◌, subst, arith}
+use Rattle.std.proofs.Common.{◌≡◌, ℕ, suc, ◌+◌, not, Result, Ok, List, [], ◌∷◌, refl, ap, ap₂, sym, ◌∙◌, subst, arith}
 use Rattle.cpu12_parts.specs.State.{State}
 use Rattle.cpu12_emul.specs.declared.ends.Stepped.{Stepped}
 use Rattle.cpu12_emul.specs.declared.ends.Stepped.TheVariants.{Plain, Part, LastPart}
@@ -9,22 +9,8 @@ use Rattle.run_law.specs.Forms.{is_part, one_if}
 use Rattle.run_law.specs.Uninterrupted.{stepped, kind_at, state_by, kind_by, uninterrupted, counted}
 use Rattle.run_law.specs.Soundness.{Before}
 use Rattle.fz_run.specs.Instructions.{AreSteps}
+use Rattle.fz_run.proofs.Algebra.{uninterrupted_add, counted_add, before_add}
 use Rattle.fz_run.proofs.Stretches.{Stretch}
-
-uninterrupted_add : (flags m n : ℕ) (s : State) → uninterrupted flags (m + n) s ≡ uninterrupted flags n (uninterrupted flags m s)
-uninterrupted_add flags zero n s = let e : 0 + n ≡ n = omega arith in ap (λ (k : ℕ). uninterrupted flags k s) e
-uninterrupted_add flags (suc m) n s = let e : suc m + n ≡ suc (m + n) = omega arith in ap (λ (k : ℕ). uninterrupted flags k s) e ∙ uninterrupted_add flags m n (stepped flags s)
-
-counted_add : (flags m n : ℕ) (s : State) → counted flags (m + n) s ≡ counted flags m s + counted flags n (uninterrupted flags m s)
-counted_add flags zero n s = let e : 0 + n ≡ n = omega arith in ap (λ (k : ℕ). counted flags k s) e ∙ omega arith
-counted_add flags (suc m) n s =
-    let e : suc m + n ≡ suc (m + n) = omega arith in
-    let r = counted_add flags m n (stepped flags s) in
-    ap (λ (k : ℕ). counted flags k s) e ∙ omega (arith, r)
-
-before_add : (P : State → Type 0) (flags m n : ℕ) (s : State) → Before P flags m s → Before P flags n (uninterrupted flags m s) → Before P flags (m + n) s
-before_add P flags zero n s a b = let e : n ≡ 0 + n = omega arith in subst (λ (k : ℕ). Before P flags k s) e b
-before_add P flags (suc m) n s a b = let e : suc (m + n) ≡ suc m + n = omega arith in subst (λ (k : ℕ). Before P flags k s) e (a.0, before_add P flags m n (stepped flags s) a.1 b)
 
 pub all_stretches : (P : State → Type 0) (flags : ℕ) (ds : List ℕ) (s t : State) → Execution (Stretch P flags) ds s t → AreSteps P flags ds s t
 all_stretches P flags [] s t e = record { goes = e; counts = refl; each = tt }

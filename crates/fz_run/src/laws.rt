@@ -3,7 +3,7 @@ ghost use Rattle.fz_run.specs.Answering.{AnswersUnderPlans, FirmwareRunsBeside, 
 ghost use Rattle.fz_run.specs.Arrival.{ArrivesPlainly};
 ghost use Rattle.fz_run.specs.Following.{RunsFollowAlone, RunsFollowBeside};
 ghost use Rattle.fz_run.specs.Given.{GivenIsPut, RequestsAreGood};
-ghost use Rattle.fz_run.specs.Instructions.{InstructionsAreSteps};
+ghost use Rattle.fz_run.specs.Instructions.{InstructionsAreSteps, PlainIsOneStep};
 ghost use Rattle.fz_run.specs.Showing.{RowsAreShown};
 
 use crate::alone::StandAlone;
@@ -58,6 +58,13 @@ pub fn answers_under_plans()
 /// Plain instructions from reset to LOOP are the way by which a run gets there.
 pub fn arrives_plainly()
     ensures { ArrivesPlainly }
+{
+    plain_is_step();
+}
+
+/// A plain instruction is one step, where no sums run.
+pub fn plain_is_one_step()
+    ensures { PlainIsOneStep }
 {
     plain_is_step();
 }

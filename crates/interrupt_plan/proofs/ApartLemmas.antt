@@ -1,6 +1,6 @@
 -- A text that spells a plan, or posts, has no fault.
 use Rattle.std.proofs.Common.{arith, ◌≡◌, ◌<◌, ◌+◌, ℕ, true, false, List, [], ◌∷◌, ◌++◌, length, refl, sym, ◌∙◌, ap, ap₂, subst}
-use Rattle.std.specs.Prelude.{All, Option, Some, drop}
+use Rattle.std.specs.Prelude.{All, Option, Some}
 use Rattle.std.proofs.lemmas.List.{length-append}
 use Rattle.std.proofs.lemmas.List.Elements.{All-head, All-tail}
 use Rattle.fz_rows.specs.FirstRows.{Fields}

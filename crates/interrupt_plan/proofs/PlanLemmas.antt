@@ -21,6 +21,7 @@ use Rattle.interrupt_plan.specs.PlanTexts.{SpellsRequest, writes_by}
 use Rattle.interrupt_plan.specs.Posts.{AreGoodPosts, IsGoodPost, NoLater, SpellsPost, writes_in}
 use Rattle.interrupt_plan.specs.Rows.{AreFree, AreInOrder, FirstFault, IsFirstTaken, RowFails, SpellAll, SpellsRow, at_row, count_of, more, writes_of}
 use Rattle.interrupt_plan.proofs.PairLemmas.{length-writes}
+use Rattle.interrupt_plan.proofs.ByteLemmas.{writes_small}
 
 take_more : {X : Type 0} (xs : List X) (i : ℕ) (d : X) → i < length xs → take (i + 1) xs ≡ take i xs ++ get_or xs i d ∷ []
 take_more xs i d lt = rw add-one (take-suc xs i d lt)
@@ -158,7 +159,7 @@ good_posts_of samples [] [] spelled free = All-nil (IsGoodPost samples)
 good_posts_of samples [] (p ∷ ps) spelled free = absurd spelled
 good_posts_of samples (row ∷ rows) [] spelled free = absurd spelled
 good_posts_of samples (row ∷ rows) (p ∷ ps) spelled free =
-    let own : IsGoodPost samples p = record { moment_to = spelled.0.moment_to; sample_to = spelled.0.sample_to; few_writes = spelled.0.row.few; free = All-head (λ e. AreFree (writes_in e)) p ps free } in
+    let own : IsGoodPost samples p = record { moment_to = spelled.0.moment_to; sample_to = spelled.0.sample_to; few_writes = spelled.0.row.few; free = All-head (λ e. AreFree (writes_in e)) p ps free; bytes = writes_small (drop 2 row) p.writes spelled.0.row.writes_are } in
     All-cons (IsGoodPost samples) p ps own (good_posts_of samples rows ps spelled.1 (All-tail (λ e. AreFree (writes_in e)) p ps free))
 
 pub good_posts : (samples : ℕ) (rows : List Fields) (ps : List Post) → SpellAll (SpellsPost samples) rows ps → AreInOrder writes_in NoLater ps → AreGoodPosts samples ps

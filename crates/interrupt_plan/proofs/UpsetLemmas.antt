@@ -1,6 +1,6 @@
 -- Rows and upsets, one by one.
-use Rattle.std.proofs.Common.{◌≡◌, ◌≤◌, ◌<◌, ◌+◌, ◌-◌, ℕ, suc, true, false, List, [], ◌∷◌, ◌++◌, length, take, drop, get_or, refl, sym, ◌∙◌, ap, ap₂, subst, arith}
-use Rattle.std.specs.Prelude.{map, Option, Some, None, All}
+use Rattle.std.proofs.Common.{◌≡◌, ◌<◌, ◌+◌, ℕ, suc, true, false, List, [], ◌∷◌, ◌++◌, length, take, drop, get_or, refl, sym, ◌∙◌, ap, ap₂, subst, arith}
+use Rattle.std.specs.Prelude.{map, Option, Some, All}
 use Rattle.std.proofs.lemmas.List.{length-append}
 use Rattle.std.proofs.lemmas.List.Elements.{All-append, All-cons, All-nil, All-head, All-tail}
 use Rattle.csv.specs.Records.{Row, fields_of}
@@ -10,9 +10,10 @@ use Rattle.fz_rows.specs.Laws.{FirstRowsAreOne}
 use Rattle.interrupt_plan.specs.declared.upsets.Upset.{Upset}
 use Rattle.interrupt_plan.specs.declared.upsets.UpsetFault.{UpsetFault}
 use Rattle.interrupt_plan.specs.declared.upsets.UpsetFault.TheVariants.{TooMany}
-use Rattle.interrupt_plan.specs.Rows.{count_of, write_of, the_write, word_of, byte_of}
+use Rattle.interrupt_plan.specs.Rows.{count_of, write_of}
 use Rattle.interrupt_plan.specs.Upsets.{AreGoodUpsets, IsGoodUpset, SamplesAscend, is_table}
-use Rattle.interrupt_plan.specs.UpsetTexts.{FirstUpsetFault, SpellUpsets, SpellsUpset, SpellsUpsets, HasUpsetFault, SpelledUpsetsHaveNoFault, UpsetRowFails, at_row, more, unread, not_table, not_ascending}
+use Rattle.interrupt_plan.specs.UpsetTexts.{FirstUpsetFault, SpellUpsets, SpellsUpset, SpelledUpsetsHaveNoFault, UpsetRowFails, at_row, more, unread, not_table, not_ascending}
+use Rattle.interrupt_plan.proofs.ByteLemmas.{write_small}
 use Rattle.interrupt_plan.proofs.PlanLemmas.{count_small, fields_more, fields_split, length-fields}
 
 -- three fields, by their places
@@ -29,6 +30,7 @@ good_upset image fields u spelled table = record {
   sample_from = spelled.some;
   sample_to = count_small spelled.sample_text u.sample spelled.sample_is;
   table = table;
+  value = write_small spelled.address spelled.value (record { at = u.at; value = u.value }) spelled.write_is;
 }
 
 -- ---- one upset more

@@ -1,5 +1,5 @@
 -- What a text of posts spells, and its first fault.
-use Rattle.std.specs.Prelude.{◌≡◌, ◌≤◌, ℕ, true, List, length, All}
+use Rattle.std.specs.Prelude.{◌≡◌, ◌<◌, ◌≤◌, ◌^◌, ℕ, true, List, length, All}
 use Rattle.cpu12_isa.specs.declared.instr.Write.{Write}
 use Rattle.cpu12_isa.specs.Regions.{is_free}
 use Rattle.fz_rows.specs.FirstRows.{Fields}
@@ -8,13 +8,14 @@ use Rattle.interrupt_plan.specs.declared.PlanFault.{PlanFault}
 use Rattle.interrupt_plan.specs.Plans.{Ascend}
 use Rattle.interrupt_plan.specs.Rows.{SpellsRow, SpellsText, HasFirstFault}
 
--- a post of one of so many samples, or of none: it comes at a moment up to 1000000, and writes at most eight bytes,
--- each free
+-- a post of one of so many samples, or of none: it comes at a moment up to 1000000, and does at most eight writes, each
+-- of a byte to a free address
 pub record IsGoodPost (samples : ℕ) (p : Post) : Type 0 where
   pub moment_to : p.moment ≤ 1000000
   pub sample_to : p.sample ≤ samples
   pub few_writes : length p.writes ≤ 8
   pub free : All (λ w. is_free w.at ≡ true) p.writes
+  pub bytes : All (λ w. w.value < 2 ^ 8) p.writes
 
 -- by their moments, a does not come after b
 abbrev pub NoLater : Post → Post → Type 0

@@ -1,6 +1,5 @@
 -- What a text of upsets spells, and its first fault.
 use Rattle.std.specs.Prelude.{◌≡◌, ◌<◌, ◌≤◌, ◌+◌, ℕ, false, true, List, [], ◌∷◌, ◌++◌, length, Some}
-use Rattle.cpu12_isa.specs.declared.instr.Write.{Write}
 use Rattle.fz_rows.specs.FirstRows.{Fields, AreFirstRows}
 use Rattle.interrupt_plan.specs.declared.upsets.Upset.{Upset}
 use Rattle.interrupt_plan.specs.declared.upsets.UpsetFault.{UpsetFault}

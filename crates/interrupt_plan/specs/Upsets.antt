@@ -16,6 +16,7 @@ pub record IsGoodUpset (image : List (ℕ × ℕ)) (u : Upset) : Type 0 where
   pub sample_from : 1 ≤ u.sample
   pub sample_to : u.sample ≤ 999999999
   pub table : is_table image u.at ≡ true
+  pub value : u.value < 2 ^ 8
 
 -- each sample is above the one before
 abbrev pub SamplesAscend : List Upset → Type 0

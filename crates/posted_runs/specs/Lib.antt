@@ -1,3 +1,10 @@
 pub mod Turns
 pub mod Runs
 pub mod Tallies
+pub mod Answering
+pub mod UninterruptedTurns
+pub mod TurnsExist
+pub mod Shifts
+pub mod Postings
+pub mod PostedTurns
+pub mod Behind

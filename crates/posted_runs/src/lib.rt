@@ -11,8 +11,18 @@
 //! alone: at which boundaries posts are taken, which samples are answered, and where. It knows no
 //! memory and no flag. [`turns_are_one`] says that posts have one list of turns, [`last_is_answered`]
 //! that the sample posted last is answered last, and [`all_are_taken`] that each post is taken once.
+//!
+//! Of a block's mailbox firmware [`mailbox_runs_turns`] says what such turns are without interrupts:
+//! each begins and ends where the code waits and no sample is posted, an idle one by two steps, and
+//! one that answers by as many as the samples up to its own say, whatever idle turns came between. The
+//! answers are the uninterrupted ones of the samples that are answered. The turns of good posts are
+//! such turns ([`turns_have_steps`]).
+//!
+//! A run goes along with its turns without interrupts: [`posted_turns_follow`] says it of a turn that
+//! answers, and [`idle_turns_follow`] of one that does not.
 #![tactic(auto)]
 
+mod copied;
 mod laws;
 mod outputs;
 mod post;
@@ -21,5 +31,8 @@ mod tally;
 mod turn;
 mod turns;
 
-pub use laws::{all_are_taken, last_is_answered, turns_are_one};
+pub use laws::{
+    all_are_taken, idle_turns_follow, last_is_answered, mailbox_runs_turns, posted_turns_follow,
+    posts_have_turns, turns_are_one, turns_count_on, turns_follow_behind, turns_have_steps,
+};
 pub use run::{Answer, PostRun, run_posts};

@@ -31,23 +31,22 @@ to_table at h = grind (arith, nat_tests)
 
 -- a good upset changes a byte of the tables
 table_change : (l : Layout) (image : List (ℕ × ℕ)) (u : Upset) → l.tables ≡ 0xD000 → IsGoodUpset image u
-    → u.value < 2 ^ 8 → IsTableChange l image (Some (u.at, u.value))
-table_change l image u tables good fits =
+    → IsTableChange l image (Some (u.at, u.value))
+table_change l image u tables good =
     let p = and_parts (nat_le 0xD000 u.at && nat_le u.at 0xFEFF) (is_there (byte_at image u.at)) good.table in
     let q = and_parts (nat_le 0xD000 u.at) (nat_le u.at 0xFEFF) p.0 in
     let from = from_table u.at q.0 in
-    (omega (arith, tables, from), to_table u.at q.1, not_none (byte_at image u.at) p.1, fits)
+    (omega (arith, tables, from), to_table u.at q.1, not_none (byte_at image u.at) p.1, good.value)
 
 pub good_change : (l : Layout) (image : List (ℕ × ℕ)) (k : ℕ) (us : List Upset) → l.tables ≡ 0xD000
-    → All (IsGoodUpset image) us → All (λ (u : Upset). u.value < 2 ^ 8) us → IsTableChange l image (change_of k us)
-good_change l image k [] tables good fit = tt
-good_change l image k (u ∷ us) tables good fit =
-    by (good_change l image k us tables (λ j d lt. good (suc j) d (omega arith)) (λ j d lt. fit (suc j) d (omega arith)))
-    (u.sample == k)
+    → All (IsGoodUpset image) us → IsTableChange l image (change_of k us)
+good_change l image k [] tables good = tt
+good_change l image k (u ∷ us) tables good =
+    by (good_change l image k us tables (λ j d lt. good (suc j) d (omega arith))) (u.sample == k)
   where
     by : IsTableChange l image (change_of k us) → (b : Bool)
         → IsTableChange l image (if b then Some (u.at, u.value) else change_of k us)
-    by rest true = table_change l image u tables (good 0 u (omega arith)) (fit 0 u (omega arith))
+    by rest true = table_change l image u tables (good 0 u (omega arith))
     by rest false = rest
 
 -- a byte that is changed and put back, and the others, are the image's

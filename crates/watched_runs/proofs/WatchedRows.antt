@@ -238,26 +238,26 @@ all_rows laws b f p flags before plan k (x ∷ xs) s hf r h =
 -- good samples
 all_ready : (b : Block) (f : Firmware) (upsets : List Upset) (k : ℕ) (samples : List (List ℕ))
     → length b.inputs ≤ 8 → f.layout.tables ≡ 0xD000 → All (IsGoodUpset f.image.bytes) upsets
-    → All (λ (u : Upset). u.value < 2 ^ 8) upsets → All (AreInputBytes b) samples
+    → All (AreInputBytes b) samples
     → AllReady f (changes_from k upsets samples)
-all_ready b f upsets k [] few tables good fit all = tt
-all_ready b f upsets k (bytes ∷ samples) few tables good fit all =
+all_ready b f upsets k [] few tables good all = tt
+all_ready b f upsets k (bytes ∷ samples) few tables good all =
     let i = all 0 bytes (omega arith) in
     let count = i.count in (
-      (omega (arith, count, few), good_change f.layout f.image.bytes k upsets tables good fit),
-      all_ready b f upsets (suc k) samples few tables good fit (λ j d lt. all (suc j) d (omega arith)),
+      (omega (arith, count, few), good_change f.layout f.image.bytes k upsets tables good),
+      all_ready b f upsets (suc k) samples few tables good (λ j d lt. all (suc j) d (omega arith)),
     )
 
 all_good : (b : Block) (f : Firmware) (upsets : List Upset) (k : ℕ) (samples : List (List ℕ))
     → f.layout.tables ≡ 0xD000 → All (IsGoodUpset f.image.bytes) upsets
-    → All (λ (u : Upset). u.value < 2 ^ 8) upsets → All (AreInputBytes b) samples
+    → All (AreInputBytes b) samples
     → All (IsGoodSample b f.layout f.image.bytes) (changes_from k upsets samples)
-all_good b f upsets k [] tables good fit all = λ j d lt. absurd (omega arith)
-all_good b f upsets k (bytes ∷ samples) tables good fit all =
+all_good b f upsets k [] tables good all = λ j d lt. absurd (omega arith)
+all_good b f upsets k (bytes ∷ samples) tables good all =
     All-cons (IsGoodSample b f.layout f.image.bytes) (record { bytes = bytes; change = change_of k upsets })
     (changes_from (suc k) upsets samples)
-    (record { bytes = all 0 bytes (omega arith); change = good_change f.layout f.image.bytes k upsets tables good fit })
-    (all_good b f upsets (suc k) samples tables good fit (λ j d lt. all (suc j) d (omega arith)))
+    (record { bytes = all 0 bytes (omega arith); change = good_change f.layout f.image.bytes k upsets tables good })
+    (all_good b f upsets (suc k) samples tables good (λ j d lt. all (suc j) d (omega arith)))
 
 -- a firmware waits first where it arrives first
 first_is : Laws → (b : Block) (f : Firmware) → HasPorts b f → (flags : ℕ) (s : State)
@@ -334,10 +334,10 @@ ports b f few h =
     }
 
 pub answers_under_all_upsets : Laws → AnswersUnderAllUpsets
-answers_under_all_upsets laws f flags samples plan upsets hf good goods fit b valid limits h all =
+answers_under_all_upsets laws f flags samples plan upsets hf good goods b valid limits h all =
     let p = ports b f valid.few_outputs h in
     let xs = with_upsets upsets samples in
     let from = laws.watched_answers b f valid limits h flags xs hf
-    (all_good b f upsets 1 samples p.tables goods.each fit all) in
-    let ready = all_ready b f upsets 1 samples valid.few_inputs p.tables goods.each fit all in
+    (all_good b f upsets 1 samples p.tables goods.each all) in
+    let ready = all_ready b f upsets 1 samples valid.few_inputs p.tables goods.each all in
     under laws b f p flags samples plan upsets from.0 hf good ready from.1.0 from.1.1

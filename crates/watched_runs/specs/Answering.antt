@@ -79,9 +79,9 @@ AnswersItsSamples f flags samples plan upsets rows =
     → AnswersUnderUpsets b f flags samples plan upsets rows
 
 -- The firmware of a block with watched tables answers every list of samples so under every good plan and all good
--- upsets, whose values are bytes.
+-- upsets.
 abbrev pub AnswersUnderAllUpsets : Type 0
 AnswersUnderAllUpsets =
     (f : Firmware) (flags : ℕ) (samples : List (List ℕ)) (plan : List Request) (upsets : List Upset)
-    → flags < 2 ^ 8 → IsGood plan → AreGoodUpsets f.image.bytes upsets → All (λ u. u.value < 2 ^ 8) upsets
+    → flags < 2 ^ 8 → IsGood plan → AreGoodUpsets f.image.bytes upsets
     → AnswersItsSamples f flags samples plan upsets (faults_of f (upset_rows f samples plan upsets flags))

@@ -8,7 +8,7 @@ ghost use Rattle.watched_runs.specs.Answering.{AnswersItsSamples};
 
 use crate::form::{WatchedRow, WithUpsets};
 use crate::laws::answers_under_all_upsets;
-use crate::upsets::{ascending, read_values};
+use crate::upsets::ascending;
 use codegen::Firmware;
 use cpu12_isa::pages::PageMem;
 use fz_list::Memory;
@@ -44,7 +44,6 @@ pub fn run_upsets(
 {
     answers_under_all_upsets();
     let upsets = ascending(upsets);
-    read_values(upsets);
     let form = WithUpsets {
         firmware,
         samples,

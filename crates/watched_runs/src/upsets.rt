@@ -1,5 +1,5 @@
 // The upset of a sample, among upsets that ascend, and what it does.
-ghost use Rattle.std.specs.Prelude.{ℕ, ◌≡◌, ◌<◌, ◌^◌, All, MatchResult, None, slice_get};
+ghost use Rattle.std.specs.Prelude.{ℕ, ◌≡◌, MatchResult, None, slice_get};
 ghost use Rattle.cpu12_emul.specs.Image.{image_memory};
 ghost use Rattle.interrupt_plan.specs.Upsets.{SamplesAscend};
 ghost use Rattle.codegen.specs.Watched.{changed, restored};
@@ -37,16 +37,6 @@ pub(crate) fn upset_of(upsets: &[Upset], number: usize) -> Option<Upset>
     match place_of(upsets, number) {
         Ok(at) => upsets.get(at).copied(),
         Err(_) => None,
-    }
-}
-
-/// Reads the values of upsets, which are bytes.
-pub(crate) fn read_values(upsets: &[Upset])
-    ensures { All (λ u. u.value < 2 ^ 8) upsets.now }
-{
-    for upset in upsets {
-        let value = upset.value;
-        prove!(value <= u8::MAX);
     }
 }
 

@@ -1,4 +1,4 @@
--- The uninterrupted answers of the mailbox form.
+-- The turn of a sample, and the uninterrupted answers of the mailbox form.
 use Rattle.std.proofs.Common.{◌≡◌, inl, inr, ℕ, zero, suc, ◌+◌, ◌-◌, ◌*◌, ◌^◌, ◌<◌, ◌≤◌, Bool, false, List, [], ◌∷◌, ◌++◌, length, get_or, All, refl, sym, ap}
 use Rattle.std.proofs.Common.{◌∙◌, subst, arith, get_or-set_same}
 use Rattle.std.specs.Prelude.{◌==◌, if◌then◌else◌}
@@ -9,7 +9,7 @@ use Rattle.cpu12_isa.specs.declared.instr.Instr.TheVariants.{LdaaExtended, Beq, 
 use Rattle.cpu12_isa.specs.Fits.{StaysFit}
 use Rattle.cpu12_isa.specs.Flags.{has}
 use Rattle.cpu12_parts.specs.State.{State}
-use Rattle.cpu12_parts.specs.Executions.{Execution, IsStepBefore, IsUntil}
+use Rattle.cpu12_parts.specs.Executions.{Execution, IsStepBefore}
 use Rattle.cpu12_emul.specs.Image.{image_memory}
 use Rattle.cpu12_emul.specs.Step.{reset_with}
 use Rattle.codegen.specs.declared.firmware.Firmware.{Firmware}
@@ -20,14 +20,15 @@ use Rattle.codegen.specs.Firing.{AreInputBytes}
 use Rattle.codegen.specs.Evaluation.{HasBytes, HasAnswers}
 use Rattle.codegen.specs.Interruptible.{is_idle}
 use Rattle.codegen.specs.Answers.{put, given}
-use Rattle.codegen.specs.Uninterrupted.{Answer, values_in, is_waiting, AreAnswersTo, AreAnswersOf, AreUninterrupted}
+use Rattle.codegen.specs.Uninterrupted.{Answer, values_in, AreAnswersTo, AreAnswersOf}
 use Rattle.codegen.specs.Mailboxes.{is_postable, mailbox_layout}
 use Rattle.codegen.specs.Turns.{IsAt, IsMaskedStep, IsCopied, IsLook, IsChoice, TakesTurns, MailboxTakesPosts, MailboxIsUninterrupted, call_of}
+use Rattle.codegen.specs.SampleTurns.{IsSampleTurn, TakesSamples, MailboxTakesSamples}
 use Rattle.codegen.proofs.steps.Executions.{execution_on, length_append}
 use Rattle.codegen.proofs.steps.Memory.{length-put, has_put, bytes_by, bytes_put_out, bytes_set_out, same_bytes}
 use Rattle.codegen.proofs.runs.Stepping.{not_at}
 use Rattle.codegen.proofs.runs.Framing.{answer_room, not_ready, given_live, waits as idle}
-use Rattle.codegen.proofs.runs.Uninterrupted.{uninterrupted, waits, arrival, plain_parts, count_from, value_from}
+use Rattle.codegen.proofs.runs.Uninterrupted.{uninterrupted, waits, arrival, count_from, value_from}
 use Rattle.codegen.proofs.turns.Posting.{Post, post_ctx, lives_of, at_of}
 
 abbrev Before : Post → ℕ → State → State → Type 0
@@ -36,16 +37,7 @@ Before p = IsStepBefore (is_idle (mailbox_layout p.n)) p.flags
 -- masked steps are whole instructions of a code that does not wait
 masked : (p : Post) (ds : List ℕ) (s t : State) → Execution (IsMaskedStep (mailbox_layout p.n) p.image p.flags) ds s t → Execution (Before p) ds s t
 masked p [] s t e = e
-masked p (d ∷ ds) s t e = (e.0, (record { on = e.1.0.busy; step = inl (e.1.0.instruction, (e.1.0.shown.step, e.1.0.single)) }, masked p ds e.0 t e.1.1))
-
--- one sample, from where the code waits back to there
-record Answered (p : Post) (b : Block) (w : Width) (most : ℕ) (bytes : List ℕ) (before : ℕ → ℕ) (s : State) : Type 0 where
-  t : State
-  ds : List ℕ
-  until : IsUntil (is_idle (mailbox_layout p.n)) p.flags ds (given (mailbox_layout p.n) bytes s) t
-  at : IsAt p.image 0xC008 t
-  answers : HasAnswers (mailbox_layout p.n) b w (λ o. answer w b o bytes (before o)) t.mem
-  instructions : length ds ≤ most
+masked p (d ∷ ds) s t e = (e.0, (record { on = not_at (mailbox_layout p.n) s s.regs.pc refl e.1.0.away; step = inl (e.1.0.instruction, (e.1.0.shown.step, e.1.0.single)) }, masked p ds e.0 t e.1.1))
 
 -- the state in which a sample is posted
 record Posted (p : Post) (b : Block) (w : Width) (bytes : List ℕ) (before : ℕ → ℕ) (g : State) : Type 0 where
@@ -83,11 +75,8 @@ copied_bytes m n from to bytes h e = bytes_by n to bytes (λ k lt. e k lt ∙ at
     at_byte m p (b ∷ bs) (suc k) lt h = let e : p + suc k ≡ p + 1 + k = omega arith in ap (λ (q : ℕ). get_or m q 0) e ∙ at_byte m (p + 1) bs k (omega arith) h.1
 
 -- to the copy's end
-record Fetched (p : Post) (b : Block) (w : Width) (bytes : List ℕ) (before : ℕ → ℕ) (g : State) : Type 0 where
-  t : State
-  ds : List ℕ
-  execution : Execution (Before p) ds g t
-  count : length ds ≡ length b.inputs + 5
+record Fetched (p : Post) (b : Block) (w : Width) (bytes : List ℕ) (before : ℕ → ℕ) (ds : List ℕ) (g t : State) : Type 0 where
+  execution : Execution (Before p) (0 ∷ 0 ∷ 0 ∷ ds) g t
   at : IsAt p.image (call_of (mailbox_layout p.n) (length b.inputs)) t
   cleared : get_or t.mem 0x1028 0 ≡ 0
   inputs : HasBytes t.mem 0x1001 bytes
@@ -98,7 +87,7 @@ chosen z = if z then 0xC008 else 0xC00D
 
 fetched : (p : Post) (b : Block) (w : Width) (bytes : List ℕ) (before : ℕ → ℕ) (g s1 s2 s4 : State) → length b.inputs ≤ 8 → length b.outputs ≤ 4 → length bytes ≡ length b.inputs → Posted p b w bytes before g
     → IsLook (mailbox_layout p.n) p.image p.flags g s1 → IsChoice (mailbox_layout p.n) p.image p.flags s1 s2 → s2.regs.pc ≡ 0xC00D
-    → IsCopied (mailbox_layout p.n) (length b.inputs) p.image p.flags s2 s4 → Fetched p b w bytes before g
+    → (copy : IsCopied (mailbox_layout p.n) (length b.inputs) p.image p.flags s2 s4) → Fetched p b w bytes before copy.ds g s4
 fetched p b w bytes before g s1 s2 s4 few outs count h look choice at2 copy =
     let l = mailbox_layout p.n in
     let s3 = copy.masked in
@@ -107,10 +96,7 @@ fetched p b w bytes before g s1 s2 s4 few outs count h look choice at2 copy =
     let on2 : Before p 0 s1 s2 = record { on = not_at l s1 0xC00B look.at.pc (λ e. omega arith); step = inl (Beq 0xFB, (choice.step.step, refl)) } in
     let on3 : Before p 0 s2 s3 = record { on = not_at l s2 0xC00D at2 (λ e. omega arith); step = inl (Orcc 0x10, (copy.sets.step, refl)) } in
     record {
-      t = s4;
-      ds = 0 ∷ 0 ∷ 0 ∷ copy.ds;
       execution = (s1, (on1, (s2, (on2, (s3, (on3, masked p copy.ds s3 s4 copy.copies))))));
-      count = omega (arith, copy.count);
       at = copy.at;
       cleared = copy.cleared;
       inputs = copied_bytes g.mem s4.mem 0x1020 0x1001 bytes h.mail (λ k lt. copy.inputs k (omega arith) ∙ ap (λ (m : List ℕ). get_or m (0x1020 + k) 0) mem2);
@@ -121,10 +107,11 @@ fetched p b w bytes before g s1 s2 s4 few outs count h look choice at2 copy =
           same_bytes g.mem s4.mem q vs (λ k from to. copy.elsewhere k (inr (omega arith)) (λ e. omega arith) ∙ ap (λ (m : List ℕ). get_or m k 0) mem2) (h.outputs o lo hi));
     }
 
-answered : (p : Post) (b : Block) (w : Width) (most : ℕ) (bytes : List ℕ) (before : ℕ → ℕ) (s : State) → TakesTurns (mailbox_layout p.n) b w most p.image p.flags
+-- from where the code waits back to there
+answered : (p : Post) (b : Block) (w : Width) (most : ℕ) (before : ℕ → ℕ) (bytes : List ℕ) (s : State) → TakesTurns (mailbox_layout p.n) b w most p.image p.flags
     → length b.inputs ≤ 8 → length b.outputs ≤ 4 → AreInputBytes b bytes → IsAt p.image 0xC008 s → HasAnswers (mailbox_layout p.n) b w before s.mem
-    → Answered p b w most bytes before s
-answered p b w most bytes before s turns few outs i at answers =
+    → (t : State) × IsSampleTurn (mailbox_layout p.n) b w most p.image p.flags before bytes s t
+answered p b w most before bytes s turns few outs i at answers =
     let l = mailbox_layout p.n in
     let g = given l bytes s in
     let count = i.count in
@@ -136,74 +123,89 @@ answered p b w most bytes before s turns few outs i at answers =
     let at2 : IsAt p.image 0xC00D choice.0 = subst (λ (y : Bool). IsAt p.image (chosen y) choice.0) z choice.1.at in
     let copy = turns.copies choice.0 at2 in
     let f = fetched p b w bytes before g look.0 choice.0 copy.0 few outs count h look.1 choice.1 at2.pc copy.1 in
-    let turn = turns.evaluates bytes before f.t i f.at f.inputs f.outputs in
+    let turn = turns.evaluates bytes before copy.0 i f.at f.inputs f.outputs in
     let back : get_or turn.0.mem 0x1028 0 ≡ 0 = turn.1.mail 0x1028 refl ∙ f.cleared in
+    let ds : List ℕ = let c : IsCopied l (length b.inputs) p.image p.flags choice.0 copy.0 = copy.1 in c.ds in (
+      turn.0,
+      record {
+        looked = look.0;
+        look = look.1;
+        chosen = choice.0;
+        choice = choice.1;
+        on = at2;
+        called = copy.0;
+        copy = copy.1;
+        turned = turn.1;
+        cleared = back;
+        until = record {
+          execution = execution_on (Before p) (0 ∷ 0 ∷ 0 ∷ ds) turn.1.ds g copy.0 turn.0 f.execution (uninterrupted is_postable l p.image p.flags turn.1.ds copy.0 turn.0 turn.1.execution);
+          stopped = idle l turn.0 turn.1.at.pc back;
+        };
+      },
+    )
+
+-- from the first arrival
+takes_samples : (p : Post) (b : Block) (w : Width) (most : ℕ) → TakesTurns (mailbox_layout p.n) b w most p.image p.flags → IsValid b
+    → TakesSamples (mailbox_layout p.n) b w most p.image p.flags
+takes_samples p b w most turns v =
+    let r = turns.arrives in
     record {
-      t = turn.0;
-      ds = f.ds ++ turn.1.ds;
-      until = record {
-        execution = execution_on (Before p) f.ds turn.1.ds g f.t turn.0 f.execution (uninterrupted is_postable l p.image p.flags turn.1.ds f.t turn.0 turn.1.execution);
-        stopped = idle l turn.0 turn.1.at.pc back;
-      };
-      at = turn.1.at;
-      answers = turn.1.answers;
-      instructions = omega (arith, length_append f.ds turn.1.ds, f.count, turn.1.instructions);
+      first = r.0;
+      ready = r.1;
+      arrived = record { execution = arrival (mailbox_layout p.n) p.flags 3 (reset_with p.image) r.0 r.1.way; stopped = waits (mailbox_layout p.n) r.0 r.1.at.pc };
+      answers = λ before bytes s i at outs. answered p b w most before bytes s turns v.few_inputs v.few_outputs i at outs;
     }
 
--- a list of samples
-abbrev Both : Firmware → Block → Post → (ℕ → ℕ) → List (List ℕ) → State → List Answer → Type 0
-Both f b p before samples s answers = AreAnswersTo f p.flags samples answers s × AreAnswersOf (width_of f.wide) b f.instr_bound before samples answers
-
-more : (f : Firmware) (b : Block) (p : Post) (before : ℕ → ℕ) (bytes : List ℕ) (samples : List (List ℕ)) (s : State) → f.layout ≡ mailbox_layout p.n → f.outputs ≡ length b.outputs
-    → (one : Answered p b (width_of f.wide) f.instr_bound bytes before s)
-    → (rest : List Answer) → Both f b p (λ o. answer (width_of f.wide) b o bytes (before o)) samples one.t rest
-    → Both f b p before (bytes ∷ samples) s (record { values = values_in f one.t; instructions = length one.ds } ∷ rest)
-more f b p before bytes samples s l e one rest both =
+pub mailbox_takes_samples : StaysFit → MailboxTakesPosts → MailboxTakesSamples
+mailbox_takes_samples stays_fit law b f flags v limits h fits =
+    let image = image_memory f.image.bytes in
     let w = width_of f.wide in
-    let until : IsUntil (is_idle f.layout) p.flags one.ds (given f.layout bytes s) one.t =
-    subst (λ (k : Layout). IsUntil (is_idle k) p.flags one.ds (given k bytes s) one.t) (sym l) one.until in
-    let stand : HasAnswers f.layout b w (λ o. answer w b o bytes (before o)) one.t.mem =
-    subst (λ (k : Layout). HasAnswers k b w (λ o. answer w b o bytes (before o)) one.t.mem) (sym l) one.answers in (
-      (one.t, (record { ds = one.ds; until = until; values = refl; instructions = refl }, both.0)),
+    let p : Post = record { stays_fit = stays_fit; n = length b.inputs; few = v.few_inputs; image = image; flags = flags; fits = fits } in
+    let turns : TakesTurns (mailbox_layout (length b.inputs)) b w f.instr_bound image flags =
+    subst (λ (k : Layout). TakesTurns k b w f.instr_bound image flags) h.layout (law b f v limits h flags fits) in
+    subst (λ (k : Layout). TakesSamples k b w f.instr_bound image flags) (sym h.layout) (takes_samples p b w f.instr_bound turns v)
+
+-- a list of samples
+abbrev Both : Firmware → Block → ℕ → (ℕ → ℕ) → List (List ℕ) → State → List Answer → Type 0
+Both f b flags before samples s answers = AreAnswersTo f flags samples answers s × AreAnswersOf (width_of f.wide) b f.instr_bound before samples answers
+
+more : (f : Firmware) (b : Block) (flags : ℕ) (before : ℕ → ℕ) (bytes : List ℕ) (samples : List (List ℕ)) (s t : State) → f.outputs ≡ length b.outputs
+    → IsSampleTurn f.layout b (width_of f.wide) f.instr_bound (image_memory f.image.bytes) flags before bytes s t
+    → (rest : List Answer) → Both f b flags (λ o. answer (width_of f.wide) b o bytes (before o)) samples t rest
+    → (answers : List Answer) × Both f b flags before (bytes ∷ samples) s answers
+more f b flags before bytes samples s t e one rest both =
+    let w = width_of f.wide in
+    let copy = one.copy in
+    let turned = one.turned in
+    let ds : List ℕ = 0 ∷ 0 ∷ 0 ∷ (copy.ds ++ turned.ds) in (
+      record { values = values_in f t; instructions = length ds } ∷ rest,
       (
-        record {
-          values = λ o lo hi. value_from w one.t.mem f.layout.outputs f.outputs (o - 1) (answer w b o bytes (before o)) (omega arith) (stand o lo hi);
-          count = count_from w one.t.mem f.layout.outputs f.outputs ∙ e;
-          instructions = one.instructions;
-        },
-        both.1,
+        (t, (record { ds = ds; until = one.until; values = refl; instructions = refl }, both.0)),
+        (
+          record {
+            values = λ o lo hi. value_from w t.mem f.layout.outputs f.outputs (o - 1) (answer w b o bytes (before o)) (omega arith) (turned.answers o lo hi);
+            count = count_from w t.mem f.layout.outputs f.outputs ∙ e;
+            instructions = omega (arith, length_append copy.ds turned.ds, copy.count, turned.instructions);
+          },
+          both.1,
+        ),
       ),
     )
 
-all_answered : (f : Firmware) (b : Block) (p : Post) (before : ℕ → ℕ) (samples : List (List ℕ)) (s : State) → f.layout ≡ mailbox_layout p.n → f.outputs ≡ length b.outputs
-    → TakesTurns (mailbox_layout p.n) b (width_of f.wide) f.instr_bound p.image p.flags → IsValid b → All (AreInputBytes b) samples → IsAt p.image 0xC008 s
-    → HasAnswers (mailbox_layout p.n) b (width_of f.wide) before s.mem → (answers : List Answer) × Both f b p before samples s answers
-all_answered f b p before [] s l e turns v all at outs = ([], (tt, tt))
-all_answered f b p before (bytes ∷ samples) s l e turns v all at outs =
-    let w = width_of f.wide in
-    let one = answered p b w f.instr_bound bytes before s turns v.few_inputs v.few_outputs (all 0 bytes (omega arith)) at outs in
-    let rest = all_answered f b p (λ o. answer w b o bytes (before o)) samples one.t l e turns v (λ k d lt. all (suc k) d (omega arith)) one.at one.answers in
-    (record { values = values_in f one.t; instructions = length one.ds } ∷ rest.0, more f b p before bytes samples s l e one rest.0 rest.1)
+all_answered : (f : Firmware) (b : Block) (flags : ℕ) (before : ℕ → ℕ) (samples : List (List ℕ)) (s : State) → f.outputs ≡ length b.outputs
+    → TakesSamples f.layout b (width_of f.wide) f.instr_bound (image_memory f.image.bytes) flags → All (AreInputBytes b) samples
+    → IsAt (image_memory f.image.bytes) f.layout.wait s → HasAnswers f.layout b (width_of f.wide) before s.mem
+    → (answers : List Answer) × Both f b flags before samples s answers
+all_answered f b flags before [] s e takes all at outs = ([], (tt, tt))
+all_answered f b flags before (bytes ∷ samples) s e takes all at outs =
+    let one = takes.answers before bytes s (all 0 bytes (omega arith)) at outs in
+    let turned = one.1.turned in
+    let rest = all_answered f b flags (λ o. answer (width_of f.wide) b o bytes (before o)) samples one.0 e takes (λ k d lt. all (suc k) d (omega arith)) turned.at turned.answers in
+    more f b flags before bytes samples s one.0 e one.1 rest.0 rest.1
 
--- from reset
-pub from_reset : (f : Firmware) (b : Block) (p : Post) (samples : List (List ℕ)) → f.layout ≡ mailbox_layout p.n → f.outputs ≡ length b.outputs → image_memory f.image.bytes ≡ p.image
-    → TakesTurns (mailbox_layout p.n) b (width_of f.wide) f.instr_bound p.image p.flags → IsValid b → All (AreInputBytes b) samples
-    → (answers : List Answer) × (AreUninterrupted f p.flags samples answers × AreAnswersOf (width_of f.wide) b f.instr_bound (λ o. 0) samples answers)
-from_reset f b p samples l e same turns v all =
-    let r = turns.arrives in
-    let w = width_of f.wide in
-    let rest = all_answered f b p (λ o. 0) samples r.0 l e turns v all r.1.at r.1.outputs in
-    let arrived : IsUntil (is_waiting (mailbox_layout p.n)) p.flags (plain_parts 3) (reset_with p.image) r.0 =
-    record { execution = arrival (mailbox_layout p.n) p.flags 3 (reset_with p.image) r.0 r.1.way; stopped = waits (mailbox_layout p.n) r.0 r.1.at.pc } in
-    let there : IsUntil (is_waiting f.layout) p.flags (plain_parts 3) (reset_with (image_memory f.image.bytes)) r.0 =
-    subst (λ (k : Layout). IsUntil (is_waiting k) p.flags (plain_parts 3) (reset_with (image_memory f.image.bytes)) r.0) (sym l)
-    (subst (λ (m : List ℕ). IsUntil (is_waiting (mailbox_layout p.n)) p.flags (plain_parts 3) (reset_with m) r.0) (sym same) arrived) in
-    (rest.0, (record { first = r.0; ds = plain_parts 3; arrived = there; each = rest.1.0 }, rest.1.1))
-
-pub mailbox_is_uninterrupted : StaysFit → MailboxTakesPosts → MailboxIsUninterrupted
-mailbox_is_uninterrupted stays_fit law b f v limits h flags samples fits all =
-    let image = image_memory f.image.bytes in
-    let p : Post = record { stays_fit = stays_fit; n = length b.inputs; few = v.few_inputs; image = image; flags = flags; fits = fits } in
-    let turns : TakesTurns (mailbox_layout (length b.inputs)) b (width_of f.wide) f.instr_bound image flags =
-    subst (λ (k : Layout). TakesTurns k b (width_of f.wide) f.instr_bound image flags) h.layout (law b f v limits h flags fits) in
-    from_reset f b p samples h.layout h.outputs refl turns v all
+pub mailbox_is_uninterrupted : MailboxTakesSamples → MailboxIsUninterrupted
+mailbox_is_uninterrupted law b f v limits h flags samples fits all =
+    let takes = law b f flags v limits h fits in
+    let ready = takes.ready in
+    let rest = all_answered f b flags (λ o. 0) samples takes.first h.outputs takes all ready.at ready.outputs in
+    (rest.0, (record { first = takes.first; ds = 0 ∷ 0 ∷ 0 ∷ []; arrived = takes.arrived; each = rest.1.0 }, rest.1.1))

@@ -12,7 +12,7 @@ use Rattle.codegen.specs.Mailboxes.{is_postable, mailbox_layout, copy_code, call
 use Rattle.codegen.specs.Turns.{IsAt, IsMaskedStep, IsCopied}
 use Rattle.codegen.proofs.steps.Flags.{masked_four, masked_on, unmasked}
 use Rattle.codegen.proofs.steps.Executions.{execution_on, length_append}
-use Rattle.codegen.proofs.runs.Stepping.{Here, Lives, Stands, Went, low_shown, not_at, plain_went, steady_of}
+use Rattle.codegen.proofs.runs.Stepping.{Here, Lives, Stands, Went, low_shown, plain_went, steady_of}
 use Rattle.codegen.proofs.turns.Posting.{Post, HasTurn, free_ctx, post_ctx, lives_of, at_of}
 
 abbrev Masked : Post → ℕ → State → State → Type 0
@@ -22,7 +22,7 @@ Masked p = IsMaskedStep (mailbox_layout p.n) p.image p.flags
 masked_step : (p : Post) (i : Instr) (s t : State) (at q : ℕ) → Lives p.image true s → s.regs.pc ≡ at → Here (free_ctx p) at i → (later : Bool)
     → Went (free_ctx p) later i s t q → Masked p 0 s t
 masked_step p i s t at q l e h later w = record {
-  busy = not_at (mailbox_layout p.n) s at e h.off;
+  away = λ q. h.off (sym e ∙ q);
   steady = (let lo = h.from in let hi = h.to in steady_of (post_ctx p) true s l (omega arith) (omega arith));
   instruction = i;
   shown = w.shown;

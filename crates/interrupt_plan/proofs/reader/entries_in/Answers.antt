@@ -1,4 +1,4 @@
-use Rattle.std.proofs.Common.{◌+◌, List, arith, refl, subst, ◌∙◌}
+use Rattle.std.proofs.Common.{◌+◌, arith, refl, subst, ◌∙◌}
 use Rattle.csv.specs.Records.{fields_of}
 use Rattle.interrupt_plan.specs.Rows.{RowFails}
 use Rattle.interrupt_plan.proofs.PlanLemmas.{entries_more, fault_at, order_more, too_many}

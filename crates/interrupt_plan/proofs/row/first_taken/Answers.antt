@@ -1,4 +1,4 @@
-use Rattle.std.proofs.Common.{◌≡◌, true, false, arith, refl, sym}
+use Rattle.std.proofs.Common.{arith, sym}
 use Rattle.interrupt_plan.proofs.PlanLemmas.{blank, free_all, free_more, taken_at}
 use Rattle.interrupt_plan.proofs.row.first_taken.Goals as goal
 

@@ -1,5 +1,4 @@
-use Rattle.std.proofs.Common.{◌∙◌, ◌<◌, ◌^◌, List, map, ap, sym, subst}
-use Rattle.std.specs.Prelude.{All}
+use Rattle.std.proofs.Common.{◌∙◌, List, map, ap, sym, subst}
 use Rattle.interrupt_plan.specs.declared.upsets.Upset.{Upset}
 use Rattle.fz_run.specs.Rows.{requests_of, first_state, input_bytes}
 use Rattle.watched_runs.specs.Samples.{with_upsets}
@@ -27,8 +26,6 @@ returns-clause-answers c =
     let inputs = map input_bytes a.samples.now in
     let plan = a.plan.now in
     let upsets : List Upset = a.upsets.now in
-    let fit = subst (λ (us : List Upset). All (λ (u : Upset). u.value < 2 ^ 8) us) c.ascending-upsets.ensures.same
-    c.read_values.ensures in
     let law = c.answers_under_all_upsets.ensures f a.flags inputs plan upsets c.ranges.flags.fits c.requires.plan
-    c.requires.upsets fit in
+    c.requires.upsets in
     subst (λ (rs : List FaultSeen). AnswersItsSamples f a.flags inputs plan upsets rs) (sym (returns-clause-rows c)) law
