@@ -7,7 +7,7 @@ ghost use Rattle.cpu12_emul.specs.Step.{Whole, kind_of, instruction_act, next_of
 
 use crate::ends::Stepped;
 use crate::fetch::{is_rev, is_revw};
-use cpu12_isa::decode::decode;
+use cpu12_isa::decode::instruction_at;
 use cpu12_isa::exec::exec;
 use cpu12_isa::instr::{Ccr, Instr, Regs, Trap};
 use cpu12_isa::mem::{Mem, word_of};
@@ -121,6 +121,7 @@ impl<M: Mem> Machine<M> {
     }
 
     /// The step of an instruction that stands at PC, where no sums run.
+    #[inline(always)]
     #[tactic(auto, using(cpu12_isa::proofs::Algebra::outcome_bind))]
     fn instruction(&mut self, i: &Instr) -> Stepped
         ensures next { applied (outcome (instruction_act self.old.flags self.old.state.regs self.old.state.temps (Ok i.now)) self.old.state.mem) self.old.state.mem
@@ -143,9 +144,7 @@ impl<M: Mem> Machine<M> {
     }
 
     /// The step of what is decoded at PC, where no sums run. A `Trap` leaves the machine as it was.
-    ///
-    /// It stands apart so that `step` is small: nearly all steps are elements of REV and REVW.
-    #[inline(never)]
+    #[inline(always)]
     #[tactic(auto, using(cpu12_isa::proofs::Algebra::outcome_bind))]
     fn decoded_step(&mut self) -> Result<Stepped, Trap>
         requires { IsOff self.old.state.temps }
@@ -156,8 +155,8 @@ impl<M: Mem> Machine<M> {
         ensures trap { IfErr result (λ t. decode_at self.old.state.mem self.old.state.regs.pc ≡ Err t.byte) }
         ensures flags { self.new.flags ≡ self.old.flags }
     {
-        match decode(&self.mem, self.regs.pc) {
-            Ok((i, _)) => Ok(self.instruction(&i)),
+        match instruction_at(&self.mem, self.regs.pc) {
+            Ok(i) => Ok(self.instruction(&i)),
             Err(trap) => Err(trap),
         }
     }

@@ -3,10 +3,12 @@ ghost use Rattle.std.specs.Prelude.{ℕ, ◌≡◌, ◌+◌, ◌*◌, ◌/◌, �
 ghost use Rattle.cpu12_isa.specs.Memory.{plus, word_of, high_of, low_of};
 ghost use Rattle.cpu12_isa.specs.Code.{decode_at, encode_of, StandsAt, FitsOperands, DecodesEncoded};
 
+use crate::encode::encode;
 use crate::instr::{Instr, Trap};
 use crate::mem::{Mem, word_of};
 
 /// The byte `k` places after `pc`.
+#[inline(always)]
 fn byte<M: Mem>(m: &M, pc: u16, k: u16) -> u8
     ensures { result ≡ slice_index (M.bytes m.now) (plus pc k) }
 {
@@ -14,6 +16,7 @@ fn byte<M: Mem>(m: &M, pc: u16, k: u16) -> u8
 }
 
 /// The word `k` places after `pc`.
+#[inline(always)]
 fn word<M: Mem>(m: &M, pc: u16, k: u16) -> u16
     requires { k < 6 }
     ensures value { result ≡ word_of (slice_index (M.bytes m.now) (plus pc k))
@@ -23,6 +26,131 @@ fn word<M: Mem>(m: &M, pc: u16, k: u16) -> u16
     ensures fits { result < 2 ^ 16 }
 {
     word_of(byte(m, pc, k), byte(m, pc, k + 1))
+}
+
+/// The instruction that stands at `pc`. A `Trap` comes exactly where the byte at `pc`, or the one
+/// after `$18`, `$B7` or `$EB`, is not in the table.
+///
+/// It is inlined into a step, which then goes by the first byte once for decoding and doing.
+#[inline(always)]
+pub fn instruction_at<M: Mem>(m: &M, pc: u16) -> Result<Instr, Trap>
+    ensures found { MatchResult result (λ i. decode_at (M.bytes m.now) pc ≡ Ok i)
+        (λ t. decode_at (M.bytes m.now) pc ≡ Err t.byte) }
+    ensures stands { IfOk result (λ i. StandsAt (M.bytes m.now) pc i) }
+    ensures fits { IfOk result FitsOperands }
+    ensures place { IfErr result (λ t. t.pc ≡ pc) }
+{
+    let first = m.read(pc);
+    match first {
+        0x18 => decode_page_18(m, pc),
+        0xB7 => decode_page_b7(m, pc),
+        0xEB => decode_page_eb(m, pc),
+        0x86 => Ok(Instr::LdaaImmediate(byte(m, pc, 1))),
+        0xB6 => Ok(Instr::LdaaExtended(word(m, pc, 1))),
+        0xC6 => Ok(Instr::LdabImmediate(byte(m, pc, 1))),
+        0xF6 => Ok(Instr::LdabExtended(word(m, pc, 1))),
+        0xCE => Ok(Instr::LdxImmediate(word(m, pc, 1))),
+        0xCD => Ok(Instr::LdyImmediate(word(m, pc, 1))),
+        0xCF => Ok(Instr::LdsImmediate(word(m, pc, 1))),
+        0x7A => Ok(Instr::StaaExtended(word(m, pc, 1))),
+        0x7B => Ok(Instr::StabExtended(word(m, pc, 1))),
+        0x79 => Ok(Instr::ClrExtended(word(m, pc, 1))),
+        0x41 => Ok(Instr::Coma),
+        0x8E => Ok(Instr::CpxImmediate(word(m, pc, 1))),
+        0x27 => Ok(Instr::Beq(byte(m, pc, 1))),
+        0x26 => Ok(Instr::Bne(byte(m, pc, 1))),
+        0x24 => Ok(Instr::Bcc(byte(m, pc, 1))),
+        0x25 => Ok(Instr::Bcs(byte(m, pc, 1))),
+        0x20 => Ok(Instr::Bra(byte(m, pc, 1))),
+        0x16 => Ok(Instr::JsrExtended(word(m, pc, 1))),
+        0x3D => Ok(Instr::Rts),
+        0x10 => Ok(Instr::Andcc(byte(m, pc, 1))),
+        0x14 => Ok(Instr::Orcc(byte(m, pc, 1))),
+        0x11 => Ok(Instr::Ediv),
+        0x0B => Ok(Instr::Rti),
+        0xA7 => Ok(Instr::Nop),
+        0x72 => Ok(Instr::IncExtended(word(m, pc, 1))),
+        0x73 => Ok(Instr::DecExtended(word(m, pc, 1))),
+        0x8B => Ok(Instr::AddaImmediate(byte(m, pc, 1))),
+        0xBB => Ok(Instr::AddaExtended(word(m, pc, 1))),
+        0xCB => Ok(Instr::AddbImmediate(byte(m, pc, 1))),
+        0xFB => Ok(Instr::AddbExtended(word(m, pc, 1))),
+        0x89 => Ok(Instr::AdcaImmediate(byte(m, pc, 1))),
+        0x80 => Ok(Instr::SubaImmediate(byte(m, pc, 1))),
+        0xB0 => Ok(Instr::SubaExtended(word(m, pc, 1))),
+        0x81 => Ok(Instr::CmpaImmediate(byte(m, pc, 1))),
+        0xB1 => Ok(Instr::CmpaExtended(word(m, pc, 1))),
+        0x84 => Ok(Instr::AndaImmediate(byte(m, pc, 1))),
+        0xB4 => Ok(Instr::AndaExtended(word(m, pc, 1))),
+        0x8A => Ok(Instr::OraaImmediate(byte(m, pc, 1))),
+        0xBA => Ok(Instr::OraaExtended(word(m, pc, 1))),
+        0x08 => Ok(Instr::Inx),
+        0x09 => Ok(Instr::Dex),
+        0x02 => Ok(Instr::Iny),
+        0x03 => Ok(Instr::Dey),
+        0x36 => Ok(Instr::Psha),
+        0x32 => Ok(Instr::Pula),
+        0x01 => Ok(Instr::Mem),
+        0x3C => Ok(Instr::Wavr),
+        _ => Err(Trap { pc, byte: first }),
+    }
+}
+
+/// The instruction at `pc`, whose first byte is `$18`.
+#[inline(always)]
+fn decode_page_18<M: Mem>(m: &M, pc: u16) -> Result<Instr, Trap>
+    requires { slice_index (M.bytes m.now) pc ≡ 0x18 }
+    ensures found { MatchResult result (λ i. decode_at (M.bytes m.now) pc ≡ Ok i)
+        (λ t. decode_at (M.bytes m.now) pc ≡ Err t.byte) }
+    ensures stands { IfOk result (λ i. StandsAt (M.bytes m.now) pc i) }
+    ensures fits { IfOk result FitsOperands }
+    ensures place { IfErr result (λ t. t.pc ≡ pc) }
+{
+    let second = byte(m, pc, 1);
+    match second {
+        0x11 => Ok(Instr::Fdiv),
+        0x0B => Ok(Instr::MovbImmediate(byte(m, pc, 2), word(m, pc, 3))),
+        0x0C => Ok(Instr::MovbExtended(word(m, pc, 2), word(m, pc, 4))),
+        0x3A => Ok(Instr::Rev),
+        0x3B => Ok(Instr::Revw),
+        0x3C => Ok(Instr::Wav),
+        _ => Err(Trap { pc, byte: second }),
+    }
+}
+
+/// The instruction at `pc`, whose first byte is `$B7`.
+#[inline(always)]
+fn decode_page_b7<M: Mem>(m: &M, pc: u16) -> Result<Instr, Trap>
+    requires { slice_index (M.bytes m.now) pc ≡ 0xB7 }
+    ensures found { MatchResult result (λ i. decode_at (M.bytes m.now) pc ≡ Ok i)
+        (λ t. decode_at (M.bytes m.now) pc ≡ Err t.byte) }
+    ensures stands { IfOk result (λ i. StandsAt (M.bytes m.now) pc i) }
+    ensures fits { IfOk result FitsOperands }
+    ensures place { IfErr result (λ t. t.pc ≡ pc) }
+{
+    let postbyte = byte(m, pc, 1);
+    match postbyte {
+        0x54 => Ok(Instr::TransferXD),
+        0x64 => Ok(Instr::TransferYD),
+        _ => Err(Trap { pc, byte: postbyte }),
+    }
+}
+
+/// The instruction at `pc`, whose first byte is `$EB`.
+#[inline(always)]
+fn decode_page_eb<M: Mem>(m: &M, pc: u16) -> Result<Instr, Trap>
+    requires { slice_index (M.bytes m.now) pc ≡ 0xEB }
+    ensures found { MatchResult result (λ i. decode_at (M.bytes m.now) pc ≡ Ok i)
+        (λ t. decode_at (M.bytes m.now) pc ≡ Err t.byte) }
+    ensures stands { IfOk result (λ i. StandsAt (M.bytes m.now) pc i) }
+    ensures fits { IfOk result FitsOperands }
+    ensures place { IfErr result (λ t. t.pc ≡ pc) }
+{
+    let postbyte = byte(m, pc, 1);
+    match postbyte {
+        0x30 => Ok(Instr::AddbPostIncrementX),
+        _ => Err(Trap { pc, byte: postbyte }),
+    }
 }
 
 /// The instruction that stands at `pc` and the number of its bytes, 1 to 6. A `Trap` comes exactly
@@ -35,116 +163,12 @@ pub fn decode<M: Mem>(m: &M, pc: u16) -> Result<(Instr, u8), Trap>
     ensures fits { IfOk result (λ x. FitsOperands x.0) }
     ensures place { IfErr result (λ t. t.pc ≡ pc) }
 {
-    let first = m.read(pc);
-    match first {
-        0x18 => decode_page_18(m, pc),
-        0xB7 => decode_page_b7(m, pc),
-        0xEB => decode_page_eb(m, pc),
-        0x86 => Ok((Instr::LdaaImmediate(byte(m, pc, 1)), 2)),
-        0xB6 => Ok((Instr::LdaaExtended(word(m, pc, 1)), 3)),
-        0xC6 => Ok((Instr::LdabImmediate(byte(m, pc, 1)), 2)),
-        0xF6 => Ok((Instr::LdabExtended(word(m, pc, 1)), 3)),
-        0xCE => Ok((Instr::LdxImmediate(word(m, pc, 1)), 3)),
-        0xCD => Ok((Instr::LdyImmediate(word(m, pc, 1)), 3)),
-        0xCF => Ok((Instr::LdsImmediate(word(m, pc, 1)), 3)),
-        0x7A => Ok((Instr::StaaExtended(word(m, pc, 1)), 3)),
-        0x7B => Ok((Instr::StabExtended(word(m, pc, 1)), 3)),
-        0x79 => Ok((Instr::ClrExtended(word(m, pc, 1)), 3)),
-        0x41 => Ok((Instr::Coma, 1)),
-        0x8E => Ok((Instr::CpxImmediate(word(m, pc, 1)), 3)),
-        0x27 => Ok((Instr::Beq(byte(m, pc, 1)), 2)),
-        0x26 => Ok((Instr::Bne(byte(m, pc, 1)), 2)),
-        0x24 => Ok((Instr::Bcc(byte(m, pc, 1)), 2)),
-        0x25 => Ok((Instr::Bcs(byte(m, pc, 1)), 2)),
-        0x20 => Ok((Instr::Bra(byte(m, pc, 1)), 2)),
-        0x16 => Ok((Instr::JsrExtended(word(m, pc, 1)), 3)),
-        0x3D => Ok((Instr::Rts, 1)),
-        0x10 => Ok((Instr::Andcc(byte(m, pc, 1)), 2)),
-        0x14 => Ok((Instr::Orcc(byte(m, pc, 1)), 2)),
-        0x11 => Ok((Instr::Ediv, 1)),
-        0x0B => Ok((Instr::Rti, 1)),
-        0xA7 => Ok((Instr::Nop, 1)),
-        0x72 => Ok((Instr::IncExtended(word(m, pc, 1)), 3)),
-        0x73 => Ok((Instr::DecExtended(word(m, pc, 1)), 3)),
-        0x8B => Ok((Instr::AddaImmediate(byte(m, pc, 1)), 2)),
-        0xBB => Ok((Instr::AddaExtended(word(m, pc, 1)), 3)),
-        0xCB => Ok((Instr::AddbImmediate(byte(m, pc, 1)), 2)),
-        0xFB => Ok((Instr::AddbExtended(word(m, pc, 1)), 3)),
-        0x89 => Ok((Instr::AdcaImmediate(byte(m, pc, 1)), 2)),
-        0x80 => Ok((Instr::SubaImmediate(byte(m, pc, 1)), 2)),
-        0xB0 => Ok((Instr::SubaExtended(word(m, pc, 1)), 3)),
-        0x81 => Ok((Instr::CmpaImmediate(byte(m, pc, 1)), 2)),
-        0xB1 => Ok((Instr::CmpaExtended(word(m, pc, 1)), 3)),
-        0x84 => Ok((Instr::AndaImmediate(byte(m, pc, 1)), 2)),
-        0xB4 => Ok((Instr::AndaExtended(word(m, pc, 1)), 3)),
-        0x8A => Ok((Instr::OraaImmediate(byte(m, pc, 1)), 2)),
-        0xBA => Ok((Instr::OraaExtended(word(m, pc, 1)), 3)),
-        0x08 => Ok((Instr::Inx, 1)),
-        0x09 => Ok((Instr::Dex, 1)),
-        0x02 => Ok((Instr::Iny, 1)),
-        0x03 => Ok((Instr::Dey, 1)),
-        0x36 => Ok((Instr::Psha, 1)),
-        0x32 => Ok((Instr::Pula, 1)),
-        0x01 => Ok((Instr::Mem, 1)),
-        0x3C => Ok((Instr::Wavr, 1)),
-        _ => Err(Trap { pc, byte: first }),
-    }
-}
-
-/// The instruction at `pc`, whose first byte is `$18`.
-fn decode_page_18<M: Mem>(m: &M, pc: u16) -> Result<(Instr, u8), Trap>
-    requires { slice_index (M.bytes m.now) pc ≡ 0x18 }
-    ensures found { MatchResult result (λ x. decode_at (M.bytes m.now) pc ≡ Ok x.0)
-        (λ t. decode_at (M.bytes m.now) pc ≡ Err t.byte) }
-    ensures size { IfOk result (λ x. x.1 ≡ length (encode_of x.0)) }
-    ensures stands { IfOk result (λ x. StandsAt (M.bytes m.now) pc x.0) }
-    ensures fits { IfOk result (λ x. FitsOperands x.0) }
-    ensures place { IfErr result (λ t. t.pc ≡ pc) }
-{
-    let second = byte(m, pc, 1);
-    match second {
-        0x11 => Ok((Instr::Fdiv, 2)),
-        0x0B => Ok((Instr::MovbImmediate(byte(m, pc, 2), word(m, pc, 3)), 5)),
-        0x0C => Ok((Instr::MovbExtended(word(m, pc, 2), word(m, pc, 4)), 6)),
-        0x3A => Ok((Instr::Rev, 2)),
-        0x3B => Ok((Instr::Revw, 2)),
-        0x3C => Ok((Instr::Wav, 2)),
-        _ => Err(Trap { pc, byte: second }),
-    }
-}
-
-/// The instruction at `pc`, whose first byte is `$B7`.
-fn decode_page_b7<M: Mem>(m: &M, pc: u16) -> Result<(Instr, u8), Trap>
-    requires { slice_index (M.bytes m.now) pc ≡ 0xB7 }
-    ensures found { MatchResult result (λ x. decode_at (M.bytes m.now) pc ≡ Ok x.0)
-        (λ t. decode_at (M.bytes m.now) pc ≡ Err t.byte) }
-    ensures size { IfOk result (λ x. x.1 ≡ length (encode_of x.0)) }
-    ensures stands { IfOk result (λ x. StandsAt (M.bytes m.now) pc x.0) }
-    ensures fits { IfOk result (λ x. FitsOperands x.0) }
-    ensures place { IfErr result (λ t. t.pc ≡ pc) }
-{
-    let postbyte = byte(m, pc, 1);
-    match postbyte {
-        0x54 => Ok((Instr::TransferXD, 2)),
-        0x64 => Ok((Instr::TransferYD, 2)),
-        _ => Err(Trap { pc, byte: postbyte }),
-    }
-}
-
-/// The instruction at `pc`, whose first byte is `$EB`.
-fn decode_page_eb<M: Mem>(m: &M, pc: u16) -> Result<(Instr, u8), Trap>
-    requires { slice_index (M.bytes m.now) pc ≡ 0xEB }
-    ensures found { MatchResult result (λ x. decode_at (M.bytes m.now) pc ≡ Ok x.0)
-        (λ t. decode_at (M.bytes m.now) pc ≡ Err t.byte) }
-    ensures size { IfOk result (λ x. x.1 ≡ length (encode_of x.0)) }
-    ensures stands { IfOk result (λ x. StandsAt (M.bytes m.now) pc x.0) }
-    ensures fits { IfOk result (λ x. FitsOperands x.0) }
-    ensures place { IfErr result (λ t. t.pc ≡ pc) }
-{
-    let postbyte = byte(m, pc, 1);
-    match postbyte {
-        0x30 => Ok((Instr::AddbPostIncrementX, 2)),
-        _ => Err(Trap { pc, byte: postbyte }),
+    match instruction_at(m, pc) {
+        Ok(instruction) => {
+            let size = encode(&instruction).len() as u8;
+            Ok((instruction, size))
+        }
+        Err(trap) => Err(trap),
     }
 }
 

@@ -21,6 +21,7 @@ impl Instr {
 
 /// Does a plain instruction or MEM, which stands at PC. Flags that the manual leaves open take their
 /// bits from `flags`.
+#[inline(always)]
 pub fn exec<M: Mem>(i: &Instr, r: &mut Regs, m: &mut M, flags: u8)
     requires { IsTrue (is_plain i.now) }
     ensures regs { r.new ≡ (effect flags i.now r.old (M.bytes m.old)).regs }

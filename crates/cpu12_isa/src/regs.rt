@@ -9,6 +9,7 @@ use crate::mem::{high_of, low_of};
 
 impl Regs {
     /// Goes on at the next instruction.
+    #[inline(always)]
     pub fn pass(&mut self, n: u16)
         ensures { self.new ≡ passed self.old n }
     {
@@ -16,6 +17,7 @@ impl Regs {
     }
 
     /// Flags of a byte that is stored.
+    #[inline(always)]
     pub fn store(&mut self, v: u8)
         ensures { self.new ≡ stored self.old v }
     {
@@ -23,6 +25,7 @@ impl Regs {
         self.pass(3);
     }
 
+    #[inline(always)]
     pub fn load_a(&mut self, v: u8, n: u16)
         ensures { self.new ≡ loaded_a self.old v n }
     {
@@ -31,6 +34,7 @@ impl Regs {
         self.pass(n);
     }
 
+    #[inline(always)]
     pub fn load_b(&mut self, v: u8, n: u16)
         ensures { self.new ≡ loaded_b self.old v n }
     {
@@ -39,6 +43,7 @@ impl Regs {
         self.pass(n);
     }
 
+    #[inline(always)]
     pub fn load_x(&mut self, v: u16)
         ensures { self.new ≡ loaded_x self.old v }
     {
@@ -47,6 +52,7 @@ impl Regs {
         self.pass(3);
     }
 
+    #[inline(always)]
     pub fn load_y(&mut self, v: u16)
         ensures { self.new ≡ loaded_y self.old v }
     {
@@ -55,6 +61,7 @@ impl Regs {
         self.pass(3);
     }
 
+    #[inline(always)]
     pub fn load_sp(&mut self, v: u16)
         ensures { self.new ≡ loaded_sp self.old v }
     {
@@ -63,6 +70,7 @@ impl Regs {
         self.pass(3);
     }
 
+    #[inline(always)]
     pub fn complement_a(&mut self)
         ensures { self.new ≡ complemented_a self.old }
     {
@@ -71,6 +79,7 @@ impl Regs {
         self.pass(1);
     }
 
+    #[inline(always)]
     pub fn compare_x(&mut self, v: u16)
         ensures { self.new ≡ compared_x self.old v }
     {
@@ -78,6 +87,7 @@ impl Regs {
         self.pass(3);
     }
 
+    #[inline(always)]
     pub fn compare_a(&mut self, v: u8, n: u16)
         ensures { self.new ≡ compared_a self.old v n }
     {
@@ -85,6 +95,7 @@ impl Regs {
         self.pass(n);
     }
 
+    #[inline(always)]
     pub fn add_a(&mut self, v: u8, n: u16)
         ensures { self.new ≡ added_a self.old v n }
     {
@@ -93,6 +104,7 @@ impl Regs {
         self.pass(n);
     }
 
+    #[inline(always)]
     pub fn add_b(&mut self, v: u8, n: u16)
         ensures { self.new ≡ added_b self.old v n }
     {
@@ -102,6 +114,7 @@ impl Regs {
     }
 
     /// Adds a byte and C.
+    #[inline(always)]
     pub fn add_carry_a(&mut self, v: u8)
         ensures { self.new ≡ carried_a self.old v }
     {
@@ -111,6 +124,7 @@ impl Regs {
         self.pass(2);
     }
 
+    #[inline(always)]
     pub fn subtract_a(&mut self, v: u8, n: u16)
         ensures { self.new ≡ subtracted_a self.old v n }
     {
@@ -119,12 +133,14 @@ impl Regs {
         self.pass(n);
     }
 
+    #[inline(always)]
     pub fn and_a(&mut self, v: u8, n: u16)
         ensures { self.new ≡ anded_a self.old v n }
     {
         self.load_a(self.a & v, n);
     }
 
+    #[inline(always)]
     pub fn or_a(&mut self, v: u8, n: u16)
         ensures { self.new ≡ ored_a self.old v n }
     {
@@ -132,6 +148,7 @@ impl Regs {
     }
 
     /// Adds `k` to X; 65535 is 1 down.
+    #[inline(always)]
     pub fn move_x(&mut self, k: u16)
         ensures { self.new ≡ moved_x self.old k }
     {
@@ -141,6 +158,7 @@ impl Regs {
     }
 
     /// Adds `k` to Y; 65535 is 1 down.
+    #[inline(always)]
     pub fn move_y(&mut self, k: u16)
         ensures { self.new ≡ moved_y self.old k }
     {
@@ -149,6 +167,7 @@ impl Regs {
         self.pass(1);
     }
 
+    #[inline(always)]
     pub fn transfer_d(&mut self, v: u16)
         ensures { self.new ≡ transferred_d self.old v }
     {
@@ -158,6 +177,7 @@ impl Regs {
     }
 
     /// Branches to an offset from the next instruction, or goes on there.
+    #[inline(always)]
     pub fn branch(&mut self, to: u8, go: bool)
         ensures { self.new ≡ branched self.old to go }
     {
