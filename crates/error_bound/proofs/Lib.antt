@@ -24,4 +24,6 @@ pub mod ConclusionLemmas
 pub mod PairLemmas
 pub mod FaultLemmas
 pub mod BestLemmas
-pub mod ShorteningLemmas
+pub mod Groups
+pub mod Values
+pub mod FlatteningLemmas

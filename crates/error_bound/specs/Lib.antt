@@ -9,7 +9,7 @@ pub mod Bounds
 pub mod Answers
 pub mod Laws
 pub mod CellErrors
-pub mod Shortening
+pub mod Flattening
 pub mod Ratios
 pub mod Reaches
 pub mod BestLeaves

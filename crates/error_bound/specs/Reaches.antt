@@ -22,7 +22,7 @@ use Rattle.error_bound.specs.Ratios.{value_of, IsRatio}
 use Rattle.error_bound.specs.Spans.{Span, ByteSpan, span, byte_span, greatest_literal}
 use Rattle.error_bound.specs.Boxes.{IsBoxOf, degrees_over, grades_over, literal_span, literal_byte_span, rule_span, rule_byte_span}
 use Rattle.error_bound.specs.Errors.{billion, rule_error}
-use Rattle.error_bound.specs.Shortening.{ReachesAlike}
+use Rattle.error_bound.specs.Flattening.{AreSame, ReachesAlike}
 use Rattle.error_bound.specs.CellErrors.{cell_error, term_error, term_errors}
 
 abbrev pub span_of : Degrees → Span
@@ -109,13 +109,20 @@ pub record IsReachOfCondition (b : Block) (box : List Interval) (c : Condition) 
   pub error : r.error ≡ greatest_literal (term_errors b box) c
   pub small : IsSmall r
 
+-- and by truths of the same values
+pub record ReachesAsFar (b : Block) (box : List Interval) (c : Condition) (r : Reach) : Type 0 where
+  pub value : AreSame (span_of r.degrees) (span (literal_span b box) c)
+  pub bytes : byte_span_of r ≡ byte_span (literal_byte_span b box) c
+  pub error : r.error ≡ greatest_literal (term_errors b box) c
+  pub small : IsSmall r
+
 pub record HasSmallTruths (q : Reach) : Type 0 where
   pub low : IsRatio 10000000000000000 q.degrees.low
   pub high : IsRatio 10000000000000000 q.degrees.high
 
 -- the reach of a rule's strength
 pub record IsReachOfRule (b : Block) (box : List Interval) (r : Rule) (q : Reach) : Type 0 where
-  pub value : span_of q.degrees ≡ rule_span b box r
+  pub value : AreSame (span_of q.degrees) (rule_span b box r)
   pub bytes : byte_span_of q ≡ rule_byte_span b box r
   pub error : q.error ≡ rule_error (term_errors b box) r
   pub truths : HasSmallTruths q

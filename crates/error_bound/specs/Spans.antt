@@ -1,5 +1,5 @@
 -- From the least to the greatest truth of conditions, where spans of the literals are given.
-use Rattle.std.specs.Prelude.{ℕ, ◌-◌, min, max}
+use Rattle.std.specs.Prelude.{ℕ, ◌-◌, min, max, Bool, true, false}
 use Rattle.fz_num.specs.Fractions.{Fraction, lesser, greater, one_minus, one, none}
 use Rattle.fuzzy_meaning.specs.Conditions.{Condition, is, negation, all, any, Conditions, end, also}
 
@@ -16,6 +16,16 @@ lesser_span s r = record { low = lesser s.low r.low; high = lesser s.high r.high
 
 abbrev pub greater_span : Span → Span → Span
 greater_span s r = record { low = greater s.low r.low; high = greater s.high r.high }
+
+-- of an OR's parts, or of an AND's
+abbrev pub joined_spans : Bool → Span → Span → Span
+joined_spans true = greater_span
+joined_spans false = lesser_span
+
+-- of no parts
+abbrev pub span_of_none : Bool → Span
+span_of_none true = record { low = none; high = none }
+span_of_none false = record { low = one; high = one }
 
 abbrev mutual
   pub span : (ℕ → ℕ → Span) → Condition → Span
@@ -45,6 +55,14 @@ lesser_bytes s r = record { low = min s.low r.low; high = min s.high r.high }
 
 abbrev pub greater_bytes : ByteSpan → ByteSpan → ByteSpan
 greater_bytes s r = record { low = max s.low r.low; high = max s.high r.high }
+
+abbrev pub joined_bytes : Bool → ByteSpan → ByteSpan → ByteSpan
+joined_bytes true = greater_bytes
+joined_bytes false = lesser_bytes
+
+abbrev pub bytes_of_none : Bool → ByteSpan
+bytes_of_none true = record { low = 0; high = 0 }
+bytes_of_none false = record { low = 255; high = 255 }
 
 abbrev mutual
   pub byte_span : (ℕ → ℕ → ByteSpan) → Condition → ByteSpan

@@ -13,12 +13,12 @@ mod boxes;
 mod cells;
 mod choosing;
 mod degrees;
+mod flattening;
 mod laws;
 mod leaves;
 mod ratio;
 mod reaches;
 mod rules;
-mod shortening;
 mod tables;
 
 pub use best_leaves::{best_bounds_are_least, best_leaves_are_one, best_leaves_hold};

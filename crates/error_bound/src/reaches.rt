@@ -2,11 +2,11 @@
 ghost use Rattle.std.specs.Prelude.{◌≡◌, max, map, IfSome};
 ghost use Rattle.fuzzy_meaning.specs.Blocks.{IsValid, IsValidCondition, AreValidConditions, HasTerm};
 ghost use Rattle.fuzzy_meaning.specs.Conditions.{condition_of, conditions, is};
-ghost use Rattle.error_bound.specs.Spans.{span, least_span, greatest_span, byte_span, least_byte_span, greatest_byte_span, greatest_literal, greatest_among, one_minus_span, lesser_span, greater_span, one_minus_bytes, lesser_bytes, greater_bytes};
+ghost use Rattle.error_bound.specs.Spans.{span, byte_span, greatest_literal, one_minus_span, lesser_span, greater_span, joined_spans, span_of_none, one_minus_bytes, lesser_bytes, greater_bytes, joined_bytes, bytes_of_none};
 ghost use Rattle.error_bound.specs.Boxes.{literal_span, literal_byte_span};
 ghost use Rattle.error_bound.specs.CellErrors.{term_errors};
 ghost use Rattle.error_bound.specs.Reaches.{span_of, byte_span_of, IsSmall, AreBoxTerms, IsReachOfLiteral, IsReachOfCondition};
-ghost use Rattle.error_bound.specs.Shortening.{under};
+ghost use Rattle.error_bound.specs.Flattening.{group, under};
 
 use crate::degrees::Degrees;
 use crate::ratio::Ratio;
@@ -61,6 +61,32 @@ impl Reach {
         }
     }
 
+    /// The reach of an OR of no parts, or of an AND.
+    fn of_none(any: bool) -> Reach
+        ensures value { span_of result.degrees ≡ span_of_none any }
+        ensures bytes { byte_span_of result ≡ bytes_of_none any }
+        ensures error { result.error ≡ 0 }
+        ensures small { IsSmall result }
+    {
+        if any { NOTHING } else { ALL }
+    }
+
+    /// The greater of two reaches for an OR, or the lesser for an AND.
+    fn joined(self, any: bool, other: Reach) -> Reach
+        requires left { IsSmall self }
+        requires right { IsSmall other }
+        ensures value { span_of result.degrees ≡ joined_spans any (span_of self.degrees) (span_of other.degrees) }
+        ensures bytes { byte_span_of result ≡ joined_bytes any (byte_span_of self) (byte_span_of other) }
+        ensures error { result.error ≡ max self.error other.error }
+        ensures small { IsSmall result }
+    {
+        if any {
+            self.max(other)
+        } else {
+            self.min(other)
+        }
+    }
+
     fn min(self, other: Reach) -> Reach
         requires left { IsSmall self }
         requires right { IsSmall other }
@@ -111,63 +137,32 @@ pub(crate) fn reach_of(cond: &Cond, block: &Block, terms: &BoxTerms) -> Reach
     match cond {
         Cond::Is(input, term) => of_literal(block, *input, *term, terms),
         Cond::Not(inner) => reach_of(inner, block, terms).one_minus(),
-        Cond::And(parts) => least_of(parts.as_slice(), block, terms),
-        Cond::Or(parts) => greatest_of(parts.as_slice(), block, terms),
+        Cond::And(parts) => reach_among(parts.as_slice(), false, block, terms),
+        Cond::Or(parts) => reach_among(parts.as_slice(), true, block, terms),
     }
 }
 
-/// The reach of the least of the parts of an AND. Most parts are literals, which take no further call.
+/// The reach of the least of an AND's parts, or of the greatest of an OR's. Most parts are literals, which take no
+/// further call.
 #[cycle(reaches)]
-fn least_of(parts: &[Cond], block: &Block, terms: &BoxTerms) -> Reach
+fn reach_among(parts: &[Cond], any: bool, block: &Block, terms: &BoxTerms) -> Reach
     requires parts { AreValidConditions block.now (conditions (map condition_of parts.now)) }
     requires block { IsValid block.now }
     requires terms { AreBoxTerms block.now terms.now }
-    ensures value { span_of result.degrees
-        ≡ least_span (literal_span block.now terms.now.bytes.0.items) (conditions (map condition_of parts.now)) }
-    ensures bytes { byte_span_of result ≡ least_byte_span
-        (literal_byte_span block.now terms.now.bytes.0.items) (conditions (map condition_of parts.now)) }
-    ensures error { result.error
-        ≡ greatest_among (term_errors block.now terms.now.bytes.0.items) (conditions (map condition_of parts.now)) }
-    ensures small { IsSmall result }
+    ensures { IsReachOfCondition block.now terms.now.bytes.0.items
+        (group any (conditions (map condition_of parts.now))) result }
 {
     parts_are_valid();
-    let mut least = ALL;
+    let mut joined = Reach::of_none(any);
     for k in (0..parts.len()).rev() {
         let part = &parts[k];
         let reach = match literal_in(part) {
             Some(literal) => reach_of_literal(literal, block, terms),
             None => reach_of(part, block, terms),
         };
-        least = reach.min(least);
+        joined = reach.joined(any, joined);
     }
-    least
-}
-
-/// The reach of the greatest of the parts of an OR.
-#[cycle(reaches)]
-fn greatest_of(parts: &[Cond], block: &Block, terms: &BoxTerms) -> Reach
-    requires parts { AreValidConditions block.now (conditions (map condition_of parts.now)) }
-    requires block { IsValid block.now }
-    requires terms { AreBoxTerms block.now terms.now }
-    ensures value { span_of result.degrees
-        ≡ greatest_span (literal_span block.now terms.now.bytes.0.items) (conditions (map condition_of parts.now)) }
-    ensures bytes { byte_span_of result ≡ greatest_byte_span
-        (literal_byte_span block.now terms.now.bytes.0.items) (conditions (map condition_of parts.now)) }
-    ensures error { result.error
-        ≡ greatest_among (term_errors block.now terms.now.bytes.0.items) (conditions (map condition_of parts.now)) }
-    ensures small { IsSmall result }
-{
-    parts_are_valid();
-    let mut greatest = NOTHING;
-    for k in (0..parts.len()).rev() {
-        let part = &parts[k];
-        let reach = match literal_in(part) {
-            Some(literal) => reach_of_literal(literal, block, terms),
-            None => reach_of(part, block, terms),
-        };
-        greatest = reach.max(greatest);
-    }
-    greatest
+    joined
 }
 
 /// An input that is a term, or is not.

@@ -6,8 +6,8 @@ ghost use Rattle.fuzzy_meaning.specs.Blocks.{IsValid, IsValidRule};
 ghost use Rattle.fuzzy_meaning.specs.Conditions.{condition_of};
 ghost use Rattle.error_bound.specs.Boxes.{IsBoxOf};
 ghost use Rattle.error_bound.specs.Errors.{apart};
-ghost use Rattle.error_bound.specs.Reaches.{HasAlike, IsBlockTable, AreBoxTerms, IsReachOfCondition, IsReachOfRule, IsTable};
-ghost use Rattle.error_bound.specs.Shortening.{ReachesAlike};
+ghost use Rattle.error_bound.specs.Reaches.{HasAlike, IsBlockTable, AreBoxTerms, IsReachOfRule, IsTable, ReachesAsFar};
+ghost use Rattle.error_bound.specs.Flattening.{ReachesAlike};
 
 use crate::boxes::ByteBox;
 use crate::degrees::Degrees;
@@ -108,7 +108,7 @@ fn reach_of_rule(
     }
 }
 
-/// The reach of the condition of the rule at a place, by a shorter one where that is kept.
+/// The reach of the condition of the rule at a place, by the flat one where that is kept.
 fn truth_in(
     kept: Option<&BlockTable>,
     place: usize,
@@ -120,7 +120,7 @@ fn truth_in(
     requires rule { IsValidRule block.now rule.now }
     requires block { IsValid block.now }
     requires terms { AreBoxTerms block.now terms.now }
-    ensures { IsReachOfCondition block.now terms.now.bytes.0.items (condition_of rule.now.cond) result }
+    ensures { ReachesAsFar block.now terms.now.bytes.0.items (condition_of rule.now.cond) result }
 {
     match kept {
         Some(table) => reach_by(&table.conditions[place], rule, block, terms),
@@ -134,7 +134,7 @@ fn reach_by(cond: &Cond, rule: &Rule, block: &Block, terms: &BoxTerms) -> Reach
     requires rule { IsValidRule block.now rule.now }
     requires block { IsValid block.now }
     requires terms { AreBoxTerms block.now terms.now }
-    ensures { IsReachOfCondition block.now terms.now.bytes.0.items (condition_of rule.now.cond) result }
+    ensures { ReachesAsFar block.now terms.now.bytes.0.items (condition_of rule.now.cond) result }
 {
     reach_of(cond, block, terms)
 }

@@ -8,8 +8,8 @@ ghost use Rattle.error_bound.specs.Reaches.{AreTermCells, AreInputCells, AreAllC
 use crate::boxes::{ByteBox, Interval};
 use crate::cells::TermCells;
 use crate::degrees::degrees_of;
+use crate::flattening::{flattened, flattening_keeps_reaches};
 use crate::reaches::{NOTHING, Reach};
-use crate::shortening::{shortened, shortening_keeps_reaches};
 use fuzzy_meaning::{Block, Cond, Input, Trapezoid};
 use std::alloc::{AllocError, Global};
 
@@ -38,7 +38,7 @@ impl InputCells {
 pub struct BlockTable {
     /// The cells of the inputs' terms.
     pub(crate) inputs: Vec<InputCells>,
-    /// The rules' conditions, without chains of NOT.
+    /// The rules' conditions, flat.
     pub(crate) conditions: Vec<Cond>,
 }
 
@@ -50,7 +50,7 @@ impl BlockTable {
         ensures { IfOk result (IsBlockTable block.now) }
     {
         let inputs = all_cells(alloc, block)?;
-        let conditions = short_conditions(alloc, block)?;
+        let conditions = flat_conditions(alloc, block)?;
         Ok(BlockTable { inputs, conditions })
     }
 }
@@ -68,14 +68,14 @@ fn all_cells(alloc: Global, block: &Block) -> Result<Vec<InputCells>, AllocError
     Ok(inputs)
 }
 
-/// The conditions of a block's rules, without chains of NOT.
-fn short_conditions(alloc: Global, block: &Block) -> Result<Vec<Cond>, AllocError>
+/// The flat conditions of a block's rules.
+fn flat_conditions(alloc: Global, block: &Block) -> Result<Vec<Cond>, AllocError>
     ensures { IfOk result (λ v. AreRuleConditions block.now v.items) }
 {
-    shortening_keeps_reaches();
+    flattening_keeps_reaches();
     let mut conditions = Vec::new(alloc);
     for rule in block.rules.as_slice() {
-        let cond = shortened(alloc, &rule.cond, false)?;
+        let cond = flattened(alloc, &rule.cond)?;
         conditions.push(cond)?;
     }
     Ok(conditions)

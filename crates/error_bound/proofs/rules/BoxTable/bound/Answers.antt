@@ -1,7 +1,8 @@
 use Rattle.std.proofs.Common.{◌≡◌, ℕ, zero, suc, true, ◌-◌, ◌<◌, ◌≤◌, List, length, get_or, Some, refl, sym, ap, ◌∙◌, subst, arith}
 use Rattle.std.specs.Prelude.{IsTrue}
 use Rattle.std.proofs.lemmas.Option.{slice_get_read}
-use Rattle.fz_num.specs.Fractions.{over, AtMost}
+use Rattle.fz_num.specs.Fractions.{over}
+use Rattle.fz_num.proofs.Algebra.{AtMost-trans}
 use Rattle.fuzzy_meaning.specs.declared.block.Block.{Block}
 use Rattle.fuzzy_meaning.specs.declared.block.Output.{Output}
 use Rattle.fuzzy_meaning.specs.declared.block.Rule.{Rule}
@@ -9,7 +10,7 @@ use Rattle.fuzzy_meaning.specs.Blocks.{IsValid, output_at}
 use Rattle.fz_list.proofs.Algebra.{IsSomeAnd-some, IsSomeAnd-within, some_at}
 use Rattle.error_bound.specs.declared.boxes.Leaf.{Leaf}
 use Rattle.error_bound.specs.declared.rules.BoxTable.{BoxTable}
-use Rattle.error_bound.specs.Boxes.{rule_byte_span}
+use Rattle.error_bound.specs.Boxes.{rule_span, rule_byte_span}
 use Rattle.error_bound.specs.Bounds.{IsBound, errors_from, strong_bound, silent_bound}
 use Rattle.error_bound.specs.CellErrors.{term_errors}
 use Rattle.error_bound.specs.Leaves.{concludes_some, rule_at, IsPairFor, strong, silent}
@@ -19,6 +20,7 @@ use Rattle.error_bound.proofs.AnswerLemmas.{bound_strong, bound_silent}
 use Rattle.error_bound.proofs.LawLemmas.{term_errors-are}
 use Rattle.error_bound.proofs.ConclusionLemmas.{any-term}
 use Rattle.error_bound.proofs.TableLemmas.{no_reach, rule_reach}
+use Rattle.error_bound.proofs.Values.{strong_same}
 use Rattle.error_bound.proofs.rules.BoxTable.bound.Goals as goal
 
 -- the rule that a strong leaf names
@@ -87,7 +89,7 @@ returns-in-Some-strong_fault-clause-fault c =
     let r = named b c.args.out leaf c.requires.pair some in
     let q = rule_reach b c.args.self.now (leaf.rule - 1) r.0 c.requires.table r.1 in
     let f = c.in-Some-strong_fault.fault in
-    of_strong r.0 some r.1 (subst (λ s. IsStrongFault leaf s (rule_byte_span b box r.0) f) q.value (subst (λ m. IsStrongFault leaf (span_of (get_or c.args.self.now.rules (leaf.rule - 1) no_reach).degrees) m f) q.bytes c.in-Some-strong_fault.ensures.fault))
+    of_strong r.0 some r.1 (strong_same leaf _ (rule_span b box r.0) (rule_byte_span b box r.0) f q.value (subst (λ m. IsStrongFault leaf (span_of (get_or c.args.self.now.rules (leaf.rule - 1) no_reach).degrees) m f) q.bytes c.in-Some-strong_fault.ensures.fault))
 
 pub returns-clause-holds : goal.returns-clause-holds
 returns-clause-holds c =
@@ -98,7 +100,7 @@ returns-clause-holds c =
     let r = named b o leaf c.requires.pair some in
     let q = rule_reach b c.args.self.now (leaf.rule - 1) r.0 c.requires.table r.1 in
     let t = any-term o r.0.concl r.2 in
-    let low = subst (λ s. AtMost (over leaf.k 255) s.low) q.value c.in_default.ensures.low in
+    let low = AtMost-trans (over leaf.k 255) _ (rule_span b c.args.self.now.bytes.0.items r.0).low q.value.low.left c.in_default.ensures.low q.value.low.below in
     let byte_low = subst (λ m. 1 ≤ m.low) q.bytes c.in_default.ensures.byte_low in
     strong r.0 (c.requires.pair.strong some) some c.requires.pair.part r.1 (record { term = t.0; concludes_it = t.1; low = low; byte_low = byte_low })
 

@@ -7,6 +7,7 @@ use Rattle.error_bound.specs.Boxes.{rule_span, rule_byte_span}
 use Rattle.error_bound.specs.Leaves.{concludes_some}
 use Rattle.error_bound.specs.Reaches.{byte_span_of}
 use Rattle.error_bound.proofs.TableLemmas.{no_reach, rule_reach}
+use Rattle.error_bound.proofs.Values.{part_same}
 use Rattle.error_bound.proofs.rules.BoxTable.part_of_rule.Goals as goal
 
 some_below : (m r : ℕ) → (m ≡ 0 → r ≡ 0) → 1 ≤ r → 1 ≤ m
@@ -31,7 +32,7 @@ returns-then-concludes_some-clause-candidate c some =
       rule = r0;
       rule_is = subst (λ k. slice_get b.rules k ≡ Some r0) back found;
       concludes_one = sym c.concludes_some.ensures ∙ c.if-concludes_some.true;
-      part = c.part_of.ensures.part low ∙ ap (λ s. 255 * s.low.num / s.low.den) q.value;
+      part = c.part_of.ensures.part low ∙ part_same _ _ q.value.low;
       some = some;
       byte_low = subst (λ m. 1 ≤ m.low) q.bytes low;
     }
@@ -48,7 +49,7 @@ returns-then-concludes_some-clause-only c k cand =
     let same = same_rule b back found cand.rule_is in
     let here : 1 ≤ (rule_byte_span b box r0).low = subst (λ r. 1 ≤ (rule_byte_span b box r).low) same cand.byte_low in
     let low : 1 ≤ (byte_span_of (get_or c.args.self.now.rules n no_reach)).low = subst (λ m. 1 ≤ m.low) (sym q.bytes) here in
-    cand.part ∙ ap (λ r. 255 * (rule_span b box r).low.num / (rule_span b box r).low.den) same ∙ sym (c.part_of.ensures.part low ∙ ap (λ s. 255 * s.low.num / s.low.den) q.value)
+    cand.part ∙ ap (λ r. 255 * (rule_span b box r).low.num / (rule_span b box r).low.den) same ∙ sym (c.part_of.ensures.part low ∙ part_same _ _ q.value.low)
 
 pub returns-else-concludes_some-clause-only : goal.returns-else-concludes_some-clause-only
 returns-else-concludes_some-clause-only c k cand =

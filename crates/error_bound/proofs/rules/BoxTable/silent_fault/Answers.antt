@@ -2,12 +2,13 @@ use Rattle.std.proofs.Common.{◌≡◌, ⊎_elim, true, false, ◌+◌, ◌-◌
 use Rattle.std.specs.Prelude.{slice_get}
 use Rattle.std.proofs.lemmas.Bool.{cases_lt}
 use Rattle.std.proofs.lemmas.Option.{slice_get_read, slice_get-get_or, get_or_from_slice_get}
-use Rattle.error_bound.specs.Boxes.{rule_byte_span}
+use Rattle.error_bound.specs.Boxes.{rule_span, rule_byte_span}
 use Rattle.error_bound.specs.Leaves.{concludes_some}
 use Rattle.error_bound.specs.Faults.{IsFirstFiring, IsSilentFault, of_silent}
 use Rattle.error_bound.specs.Reaches.{span_of}
 use Rattle.error_bound.proofs.ConclusionLemmas.{any-some}
 use Rattle.error_bound.proofs.TableLemmas.{no_reach, rule_reach}
+use Rattle.error_bound.proofs.Values.{silent_same, none_same}
 use Rattle.error_bound.proofs.rules.BoxTable.silent_fault.Goals as goal
 use Rattle.error_bound.proofs.rules.BoxTable.silent_fault.Goals.{then-concludes_some+in_default, else-concludes_some}
 
@@ -28,7 +29,7 @@ returns-in-Some-clause-fault c =
       concludes_one = sym c.concludes_some.ensures ∙ c.if-concludes_some.true;
       still_before = λ m q from lt e t y. c.loop-n.invariant (m - 1) q (omega arith) e t y;
     } in
-    let fault = subst (λ s. IsSilentFault (n + 1) s (rule_byte_span b box r0) c.in-Some.fault) q.value (subst (λ m. IsSilentFault (n + 1) (span_of (get_or c.args.self.now.rules n no_reach).degrees) m c.in-Some.fault) q.bytes c.in-Some.ensures.fault) in
+    let fault = silent_same (n + 1) _ (rule_span b box r0) (rule_byte_span b box r0) c.in-Some.fault q.value (subst (λ m. IsSilentFault (n + 1) (span_of (get_or c.args.self.now.rules n no_reach).degrees) m c.in-Some.fault) q.bytes c.in-Some.ensures.fault) in
     of_silent (n + 1) r0 refl first fault
 
 pub loop-n-preserved : goal.loop-n-preserved
@@ -46,7 +47,7 @@ loop-n-preserved c m q lt e t y = ⊎_elim
     let some : concludes_some q c.args.out ≡ true = any-some c.args.out t q.concl y in
     elim c.if-concludes_some.branch [
       | then-concludes_some+in_default w ↦ record {
-        high = ap (λ s. s.high.num) (sym reach.value) ∙ w.in_default.ensures.high;
+        high = none_same _ _ reach.value.high w.in_default.ensures.high;
         byte_high = ap (λ s. s.high) (sym reach.bytes) ∙ w.in_default.ensures.byte_high;
       }
       | else-concludes_some w ↦ absurd (let no : concludes_some q c.args.out ≡ false = ap (λ r. concludes_some r c.args.out) (sym same_rule) ∙ sym c.concludes_some.ensures ∙ w.if-concludes_some.false in let z : ⊥ = cc in z)

@@ -1,0 +1,112 @@
+//! Flat conditions, for many boxes.
+//!
+//! AND and OR spread into the rule list, which has little room. But a text may nest them 64 deep and put a NOT at each
+//! place, and a walk through that takes a call for each. A flat condition has NOT at literals alone, and no AND
+//! right in an AND nor OR right in an OR, so that most of its walk is one loop over literals.
+ghost use Rattle.std.specs.Prelude.{◌≡◌, ◌++◌, IfOk, OnOk, map, false};
+ghost use Rattle.fuzzy_meaning.specs.Conditions.{condition_of, conditions};
+ghost use Rattle.error_bound.specs.Flattening.{under as under_of, group, within as within_of, pieces as pieces_of, each_pieces as each_pieces_of, flat, FlatteningKeepsReaches};
+
+use fuzzy_meaning::Cond;
+use std::alloc::{AllocError, Global};
+
+/// The flat condition of a condition.
+pub(crate) fn flattened(alloc: Global, cond: &Cond) -> Result<Cond, AllocError>
+    ensures { IfOk result (λ c. condition_of c ≡ flat (condition_of cond.now)) }
+{
+    let mut pieces = Vec::new(alloc);
+    push_pieces(alloc, cond, false, false, &mut pieces)?;
+    Ok(Cond::And(pieces))
+}
+
+/// Puts what a condition comes to behind the parts of an OR or an AND. `odd` says that it stands behind an odd number of
+/// NOTs.
+#[cycle(flattening)]
+fn push_pieces(
+    alloc: Global,
+    cond: &Cond,
+    any: bool,
+    odd: bool,
+    pieces: &mut Vec<Cond>,
+) -> Result<(), AllocError>
+    ensures { OnOk result (map condition_of pieces.new.items
+        ≡ map condition_of pieces.old.items ++ pieces_of any odd (condition_of cond.now)) }
+{
+    match cond {
+        Cond::Is(input, term) => {
+            let literal = under(alloc, Cond::Is(*input, *term), odd)?;
+            pieces.push(literal)?;
+            Ok(())
+        }
+        Cond::Not(part) => push_pieces(alloc, part, any, !odd, pieces),
+        Cond::And(parts) => push_group(alloc, parts, any, odd, odd, pieces),
+        Cond::Or(parts) => push_group(alloc, parts, any, !odd, odd, pieces),
+    }
+}
+
+/// Puts a group of parts, an OR where `kind` says so, behind those of another.
+#[cycle(flattening)]
+fn push_group(
+    alloc: Global,
+    parts: &[Cond],
+    any: bool,
+    kind: bool,
+    odd: bool,
+    pieces: &mut Vec<Cond>,
+) -> Result<(), AllocError>
+    ensures { OnOk result (map condition_of pieces.new.items ≡ map condition_of pieces.old.items
+        ++ within_of any kind (each_pieces_of kind odd (conditions (map condition_of parts.now)))) }
+{
+    if kind == any {
+        return push_each(alloc, parts, kind, odd, pieces);
+    }
+    let mut inner = Vec::new(alloc);
+    push_each(alloc, parts, kind, odd, &mut inner)?;
+    pieces.push(grouped(inner, kind))?;
+    Ok(())
+}
+
+/// An OR of parts, or an AND.
+fn grouped(parts: Vec<Cond>, any: bool) -> Cond
+    ensures { condition_of result ≡ group any (conditions (map condition_of parts.items)) }
+{
+    if any {
+        Cond::Or(parts)
+    } else {
+        Cond::And(parts)
+    }
+}
+
+/// Puts what each part comes to behind the parts of an OR or an AND.
+#[cycle(flattening)]
+fn push_each(
+    alloc: Global,
+    parts: &[Cond],
+    any: bool,
+    odd: bool,
+    pieces: &mut Vec<Cond>,
+) -> Result<(), AllocError>
+    ensures { OnOk result (map condition_of pieces.new.items ≡ map condition_of pieces.old.items
+        ++ each_pieces_of any odd (conditions (map condition_of parts.now))) }
+{
+    for part in parts {
+        push_pieces(alloc, part, any, odd, pieces)?;
+    }
+    Ok(())
+}
+
+/// A condition, or where `odd` its negation.
+fn under(alloc: Global, cond: Cond, odd: bool) -> Result<Cond, AllocError>
+    ensures { IfOk result (λ c. condition_of c ≡ under_of odd (condition_of cond)) }
+{
+    if !odd {
+        return Ok(cond);
+    }
+    let cond = Box::new(alloc, cond)?;
+    Ok(Cond::Not(cond))
+}
+
+/// A flat condition reaches as far over each box as the one that it is made of.
+pub(crate) fn flattening_keeps_reaches()
+    ensures { FlatteningKeepsReaches }
+{}
