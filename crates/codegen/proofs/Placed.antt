@@ -17,8 +17,9 @@ use Rattle.codegen.specs.declared.width.Width.{Width}
 use Rattle.codegen.specs.Code.{code_bytes, eval_code, block_code}
 use Rattle.codegen.specs.Data.{table_bytes, singleton_bytes, weight_bytes, rule_bytes}
 use Rattle.codegen.specs.Images.{bytes_at, block_items}
-use Rattle.codegen.specs.Placed.{IsInOrder, BlockRises, BlockIsShort, BlockStaysInside, GivesBehind, GiveBytes, BlockGivesBytes, BlockStands}
+use Rattle.codegen.specs.Placed.{IsInOrder, BlockRises, BlockIsShort, BlockStaysInside, GivesBehind, GiveBytes, BlockGivesBytes, HasPlaces, BlockStands}
 use Rattle.codegen.proofs.Placement.{IsSpaced, HasPartSizes, part_sizes, block_rises, length-block_items}
+use Rattle.codegen.proofs.steps.Memory.{same_bytes}
 use Rattle.codegen.proofs.phases.Law.{length-code}
 use Rattle.codegen.proofs.phases.RuleFacts.{block_facts}
 use Rattle.codegen.proofs.phases.RuleMemory.{Below, below_all}
@@ -26,7 +27,7 @@ use Rattle.codegen.proofs.phases.Used.{sizes_is}
 use Rattle.codegen.proofs.Sizes.{code_size, code_size-append}
 use Rattle.codegen.proofs.runs.Standing.{Rises, given_append, none_below, none_behind}
 use Rattle.codegen.proofs.runs.GivenBytes.{ItemsFit, block_fits_between, PairsFit, given_fit}
-use Rattle.codegen.proofs.runs.Founding.{stood, around_eval}
+use Rattle.codegen.proofs.runs.Founding.{Stood, stood, around_eval}
 use Rattle.codegen.proofs.runs.Law.{sizes_of, image_given}
 
 sized : (code : List Instr) → code_size code ≡ length (code_bytes code)
@@ -103,13 +104,34 @@ gives_bytes law near l b w before behind apart v front back =
     (code_fits before (below_all 256 (code_bytes before) front)) (code_fits behind (below_all 256 (code_bytes behind) back)) tt in
     all_pairs (given_by items) (given_fit 0 items (subst ItemsFit (append-nil items) fit))
 
+-- the parts stand where the same bytes do
+there : (l : Layout) (b : Block) (w : Width) (before behind : List Instr) (image : List (ℕ × ℕ)) (mem : List ℕ) → IsInOrder l before behind
+    → HasPartSizes l b w before behind → HasPlaces l image mem → Stood (image_memory image) l b w before behind → Stood mem l b w before behind
+there l b w before behind image mem o size same h =
+    let m = image_memory image in
+    let code = code_bytes (block_code l b w before behind) in
+    let few : l.code + length code ≤ l.tables = omega (arith, o.eval, o.code, size.code, sized (block_code l b w before behind), sized before, sized behind) in
+    let t = o.tables in
+    let s = o.singletons in
+    let x = o.weights in
+    let from = o.eval in
+    let to = o.code in
+    record {
+      code = same_bytes m mem l.code code (λ k lo hi. same k lo (omega arith)) h.code;
+      tables = same_bytes m mem l.tables (table_bytes b) (λ k lo hi. same k (omega arith) (omega (arith, size.tables))) h.tables;
+      singletons = same_bytes m mem l.singletons (singleton_bytes b) (λ k lo hi. same k (omega arith) (omega (arith, size.singletons))) h.singletons;
+      weights = same_bytes m mem l.weights (weight_bytes b) (λ k lo hi. same k (omega arith) (omega (arith, size.weights))) h.weights;
+      rules = same_bytes m mem l.rules (rule_bytes l.slots b) (λ k lo hi. same k (omega arith) (omega (arith, size.rules))) h.rules;
+    }
+
 pub stands_between : LayoutLaw → Rises → HoldsImage → BlockStands
-stands_between law rises holds image front rest l b w before behind o v limits h rise =
+stands_between law rises holds image mem front rest l b w before behind o v limits h rise same =
     let items = front ++ (block_items l b w before behind ++ rest) in
     let given = image_given holds image (given_by items) h in
     let size = parts law l b w before behind v limits in
     let at = o.eval ∙ ap (λ n. l.code + n) (length-code before) in
-    let around = around_eval (image_memory image) l b w before behind at (stood rises (image_memory image) front rest l b w before behind given rise) in
+    let in_image = stood rises (image_memory image) front rest l b w before behind given rise in
+    let around = around_eval mem l b w before behind at (there l b w before behind image mem o size same in_image) in
     let eval = eval_code l b w in
     record {
       front = around.front;

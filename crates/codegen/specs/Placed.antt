@@ -1,5 +1,5 @@
 -- A block's items at the addresses of any layout: where they give bytes, and what stands there in an image of them.
-use Rattle.std.specs.Prelude.{◌≡◌, ℕ, ◌+◌, ◌^◌, ◌<◌, ◌≤◌, ◌⊎◌, List, ◌∷◌, ◌++◌, length, All, None}
+use Rattle.std.specs.Prelude.{◌≡◌, ℕ, ◌+◌, ◌^◌, ◌<◌, ◌≤◌, ◌⊎◌, List, ◌∷◌, ◌++◌, length, All, None, slice_index}
 use Rattle.fuzzy_meaning.specs.declared.block.Block.{Block}
 use Rattle.fuzzy_meaning.specs.Blocks.{IsValid}
 use Rattle.rule_layout.specs.Layouts.{IsWithinLimits}
@@ -74,11 +74,16 @@ pub record StandsBetween (l : Layout) (b : Block) (w : Width) (before behind : L
   pub back : HasBytes mem (l.eval + length (eval_bytes l b w)) (code_bytes behind)
   pub room : length (eval_bytes l b w) ≤ eval_room
 
--- So it does in the memory of an image of items that go up, of which these are some.
+-- memory has an image's bytes from the code to the rule list's end
+abbrev pub HasPlaces : Layout → List (ℕ × ℕ) → List ℕ → Type 0
+HasPlaces l image mem =
+    (at : ℕ) → l.code ≤ at → at < l.rules + 9984 → slice_index mem at ≡ slice_index (image_memory image) at
+
+-- So it does in a memory that has there the bytes of an image of items that go up, of which these are some.
 abbrev pub BlockStands : Type 0
 BlockStands =
-    (image : List (ℕ × ℕ)) (front rest : List Item) (l : Layout) (b : Block) (w : Width)
+    (image : List (ℕ × ℕ)) (mem : List ℕ) (front rest : List Item) (l : Layout) (b : Block) (w : Width)
     (before behind : List Instr) → IsInOrder l before behind → IsValid b → IsWithinLimits b
     → Holds image (given_by (front ++ (block_items l b w before behind ++ rest)))
-    → IsRising (front ++ (block_items l b w before behind ++ rest))
-    → StandsBetween l b w before behind (image_memory image)
+    → IsRising (front ++ (block_items l b w before behind ++ rest)) → HasPlaces l image mem
+    → StandsBetween l b w before behind mem

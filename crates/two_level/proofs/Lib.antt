@@ -1,2 +1,4 @@
-mod Standing
+mod Places
+mod Leaving
 mod Entering
+mod Standing

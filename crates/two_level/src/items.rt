@@ -92,7 +92,10 @@ pub(crate) fn joint_image(alloc: Global, slow: &Block, fast: &Block) -> Result<I
     ensures { IfOk result (IsImageOf (two_items slow.now fast.now)) }
 {
     blocks_are_placed();
-    let (Ok(slow_flat), Ok(fast_flat)) = (spread(alloc, slow), spread(alloc, fast)) else {
+    let Ok(slow_flat) = spread(alloc, slow) else {
+        return Err(AllocError);
+    };
+    let Ok(fast_flat) = spread(alloc, fast) else {
         return Err(AllocError);
     };
     let items = two_items(alloc, slow, &slow_flat, fast, &fast_flat)?;

@@ -1,0 +1,100 @@
+-- The items of both blocks stand one above the other.
+use Rattle.std.proofs.Common.{◌≡◌, ℕ, ◌+◌, ◌<◌, ◌≤◌, List, [], ◌∷◌, ◌++◌, length, refl, arith, length-append}
+use Rattle.fuzzy_meaning.specs.declared.block.Block.{Block}
+use Rattle.fuzzy_meaning.specs.Blocks.{IsValid}
+use Rattle.rule_layout.specs.Layouts.{IsWithinLimits}
+use Rattle.cpu12_isa.specs.declared.instr.Instr.TheVariants.{Rts}
+use Rattle.cpu12_asm.specs.Items.{IsRisingFrom, IsRising}
+use Rattle.codegen.specs.declared.width.Width.TheVariants.{Byte}
+use Rattle.codegen.specs.Layouts.{main_layout}
+use Rattle.codegen.specs.Code.{frame_code}
+use Rattle.codegen.specs.Images.{block_items, vector_items, IsApart}
+use Rattle.codegen.specs.Placed.{IsInOrder, BlockRises, BlockIsShort}
+use Rattle.two_level.specs.Layouts.{fast_front, fast_back, fast_layout, slow_layout}
+use Rattle.two_level.specs.Images.{fast_items, slow_items, two_items}
+
+pub fast_in_order : IsInOrder fast_layout fast_front fast_back
+fast_in_order = record {
+  eval = refl;
+  code = omega arith;
+  tables = omega arith;
+  singletons = omega arith;
+  weights = omega arith;
+  rules = omega arith;
+}
+
+pub main_in_order : IsInOrder main_layout (frame_code main_layout) (Rts ∷ [])
+main_in_order = record {
+  eval = refl;
+  code = omega arith;
+  tables = omega arith;
+  singletons = omega arith;
+  weights = omega arith;
+  rules = omega arith;
+}
+
+pub fast_apart : IsApart fast_layout
+fast_apart = record {
+  inputs = omega arith;
+  outputs = omega arith;
+  slots = omega arith;
+  eval = omega arith;
+  eval_end = omega arith;
+  tables = omega arith;
+  tables_end = omega arith;
+  singletons = omega arith;
+  singletons_end = omega arith;
+  weights = omega arith;
+  weights_end = omega arith;
+  rules = omega arith;
+  rules_end = omega arith;
+}
+
+pub main_apart : IsApart main_layout
+main_apart = record {
+  inputs = omega arith;
+  outputs = omega arith;
+  slots = omega arith;
+  eval = omega arith;
+  eval_end = omega arith;
+  tables = omega arith;
+  tables_end = omega arith;
+  singletons = omega arith;
+  singletons_end = omega arith;
+  weights = omega arith;
+  weights_end = omega arith;
+  rules = omega arith;
+  rules_end = omega arith;
+}
+
+-- both blocks are valid and can be laid out
+pub record AreSound (slow fast : Block) : Type 0 where
+  pub slow : IsValid slow
+  pub slow_limits : IsWithinLimits slow
+  pub fast : IsValid fast
+  pub fast_limits : IsWithinLimits fast
+
+vectors_rise : IsRisingFrom (main_layout.rules + 9984) (vector_items slow_layout)
+vectors_rise = (omega arith, (omega arith, omega arith))
+
+slow_rise : BlockRises → (slow fast : Block) → AreSound slow fast → IsRisingFrom (fast_layout.rules + 9984) (slow_items slow)
+slow_rise rises slow fast h =
+    rises (fast_layout.rules + 9984) main_layout slow Byte (frame_code main_layout) (Rts ∷ []) (vector_items slow_layout) main_in_order
+    h.slow h.slow_limits (omega arith) vectors_rise
+
+pub two_rise : BlockRises → (slow fast : Block) → AreSound slow fast → IsRising (two_items slow fast)
+two_rise rises slow fast h =
+    rises 0 fast_layout fast Byte fast_front fast_back (slow_items slow) fast_in_order h.fast h.fast_limits (omega arith)
+    (slow_rise rises slow fast h)
+
+pub two_are_few : BlockIsShort → (slow fast : Block) → AreSound slow fast → length (two_items slow fast) < 2 ^ 32
+two_are_few short slow fast h =
+    let frame = frame_code main_layout in
+    let slow_block = block_items main_layout slow Byte frame (Rts ∷ []) in
+    omega (
+      arith,
+      length-append (fast_items fast) (slow_items slow),
+      length-append slow_block (vector_items slow_layout),
+      short fast_layout fast Byte fast_front fast_back h.fast h.fast_limits,
+      short main_layout slow Byte frame (Rts ∷ []) h.slow h.slow_limits,
+    )
