@@ -1,5 +1,5 @@
 -- The fast code from where an interrupt enters it up to its return.
-use Rattle.std.proofs.Common.{◌≡◌, ◌⊎◌, inl, inr, ℕ, ◌+◌, ◌*◌, ◌^◌, ◌<◌, ◌≤◌, Ok, false, Bool, List, [], ◌∷◌, ◌++◌, length, refl, sym, ap, ◌∙◌, subst, arith}
+use Rattle.std.proofs.Common.{◌≡◌, ◌⊎◌, inl, inr, ℕ, ◌+◌, ◌*◌, ◌^◌, ◌<◌, ◌≤◌, Ok, false, Bool, List, [], ◌∷◌, ◌++◌, length, bit_and, refl, sym, ap, ◌∙◌, subst, arith}
 use Rattle.fuzzy_meaning.specs.declared.block.Block.{Block}
 use Rattle.fuzzy_meaning.specs.Blocks.{IsValid}
 use Rattle.rule_layout.specs.Layouts.{IsWithinLimits}
@@ -40,7 +40,7 @@ pub record EnteringLaws : Type 0 where
 standing : EnteringLaws → (slow fast : Block) (two : Two) (mem : List ℕ) → AreSound slow fast → IsTwoOf slow fast two
     → HasFastRom (image_memory two.image.bytes) mem → StandsBetween fast_layout fast Byte fast_front fast_back mem
 standing laws slow fast two mem h is same =
-    laws.stands two.image.bytes mem [] (slow_items slow) fast_layout fast Byte fast_front fast_back fast_in_order h.fast h.fast_limits
+    laws.stands two.image.bytes mem [] (slow_items slow) fast_layout fast Byte fast_front fast_back fast_in_order h.fast_valid h.fast_limits
     is.image.bytes (two_rise laws.rises slow fast h) same
 
 -- six bytes in the code
@@ -181,7 +181,7 @@ answered laws slow fast two flags bytes before s t h is o e =
 pub fast_answers_entered : EnteringLaws → FastAnswersEntered
 fast_answers_entered laws slow fast two vs ls vf lf is flags bytes before s fits input h =
     let image = image_memory two.image.bytes in
-    let sound : AreSound slow fast = record { slow = vs; slow_limits = ls; fast = vf; fast_limits = lf } in
+    let sound : AreSound slow fast = record { slow_valid = vs; slow_limits = ls; fast_valid = vf; fast_limits = lf } in
     let code = standing laws slow fast two s.mem sound is h.inside.rom in
     let o = enter laws fast image flags bytes before s fits code h in
     let r = laws.eval_answers fast_layout fast Byte flags bytes before (opened flags s) fast_apart vf lf fits input o.at in

@@ -1,5 +1,5 @@
 -- The items of both blocks stand one above the other.
-use Rattle.std.proofs.Common.{◌≡◌, ℕ, ◌+◌, ◌<◌, ◌≤◌, List, [], ◌∷◌, ◌++◌, length, refl, arith, length-append}
+use Rattle.std.proofs.Common.{◌≡◌, ℕ, ◌+◌, ◌^◌, ◌<◌, ◌≤◌, List, [], ◌∷◌, ◌++◌, length, refl, arith, length-append}
 use Rattle.fuzzy_meaning.specs.declared.block.Block.{Block}
 use Rattle.fuzzy_meaning.specs.Blocks.{IsValid}
 use Rattle.rule_layout.specs.Layouts.{IsWithinLimits}
@@ -69,9 +69,9 @@ main_apart = record {
 
 -- both blocks are valid and can be laid out
 pub record AreSound (slow fast : Block) : Type 0 where
-  pub slow : IsValid slow
+  pub slow_valid : IsValid slow
   pub slow_limits : IsWithinLimits slow
-  pub fast : IsValid fast
+  pub fast_valid : IsValid fast
   pub fast_limits : IsWithinLimits fast
 
 vectors_rise : IsRisingFrom (main_layout.rules + 9984) (vector_items slow_layout)
@@ -80,21 +80,9 @@ vectors_rise = (omega arith, (omega arith, omega arith))
 slow_rise : BlockRises → (slow fast : Block) → AreSound slow fast → IsRisingFrom (fast_layout.rules + 9984) (slow_items slow)
 slow_rise rises slow fast h =
     rises (fast_layout.rules + 9984) main_layout slow Byte (frame_code main_layout) (Rts ∷ []) (vector_items slow_layout) main_in_order
-    h.slow h.slow_limits (omega arith) vectors_rise
+    h.slow_valid h.slow_limits (omega arith) vectors_rise
 
 pub two_rise : BlockRises → (slow fast : Block) → AreSound slow fast → IsRising (two_items slow fast)
 two_rise rises slow fast h =
-    rises 0 fast_layout fast Byte fast_front fast_back (slow_items slow) fast_in_order h.fast h.fast_limits (omega arith)
+    rises 0 fast_layout fast Byte fast_front fast_back (slow_items slow) fast_in_order h.fast_valid h.fast_limits (omega arith)
     (slow_rise rises slow fast h)
-
-pub two_are_few : BlockIsShort → (slow fast : Block) → AreSound slow fast → length (two_items slow fast) < 2 ^ 32
-two_are_few short slow fast h =
-    let frame = frame_code main_layout in
-    let slow_block = block_items main_layout slow Byte frame (Rts ∷ []) in
-    omega (
-      arith,
-      length-append (fast_items fast) (slow_items slow),
-      length-append slow_block (vector_items slow_layout),
-      short fast_layout fast Byte fast_front fast_back h.fast h.fast_limits,
-      short main_layout slow Byte frame (Rts ∷ []) h.slow h.slow_limits,
-    )

@@ -116,7 +116,7 @@ byte_of_two : StandingLaws → (slow fast : Block) (at : ℕ) → AreSound slow 
 byte_of_two laws slow fast at h out =
     let rest = given_by (slow_block slow) ++ given_by (vector_items slow_layout) in
     let none : byte_at (given_by (fast_items fast)) at ≡ None =
-    laws.inside fast_layout fast Byte fast_front fast_back at fast_in_order h.fast h.fast_limits out in
+    laws.inside fast_layout fast Byte fast_front fast_back at fast_in_order h.fast_valid h.fast_limits out in
     ap (λ (xs : List (ℕ × ℕ)). byte_at xs at) (given_two laws.behind slow fast)
     ∙ byte_at-append at (given_by (fast_items fast)) rest
     ∙ ap (λ (o : Option ℕ). or_else o (byte_at rest at)) none
@@ -125,7 +125,7 @@ byte_of_two laws slow fast at h out =
 none_of_slow : StandingLaws → (slow fast : Block) (at : ℕ) → AreSound slow fast → (at < 0xC000) ⊎ (0xFF00 ≤ at)
     → byte_at (given_by (slow_block slow)) at ≡ None
 none_of_slow laws slow fast at h out =
-    laws.inside main_layout slow Byte (frame_code main_layout) (Rts ∷ []) at main_in_order h.slow h.slow_limits out
+    laws.inside main_layout slow Byte (frame_code main_layout) (Rts ∷ []) at main_in_order h.slow_valid h.slow_limits out
 
 -- the vectors
 other : (at p : ℕ) → (at < p) ⊎ (p < at) → is_at (nat_cmp at) p ≡ false
@@ -158,7 +158,7 @@ byte_in holds slow fast two at h lt = (holds two.image.bytes).1 at lt ∙ ap byt
 byte_alone : HoldsImage → (slow fast : Block) (two : Two) (at : ℕ) → IsTwoOf slow fast two → at < 65536
     → get_or (image_memory two.slow.image.bytes) at 0 ≡ byte_or_zero (byte_at (given_by (slow_block slow ++ vector_items main_layout)) at)
 byte_alone holds slow fast two at h lt =
-    let alone = h.slow in
+    let alone = h.slow_alone in
     let image = alone.firmware.image in
     let items : firmware_items main_layout slow (width_of two.slow.wide) ≡ slow_block slow ++ vector_items main_layout =
     ap (λ (w : Bool). firmware_items main_layout slow (width_of w)) alone.narrow in
@@ -194,9 +194,9 @@ two_give : StandingLaws → (slow fast : Block) → AreSound slow fast → GiveB
 two_give laws slow fast h =
     let frame = frame_code main_layout in
     let f =
-    laws.bytes fast_layout fast Byte fast_front fast_back fast_apart h.fast (bytes_by (code_bytes fast_front) refl) (bytes_by (code_bytes fast_back) refl) in
+    laws.bytes fast_layout fast Byte fast_front fast_back fast_apart h.fast_valid (bytes_by (code_bytes fast_front) refl) (bytes_by (code_bytes fast_back) refl) in
     let s =
-    laws.bytes main_layout slow Byte frame (Rts ∷ []) main_apart h.slow (bytes_by (code_bytes frame) refl) (bytes_by (code_bytes (Rts ∷ [])) refl) in
+    laws.bytes main_layout slow Byte frame (Rts ∷ []) main_apart h.slow_valid (bytes_by (code_bytes frame) refl) (bytes_by (code_bytes (Rts ∷ [])) refl) in
     let slow_all = All-append Fits (given_by (slow_block slow)) (given_by (vector_items slow_layout)) s vectors_fit in
     let rest = given_by (slow_block slow) ++ given_by (vector_items slow_layout) in
     subst GiveBytes (sym (given_two laws.behind slow fast)) (All-append Fits (given_by (fast_items fast)) rest f slow_all)
@@ -225,7 +225,7 @@ zero_low laws slow fast two at h is lt =
 no_outputs : StandingLaws → (slow fast : Block) (two : Two) → AreSound slow fast → IsTwoOf slow fast two
     → HasAnswers fast_layout fast Byte (λ o. 0) (image_memory two.image.bytes)
 no_outputs laws slow fast two h is o lo hi =
-    let few = (let v = h.fast in v.few_outputs) in
+    let few = (let v = h.fast_valid in v.few_outputs) in
     (zero_low laws slow fast two (0x1410 + 1 * (o - 1)) h is (omega arith), tt)
 
 -- and elsewhere memory is as the slow firmware's alone
@@ -274,8 +274,8 @@ alike laws slow fast two h is =
 
 pub two_stand_beside : StandingLaws → TwoStandBeside
 two_stand_beside laws slow fast two vs ls vf lf is =
-    let h : AreSound slow fast = record { slow = vs; slow_limits = ls; fast = vf; fast_limits = lf } in
-    let alone = is.slow in
+    let h : AreSound slow fast = record { slow_valid = vs; slow_limits = ls; fast_valid = vf; fast_limits = lf } in
+    let alone = is.slow_alone in
     let firmware = alone.firmware in
     let left : LeavesLayout is_open_to_fast two.slow.layout = subst (λ (l : Layout). LeavesLayout is_open_to_fast l) (sym firmware.layout) main_left in
     let agree = alike laws slow fast two h is in

@@ -8,8 +8,8 @@ use Rattle.two_level.specs.declared.two.TwoFault.TheVariants.{Slow, Fast, Memory
 
 -- both can be laid out
 pub record AreWithinLimits (slow fast : Block) : Type 0 where
-  pub slow : IsWithinLimits slow
-  pub fast : IsWithinLimits fast
+  pub slow_limits : IsWithinLimits slow
+  pub fast_limits : IsWithinLimits fast
 
 -- The slow block's fault, or else the fast one's. Want of memory is no one's, and none of these.
 abbrev pub IsTwoFaultOf : Block → Block → TwoFault → Type 0

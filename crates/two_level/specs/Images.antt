@@ -32,8 +32,8 @@ pub record IsAlone (b : Block) (f : Firmware) : Type 0 where
 -- The image has just the bytes of both, and the firmwares are those of each block alone.
 pub record IsTwoOf (slow fast : Block) (two : Two) : Type 0 where
   pub image : IsImageOf (two_items slow fast) two.image
-  pub slow : IsAlone slow two.slow
-  pub fast : IsAlone fast two.fast
+  pub slow_alone : IsAlone slow two.slow
+  pub fast_alone : IsAlone fast two.fast
 
 -- the most instructions or steps of the fast code, by those of its block alone: two instructions stand around EVAL in
 -- the place of six
