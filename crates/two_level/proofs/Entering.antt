@@ -1,8 +1,6 @@
 -- The fast code from where an interrupt enters it up to its return.
-use Rattle.std.proofs.Common.{◌≡◌, ◌⊎◌, inl, inr, ℕ, ◌+◌, ◌*◌, ◌^◌, ◌<◌, ◌≤◌, Ok, false, Bool, List, [], ◌∷◌, ◌++◌, length, bit_and, refl, sym, ap, ◌∙◌, subst, arith}
+use Rattle.std.proofs.Common.{◌≡◌, ◌⊎◌, inl, inr, ℕ, ◌+◌, ◌*◌, ◌^◌, ◌<◌, ◌≤◌, Ok, false, List, [], ◌∷◌, length, bit_and, refl, sym, ap, ◌∙◌, subst, arith}
 use Rattle.fuzzy_meaning.specs.declared.block.Block.{Block}
-use Rattle.fuzzy_meaning.specs.Blocks.{IsValid}
-use Rattle.rule_layout.specs.Layouts.{IsWithinLimits}
 use Rattle.cpu12_isa.proofs.Algebra.{bit_and_is}
 use Rattle.cpu12_isa.specs.declared.instr.Ccr.{Ccr}
 use Rattle.cpu12_isa.specs.declared.instr.Instr.TheVariants.{Andcc, Rti}
@@ -12,18 +10,17 @@ use Rattle.cpu12_isa.specs.Fits.{StaysFit}
 use Rattle.cpu12_isa.specs.Flags.{has, interrupts_masked}
 use Rattle.cpu12_isa.specs.Memory.{plus}
 use Rattle.cpu12_parts.specs.State.{State}
-use Rattle.cpu12_parts.specs.Touching.{IsIn, Each, IsBetween}
+use Rattle.cpu12_parts.specs.Touching.{IsIn, Each}
 use Rattle.cpu12_parts.specs.Executions.{Execution}
 use Rattle.cpu12_parts.specs.Whole.{after_plain}
 use Rattle.cpu12_emul.specs.Image.{image_memory}
 use Rattle.codegen.specs.declared.width.Width.TheVariants.{Byte}
-use Rattle.codegen.specs.Evaluation.{Writes, code_region, eval_bytes, IsEvalStep, IsAtEval, IsEvaluated, EvalAnswers}
-use Rattle.codegen.specs.Firing.{AreInputBytes}
+use Rattle.codegen.specs.Evaluation.{Writes, code_region, IsEvalStep, IsAtEval, IsEvaluated, EvalAnswers}
 use Rattle.codegen.specs.Placed.{BlockRises, BlockStands, StandsBetween}
 use Rattle.two_level.specs.declared.two.Two.{Two}
 use Rattle.two_level.specs.Layouts.{fast_front, fast_back, fast_layout}
 use Rattle.two_level.specs.Images.{slow_items, IsTwoOf}
-use Rattle.two_level.specs.Running.{HasFastRom, IsFastStack, fast_code, IsInFast, IsEntered, IsFastStep, IsFastAnswered, FastAnswersEntered}
+use Rattle.two_level.specs.Running.{HasFastRom, IsFastStack, fast_code, IsEntered, IsFastStep, IsFastAnswered, FastAnswersEntered}
 use Rattle.two_level.proofs.Leaving.{leaves}
 use Rattle.two_level.proofs.Places.{fast_in_order, fast_apart, AreSound, two_rise}
 

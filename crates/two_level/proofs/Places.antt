@@ -1,5 +1,5 @@
 -- The items of both blocks stand one above the other.
-use Rattle.std.proofs.Common.{◌≡◌, ℕ, ◌+◌, ◌^◌, ◌<◌, ◌≤◌, List, [], ◌∷◌, ◌++◌, length, refl, arith, length-append}
+use Rattle.std.proofs.Common.{◌+◌, [], ◌∷◌, arith}
 use Rattle.fuzzy_meaning.specs.declared.block.Block.{Block}
 use Rattle.fuzzy_meaning.specs.Blocks.{IsValid}
 use Rattle.rule_layout.specs.Layouts.{IsWithinLimits}
@@ -8,64 +8,22 @@ use Rattle.cpu12_asm.specs.Items.{IsRisingFrom, IsRising}
 use Rattle.codegen.specs.declared.width.Width.TheVariants.{Byte}
 use Rattle.codegen.specs.Layouts.{main_layout}
 use Rattle.codegen.specs.Code.{frame_code}
-use Rattle.codegen.specs.Images.{block_items, vector_items, IsApart}
-use Rattle.codegen.specs.Placed.{IsInOrder, BlockRises, BlockIsShort}
+use Rattle.codegen.specs.Images.{vector_items, IsApart}
+use Rattle.codegen.specs.Placed.{IsInOrder, BlockRises}
 use Rattle.two_level.specs.Layouts.{fast_front, fast_back, fast_layout, slow_layout}
-use Rattle.two_level.specs.Images.{fast_items, slow_items, two_items}
+use Rattle.two_level.specs.Images.{slow_items, two_items}
 
 pub fast_in_order : IsInOrder fast_layout fast_front fast_back
-fast_in_order = record {
-  eval = refl;
-  code = omega arith;
-  tables = omega arith;
-  singletons = omega arith;
-  weights = omega arith;
-  rules = omega arith;
-}
+fast_in_order = search arith
 
 pub main_in_order : IsInOrder main_layout (frame_code main_layout) (Rts ∷ [])
-main_in_order = record {
-  eval = refl;
-  code = omega arith;
-  tables = omega arith;
-  singletons = omega arith;
-  weights = omega arith;
-  rules = omega arith;
-}
+main_in_order = search arith
 
 pub fast_apart : IsApart fast_layout
-fast_apart = record {
-  inputs = omega arith;
-  outputs = omega arith;
-  slots = omega arith;
-  eval = omega arith;
-  eval_end = omega arith;
-  tables = omega arith;
-  tables_end = omega arith;
-  singletons = omega arith;
-  singletons_end = omega arith;
-  weights = omega arith;
-  weights_end = omega arith;
-  rules = omega arith;
-  rules_end = omega arith;
-}
+fast_apart = search arith
 
 pub main_apart : IsApart main_layout
-main_apart = record {
-  inputs = omega arith;
-  outputs = omega arith;
-  slots = omega arith;
-  eval = omega arith;
-  eval_end = omega arith;
-  tables = omega arith;
-  tables_end = omega arith;
-  singletons = omega arith;
-  singletons_end = omega arith;
-  weights = omega arith;
-  weights_end = omega arith;
-  rules = omega arith;
-  rules_end = omega arith;
-}
+main_apart = search arith
 
 -- both blocks are valid and can be laid out
 pub record AreSound (slow fast : Block) : Type 0 where

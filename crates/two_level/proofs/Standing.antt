@@ -31,7 +31,7 @@ use Rattle.codegen.specs.Placed.{BlockStaysInside, GivesBehind, GiveBytes, Block
 use Rattle.two_level.specs.declared.two.Two.{Two}
 use Rattle.two_level.specs.Layouts.{fast_front, fast_back, fast_layout, slow_layout, is_fast_ram, is_fast_rom, is_vector, is_open_to_fast}
 use Rattle.two_level.specs.Images.{fast_items, slow_items, two_items, IsTwoOf}
-use Rattle.two_level.specs.Standing.{StandsBeside, SlowAnswersBeside, TwoStandBeside}
+use Rattle.two_level.specs.Standing.{TwoStandBeside}
 use Rattle.two_level.proofs.Places.{fast_in_order, main_in_order, fast_apart, main_apart, AreSound}
 
 -- the laws of lower crates
@@ -44,19 +44,17 @@ pub record StandingLaws : Type 0 where
   pub arrives : FirmwareArrivesAlike
 
 -- what is not open
-not_open : (at : ℕ)
-    → (at < 0x1400) ⊎ (((0x1FE0 ≤ at) × (at < 0x4000)) ⊎ (((0x7F00 ≤ at) × (at < 0xFFF2)) ⊎ (0xFFF4 ≤ at)))
-    → is_open_to_fast at ≡ false
-not_open at (inl h) = grind (arith, nat_tests)
-not_open at (inr (inl h)) = let lo = h.0 in let hi = h.1 in grind (arith, nat_tests)
-not_open at (inr (inr (inl h))) = let lo = h.0 in let hi = h.1 in grind (arith, nat_tests)
-not_open at (inr (inr (inr h))) = grind (arith, nat_tests)
-
 low : (at : ℕ) → at < 0x1400 → is_open_to_fast at ≡ false
-low at h = not_open at (inl h)
+low at h = grind (arith, nat_tests)
+
+between : (at : ℕ) → 0x1FE0 ≤ at → at < 0x4000 → is_open_to_fast at ≡ false
+between at from to = grind (arith, nat_tests)
 
 high : (at : ℕ) → 0x7F00 ≤ at → at < 0xFFF2 → is_open_to_fast at ≡ false
-high at from to = not_open at (inr (inr (inl (from, to))))
+high at from to = grind (arith, nat_tests)
+
+top : (at : ℕ) → 0xFFF4 ≤ at → is_open_to_fast at ≡ false
+top at from = grind (arith, nat_tests)
 
 not_read : (at : ℕ) → Reads main_layout at → is_open_to_fast at ≡ false
 not_read at (inl o) = low at (omega (arith, o.1))
@@ -77,9 +75,9 @@ main_left = record {
   ready = refl;
   reads = not_read;
   writes = not_written;
-  stack = λ at from to. not_open at (inr (inl (from, omega arith)));
+  stack = λ at from to. between at from (omega arith);
   code = λ at from to. high at (omega arith) (omega arith);
-  reset = λ at from to. not_open at (inr (inr (inr (omega arith))));
+  reset = λ at from to. top at (omega arith);
 }
 
 -- the slow block's items with these vectors behind them

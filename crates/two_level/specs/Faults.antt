@@ -1,5 +1,5 @@
 -- Why two blocks are refused.
-use Rattle.std.specs.Prelude.{◌≡◌, ◌≢◌}
+use Rattle.std.specs.Prelude.{◌≢◌}
 use Rattle.fuzzy_meaning.specs.declared.block.Block.{Block}
 use Rattle.rule_layout.specs.declared.flat.LayoutFault.TheVariants as layout
 use Rattle.rule_layout.specs.Layouts.{IsWithinLimits, IsFaultOf}
