@@ -24,7 +24,7 @@ pub record StandsBeside (fast : Block) (two : Two) : Type 0 where
   pub leaves : LeavesLayout is_open_to_fast two.slow.layout
   pub alike : Agree is_open_to_fast (image_memory two.image.bytes) (image_memory two.slow.image.bytes)
 
--- Beside interrupts to which all that is open, the slow firmware alone answers every list of samples; and from reset over
+-- Beside interrupts to which all that is open, the slow firmware alone answers every list of samples; from reset over
 -- the image it comes where it waits for them in the same state but for that, which is as it was.
 pub record SlowAnswersBeside (slow : Block) (two : Two) : Type 0 where
   pub answers : AnswersBeside is_open_to_fast slow two.slow
