@@ -11,6 +11,9 @@ pub mod TwoSteps
 pub mod CopyRuns
 pub mod IdleRuns
 pub mod AnswerRuns
+pub mod TurnViews
+pub mod TurnsFollow
+pub mod AllTurns
 pub mod LastOnes
 pub mod Instances
 pub mod Takings

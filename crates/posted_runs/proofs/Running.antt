@@ -85,7 +85,7 @@ pub run_over : (flags : ℕ) (f : Firmware) (samples : List (List ℕ)) (last n 
 unfolding turns_from
 run_over flags f samples last n g w qs s e = rw e refl
 
-run_on : (flags : ℕ) (f : Firmware) (samples : List (List ℕ)) (last n g w : ℕ) (qs : List Post) (s : State)
+pub run_on : (flags : ℕ) (f : Firmware) (samples : List (List ℕ)) (last n g w : ℕ) (qs : List Post) (s : State)
     → is_over f.layout (takes (turn_form flags f samples g) g qs s) ≡ false
     → turns_from flags f samples last (suc n) g w qs s
     ≡ then_turns f samples g (waiting w (asked (takes (turn_form flags f samples g) g qs s).told)) (takes (turn_form flags f samples g) g qs s).frames

@@ -111,7 +111,7 @@ frames_behind flags g c u at ps before h new = frames_rest flags g c u at ps bef
 
 -- ---- resumed boundaries
 
-has_on : {A : Type 0} (moment : A → ℕ) (m : ℕ) (xs ys : List A) → has_moment moment m (xs ++ ys) ≡ (has_moment moment m xs || has_moment moment m ys)
+pub has_on : {A : Type 0} (moment : A → ℕ) (m : ℕ) (xs ys : List A) → has_moment moment m (xs ++ ys) ≡ (has_moment moment m xs || has_moment moment m ys)
 has_on moment m [] ys = refl
 has_on {A = A} moment m (x ∷ xs) ys = ap (λ (b : Bool). (moment x == m) || b) (has_on moment m xs ys) ∙ or_assoc (moment x == m) (has_moment moment m xs) (has_moment moment m ys)
   where

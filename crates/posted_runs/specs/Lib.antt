@@ -8,3 +8,4 @@ pub mod Shifts
 pub mod Postings
 pub mod PostedTurns
 pub mod Behind
+pub mod WholeRuns

@@ -6,6 +6,7 @@ ghost use Rattle.posted_runs.specs.Shifts.{RunsCountOn};
 ghost use Rattle.posted_runs.specs.Turns.{AllAreTaken, LastIsAnswered, TurnsAreOne};
 ghost use Rattle.posted_runs.specs.TurnsExist.{PostsHaveTurns};
 ghost use Rattle.posted_runs.specs.UninterruptedTurns.{MailboxRunsTurns, TurnsHaveSteps};
+ghost use Rattle.posted_runs.specs.WholeRuns.{RunsAreTurns};
 
 use crate::copied::BehindTheCopy;
 use codegen::laws::{
@@ -115,4 +116,24 @@ pub fn idle_turns_follow()
     step_agrees();
     step_keeps();
     plain_is_step();
+}
+
+/// The run under good posts is that of its turns, each from where the one before ended without
+/// interrupts.
+pub fn runs_are_turns()
+    ensures { RunsAreTurns }
+{
+    writes_agree();
+    writes_stay();
+    stack_is_hidden();
+    wav_suspends();
+    takes_quietly();
+    frame_is_on_stack();
+    step_agrees();
+    step_keeps();
+    wavr_goes_on();
+    plain_is_step();
+    taken_at_first_open();
+    turns_count_on();
+    turns_follow_behind();
 }

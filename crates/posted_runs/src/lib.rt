@@ -19,7 +19,8 @@
 //! such turns ([`turns_have_steps`]).
 //!
 //! A run goes along with its turns without interrupts: [`posted_turns_follow`] says it of a turn that
-//! answers, and [`idle_turns_follow`] of one that does not.
+//! answers, and [`idle_turns_follow`] of one that does not, and [`runs_are_turns`] of all that follow
+//! one another.
 #![tactic(auto)]
 
 mod copied;
@@ -33,6 +34,7 @@ mod turns;
 
 pub use laws::{
     all_are_taken, idle_turns_follow, last_is_answered, mailbox_runs_turns, posted_turns_follow,
-    posts_have_turns, turns_are_one, turns_count_on, turns_follow_behind, turns_have_steps,
+    posts_have_turns, runs_are_turns, turns_are_one, turns_count_on, turns_follow_behind,
+    turns_have_steps,
 };
 pub use run::{Answer, PostRun, run_posts};
