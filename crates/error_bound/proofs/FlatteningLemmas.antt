@@ -1,10 +1,10 @@
 -- A flat condition reaches as far as the one that it is made of.
-use Rattle.std.proofs.Common.{◌≡◌, ℕ, zero, suc, ◌+◌, ◌-◌, ◌*◌, ◌<◌, ◌≤◌, min, max, Bool, true, false, List, [], ◌∷◌, ◌++◌, length, get_or, take, map, Vec, Global, Option, Some, None, refl, sym, ap, ap₂, ◌∙◌, subst, arith}
+use Rattle.std.proofs.Common.{◌≡◌, ℕ, zero, suc, ◌+◌, ◌-◌, ◌*◌, ◌<◌, ◌≤◌, max, Bool, true, false, List, [], ◌∷◌, ◌++◌, length, get_or, take, map, Vec, Global, Option, Some, None, refl, sym, ap, ap₂, ◌∙◌, subst, arith}
 use mathlib.Core.Bool.{beq}
 use Rattle.std.specs.Prelude.{if◌then◌else◌, nat_le, not, ◌==◌, slice_get}
 use Rattle.std.specs.Option.{option_map_or}
 use Rattle.std.proofs.lemmas.List.{map-append, map_more}
-use Rattle.fz_num.specs.Fractions.{Fraction, over, IsProper, AtMost, one, lesser, greater, one_minus}
+use Rattle.fz_num.specs.Fractions.{Fraction, over, IsProper, AtMost, one}
 use Rattle.fz_num.specs.Decimals.{distance}
 use Rattle.fz_num.proofs.Algebra.{AtMost-refl, IsProper-lesser, IsProper-greater}
 use Rattle.fuzzy_meaning.specs.declared.block.Block.{Block}
@@ -21,8 +21,8 @@ use Rattle.byte_scaling.specs.Cells.{cell_start, cell_end}
 use Rattle.point_slope.specs.Tables.{row_of, grade_of}
 use Rattle.error_bound.specs.declared.boxes.Interval.{Interval}
 use Rattle.error_bound.specs.Boxes.{least_from, greatest_from, degrees_over, grades_over, literal_span, literal_byte_span}
-use Rattle.error_bound.specs.Spans.{Span, one_minus_span, lesser_span, greater_span, joined_spans, span_of_none, span, ByteSpan, one_minus_bytes, lesser_bytes, greater_bytes, joined_bytes, bytes_of_none, byte_span, greatest_literal}
-use Rattle.error_bound.specs.Flattening.{under, group, within, pieces, each_pieces, flat, IsSame, AreSame, FlatteningKeepsReaches}
+use Rattle.error_bound.specs.Spans.{Span, one_minus_span, lesser_span, greater_span, joined_spans, span_of_none, span, ByteSpan, one_minus_bytes, joined_bytes, bytes_of_none, byte_span, greatest_literal}
+use Rattle.error_bound.specs.Flattening.{under, group, within, pieces, each_pieces, flat, AreSame, FlatteningKeepsReaches}
 use Rattle.error_bound.specs.Places.{rise_end}
 use Rattle.error_bound.proofs.CellErrors.{low_proper, high_proper}
 use Rattle.error_bound.proofs.Groups.{group_span_none, group_span, group_bytes_none, group_bytes, group_error_none, group_error}

@@ -38,10 +38,10 @@ weighted_near t g e v w ew er q f hv hw h1 n w1 w2 q1 q2 =
 times_one : (f : Fraction) (w : ℕ) → w ≤ 10000 → AtMost f one → AtMost (times f w) one
 times_one f w hw h = let p : f.num * w ≤ f.den * w = mul-le-mul_right w (let c = h.cross in omega arith) in let q : w * f.den ≤ 10000 * f.den = mul-le-mul_right f.den hw in record { cross = omega arith }
 
-times_mono : (f g : Fraction) (w : ℕ) → AtMost f g → AtMost (times f w) (times g w)
+pub times_mono : (f g : Fraction) (w : ℕ) → AtMost f g → AtMost (times f w) (times g w)
 times_mono f g w l = record { cross = (let p = mul-le-mul_right (w * 10000) l.cross in omega arith) }
 
-times_proper : (f : Fraction) (w : ℕ) → IsProper f → IsProper (times f w)
+pub times_proper : (f : Fraction) (w : ℕ) → IsProper f → IsProper (times f w)
 times_proper f w p = record { pos = mul-pos p.pos (omega arith) }
 
 -- 256 and a weight byte

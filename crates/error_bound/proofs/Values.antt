@@ -1,8 +1,8 @@
 -- Fractions of one value: what AND, OR and NOT make of them, and what is read from them.
-use Rattle.std.proofs.Common.{◌≡◌, ⊎_elim, ℕ, zero, suc, ◌+◌, ◌-◌, ◌*◌, ◌/◌, ◌<◌, ◌≤◌, refl, sym, ap, subst, arith, mul-le-mul_right, le_of_mul-le-mul_right, mul-pos}
+use Rattle.std.proofs.Common.{◌≡◌, ⊎_elim, ℕ, ◌-◌, ◌*◌, ◌/◌, ◌<◌, ◌≤◌, sym, ap, subst, arith, mul-le-mul_right, le_of_mul-le-mul_right}
 use Rattle.std.proofs.lemmas.Bool.{cases_lt}
 use Rattle.std.proofs.lemmas.Nat.{le-div}
-use Rattle.fz_num.specs.Fractions.{Fraction, over, IsProper, AtMost, IsBelow, lesser, greater, one_minus, times, one, none, up_div}
+use Rattle.fz_num.specs.Fractions.{Fraction, over, IsProper, AtMost, IsBelow, lesser, greater, one_minus, times, one, none}
 use Rattle.fz_num.proofs.Algebra.{AtMost-refl, AtMost-trans, by_lesser, by_greater, IsProper-lesser, IsProper-greater, AtMost-lesser_left, AtMost-lesser_right, AtMost-lesser, AtMost-greater_left, AtMost-greater_right, AtMost-greater, lesser-mono, greater-mono, AtMost-one_minus, le-up_div, up_div-le}
 use Rattle.error_bound.specs.Errors.{billion}
 use Rattle.error_bound.specs.declared.boxes.Leaf.{Leaf}
@@ -11,6 +11,7 @@ use Rattle.error_bound.specs.declared.boxes.LeafFault.TheVariants.{Weak, Silent}
 use Rattle.error_bound.specs.Spans.{Span, ByteSpan}
 use Rattle.error_bound.specs.Faults.{parts_down, parts_up, IsStrongFault, weak, still, IsSilentFault, silent, loud}
 use Rattle.error_bound.specs.Flattening.{IsSame, AreSame}
+use Rattle.error_bound.proofs.RuleLemmas.{times_mono, times_proper}
 use Rattle.error_bound.proofs.SilentLeaves.{none_below}
 
 pub one_proper : IsProper one
@@ -149,18 +150,12 @@ twice_minus f p l = subst (λ n. IsSame f (over n f.den)) (sym (back f l)) (same
 
 -- ---- times a weight
 
-times_below : (f g : Fraction) (w : ℕ) → AtMost f g → AtMost (times f w) (times g w)
-times_below f g w l = record { cross = (let p = mul-le-mul_right (w * 10000) l.cross in omega arith) }
-
-times_proper : (f : Fraction) (w : ℕ) → IsProper f → IsProper (times f w)
-times_proper f w p = record { pos = mul-pos p.pos (omega arith) }
-
 pub times_same : (f g : Fraction) (w : ℕ) → IsSame f g → IsSame (times f w) (times g w)
 times_same f g w a = record {
   left = times_proper f w a.left;
   right = times_proper g w a.right;
-  below = times_below f g w a.below;
-  above = times_below g f w a.above;
+  below = times_mono f g w a.below;
+  above = times_mono g f w a.above;
 }
 
 -- ---- what is read
