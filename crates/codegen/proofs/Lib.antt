@@ -6,6 +6,7 @@ pub mod steps
 pub mod phases
 pub mod masses
 pub mod runs
+pub mod Placed
 pub mod turns
 pub mod watching
 pub mod AlikeLemmas

@@ -1,5 +1,5 @@
 -- The code of a firmware, instruction by instruction.
-use Rattle.std.specs.Prelude.{ℕ, ◌+◌, ◌-◌, List, [], ◌∷◌, ◌++◌, length, take, replicate, sum_by, Option, Some, None, option_map}
+use Rattle.std.specs.Prelude.{ℕ, ◌+◌, ◌-◌, List, [], ◌∷◌, ◌++◌, flat_map, length, take, replicate, sum_by, Option, Some, None, option_map}
 use Rattle.fuzzy_meaning.specs.declared.block.Block.{Block}
 use Rattle.fuzzy_meaning.specs.declared.block.Input.{Input}
 use Rattle.fuzzy_meaning.specs.declared.block.Output.{Output}
@@ -12,10 +12,15 @@ use Rattle.rule_layout.specs.Slots.{slots_of, term_count, singleton_count}
 use Rattle.rule_layout.specs.Layouts.{form_of}
 use Rattle.cpu12_isa.specs.declared.instr.Instr.{Instr}
 use Rattle.cpu12_isa.specs.declared.instr.Instr.TheVariants.{LdaaImmediate, LdaaExtended, LdabImmediate, LdxImmediate, LdyImmediate, LdsImmediate, StaaExtended, StabExtended, ClrExtended, Coma, CpxImmediate, Beq, Bra, JsrExtended, Andcc, Orcc, TransferXD, TransferYD, Ediv, Fdiv, Rti, Mem, Rev, Revw, Wav}
+use Rattle.cpu12_isa.specs.Code.{encode_of}
 use Rattle.codegen.specs.declared.layout.Layout.{Layout}
 use Rattle.codegen.specs.declared.width.Width.{Width}
 use Rattle.codegen.specs.declared.width.Width.TheVariants.{Byte, Word}
 use Rattle.codegen.specs.Widths.{places}
+
+-- the bytes of instructions one after another
+abbrev pub code_bytes : List Instr → List ℕ
+code_bytes code = flat_map encode_of code
 
 -- The stack is set up, READY cleared and interrupts let in; then, wherever READY is not 0, EVAL is called and READY
 -- cleared.

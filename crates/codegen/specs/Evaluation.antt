@@ -1,10 +1,10 @@
 -- EVAL by what it owns, at the addresses of any layout.
-use Rattle.std.specs.Prelude.{◌≡◌, ℕ, ◌+◌, ◌-◌, ◌*◌, ◌^◌, ◌<◌, ◌≤◌, ◌⊎◌, List, [], ◌∷◌, length, flat_map, slice_index}
+use Rattle.std.specs.Prelude.{◌≡◌, ℕ, ◌+◌, ◌-◌, ◌*◌, ◌^◌, ◌<◌, ◌≤◌, ◌⊎◌, List, [], ◌∷◌, length, slice_index}
 use Rattle.fuzzy_meaning.specs.declared.block.Block.{Block}
 use Rattle.fuzzy_meaning.specs.Blocks.{IsValid}
 use Rattle.rule_layout.specs.Slots.{slots_of}
 use Rattle.rule_layout.specs.Layouts.{IsWithinLimits}
-use Rattle.cpu12_isa.specs.Code.{encode_of, six_from}
+use Rattle.cpu12_isa.specs.Code.{six_from}
 use Rattle.cpu12_isa.specs.Flags.{has, interrupts_masked}
 use Rattle.cpu12_parts.specs.State.{State}
 use Rattle.cpu12_parts.specs.Touching.{IsIn, IsInOne, Each, IsInstructionOver, IsBetween}
@@ -13,7 +13,7 @@ use Rattle.codegen.specs.declared.layout.Layout.{Layout}
 use Rattle.codegen.specs.declared.width.Width.{Width}
 use Rattle.codegen.specs.Widths.{places, bytes_of, answer}
 use Rattle.codegen.specs.Bounds.{instruction_bound, step_bound}
-use Rattle.codegen.specs.Code.{eval_code}
+use Rattle.codegen.specs.Code.{code_bytes, eval_code}
 use Rattle.codegen.specs.Data.{table_bytes, singleton_bytes, weight_bytes, rule_bytes}
 use Rattle.codegen.specs.Images.{IsApart}
 use Rattle.codegen.specs.Firing.{AreInputBytes}
@@ -39,7 +39,7 @@ pub record IsEvalStep (l : Layout) (flags d : ℕ) (s t : State) : Type 0 where
   pub mask : has t.regs.ccr interrupts_masked ≡ has s.regs.ccr interrupts_masked
 
 abbrev pub eval_bytes : Layout → Block → Width → List ℕ
-eval_bytes l b w = flat_map encode_of (eval_code l b w)
+eval_bytes l b w = code_bytes (eval_code l b w)
 
 -- these bytes stand from an address on
 abbrev pub HasBytes : List ℕ → ℕ → List ℕ → Type 0

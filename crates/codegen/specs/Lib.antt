@@ -7,6 +7,7 @@ pub mod Bounds
 pub mod Firmwares
 pub mod Firing
 pub mod Evaluation
+pub mod Placed
 pub mod Interruptible
 pub mod Alike
 pub mod Answers

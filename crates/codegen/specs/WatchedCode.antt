@@ -8,11 +8,10 @@ use Rattle.rule_layout.specs.declared.flat.Form.TheVariants as form
 use Rattle.rule_layout.specs.Layouts.{form_of, weights_of}
 use Rattle.cpu12_isa.specs.declared.instr.Instr.{Instr}
 use Rattle.cpu12_isa.specs.declared.instr.Instr.TheVariants.{LdabImmediate, LdxImmediate, StabExtended, ClrExtended, CpxImmediate, Bne, Rts, AddbImmediate, AddbPostIncrementX}
-use Rattle.cpu12_isa.specs.Code.{encode_of}
 use Rattle.codegen.specs.declared.layout.Layout.{Layout}
 use Rattle.codegen.specs.declared.segments.Segment.{Segment}
 use Rattle.codegen.specs.Layouts.{main_layout}
-use Rattle.codegen.specs.Code.{frame_code}
+use Rattle.codegen.specs.Code.{code_bytes, frame_code}
 use Rattle.codegen.specs.Data.{table_bytes, singleton_bytes, rule_bytes}
 use Rattle.codegen.specs.Checksums.{check_byte}
 
@@ -48,7 +47,7 @@ AreSegments (s ∷ segments) = IsSegment s × AreSegments segments
 
 -- how many bytes code has
 abbrev pub code_length : List Instr → ℕ
-code_length code = length (flat_map encode_of code)
+code_length code = length (code_bytes code)
 
 -- an output's default's byte, or with NC nothing, stored at an address
 abbrev pub default_code : ℕ → Option ℕ → List Instr

@@ -36,7 +36,7 @@ fn push_copies(items: &mut Vec<Item>, instruction: Instr, count: usize) -> Resul
 }
 
 /// The code before EVAL of a firmware that stands alone.
-pub(crate) fn frame_code(layout: &Layout) -> [Instr; 9]
+pub fn frame_code(layout: &Layout) -> [Instr; 9]
     ensures { result ≡ frame_code layout.now }
 {
     [

@@ -78,7 +78,7 @@ pub fn compile16(alloc: Global, block: &Block) -> Result<Firmware, LayoutFault>
 }
 
 /// The image of items that stand one above the other.
-pub(crate) fn image_of(alloc: Global, items: &[Item]) -> Result<Image, AllocError>
+pub fn image_of(alloc: Global, items: &[Item]) -> Result<Image, AllocError>
     requires few { length items.now < 2 ^ 32 }
     requires rising { IsRising items.now }
     ensures { IfOk result (IsImageOf items.now) }

@@ -43,8 +43,9 @@ pub fn firmware_items(
     Ok(items)
 }
 
-/// A block's code, with what stands before and behind EVAL, its tables and its rule list.
-pub(crate) fn push_block(
+/// A block's code at a layout, with what stands before and behind EVAL, its tables and its rule list,
+/// behind other items. `flat` is the block's rules as `spread` lays them out.
+pub fn push_block(
     alloc: Global,
     items: &mut Vec<Item>,
     layout: &Layout,
@@ -169,7 +170,7 @@ fn push_rule_data(
 }
 
 /// The interrupt's and the reset vector.
-pub(crate) fn push_vectors(items: &mut Vec<Item>, layout: &Layout) -> Result<(), AllocError>
+pub fn push_vectors(items: &mut Vec<Item>, layout: &Layout) -> Result<(), AllocError>
     ensures { OnOk result (items.new.items ≡ items.old.items ++ vector_items layout.now) }
 {
     items.push(Item::Place(0xFFF2))?;

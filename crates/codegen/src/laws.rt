@@ -4,6 +4,7 @@ ghost use Rattle.codegen.specs.Answers.{FirmwareAnswers, FirmwareAnswersBeside, 
 ghost use Rattle.codegen.specs.Evaluation.{EvalAnswers};
 ghost use Rattle.codegen.specs.Checksums.{OneChangeIsSeen, TwoChangesMayPass, UnchangedSumIsZero};
 ghost use Rattle.codegen.specs.Firing.{RulesGiveMasses};
+ghost use Rattle.codegen.specs.Placed.{BlockGivesBytes, BlockIsShort, BlockRises, BlockStands, BlockStaysInside, GivesBehind};
 ghost use Rattle.codegen.specs.Turns.{MailboxTakesPosts, MailboxIsUninterrupted};
 ghost use Rattle.codegen.specs.Watched.{WatchedAnswers};
 ghost use Rattle.codegen.specs.Uninterrupted.{AnsweredAreUninterrupted, FirmwareIsUninterrupted, UninterruptedAreOne};
@@ -33,6 +34,23 @@ pub fn eval_answers()
     nearest_is_byte();
     stays_fit();
     rules_give_masses();
+}
+
+/// A block's items at a layout, with code before and behind EVAL, go up, are few, and give bytes from
+/// the code to the rule list's end alone. In the memory of an image of items that go up, of which these
+/// are some, EVAL stands with its data between that code.
+pub fn blocks_are_placed()
+    ensures rises { BlockRises }
+    ensures short { BlockIsShort }
+    ensures inside { BlockStaysInside }
+    ensures behind { GivesBehind }
+    ensures bytes { BlockGivesBytes }
+    ensures stands { BlockStands }
+{
+    layout_law();
+    nearest_is_byte();
+    rising_items();
+    holds_image();
 }
 
 /// The firmware of a block answers every list of samples over bytes, whatever the open flags are,

@@ -5,7 +5,7 @@ use Rattle.std.specs.Prelude.{◌==◌, if◌then◌else◌}
 use Rattle.std.specs.BTreeMap.{is_at}
 use Rattle.std.proofs.lemmas.Bool.{cases_lt}
 use Rattle.std.proofs.lemmas.Bool.Decides.{nat_tests}
-use Rattle.std.proofs.lemmas.List.{get_or_past}
+use Rattle.std.proofs.lemmas.List.{get_or_past, map-append}
 use Rattle.fz_num.specs.declared.dec.Dec.{Dec}
 use Rattle.fuzzy_meaning.specs.declared.block.Block.{Block}
 use Rattle.fuzzy_meaning.specs.declared.block.Input.{Input}
@@ -38,7 +38,7 @@ use Rattle.codegen.specs.declared.layout.Layout.{Layout}
 use Rattle.codegen.proofs.Joins.{block_then, block_items-then}
 use Rattle.codegen.proofs.phases.RuleMemory.{Below, below_all, below_append}
 use Rattle.codegen.proofs.phases.RuleFacts.{BlockFacts, weights_below, rev_is_plain}
-use Rattle.codegen.proofs.steps.Decoding.{IsUsed, UsedCode, used_append}
+use Rattle.codegen.proofs.steps.Decoding.{IsUsed, UsedCode}
 use Rattle.codegen.proofs.phases.Used.{used_answer}
 use Rattle.rule_layout.specs.declared.flat.Form.TheVariants as form
 
@@ -182,19 +182,23 @@ rules_fit : (base n : ℕ) (f : Form) (cs : List Conjunction) → (f ≡ form.Re
 rules_fit base n form.Rev cs small le h = list_bytes_fit n cs (let q = small refl in q) h
 rules_fit base n form.Revw cs small le h = words_fit (list_words base cs) (list_words_fit base n cs le h)
 
--- a block's items give bytes, with code before and behind whose operands fit
-pub block_fits : NearestIsByte → (l : Layout) (b : Block) (w : Width) (before behind : List Instr) (rest : List Item) → IsValid b → BlockFacts b → IsApart l
-    → UsedCode before → UsedCode behind → ItemsFit rest → ItemsFit (block_items l b w before behind ++ rest)
-block_fits near l b w before behind rest v facts a front back others =
+joined : (xs ys : List Instr) → ItemsFit (map Op xs) → ItemsFit (map Op ys) → ItemsFit (map Op (xs ++ ys))
+joined xs ys a b = subst ItemsFit (sym (map-append (λ i. Op i) xs ys)) (fit_append (map Op xs) (map Op ys) a b)
+
+-- a block's items give bytes, with code before and behind that gives bytes
+pub block_fits_between : NearestIsByte → (l : Layout) (b : Block) (w : Width) (before behind : List Instr) (rest : List Item) → IsValid b → BlockFacts b → IsApart l
+    → ItemsFit (map Op before) → ItemsFit (map Op behind) → ItemsFit rest → ItemsFit (block_items l b w before behind ++ rest)
+block_fits_between near l b w before behind rest v facts a front back others =
     let few = facts.few_slots in
     let top = a.slots in
     let small : form_of b ≡ form.Rev → length (slots_of b) ≤ 254 = λ e. (rev_is_plain b facts e).0 in
-    let used : UsedCode (block_code l b w before behind) =
-    used_append before (eval_code l b w ++ behind) front (used_append (eval_code l b w) behind (used_answer near l b w a v facts) back) in
+    let eval : ItemsFit (map Op (eval_code l b w)) = fit_code (eval_code l b w) (used_answer near l b w a v facts) in
+    let code : ItemsFit (map Op (block_code l b w before behind)) =
+    joined before (eval_code l b w ++ behind) front (joined (eval_code l b w) behind eval back) in
     let rules : Below 256 (rule_bytes l.slots b) = rules_fit l.slots (length (slots_of b)) (form_of b) (conjunctions_of b) small (omega arith) facts.in_range in
     let all : ItemsFit (block_then l b w before behind rest) = (
       tt,
-      fit_append (map Op (block_code l b w before behind)) _ (fit_code (block_code l b w before behind) used) (
+      fit_append (map Op (block_code l b w before behind)) _ code (
         tt,
         fit_append (map Byte (table_bytes b)) _ (fit_bytes (table_bytes b) (tables_fit b.inputs)) (
           tt,
@@ -208,11 +212,17 @@ block_fits near l b w before behind rest v facts a front back others =
     ) in
     subst ItemsFit (sym (block_items-then l b w before behind rest)) all
 
+-- with operands that fit
+pub block_fits : NearestIsByte → (l : Layout) (b : Block) (w : Width) (before behind : List Instr) (rest : List Item) → IsValid b → BlockFacts b → IsApart l
+    → UsedCode before → UsedCode behind → ItemsFit rest → ItemsFit (block_items l b w before behind ++ rest)
+block_fits near l b w before behind rest v facts a front back others =
+    block_fits_between near l b w before behind rest v facts a (fit_code before front) (fit_code behind back) others
+
 pub vectors_fit : (l : Layout) → l.interrupt < 65536 → l.code < 65536 → ItemsFit (vector_items l)
 vectors_fit l i c = (tt, ((omega arith, tt), ((omega arith, tt), (tt, ((omega arith, tt), ((omega arith, tt), tt))))))
 
 -- pairs whose second is a byte
-abbrev PairsFit : List (ℕ × ℕ) → Type 0
+abbrev pub PairsFit : List (ℕ × ℕ) → Type 0
 PairsFit [] = Unit {0}
 PairsFit (p ∷ ps) = (p.1 < 256) × PairsFit ps
 
@@ -220,7 +230,7 @@ placed_fit : (at : ℕ) (bs : List ℕ) (ps : List (ℕ × ℕ)) → Below 256 b
 placed_fit at [] ps h k = k
 placed_fit at (b ∷ bs) ps h k = (h.0, placed_fit (at + 1) bs ps h.1 k)
 
-given_fit : (at : ℕ) (items : List Item) → ItemsFit items → PairsFit (given_from at items)
+pub given_fit : (at : ℕ) (items : List Item) → ItemsFit items → PairsFit (given_from at items)
 given_fit at [] h = tt
 given_fit at (x ∷ xs) h = placed_fit at (item_bytes x) (given_from (place_after at x) xs) h.0 (given_fit (place_after at x) xs h.1)
 

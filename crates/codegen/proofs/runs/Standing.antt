@@ -50,7 +50,7 @@ given_code at (i ∷ is) rest =
     ∙ sym (append_assoc (placed at (encode_of i)) (placed (at + n) (code_bytes is)) (given_from (at + length (encode_of i ++ code_bytes is)) rest))
     ∙ ap (λ l. l ++ given_from (at + length (encode_of i ++ code_bytes is)) rest) (sym (placed_append at (encode_of i) (code_bytes is)))
 
-given_append : (at : ℕ) (xs ys : List Item) → given_from at (xs ++ ys) ≡ given_from at xs ++ given_from (place_behind at xs) ys
+pub given_append : (at : ℕ) (xs ys : List Item) → given_from at (xs ++ ys) ≡ given_from at xs ++ given_from (place_behind at xs) ys
 given_append at [] ys = refl
 given_append at (x ∷ xs) ys =
     ap (λ l. placed at (item_bytes x) ++ l) (given_append (place_after at x) xs ys) ∙ sym (append_assoc (placed at (item_bytes x)) (given_from (place_after at x) xs) (given_from (place_behind (place_after at x) xs) ys))
@@ -64,7 +64,7 @@ end_up rises at (x ∷ xs) ys h =
     omega (arith, head.0, rest)
 
 -- items give no byte from their end on
-none_behind : Rises → (at q : ℕ) (xs ys : List Item) → IsRisingFrom at (xs ++ ys) → place_behind at xs ≤ q → byte_at (given_from at xs) q ≡ None
+pub none_behind : Rises → (at q : ℕ) (xs ys : List Item) → IsRisingFrom at (xs ++ ys) → place_behind at xs ≤ q → byte_at (given_from at xs) q ≡ None
 none_behind rises at q [] ys h low = refl
 none_behind rises at q (x ∷ xs) ys h low =
     let head = rises.first at x (xs ++ ys) h in

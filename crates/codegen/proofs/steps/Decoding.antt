@@ -1,9 +1,10 @@
 -- The instructions of the code, from their bytes.
-use Rattle.std.proofs.Common.{◌≡◌, ℕ, ◌+◌, ◌*◌, ◌/◌, ◌%◌, ◌^◌, ◌<◌, ◌≤◌, Ok, List, [], ◌∷◌, ◌++◌, flat_map, length, get_or, ap, ap₂, ◌∙◌, arith}
+use Rattle.std.proofs.Common.{◌≡◌, ℕ, ◌+◌, ◌*◌, ◌/◌, ◌%◌, ◌^◌, ◌<◌, ◌≤◌, Ok, List, [], ◌∷◌, ◌++◌, length, get_or, ap, ap₂, ◌∙◌, arith}
 use Rattle.cpu12_isa.specs.declared.instr.Instr.{Instr}
 use Rattle.cpu12_isa.specs.declared.instr.Instr.TheVariants.{LdaaImmediate, LdaaExtended, LdabImmediate, LdxImmediate, LdyImmediate, LdsImmediate, StaaExtended, StabExtended, ClrExtended, Coma, CpxImmediate, Beq, Bra, JsrExtended, Rts, Andcc, Orcc, TransferXD, TransferYD, Ediv, Fdiv, Rti, MovbExtended, Mem, Rev, Revw, Wav, Bne, AddbImmediate, AddbPostIncrementX}
 use Rattle.cpu12_isa.specs.Code.{encode_of, decode_of, decode_at, FitsOperands, six_from}
 use Rattle.cpu12_isa.specs.Memory.{plus, bytes_at}
+pub use Rattle.codegen.specs.Code.{code_bytes}
 use Rattle.codegen.proofs.steps.Memory.{HasBytes, SameHigh}
 
 -- the instructions that the code is made of
@@ -111,9 +112,6 @@ UsedCode (i ∷ is) = IsUsed i × FitsOperands i × UsedCode is
 pub used_append : (a b : List Instr) → UsedCode a → UsedCode b → UsedCode (a ++ b)
 used_append [] b u v = v
 used_append (i ∷ a) b u v = (u.0, u.1, used_append a b u.2 v)
-
-abbrev pub code_bytes : List Instr → List ℕ
-code_bytes is = flat_map encode_of is
 
 -- the same instruction stands in memory
 six : (m : List ℕ) (p : ℕ) (a b d e f g : ℕ) → get_or m p 0 ≡ a → get_or m (plus p 1) 0 ≡ b → get_or m (plus p 2) 0 ≡ d → get_or m (plus p 3) 0 ≡ e → get_or m (plus p 4) 0 ≡ f → get_or m (plus p 5) 0 ≡ g → bytes_at m (six_from p) ≡ a ∷ b ∷ d ∷ e ∷ f ∷ g ∷ []

@@ -1,0 +1,185 @@
+-- The fast code from where an interrupt enters it up to its return.
+use Rattle.std.proofs.Common.{◌≡◌, ◌⊎◌, inl, inr, ℕ, ◌+◌, ◌*◌, ◌^◌, ◌<◌, ◌≤◌, Ok, false, List, [], ◌∷◌, length, bit_and, refl, sym, ap, ◌∙◌, subst, arith}
+use Rattle.fuzzy_meaning.specs.declared.block.Block.{Block}
+use Rattle.cpu12_isa.proofs.Algebra.{bit_and_is}
+use Rattle.cpu12_isa.specs.declared.instr.Ccr.{Ccr}
+use Rattle.cpu12_isa.specs.declared.instr.Instr.TheVariants.{Andcc, Rti}
+use Rattle.cpu12_isa.specs.Agreement.{WritesStay}
+use Rattle.cpu12_isa.specs.Code.{decode_at, six_from, StandsAt, DecodesEncoded}
+use Rattle.cpu12_isa.specs.Fits.{StaysFit}
+use Rattle.cpu12_isa.specs.Flags.{has, interrupts_masked}
+use Rattle.cpu12_isa.specs.Memory.{plus}
+use Rattle.cpu12_parts.specs.State.{State}
+use Rattle.cpu12_parts.specs.Touching.{IsIn, Each}
+use Rattle.cpu12_parts.specs.Executions.{Execution}
+use Rattle.cpu12_parts.specs.Whole.{after_plain}
+use Rattle.cpu12_emul.specs.Image.{image_memory}
+use Rattle.codegen.specs.declared.width.Width.TheVariants.{Byte}
+use Rattle.codegen.specs.Evaluation.{Writes, code_region, IsEvalStep, IsAtEval, IsEvaluated, EvalAnswers}
+use Rattle.codegen.specs.Placed.{BlockRises, BlockStands, StandsBetween}
+use Rattle.two_level.specs.declared.two.Two.{Two}
+use Rattle.two_level.specs.Layouts.{fast_front, fast_back, fast_layout}
+use Rattle.two_level.specs.Images.{slow_items, IsTwoOf}
+use Rattle.two_level.specs.Running.{HasFastRom, IsFastStack, fast_code, IsEntered, IsFastStep, IsFastAnswered, FastAnswersEntered}
+use Rattle.two_level.proofs.Leaving.{leaves}
+use Rattle.two_level.proofs.Places.{fast_in_order, fast_apart, AreSound, two_rise}
+
+-- the laws of lower crates
+pub record EnteringLaws : Type 0 where
+  pub rises : BlockRises
+  pub stands : BlockStands
+  pub eval_answers : EvalAnswers
+  pub decodes : DecodesEncoded
+  pub stays_fit : StaysFit
+  pub writes_stay : WritesStay
+
+-- the fast code stands in a memory that has its ROM
+standing : EnteringLaws → (slow fast : Block) (two : Two) (mem : List ℕ) → AreSound slow fast → IsTwoOf slow fast two
+    → HasFastRom (image_memory two.image.bytes) mem → StandsBetween fast_layout fast Byte fast_front fast_back mem
+standing laws slow fast two mem h is same =
+    laws.stands two.image.bytes mem [] (slow_items slow) fast_layout fast Byte fast_front fast_back fast_in_order h.fast_valid h.fast_limits
+    is.image.bytes (two_rise laws.rises slow fast h) same
+
+-- six bytes in the code
+six_in : (pc : ℕ) → fast_layout.code ≤ pc → pc + 6 ≤ fast_layout.code + 2434 → Each (IsIn fast_code) (six_from pc)
+six_in pc from to =
+    let at : (k : ℕ) → k ≤ 5 → IsIn fast_code (plus pc k) = λ k le. (omega arith, omega arith) in
+    ((from, omega arith), (at 1 (omega arith), (at 2 (omega arith), (at 3 (omega arith), (at 4 (omega arith), (at 5 (omega arith), tt))))))
+
+eval_in : (ats : List ℕ) → Each (IsIn (code_region fast_layout)) ats → Each (IsIn fast_code) ats
+eval_in [] h = tt
+eval_in (at ∷ ats) h = ((omega (arith, h.0.0), omega (arith, h.0.1)), eval_in ats h.1)
+
+-- what EVAL writes is below its code
+written_low : (at : ℕ) → fast_layout.code ≤ at → Writes fast_layout at → ⊥
+written_low at from (inl o) = absurd (omega (arith, o.1))
+written_low at from (inr (inl o)) = absurd (omega (arith, o.1))
+written_low at from (inr (inr o)) = o
+
+-- what each state of EVAL keeps, and its instructions as those of the fast code
+record Kept (image : List ℕ) (s : State) : Type 0 where
+  rom : HasFastRom image s.mem
+  stack : IsFastStack s.regs.sp
+  unmasked : has s.regs.ccr interrupts_masked ≡ false
+
+step_kept : WritesStay → (image : List ℕ) (flags d : ℕ) (s t : State) → Kept image s → IsEvalStep fast_layout flags d s t
+    → IsFastStep image flags d s t × Kept image t
+step_kept stay image flags d s t k e = (
+  record {
+    inside = record { between = e.between; rom = k.rom; stack = k.stack; code = eval_in (six_from s.regs.pc) e.code };
+    instruction = e.instruction;
+    stack = e.stack;
+    unmasked = e.mask ∙ k.unmasked;
+  },
+  record {
+    rom = λ at from to. leaves stay _ (Writes fast_layout) flags d s t at e.instruction (written_low at from) ∙ k.rom at from to;
+    stack = subst IsFastStack (sym e.stack) k.stack;
+    unmasked = e.mask ∙ k.unmasked;
+  },
+)
+
+record Ran (image : List ℕ) (flags : ℕ) (ds : List ℕ) (s t : State) : Type 0 where
+  execution : Execution (IsFastStep image flags) ds s t
+  kept : Kept image t
+  sp : t.regs.sp ≡ s.regs.sp
+
+ran : WritesStay → (image : List ℕ) (flags : ℕ) (ds : List ℕ) (s t : State) → Kept image s
+    → Execution (IsEvalStep fast_layout flags) ds s t → Ran image flags ds s t
+ran stay image flags [] s t k e = record {
+  execution = e;
+  kept = subst (Kept image) e k;
+  sp = ap (λ (u : State). u.regs.sp) (sym e);
+}
+ran stay image flags (d ∷ ds) s t k e =
+    let step = step_kept stay image flags d s e.0 k e.1.0 in
+    let rest = ran stay image flags ds e.0 t step.1 e.1.1 in
+    record {
+      execution = (e.0, (step.0, rest.execution));
+      kept = rest.kept;
+      sp = rest.sp ∙ e.1.0.stack;
+    }
+
+-- ANDCC lets interrupts in
+abbrev opened : ℕ → State → State
+opened flags s = after_plain flags (Andcc 0xEF) s
+
+unmasked : (n : ℕ) → has (let c : Ccr = record { 0 = bit_and n 239 } in c) 4 ≡ false
+unmasked n = bit_and_is n 239 4
+
+record Opened (fast : Block) (image : List ℕ) (flags : ℕ) (bytes : List ℕ) (before : ℕ → ℕ) (s : State) : Type 0 where
+  step : IsFastStep image flags 0 s (opened flags s)
+  kept : Kept image (opened flags s)
+  at : IsAtEval fast_layout fast Byte bytes before (opened flags s)
+
+enter : EnteringLaws → (fast : Block) (image : List ℕ) (flags : ℕ) (bytes : List ℕ) (before : ℕ → ℕ) (s : State) → flags < 2 ^ 8
+    → StandsBetween fast_layout fast Byte fast_front fast_back s.mem → IsEntered fast image bytes before s
+    → Opened fast image flags bytes before s
+enter laws fast image flags bytes before s fits code h =
+    let inside = h.inside in
+    let between = inside.between in
+    let i = Andcc 0xEF in
+    let here : StandsAt s.mem fast_layout.code i = (code.front.0, (code.front.1.0, tt)) in
+    let stands : StandsAt s.mem s.regs.pc i = subst (λ (k : ℕ). StandsAt s.mem k i) (sym h.pc) here in
+    let decoded : decode_at s.mem s.regs.pc ≡ Ok i = laws.decodes s.mem s.regs.pc i (omega arith) stands in
+    let fit = laws.stays_fit flags i s.regs s.mem fits (omega arith) between.fits between.bytes in
+    record {
+      step = record {
+        inside = inside;
+        instruction = inl (i, (record { step = record { decoded = decoded; plain = refl; after = refl }; reads = tt; writes = tt }, refl));
+        stack = refl;
+        unmasked = unmasked s.regs.ccr.0;
+      };
+      kept = record { rom = inside.rom; stack = inside.stack; unmasked = unmasked s.regs.ccr.0 };
+      at = record {
+        between = record { off = between.off; size = between.size; bytes = between.bytes; fits = fit.0 };
+        pc = omega (arith, h.pc);
+        eval = code.eval;
+        inputs = h.inputs;
+        outputs = h.outputs;
+      };
+    }
+
+-- and EVAL leads to RTI
+answered : EnteringLaws → (slow fast : Block) (two : Two) (flags : ℕ) (bytes : List ℕ) (before : ℕ → ℕ) (s t : State) → AreSound slow fast
+    → IsTwoOf slow fast two → Opened fast (image_memory two.image.bytes) flags bytes before s
+    → IsEvaluated fast_layout fast Byte flags bytes before (opened flags s) t
+    → IsFastAnswered fast (image_memory two.image.bytes) flags bytes before s t
+answered laws slow fast two flags bytes before s t h is o e =
+    let image = image_memory two.image.bytes in
+    let r = ran laws.writes_stay image flags e.ds (opened flags s) t o.kept e.execution in
+    let kept = r.kept in
+    let code = standing laws slow fast two t.mem h is kept.rom in
+    let room = code.room in
+    let pc = e.pc in
+    let stands : StandsAt t.mem t.regs.pc Rti = subst (λ (k : ℕ). StandsAt t.mem k Rti) (sym pc) (code.back.0, tt) in
+    record {
+      ds = 0 ∷ e.ds;
+      execution = (opened flags s, (o.step, r.execution));
+      inside = record {
+        between = e.between;
+        rom = kept.rom;
+        stack = kept.stack;
+        code = six_in t.regs.pc (omega arith) (omega arith);
+      };
+      returns = laws.decodes t.mem t.regs.pc Rti tt stands;
+      stack = r.sp;
+      unmasked = kept.unmasked;
+      answers = e.answers;
+      elsewhere = λ at x y. e.elsewhere at (outside at x) y;
+      instructions = omega (arith, e.instructions);
+      steps = omega (arith, e.steps);
+    }
+  where
+    outside : (at : ℕ) → (at < fast_layout.outputs) ⊎ (fast_layout.outputs + length fast.outputs ≤ at)
+        → (at < fast_layout.outputs) ⊎ (fast_layout.outputs + 1 * length fast.outputs ≤ at)
+    outside at (inl lt) = inl lt
+    outside at (inr le) = inr (omega arith)
+
+pub fast_answers_entered : EnteringLaws → FastAnswersEntered
+fast_answers_entered laws slow fast two vs ls vf lf is flags bytes before s fits input h =
+    let image = image_memory two.image.bytes in
+    let sound : AreSound slow fast = record { slow_valid = vs; slow_limits = ls; fast_valid = vf; fast_limits = lf } in
+    let code = standing laws slow fast two s.mem sound is h.inside.rom in
+    let o = enter laws fast image flags bytes before s fits code h in
+    let r = laws.eval_answers fast_layout fast Byte flags bytes before (opened flags s) fast_apart vf lf fits input o.at in
+    (r.0, answered laws slow fast two flags bytes before s r.0 sound is o r.1)

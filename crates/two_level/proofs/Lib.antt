@@ -1,0 +1,4 @@
+mod Places
+mod Leaving
+mod Entering
+mod Standing

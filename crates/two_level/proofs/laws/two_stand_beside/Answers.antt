@@ -1,0 +1,12 @@
+use Rattle.two_level.proofs.Standing.{two_stand_beside}
+use Rattle.two_level.proofs.laws.two_stand_beside.Goals as goal
+
+pub returns : goal.returns
+returns c = two_stand_beside (record {
+  inside = c.blocks_are_placed.ensures.inside;
+  behind = c.blocks_are_placed.ensures.behind;
+  bytes = c.blocks_are_placed.ensures.bytes;
+  holds_image = c.holds_image.ensures;
+  answers = c.firmware_answers_beside.ensures;
+  arrives = c.firmware_arrives_alike.ensures;
+})

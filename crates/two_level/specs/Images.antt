@@ -1,0 +1,41 @@
+-- The image of a slow firmware with a fast block.
+use Rattle.std.specs.Prelude.{◌≡◌, ℕ, ◌-◌, false, List, [], ◌∷◌, ◌++◌}
+use Rattle.fuzzy_meaning.specs.declared.block.Block.{Block}
+use Rattle.cpu12_isa.specs.declared.instr.Instr.TheVariants.{Rts}
+use Rattle.cpu12_asm.specs.declared.items.Item.{Item}
+use Rattle.codegen.specs.declared.firmware.Firmware.{Firmware}
+use Rattle.codegen.specs.declared.width.Width.TheVariants.{Byte}
+use Rattle.codegen.specs.Layouts.{main_layout}
+use Rattle.codegen.specs.Code.{frame_code}
+use Rattle.codegen.specs.Images.{block_items, vector_items, IsImageOf}
+use Rattle.codegen.specs.Firmwares.{IsFirmwareOf}
+use Rattle.two_level.specs.declared.two.Two.{Two}
+use Rattle.two_level.specs.Layouts.{fast_front, fast_back, fast_layout, slow_layout}
+
+-- the fast block's code and data
+abbrev pub fast_items : Block → List Item
+fast_items b = block_items fast_layout b Byte fast_front fast_back
+
+-- those of the slow firmware that stands alone, but for the interrupt's vector
+abbrev pub slow_items : Block → List Item
+slow_items b = block_items main_layout b Byte (frame_code main_layout) (Rts ∷ []) ++ vector_items slow_layout
+
+-- the first, and then the others
+abbrev pub two_items : Block → Block → List Item
+two_items slow fast = fast_items fast ++ slow_items slow
+
+-- a block's firmware that answers bytes and stands alone
+pub record IsAlone (b : Block) (f : Firmware) : Type 0 where
+  pub firmware : IsFirmwareOf b f
+  pub narrow : f.wide ≡ false
+
+-- The image has just the bytes of both, and the firmwares are those of each block alone.
+pub record IsTwoOf (slow fast : Block) (two : Two) : Type 0 where
+  pub image : IsImageOf (two_items slow fast) two.image
+  pub slow_alone : IsAlone slow two.slow
+  pub fast_alone : IsAlone fast two.fast
+
+-- the most instructions or steps of the fast code, by those of its block alone: two instructions stand around EVAL in
+-- the place of six
+abbrev pub fast_most : ℕ → ℕ
+fast_most bound = bound - 4

@@ -1,0 +1,67 @@
+-- Where a fast block stands beside the firmware of a slow one.
+use Rattle.std.specs.Prelude.{ℕ, ◌+◌, ◌-◌, List, [], ◌∷◌, nat_le, nat_lt, ◌&&◌, ◌||◌, Bool}
+use Rattle.cpu12_isa.specs.declared.instr.Instr.{Instr}
+use Rattle.cpu12_isa.specs.declared.instr.Instr.TheVariants.{Andcc, Rti}
+use Rattle.cpu12_isa.specs.Regions.{is_free}
+use Rattle.codegen.specs.declared.layout.Layout.{Layout}
+use Rattle.codegen.specs.Layouts.{main_layout}
+
+-- a place in ROM, and one in RAM, of a firmware that stands alone: where the fast block has it
+abbrev pub lowered : ℕ → ℕ
+lowered at = at - 0x8000
+
+abbrev pub raised : ℕ → ℕ
+raised at = at + 0x0400
+
+-- Interrupts are let in, EVAL follows, and it ends by a return from the interrupt in which it runs.
+abbrev pub fast_front : List Instr
+fast_front = Andcc 0xEF ∷ []
+
+abbrev pub fast_back : List Instr
+fast_back = Rti ∷ []
+
+-- the layout of a fast block, which waits for nothing: the interrupt's vector holds its first instruction
+abbrev pub fast_layout : Layout
+fast_layout = record {
+  code = lowered main_layout.code;
+  wait = lowered main_layout.wait;
+  interrupt = lowered main_layout.code;
+  eval = lowered main_layout.code + 2;
+  tables = lowered main_layout.tables;
+  singletons = lowered main_layout.singletons;
+  weights = lowered main_layout.weights;
+  rules = lowered main_layout.rules;
+  ready = raised main_layout.ready;
+  samples = raised main_layout.samples;
+  inputs = raised main_layout.inputs;
+  outputs = raised main_layout.outputs;
+  slots = raised main_layout.slots;
+}
+
+-- the slow firmware's where a fast block stands beside it
+abbrev pub slow_layout : Layout
+slow_layout = record main_layout { interrupt = fast_layout.interrupt }
+
+-- the address behind the fast block's ROM, $7F00, and behind its RAM
+abbrev pub fast_rom_end : ℕ
+fast_rom_end = fast_layout.rules + 9984
+
+abbrev pub fast_ram_end : ℕ
+fast_ram_end = fast_layout.slots + 300
+
+-- the fast block's RAM: READY, the inputs, the outputs and the slots; its ROM; and the interrupt's vector
+abbrev pub is_fast_ram : ℕ → Bool
+is_fast_ram at = nat_le fast_layout.ready at && nat_lt at fast_ram_end
+
+abbrev pub is_fast_rom : ℕ → Bool
+is_fast_rom at = nat_le fast_layout.code at && nat_lt at fast_rom_end
+
+abbrev pub vector : ℕ
+vector = 0xFFF2
+
+abbrev pub is_vector : ℕ → Bool
+is_vector at = nat_le vector at && nat_lt at (vector + 2)
+
+-- Beside the run of the slow firmware all these belong to its interrupts, with the free bytes.
+abbrev pub is_open_to_fast : ℕ → Bool
+is_open_to_fast at = is_free at || (is_fast_ram at || (is_fast_rom at || is_vector at))

@@ -1,0 +1,5 @@
+pub mod Layouts
+pub mod Images
+pub mod Faults
+pub mod Running
+pub mod Standing

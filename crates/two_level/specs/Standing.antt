@@ -1,0 +1,39 @@
+-- The slow firmware beside a fast block.
+use Rattle.std.specs.Prelude.{◌≡◌, ℕ, ◌+◌, ◌^◌, ◌<◌, slice_index}
+use Rattle.fuzzy_meaning.specs.declared.block.Block.{Block}
+use Rattle.fuzzy_meaning.specs.Blocks.{IsValid}
+use Rattle.rule_layout.specs.Layouts.{IsWithinLimits}
+use Rattle.cpu12_isa.specs.Agreement.{Agree}
+use Rattle.cpu12_isa.specs.Fits.{AreBytes}
+use Rattle.cpu12_isa.specs.Memory.{word_of}
+use Rattle.cpu12_emul.specs.Image.{image_memory}
+use Rattle.codegen.specs.declared.width.Width.TheVariants.{Byte}
+use Rattle.codegen.specs.Evaluation.{HasAnswers}
+use Rattle.codegen.specs.Answers.{LeavesLayout, AnswersBeside, ArrivesAlike}
+use Rattle.two_level.specs.declared.two.Two.{Two}
+use Rattle.two_level.specs.Layouts.{fast_layout, vector, is_open_to_fast}
+use Rattle.two_level.specs.Images.{IsTwoOf}
+
+-- Memory from the image is one of bytes: an interrupt enters the fast code, whose outputs are 0; and it is as the slow
+-- firmware's alone but for what is open to the fast block, which leaves the slow firmware's layout.
+pub record StandsBeside (fast : Block) (two : Two) : Type 0 where
+  pub bytes : AreBytes (image_memory two.image.bytes)
+  pub enters : word_of (slice_index (image_memory two.image.bytes) vector)
+      (slice_index (image_memory two.image.bytes) (vector + 1)) ≡ fast_layout.code
+  pub outputs : HasAnswers fast_layout fast Byte (λ o. 0) (image_memory two.image.bytes)
+  pub leaves : LeavesLayout is_open_to_fast two.slow.layout
+  pub alike : Agree is_open_to_fast (image_memory two.image.bytes) (image_memory two.slow.image.bytes)
+
+-- Beside interrupts to which all that is open, the slow firmware alone answers every list of samples; and from reset over
+-- the image it comes where it waits for them in the same state but for that, which is as it was.
+pub record SlowAnswersBeside (slow : Block) (two : Two) : Type 0 where
+  pub answers : AnswersBeside is_open_to_fast slow two.slow
+  pub arrives : (flags : ℕ) → flags < 2 ^ 8
+      → ArrivesAlike is_open_to_fast two.slow.layout (image_memory two.slow.image.bytes)
+      (image_memory two.image.bytes) flags
+
+-- So do those of two blocks.
+abbrev pub TwoStandBeside : Type 0
+TwoStandBeside =
+    (slow fast : Block) (two : Two) → IsValid slow → IsWithinLimits slow → IsValid fast → IsWithinLimits fast
+    → IsTwoOf slow fast two → StandsBeside fast two × SlowAnswersBeside slow two

@@ -1,0 +1,103 @@
+//! The items of a slow firmware with a fast block.
+ghost use Rattle.std.specs.Prelude.{◌≡◌, IfOk};
+ghost use Rattle.fuzzy_meaning.specs.Blocks.{IsValid};
+ghost use Rattle.rule_layout.specs.Layouts.{flat_of, IsLaidOut, IsWithinLimits};
+ghost use Rattle.codegen.specs.Images.{IsImageOf};
+ghost use Rattle.two_level.specs.Images.{two_items};
+ghost use Rattle.two_level.specs.Layouts.{fast_layout, slow_layout};
+
+use codegen::{Layout, Width, blocks_are_placed, frame_code, image_of, push_block, push_vectors};
+use cpu12_asm::{Image, Item};
+use cpu12_isa::instr::Instr;
+use fuzzy_meaning::Block;
+use rule_layout::{Flat, spread};
+use std::alloc::{AllocError, Global};
+
+/// Where the fast block stands.
+fn fast_layout() -> Layout
+    ensures { result ≡ fast_layout }
+{
+    Layout {
+        code: 0x4000,
+        wait: 0x4008,
+        interrupt: 0x4000,
+        eval: 0x4002,
+        tables: 0x5000,
+        singletons: 0x5200,
+        weights: 0x5300,
+        rules: 0x5800,
+        ready: 0x1400,
+        samples: 0x1401,
+        inputs: 0x1401,
+        outputs: 0x1410,
+        slots: 0x1500,
+    }
+}
+
+/// The items of the fast block and then those of the slow firmware. The flats are the blocks' rules as
+/// `spread` lays them out.
+fn two_items(
+    alloc: Global,
+    slow: &Block,
+    slow_flat: &Flat,
+    fast: &Block,
+    fast_flat: &Flat,
+) -> Result<Vec<Item>, AllocError>
+    requires slow { IsValid slow.now }
+    requires slow_flat { slow_flat.now ≡ flat_of slow.now }
+    requires slow_laid_out { IsLaidOut slow_flat.now }
+    requires fast { IsValid fast.now }
+    requires fast_flat { fast_flat.now ≡ flat_of fast.now }
+    requires fast_laid_out { IsLaidOut fast_flat.now }
+    ensures { IfOk result (λ items. items.items ≡ two_items slow.now fast.now) }
+{
+    let mut items = Vec::new(alloc);
+    push_block(
+        alloc,
+        &mut items,
+        &fast_layout(),
+        Width::Byte,
+        fast,
+        fast_flat,
+        &[Instr::Andcc(0xEF)],
+        &[Instr::Rti],
+    )?;
+    let frame = frame_code(&Layout::MAIN);
+    push_block(
+        alloc,
+        &mut items,
+        &Layout::MAIN,
+        Width::Byte,
+        slow,
+        slow_flat,
+        &frame,
+        &[Instr::Rts],
+    )?;
+    push_vectors(
+        &mut items,
+        &Layout {
+            interrupt: 0x4000,
+            ..Layout::MAIN
+        },
+    )?;
+    Ok(items)
+}
+
+/// The image of both blocks, which wants nothing but memory.
+pub(crate) fn joint_image(alloc: Global, slow: &Block, fast: &Block) -> Result<Image, AllocError>
+    requires slow { IsValid slow.now }
+    requires slow_limits { IsWithinLimits slow.now }
+    requires fast { IsValid fast.now }
+    requires fast_limits { IsWithinLimits fast.now }
+    ensures { IfOk result (IsImageOf (two_items slow.now fast.now)) }
+{
+    blocks_are_placed();
+    let Ok(slow_flat) = spread(alloc, slow) else {
+        return Err(AllocError);
+    };
+    let Ok(fast_flat) = spread(alloc, fast) else {
+        return Err(AllocError);
+    };
+    let items = two_items(alloc, slow, &slow_flat, fast, &fast_flat)?;
+    image_of(alloc, items.as_slice())
+}

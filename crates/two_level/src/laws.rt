@@ -1,0 +1,33 @@
+//! Laws of two blocks at two levels.
+ghost use Rattle.two_level.specs.Running.{FastAnswersEntered};
+ghost use Rattle.two_level.specs.Standing.{TwoStandBeside};
+
+use codegen::laws::{
+    blocks_are_placed, eval_answers, firmware_answers_beside, firmware_arrives_alike,
+};
+use cpu12_emul::laws::holds_image;
+use cpu12_isa::decode::decodes_encoded;
+use cpu12_isa::laws::{stays_fit, writes_stay};
+
+/// Wherever an interrupt enters the fast code it leads to its return with its block's answers, within its
+/// bounds, and touches what is the fast block's alone.
+pub fn fast_answers_entered()
+    ensures { FastAnswersEntered }
+{
+    blocks_are_placed();
+    eval_answers();
+    decodes_encoded();
+    stays_fit();
+    writes_stay();
+}
+
+/// The slow firmware answers as it does alone, beside interrupts that may change all that is the fast
+/// block's, and the free bytes.
+pub fn two_stand_beside()
+    ensures { TwoStandBeside }
+{
+    blocks_are_placed();
+    holds_image();
+    firmware_answers_beside();
+    firmware_arrives_alike();
+}
