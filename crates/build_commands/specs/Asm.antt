@@ -1,11 +1,11 @@
 -- The command `asm SRC OUT`.
-use Rattle.std.specs.Prelude.{◌≡◌, ℕ, List, [], ◌∷◌, length, codes, Some, Result, Ok, Err}
+use Rattle.std.specs.Prelude.{◌≡◌, ℕ, List, [], ◌∷◌, length, codes, Result, Ok, Err}
 use Rattle.cpu12_asm.specs.Bytes.{IsAscending, start_of}
 use Rattle.cpu12_asm.specs.Sources.{Assembles, assembled}
 use Rattle.cpu12_asm.specs.declared.image.Image.{Image}
-use Rattle.srecord.specs.Images.{ImageText}
 use Rattle.build_commands.specs.Deeds.{Deed}
 use Rattle.build_commands.specs.Lines.{line}
+use Rattle.build_commands.specs.Written.{WritesImage}
 use Rattle.fz_status.specs.Refusals.{Refusals, Refuses}
 use Rattle.fz_status.specs.declared.status.Status.{Status}
 use Rattle.fz_status.specs.declared.status.Status.TheVariants as status
@@ -20,9 +20,7 @@ pub record AsmGives (source : List ℕ) (deed : Deed) : Type 0 where
   pub assembles : Assembles source image.bytes
   pub ascending : IsAscending image.bytes
   pub start : image.start ≡ start_of image.bytes
-  pub records : List ℕ
-  pub text : ImageText image.bytes image.start records
-  pub deed_is : deed ≡ record { text = line (codes "bytes ") (length image.bytes); file = Some (3, records) }
+  pub writes : WritesImage image 3 (line (codes "bytes ") (length image.bytes)) deed
 
 -- why a source gives none
 abbrev pub source_refusals : List ℕ → Refusals

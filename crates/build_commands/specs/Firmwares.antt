@@ -15,6 +15,11 @@ use Rattle.fz_status.specs.declared.status.FclFault.{FclFault}
 use Rattle.fz_status.specs.declared.status.FclFault.TheVariants as fcl
 use Rattle.fz_status.specs.declared.status.Status.TheVariants as status
 
+-- the block is the text's, and it can be laid out
+pub record GivesBlock (text : List ℕ) (block : Block) : Type 0 where
+  pub spelled : SpellsBlock text block
+  pub limits : IsWithinLimits block
+
 -- the block is the text's, it can be laid out, and the firmware is the block's, with answers of this width
 pub record GivesFirmware (width : Width) (text : List ℕ) (block : Block) (firmware : Firmware) : Type 0 where
   pub spelled : SpellsBlock text block

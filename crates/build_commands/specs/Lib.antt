@@ -9,7 +9,9 @@ pub mod Exec
 pub mod Firmwares
 pub mod Hcheck
 pub mod Images
+pub mod Lcompile
 pub mod Lines
 pub mod Mcompile
 pub mod Scompile
 pub mod Words
+pub mod Written

@@ -8,6 +8,7 @@ ghost use Rattle.build_commands.specs.Asm.{AsmMakes};
 
 use crate::lines::labelled;
 use crate::work::Work;
+use crate::written::written_image;
 use cpu12_asm::{AsmFault, Image, assemble};
 use fz_status::Status;
 use std::alloc::{AllocError, Global};
@@ -28,15 +29,8 @@ pub fn work(alloc: Global, source: &[u8]) -> Result<Work, Status>
         Err(AsmFault::Memory) => return Err(Status::Memory),
         Err(fault) => return Err(Status::Asm(fault)),
     };
-    let records = match srecord::write(alloc, &image) {
-        Ok(records) => records,
-        Err(_) => return Err(Status::Memory),
-    };
     match lines(alloc, &image) {
-        Ok(lines) => Ok(Work {
-            lines,
-            file: Some((OUT, records)),
-        }),
+        Ok(lines) => written_image(alloc, &image, OUT, lines),
         Err(_) => Err(Status::Memory),
     }
 }

@@ -1,7 +1,7 @@
 //! From a text to its block, and to the block's firmware.
 ghost use Rattle.std.specs.Prelude.{◌≡◌, ◌≤◌, length, IfOk, IfErr};
 ghost use Rattle.fcl_check.specs.Texts.{SpellsBlock};
-ghost use Rattle.build_commands.specs.Firmwares.{GivesFirmware, GivesMailbox, GivesWatched, text_refusals};
+ghost use Rattle.build_commands.specs.Firmwares.{GivesBlock, GivesFirmware, GivesMailbox, GivesWatched, text_refusals};
 ghost use Rattle.build_commands.specs.Firmwares.{SpelledTextsHaveNoFault};
 ghost use Rattle.fz_status.specs.Refusals.{IsRefusal};
 
@@ -10,7 +10,7 @@ use fcl_check::{LoadFault, load, load_faults_are_one, spelled_blocks_are_one};
 use fcl_syntax::{SyntaxFault, first_faults_are_one, parse};
 use fuzzy_meaning::Block;
 use fz_status::{FclFault, Status};
-use rule_layout::{LayoutFault, layouts_are_one, limits_have_no_fault};
+use rule_layout::{LayoutFault, layouts_are_one, limits_have_no_fault, spread};
 use std::alloc::Global;
 
 /// A block with its firmware.
@@ -75,6 +75,23 @@ pub fn watched_firmware_of(alloc: Global, text: &[u8]) -> Result<Compiled, Statu
     };
     match compile_scrub(alloc, &block) {
         Ok(firmware) => Ok(Compiled { block, firmware }),
+        Err(LayoutFault::Memory) => Err(Status::Memory),
+        Err(fault) => Err(Status::Fcl(FclFault::Layout(fault))),
+    }
+}
+
+/// The block that the text spells, which can be laid out. The faults are the same.
+pub(crate) fn laid_out_block_of(alloc: Global, text: &[u8]) -> Result<Block, Status>
+    requires { length text.now ≤ 1048576 }
+    ensures gives { IfOk result (GivesBlock text.now) }
+    ensures fault { IfErr result (IsRefusal (text_refusals text.now)) }
+{
+    let block = match block_of(alloc, text) {
+        Ok(block) => block,
+        Err(status) => return Err(status),
+    };
+    match spread(alloc, &block) {
+        Ok(_) => Ok(block),
         Err(LayoutFault::Memory) => Err(Status::Memory),
         Err(fault) => Err(Status::Fcl(FclFault::Layout(fault))),
     }

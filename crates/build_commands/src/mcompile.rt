@@ -3,9 +3,9 @@ ghost use Rattle.std.specs.Prelude.{◌≤◌, length, List, ℕ};
 ghost use Rattle.build_commands.specs.Deeds.{DeedHasNoFault, IsResultOf};
 ghost use Rattle.build_commands.specs.Mcompile.{McompileMakes};
 
-use crate::compile::written;
 use crate::firmware::{mailbox_of, spelled_texts_have_no_fault};
 use crate::work::Work;
+use crate::written::written_firmware;
 use fz_status::Status;
 use std::alloc::Global;
 
@@ -18,7 +18,7 @@ pub fn work(alloc: Global, fcl: &[u8]) -> Result<Work, Status>
         Ok(compiled) => compiled,
         Err(status) => return Err(status),
     };
-    written(alloc, &compiled.firmware)
+    written_firmware(alloc, &compiled.firmware)
 }
 
 /// A text that makes a deed makes no fault.

@@ -1,5 +1,6 @@
 -- The numbers that the program ends with.
 use Rattle.std.specs.Prelude.{ℕ}
+use Rattle.fz_status.specs.declared.status.FastFault.TheVariants as fast
 use Rattle.fz_status.specs.declared.status.Status.{Status}
 use Rattle.fz_status.specs.declared.status.Status.TheVariants as status
 
@@ -22,3 +23,6 @@ code_of (status.Trap pc byte) = 12
 code_of (status.Budget steps) = 13
 code_of (status.Handler f) = 14
 code_of (status.Script line) = 15
+code_of (status.Fast (fast.Fcl f)) = 4
+code_of (status.Fast (fast.Cert f)) = 6
+code_of (status.Fast (fast.Trace f)) = 7

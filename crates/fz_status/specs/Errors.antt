@@ -2,7 +2,7 @@
 use Rattle.std.specs.Prelude.{◌≡◌, ◌≤◌, ◌++◌, ℕ, List, [], length, codes, Option, Result, IsOk, OnOk}
 use Rattle.fz_shelf.specs.Faults.{HasCause, Rose}
 use Rattle.fz_shelf.specs.Told.{Taken, gained, GainedPart, HasRoom}
-use Rattle.fz_status.specs.FaultLines.{asm_line, cert_line, fcl_line, handler_line, image_line, newline, not_reached_line, plan_line, trace_line}
+use Rattle.fz_status.specs.FaultLines.{asm_line, cert_line, fast_line, fcl_line, handler_line, image_line, newline, not_reached_line, plan_line, trace_line}
 use Rattle.fz_status.specs.FaultLines.{trap_line, upset_line, want_of_memory, with_name, with_number}
 use Rattle.fz_status.specs.Words.{Text, word_at}
 use Rattle.fz_status.specs.declared.status.Status.{Status}
@@ -28,6 +28,7 @@ error_line_of words (status.Trap pc byte) = trap_line pc byte
 error_line_of words (status.Budget steps) = with_number (codes "budget: ") steps []
 error_line_of words (status.Handler f) = handler_line f
 error_line_of words (status.Script line) = with_number (codes "script: line ") line []
+error_line_of words (status.Fast f) = fast_line f
 
 -- a text is put: from what the sink told, its faults and its soundness before to those after
 pub record Puts {E : Type 0} (text : List ℕ) (told told' : Option Taken) (faults faults' : ℕ) (sound sound' : Type 0)

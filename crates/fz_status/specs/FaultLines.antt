@@ -31,6 +31,8 @@ use Rattle.trace_io.specs.declared.sample.TraceFault.TheVariants as trace
 use Rattle.fz_status.specs.Words.{Text}
 use Rattle.fz_status.specs.declared.status.CertRefusal.{CertRefusal}
 use Rattle.fz_status.specs.declared.status.CertRefusal.TheVariants as refusal
+use Rattle.fz_status.specs.declared.status.FastFault.{FastFault}
+use Rattle.fz_status.specs.declared.status.FastFault.TheVariants as fast
 use Rattle.fz_status.specs.declared.status.FclFault.{FclFault}
 use Rattle.fz_status.specs.declared.status.FclFault.TheVariants as fcl
 use Rattle.fz_status.specs.declared.status.ImageFault.{ImageFault}
@@ -223,3 +225,14 @@ handler_line (handler.Target at to) = at_addresses at (codes "target ") to
 handler_line (handler.Height at) = at_address at (codes "height")
 handler_line (handler.Falls at) = at_address at (codes "falls")
 handler_line handler.Memory = want_of_memory
+
+-- ---- the fast block's files
+
+-- the line of the same fault of another block
+abbrev pub usual_line : FastFault → List ℕ
+usual_line (fast.Fcl f) = fcl_line f
+usual_line (fast.Cert f) = cert_line f
+usual_line (fast.Trace f) = trace_line f
+
+abbrev pub fast_line : FastFault → List ℕ
+fast_line f = codes "fast " ++ usual_line f

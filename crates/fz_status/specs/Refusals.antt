@@ -12,26 +12,39 @@ use Rattle.interrupt_plan.specs.declared.upsets.UpsetFault.TheVariants as upset
 use Rattle.rule_layout.specs.declared.flat.LayoutFault.TheVariants as layout
 use Rattle.srecord.specs.declared.fault.SrecFault.TheVariants as srec
 use Rattle.trace_io.specs.declared.sample.TraceFault.TheVariants as trace
+use Rattle.fz_status.specs.declared.status.CertRefusal.{CertRefusal}
 use Rattle.fz_status.specs.declared.status.CertRefusal.TheVariants as refusal
+use Rattle.fz_status.specs.declared.status.FastFault.TheVariants as fast
+use Rattle.fz_status.specs.declared.status.FclFault.{FclFault}
 use Rattle.fz_status.specs.declared.status.FclFault.TheVariants as fcl
 use Rattle.fz_status.specs.declared.status.ImageFault.TheVariants as image
 use Rattle.fz_status.specs.declared.status.Status.{Status}
 use Rattle.fz_status.specs.declared.status.Status.TheVariants as status
 
+-- the fault of a text, or of a certificate, is not its own want of memory
+abbrev pub IsNoWantInText : FclFault → Type 0
+IsNoWantInText (fcl.Syntax f) = f ≢ syntax.Memory
+IsNoWantInText (fcl.Load f) = f ≢ load.Memory
+IsNoWantInText (fcl.Layout f) = f ≢ layout.Memory
+
+abbrev pub IsNoWantInCert : CertRefusal → Type 0
+IsNoWantInCert (refusal.Text f) = f ≢ cert.Memory
+IsNoWantInCert (refusal.Check f) = f ≢ check.Memory
+
 -- the fault that the status carries, if there is one, is not the fault's own want of memory
 abbrev pub CarriesNoMemory : Status → Type 0
-CarriesNoMemory (status.Fcl (fcl.Syntax f)) = f ≢ syntax.Memory
-CarriesNoMemory (status.Fcl (fcl.Load f)) = f ≢ load.Memory
-CarriesNoMemory (status.Fcl (fcl.Layout f)) = f ≢ layout.Memory
+CarriesNoMemory (status.Fcl f) = IsNoWantInText f
 CarriesNoMemory (status.Image (image.Records f)) = f ≢ srec.Memory
-CarriesNoMemory (status.Cert (refusal.Text f)) = f ≢ cert.Memory
-CarriesNoMemory (status.Cert (refusal.Check f)) = f ≢ check.Memory
+CarriesNoMemory (status.Cert f) = IsNoWantInCert f
 CarriesNoMemory (status.Trace f) = f ≢ trace.Memory
 CarriesNoMemory (status.Plan f) = f ≢ plan.Memory
 CarriesNoMemory (status.Upset f) = f ≢ upset.Memory
 CarriesNoMemory (status.NotReached f) = f ≢ stop.Memory
 CarriesNoMemory (status.Asm f) = f ≢ asm.Memory
 CarriesNoMemory (status.Handler f) = f ≢ handler.Memory
+CarriesNoMemory (status.Fast (fast.Fcl f)) = IsNoWantInText f
+CarriesNoMemory (status.Fast (fast.Cert f)) = IsNoWantInCert f
+CarriesNoMemory (status.Fast (fast.Trace f)) = f ≢ trace.Memory
 CarriesNoMemory _ = Unit {0}
 
 -- for each status, where it refuses contents
@@ -46,3 +59,10 @@ Refuses why s = CarriesNoMemory s × why s
 abbrev pub IsRefusal : Refusals → Status → Type 0
 IsRefusal why status.Memory = Unit {0}
 IsRefusal why s = Refuses why s
+
+-- the same status, told of the fast block's file where it tells of a block's
+abbrev pub of_fast : Status → Status
+of_fast (status.Fcl f) = status.Fast (fast.Fcl f)
+of_fast (status.Cert f) = status.Fast (fast.Cert f)
+of_fast (status.Trace f) = status.Fast (fast.Trace f)
+of_fast s = s

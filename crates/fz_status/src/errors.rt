@@ -7,8 +7,8 @@ ghost use Rattle.fz_status.specs.FaultLines.{with_name};
 
 use crate::Status;
 use crate::fault_lines::{
-    put, put_asm, put_cert, put_fcl, put_handler, put_image, put_not_reached, put_number, put_plan,
-    put_text, put_trace, put_upset,
+    put, put_asm, put_cert, put_fast, put_fcl, put_handler, put_image, put_not_reached, put_number,
+    put_plan, put_text, put_trace, put_upset,
 };
 use crate::words::word;
 use fz_shelf::{Failed, Part, Sink};
@@ -63,6 +63,7 @@ fn put_line<F: Sink>(err: &mut F, words: &[String], status: &Status) -> Result<(
         Status::Budget(steps) => put_number(err, b"budget: ", *steps, b""),
         Status::Handler(fault) => put_handler(err, fault),
         Status::Script(line) => put_number(err, b"script: line ", *line, b""),
+        Status::Fast(fault) => put_fast(err, fault),
     }
 }
 

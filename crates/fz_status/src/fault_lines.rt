@@ -2,11 +2,11 @@
 ghost use Rattle.std.specs.Prelude.{◌≡◌, ◌++◌};
 ghost use Rattle.fz_shelf.specs.Parts.{part_text, parts_text};
 ghost use Rattle.fz_status.specs.Errors.{Puts};
-ghost use Rattle.fz_status.specs.FaultLines.{asm_line, at_address, at_addresses, byte_or_none, cert_line, check_line, fcl_line, handler_line, image_line};
-ghost use Rattle.fz_status.specs.FaultLines.{layout_line, leaf_line, load_kind, load_line, newline, not_reached_line};
-ghost use Rattle.fz_status.specs.FaultLines.{plan_line, records_line, row_at, syntax_line, text_line, trace_line, upset_line, with_number, with_two};
+ghost use Rattle.fz_status.specs.FaultLines.{asm_line, at_address, at_addresses, byte_or_none, cert_line, check_line, fast_line, fcl_line};
+ghost use Rattle.fz_status.specs.FaultLines.{handler_line, image_line, layout_line, leaf_line, load_kind, load_line, newline, not_reached_line};
+ghost use Rattle.fz_status.specs.FaultLines.{plan_line, records_line, row_at, syntax_line, text_line, trace_line, upset_line, usual_line, with_number, with_two};
 
-use crate::{CertRefusal, FclFault, ImageFault};
+use crate::{CertRefusal, FastFault, FclFault, ImageFault};
 use box_tree::CertFault;
 use cert_check::CheckFault;
 use cpu12_asm::AsmFault;
@@ -514,5 +514,26 @@ pub(crate) fn put_handler<F: Sink>(err: &mut F, fault: &HandlerFault) -> Result<
         HandlerFault::Height(at) => put_at(err, *at, b"height"),
         HandlerFault::Falls(at) => put_at(err, *at, b"falls"),
         HandlerFault::Memory => put_text(err, b"memory"),
+    }
+}
+
+/// The line of a fault of the fast block's file: that of the same fault of another block, with `fast ` in front.
+pub(crate) fn put_fast<F: Sink>(err: &mut F, fault: &FastFault) -> Result<(), Failed>
+    ensures { Puts (fast_line fault.now) (F.told err.old) (F.told err.new)
+        (F.faults err.old) (F.faults err.new) (F.sound err.old) (F.sound err.new) result }
+{
+    put(err, &[Part::Text(b"fast ")])?;
+    put_usual(err, fault)
+}
+
+/// The line of the same fault of another block.
+fn put_usual<F: Sink>(err: &mut F, fault: &FastFault) -> Result<(), Failed>
+    ensures { Puts (usual_line fault.now) (F.told err.old) (F.told err.new)
+        (F.faults err.old) (F.faults err.new) (F.sound err.old) (F.sound err.new) result }
+{
+    match fault {
+        FastFault::Fcl(fault) => put_fcl(err, fault),
+        FastFault::Cert(fault) => put_cert(err, fault),
+        FastFault::Trace(fault) => put_trace(err, fault),
     }
 }

@@ -13,5 +13,5 @@ mod status;
 mod words;
 
 pub use errors::report;
-pub use status::{CertRefusal, FclFault, ImageFault, Status};
+pub use status::{CertRefusal, FastFault, FclFault, ImageFault, Status};
 pub use words::word;

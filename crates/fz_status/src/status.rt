@@ -52,6 +52,19 @@ pub enum Status {
     Handler(HandlerFault),
     /// That line of the script is of no form.
     Script(u32),
+    /// A file of the fast block is refused.
+    Fast(FastFault),
+}
+
+/// Why a file of the fast block is refused, where a slow block's files are read beside it.
+#[derive(Debug, Drop)]
+pub enum FastFault {
+    /// The text spells no block that can be laid out.
+    Fcl(FclFault),
+    /// The text is no certificate that the block accepts.
+    Cert(CertRefusal),
+    /// The text is no trace of the block.
+    Trace(TraceFault),
 }
 
 /// Why a text gives no firmware. It never carries want of memory.
@@ -87,6 +100,7 @@ pub enum CertRefusal {
 
 impl Status {
     ghost use Rattle.fz_status.specs.Codes.{code_of};
+    ghost use Rattle.fz_status.specs.Refusals.{of_fast};
 
     /// The number that the program ends with.
     pub fn code(&self) -> u8
@@ -111,6 +125,21 @@ impl Status {
             Status::Budget(_) => 13,
             Status::Handler(_) => 14,
             Status::Script(_) => 15,
+            Status::Fast(FastFault::Fcl(_)) => 4,
+            Status::Fast(FastFault::Cert(_)) => 6,
+            Status::Fast(FastFault::Trace(_)) => 7,
+        }
+    }
+
+    /// The same, told of the fast block's file where it tells of a block's.
+    pub fn of_fast(self) -> Status
+        ensures { result ≡ of_fast self }
+    {
+        match self {
+            Status::Fcl(fault) => Status::Fast(FastFault::Fcl(fault)),
+            Status::Cert(fault) => Status::Fast(FastFault::Cert(fault)),
+            Status::Trace(fault) => Status::Fast(FastFault::Trace(fault)),
+            status => status,
         }
     }
 }

@@ -17,7 +17,7 @@ use build_commands::compile::{self, Compile};
 use build_commands::contents::content;
 use build_commands::exec::{self, Exec};
 use build_commands::work::Work;
-use build_commands::{asm, hcheck, mcompile, scompile};
+use build_commands::{asm, hcheck, lcompile, mcompile, scompile};
 use codegen::Width;
 use fz_status::Status;
 use fz_words::Refusal;
@@ -43,6 +43,7 @@ pub(crate) enum Name {
     Generate,
     Hcheck,
     Hrun,
+    Lcompile,
     Mcompile,
     Run,
     Run16,
@@ -51,7 +52,7 @@ pub(crate) enum Name {
 }
 
 /// The commands by their names on the command line, each with the number of words that follow.
-static COMMANDS: [(&str, usize, Name); 17] = [
+static COMMANDS: [(&str, usize, Name); 18] = [
     ("asm", 2, Name::Asm),
     ("certify", 3, Name::Certify),
     ("certify16", 3, Name::Certify16),
@@ -64,6 +65,7 @@ static COMMANDS: [(&str, usize, Name); 17] = [
     ("gen", 1, Name::Generate),
     ("hcheck", 1, Name::Hcheck),
     ("hrun", 6, Name::Hrun),
+    ("lcompile", 3, Name::Lcompile),
     ("mcompile", 2, Name::Mcompile),
     ("run", 6, Name::Run),
     ("run16", 6, Name::Run16),
@@ -92,6 +94,8 @@ pub enum Command {
     Hcheck,
     /// `hrun FCL HANDLER CERT TRACE PLAN FLAGS`
     Hrun(Hrun),
+    /// `lcompile SLOW FAST OUT`
+    Lcompile,
     /// `mcompile FCL OUT`
     Mcompile,
     /// `run FCL IMAGE CERT TRACE PLAN FLAGS`, and `run16 ..`
@@ -120,6 +124,7 @@ fn formed(name: Name, words: &[String]) -> Option<Command>
         Name::Generate => Generate::of(words).map(Command::Generate),
         Name::Hcheck => Some(Command::Hcheck),
         Name::Hrun => Hrun::of(words).map(Command::Hrun),
+        Name::Lcompile => Some(Command::Lcompile),
         Name::Mcompile => Some(Command::Mcompile),
         Name::Run => Run::of(Width::Byte, words).map(Command::Run),
         Name::Run16 => Run::of(Width::Word, words).map(Command::Run),
@@ -144,6 +149,7 @@ impl Command {
             Command::Generate(_) => generate::INPUTS.as_slice(),
             Command::Hcheck => hcheck::INPUTS.as_slice(),
             Command::Hrun(_) => hrun::INPUTS.as_slice(),
+            Command::Lcompile => lcompile::INPUTS.as_slice(),
             Command::Mcompile => compile::INPUTS.as_slice(),
             Command::Run(_) => run::INPUTS.as_slice(),
             Command::Scompile => scompile::INPUTS.as_slice(),
@@ -167,6 +173,7 @@ impl Command {
             Command::Generate(generate) => generate.work(alloc),
             Command::Hcheck => hcheck::work(alloc, content(contents, 0)),
             Command::Hrun(hrun) => hrun.work(alloc, contents),
+            Command::Lcompile => lcompile::work(alloc, content(contents, 0), content(contents, 1)),
             Command::Mcompile => mcompile::work(alloc, content(contents, 0)),
             Command::Run(run) => run.work(alloc, contents),
             Command::Scompile => scompile::work(alloc, content(contents, 0)),

@@ -7,6 +7,7 @@ use build_commands::check::checked_certs_have_no_fault;
 use build_commands::compile::compiled_texts_have_no_fault;
 use build_commands::exec::ended_runs_have_no_fault;
 use build_commands::hcheck::checked_handlers_have_no_fault;
+use build_commands::lcompile::two_texts_have_no_fault;
 use build_commands::mcompile::mailbox_texts_have_no_fault;
 use build_commands::scompile::watched_texts_have_no_fault;
 use run_commands::debug::debugged_runs_have_no_fault;
@@ -28,6 +29,7 @@ pub(crate) fn deeds_have_no_fault()
     generated_runs_have_no_fault();
     checked_handlers_have_no_fault();
     handled_runs_have_no_fault();
+    two_texts_have_no_fault();
     mailbox_texts_have_no_fault();
     certified_runs_have_no_fault();
     watched_texts_have_no_fault();

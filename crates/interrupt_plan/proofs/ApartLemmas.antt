@@ -1,4 +1,4 @@
--- A text that spells a plan, or posts, has no fault.
+-- A text that spells a plan, posts or levels has no fault.
 use Rattle.std.proofs.Common.{arith, ◌≡◌, ◌<◌, ◌+◌, ℕ, true, false, List, [], ◌∷◌, ◌++◌, length, refl, sym, ◌∙◌, ap, ap₂, subst}
 use Rattle.std.specs.Prelude.{All, Option, Some}
 use Rattle.std.proofs.lemmas.List.{length-append}
@@ -7,14 +7,17 @@ use Rattle.fz_rows.specs.FirstRows.{Fields}
 use Rattle.fz_rows.specs.Laws.{FirstRowsAreOne}
 use Rattle.cpu12_isa.specs.Regions.{is_free}
 use Rattle.cpu12_isa.specs.declared.instr.Write.{Write}
-use Rattle.interrupt_plan.specs.OneReading.{SpelledPlansHaveNoFault, SpelledPostsHaveNoFault}
+use Rattle.interrupt_plan.specs.OneReading.{SpelledLevelsHaveNoFault, SpelledPlansHaveNoFault, SpelledPostsHaveNoFault}
+use Rattle.interrupt_plan.specs.Levels.{AreGoodLevels, LevelNotAfter, SpellsLevel, no_writes, numbers_of}
 use Rattle.interrupt_plan.specs.Plans.{Ascend, IsGood, NotAfter}
 use Rattle.interrupt_plan.specs.Posts.{AreGoodPosts, NoLater, SpellsPost, writes_in}
 use Rattle.interrupt_plan.specs.PlanTexts.{SpellsRequest, writes_by}
 use Rattle.interrupt_plan.specs.Rows.{AreFree, AreInOrder, FirstFault, HasFirstFault, HasNumbers, RowFails, SpellAll, SpellsText, at_row, count_of, more, not_ascending, not_free, unread}
 use Rattle.interrupt_plan.specs.declared.PlanFault.{PlanFault}
+use Rattle.interrupt_plan.specs.declared.levels.Level.{Level}
 use Rattle.interrupt_plan.specs.declared.Post.{Post}
 use Rattle.interrupt_plan.specs.declared.Request.{Request}
+use Rattle.interrupt_plan.proofs.LevelLemmas.{one_numbers}
 
 same_some : {X : Type 0} {o : Option X} {x y : X} → o ≡ Some x → o ≡ Some y → x ≡ y
 same_some {X} {o} {x} {y} one other = let e : Some x ≡ Some y = sym one ∙ other in cc
@@ -40,6 +43,15 @@ post_one samples fields q r one other =
     let numbers = numbers_one fields q.moment q.sample r.moment r.sample one.row.numbers other.row.numbers in
     let writes : q.writes ≡ r.writes = same_some one.row.writes_are other.row.writes_are in
     (λ i. record { moment = numbers.0 i; sample = numbers.1 i; writes = writes i })
+
+level_one : (fast : ℕ) (fields : Fields) (q r : Level) → SpellsLevel fast fields q → SpellsLevel fast fields r → q ≡ r
+level_one fast fields q r one other =
+    let same : numbers_of q ≡ numbers_of r = one_numbers fields (numbers_of q) (numbers_of r) one.numbers other.numbers in
+    let sample : q.sample ≡ r.sample = cc in
+    let moment : q.moment ≡ r.moment = cc in
+    let answered : q.fast ≡ r.fast = cc in
+    let inner : q.inner.items ≡ r.inner.items = cc in
+    (λ i. record { sample = sample i; moment = moment i; fast = answered i; inner = record { items = inner i } })
 
 first_is_free : (before : List Write) (w : Write) (after : List Write) → All (λ v. is_free v.at ≡ true) (before ++ w ∷ after) → is_free w.at ≡ true
 first_is_free [] w after free = All-head (λ v. is_free v.at ≡ true) w after free
@@ -129,7 +141,7 @@ module _ {E : Type 0} (Spells : Fields → E → Type 0) (writes : E → List Wr
       rows_apart spells.rows all fault spells.few (order all spells.good) spells.spelled
       (subst (λ (rs : List Fields). FirstFault Spells writes Follows rs fault) same has.fault_is)
 
--- ---- plans and posts
+-- ---- plans, posts and levels
 
 plan_order : (plan : List Request) → IsGood plan → AreInOrder writes_by NotAfter plan
 plan_order plan good = record { few = good.few; free = λ k d lt. (let r = good.requests k d lt in r.free); ascends = good.ascends }
@@ -137,9 +149,16 @@ plan_order plan good = record { few = good.few; free = λ k d lt. (let r = good.
 posts_order : (samples : ℕ) (posts : List Post) → AreGoodPosts samples posts → AreInOrder writes_in NoLater posts
 posts_order samples posts good = record { few = good.few; free = λ k d lt. (let r = good.posts_are k d lt in r.free); ascends = good.ascends }
 
+levels_order : (fast : ℕ) (levels : List Level) → AreGoodLevels fast levels → AreInOrder no_writes LevelNotAfter levels
+levels_order fast levels good = record { few = good.few; free = λ k d lt i e none. absurd (omega arith); ascends = good.ascends }
+
 pub plans_apart : FirstRowsAreOne → SpelledPlansHaveNoFault
 plans_apart one text plan fault spells has = texts_apart SpellsRequest writes_by NotAfter request_one one IsGood plan_order text plan fault spells has
 
 pub posts_apart : FirstRowsAreOne → SpelledPostsHaveNoFault
 posts_apart one samples text posts fault spells has =
     texts_apart (SpellsPost samples) writes_in NoLater (post_one samples) one (AreGoodPosts samples) (posts_order samples) text posts fault spells has
+
+pub levels_apart : FirstRowsAreOne → SpelledLevelsHaveNoFault
+levels_apart one fast text levels fault spells has =
+    texts_apart (SpellsLevel fast) no_writes LevelNotAfter (level_one fast) one (AreGoodLevels fast) (levels_order fast) text levels fault spells has

@@ -2,5 +2,6 @@ pub mod Instances
 pub mod PlanLemmas
 pub mod PairLemmas
 pub mod ByteLemmas
+pub mod LevelLemmas
 pub mod ApartLemmas
 pub mod UpsetLemmas

@@ -19,7 +19,7 @@ use Rattle.interrupt_plan.specs.declared.PlanFault.TheVariants.{TooMany}
 use Rattle.interrupt_plan.specs.Plans.{Ascend, IsGood, IsGoodRequest, NotAfter}
 use Rattle.interrupt_plan.specs.PlanTexts.{SpellsRequest, writes_by}
 use Rattle.interrupt_plan.specs.Posts.{AreGoodPosts, IsGoodPost, NoLater, SpellsPost, writes_in}
-use Rattle.interrupt_plan.specs.Rows.{AreFree, AreInOrder, FirstFault, IsFirstTaken, RowFails, SpellAll, SpellsRow, at_row, count_of, more, writes_of}
+use Rattle.interrupt_plan.specs.Rows.{AreFree, AreInOrder, FirstFault, IsFirstTaken, RowFails, SpellAll, SpellsRow, SpellsText, at_row, count_of, more, writes_of}
 use Rattle.interrupt_plan.proofs.PairLemmas.{length-writes}
 use Rattle.interrupt_plan.proofs.ByteLemmas.{writes_small}
 
@@ -29,15 +29,11 @@ take_more xs i d lt = rw add-one (take-suc xs i d lt)
 split_at : {X : Type 0} (xs : List X) (i : ℕ) (d : X) → i < length xs → xs ≡ take i xs ++ get_or xs i d ∷ drop (suc i) xs
 split_at {X} xs i d lt = sym (ap (λ (l : List X). take i xs ++ l) (sym (drop-cons xs i d lt)) ∙ take-append-drop i xs)
 
-take_all : {X : Type 0} (i : ℕ) (xs : List X) → length xs ≤ i → take i xs ≡ xs
+pub take_all : {X : Type 0} (i : ℕ) (xs : List X) → length xs ≤ i → take i xs ≡ xs
 take_all zero [] le = refl
 take_all zero (x ∷ xs) le = absurd (omega arith)
 take_all (suc i) [] le = refl
 take_all {X} (suc i) (x ∷ xs) le = ap (λ (l : List X). x ∷ l) (take_all i xs (omega arith))
-
-pub if_ok : {T F : Type 0} (r : Result T F) (P Q : T → Type 0) → ((x : T) → P x → Q x) → IfOk r P → IfOk r Q
-if_ok (Ok x) P Q weaker h = weaker x h
-if_ok (Err e) P Q weaker h = h
 
 -- ---- numbers
 
@@ -238,3 +234,9 @@ module _ {E : Type 0} (Spells : Fields → E → Type 0) (writes : E → List Wr
 
     pub too_many : i ≡ 10000 → FirstFault Spells writes Follows (map fields_of rows) TooMany
     too_many many = more (map fields_of (take i rows)) (fields_of row) (map fields_of (drop (suc i) rows)) es (fields_split rows i row lt is) (size ∙ many) so_far order
+
+  -- entries in order that are spelled and so good are good in a text
+  pub good_text : (Good : List E → Type 0) → ((rows : List Fields) (es : List E) → SpellAll Spells rows es → AreInOrder writes Follows es → Good es)
+      → (text : List ℕ) {F : Type 0} (r : Result (List E) F) → IfOk r (SpellsText Spells (AreInOrder writes Follows) text) → IfOk r (SpellsText Spells Good text)
+  good_text Good good text (Ok es) s = record { rows = s.rows; first = s.first; few = s.few; spelled = s.spelled; good = good s.rows es s.spelled s.good }
+  good_text Good good text (Err f) s = s

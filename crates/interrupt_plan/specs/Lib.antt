@@ -2,6 +2,7 @@ pub mod Plans
 pub mod Rows
 pub mod PlanTexts
 pub mod Posts
+pub mod Levels
 pub mod OneReading
 pub mod Upsets
 pub mod UpsetTexts

@@ -11,9 +11,13 @@ pub record IsGoodRequest (r : Request) : Type 0 where
   pub few_writes : length r.writes ≤ 8
   pub free : All (λ w. is_free w.at ≡ true) r.writes
 
+-- of two samples with moments in them, the first does not come after the second
+abbrev pub NoLaterThan : ℕ × ℕ → ℕ × ℕ → Type 0
+NoLaterThan a b = (a.0 < b.0) ⊎ ((a.0 ≡ b.0) × (a.1 ≤ b.1))
+
 -- by sample and then by moment, a does not come after b
 abbrev pub NotAfter : Request → Request → Type 0
-NotAfter a b = (a.sample < b.sample) ⊎ ((a.sample ≡ b.sample) × (a.moment ≤ b.moment))
+NotAfter a b = NoLaterThan (a.sample, a.moment) (b.sample, b.moment)
 
 -- none of a list comes after the one behind it
 abbrev pub Ascend : {E : Type 0} → (E → E → Type 0) → List E → Type 0

@@ -2,7 +2,7 @@
 ghost use Rattle.std.specs.Prelude.{◌≡◌, ◌↔◌, ◌≤◌, ℕ, List, IfOk, MatchOption, IsTrue};
 ghost use Rattle.csv.specs.Records.{fields_of};
 ghost use Rattle.cpu12_isa.specs.declared.instr.Write as isa;
-ghost use Rattle.interrupt_plan.specs.Plans.{NotAfter};
+ghost use Rattle.interrupt_plan.specs.Plans.{NoLaterThan, NotAfter};
 ghost use Rattle.interrupt_plan.specs.PlanTexts.{SpellsRequest, writes_by};
 ghost use Rattle.interrupt_plan.specs.Posts.{NoLater, SpellsPost, writes_in};
 
@@ -15,9 +15,9 @@ use std::alloc::{AllocError, Global};
 /// The greatest moment of a post.
 const LAST_MOMENT: u32 = 1_000_000;
 
-/// What a row spells: a request of a plan, or a post.
+/// What a row spells: a request of a plan, a post, or a level.
 pub(crate) trait Entry: Sized + Drop {
-    /// The fields that spell it, where there are so many samples.
+    /// The fields that spell it, where it may be of so many samples.
     ghost spells: { ℕ → List (List ℕ) → Self → Type 0 };
 
     /// What it writes.
@@ -38,6 +38,13 @@ pub(crate) trait Entry: Sized + Drop {
     /// Whether the other may stand behind it.
     fn is_not_after(&self, other: &Self) -> bool
         ensures { IsTrue result ↔ not_after self.now other.now };
+}
+
+/// Whether the first of two samples with moments in them does not come after the second.
+pub(crate) fn is_no_later(first: (u32, u32), second: (u32, u32)) -> bool
+    ensures { IsTrue result ↔ NoLaterThan first second }
+{
+    first.0 < second.0 || (first.0 == second.0 && first.1 <= second.1)
 }
 
 impl Entry for Request {
@@ -75,7 +82,7 @@ impl Entry for Request {
     }
 
     fn is_not_after(&self, other: &Request) -> bool {
-        self.sample < other.sample || (self.sample == other.sample && self.moment <= other.moment)
+        is_no_later((self.sample, self.moment), (other.sample, other.moment))
     }
 }
 

@@ -1,5 +1,5 @@
 //! Laws of plans, each the contract of a function that does nothing.
-ghost use Rattle.interrupt_plan.specs.OneReading.{SpelledPlansHaveNoFault, SpelledPostsHaveNoFault};
+ghost use Rattle.interrupt_plan.specs.OneReading.{SpelledLevelsHaveNoFault, SpelledPlansHaveNoFault, SpelledPostsHaveNoFault};
 ghost use Rattle.interrupt_plan.specs.UpsetTexts.{SpelledUpsetsHaveNoFault};
 
 /// A text that spells a plan has no fault.
@@ -12,6 +12,13 @@ pub fn spelled_plans_have_no_fault()
 /// Nor has one that spells posts.
 pub fn spelled_posts_have_no_fault()
     ensures { SpelledPostsHaveNoFault }
+{
+    fz_rows::first_rows_are_one();
+}
+
+/// Nor has one that spells levels.
+pub fn spelled_levels_have_no_fault()
+    ensures { SpelledLevelsHaveNoFault }
 {
     fz_rows::first_rows_are_one();
 }

@@ -7,6 +7,8 @@
 //! text spell, which is good, or the fault of the first row that fails. [`read_posts`] does the same
 //! for the [`Posts`] of the mailbox form, whose handler may post a sample.
 //!
+//! [`read_levels`] reads the [`Levels`] at which a handler answers fast samples, and is interrupted meanwhile.
+//!
 //! [`read_upsets`] reads in the same way which byte of a firmware's tables holds another value while
 //! a sample is answered: a list of [`Upset`]s, one at most for each sample.
 #![tactic(auto)]
@@ -21,13 +23,16 @@ use thiserror::Error;
 
 mod entry;
 mod laws;
+mod levels;
 mod reader;
 mod row;
 mod upsets;
 
 pub use laws::{
-    spelled_plans_have_no_fault, spelled_posts_have_no_fault, spelled_upsets_have_no_fault,
+    spelled_levels_have_no_fault, spelled_plans_have_no_fault, spelled_posts_have_no_fault,
+    spelled_upsets_have_no_fault,
 };
+pub use levels::{Level, Levels, read_levels};
 pub use reader::{read_plan, read_posts};
 pub use row::{count_in, word_in};
 pub use upsets::{Upset, UpsetFault, Upsets, read_upsets};
@@ -60,20 +65,21 @@ pub struct Post {
 /// Posts that ascend by their moments, at most 10000 of them.
 pub type Posts = List<Post>;
 
-/// Why a text is no plan, or has no posts. Rows count from 1.
+/// Why a text is no plan, or has no posts or levels. Rows count from 1.
 #[derive(Clone, Copy, PartialEq, Eq, Debug, Error)]
 pub enum PlanFault {
     /// There is a row 10001.
     #[error("too many rows")]
     TooMany,
     /// That row is not its two numbers, a sample and a moment or a moment and a sample, each in its
-    /// limits, and at most eight pairs of an address and a value.
+    /// limits, and at most eight pairs of an address and a value; or not the numbers of a level.
     #[error("row {0} is malformed")]
     BadRow(u32),
     /// In that row, that address is the first that is not free.
     #[error("row {0}: the byte at {1} is not free")]
     NotFree(u32, u16),
-    /// That row comes before the one above it: a request by its sample and moment, a post by its moment.
+    /// That row comes before the one above it: a request or a level by its sample and moment, a post by
+    /// its moment.
     #[error("row {0} falls back")]
     NotAscending(u32),
     /// Memory was wanted and not found.

@@ -78,7 +78,11 @@ fn entries_in<E: Entry>(
 /// with two numbers and up to eight pairs of an address and a value, both hexadecimal. What `csv` does
 /// by default holds: empty lines are no rows, fields may be quoted, and a byte order mark at the start
 /// is skipped.
-fn entries_of<E: Entry>(alloc: Global, text: &[u8], samples: u32) -> Result<List<E>, PlanFault>
+pub(crate) fn entries_of<E: Entry>(
+    alloc: Global,
+    text: &[u8],
+    samples: u32,
+) -> Result<List<E>, PlanFault>
     ensures entries { IfOk result (SpellsText (E.spells samples) (AreInOrder E.written E.not_after) text.now) }
     ensures fault { IfErr result (λ f. f ≢ PlanFault.Memory
         → HasFirstFault (E.spells samples) E.written E.not_after text.now f) }

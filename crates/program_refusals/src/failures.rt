@@ -36,7 +36,7 @@ struct Accepted {
     start: &'static str,
 }
 
-static COMMANDS: [Accepted; 16] = [
+static COMMANDS: [Accepted; 17] = [
     Accepted {
         line: &["fuzz12", "asm", "small.asm", "out"],
         reads: &["small.asm"],
@@ -174,6 +174,13 @@ static COMMANDS: [Accepted; 16] = [
             "sample 1 bytes 64 answers 64 instructions 28 steps 36 resumed 0 frames 0\n",
         ],
         start: "sto",
+    },
+    Accepted {
+        line: &["fuzz12", "lcompile", "a.fcl", "a.fcl", "out"],
+        reads: &["a.fcl", "a.fcl"],
+        writes: true,
+        lines: &["instructions 28\n", "fast 24\n", "bytes 174\n"],
+        start: "ins",
     },
     Accepted {
         line: &["fuzz12", "scompile", "a.fcl", "out"],

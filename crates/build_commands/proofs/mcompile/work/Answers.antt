@@ -1,27 +1,13 @@
-use Rattle.std.proofs.Common.{◌≡◌, ◌∙◌, ℕ, ap₂, length, rules}
-use Rattle.std.specs.Prelude.{Some}
-use Rattle.codegen.specs.Bounds.{steps_by}
+use Rattle.std.proofs.Common.{rules}
 use Rattle.codegen.specs.Mailboxes.{mailbox_bound}
 use Rattle.codegen.specs.declared.width.Width.TheVariants.{Byte}
-use Rattle.build_commands.specs.Compile.{compile_lines}
+use Rattle.build_commands.specs.Firmwares.{GivesMailbox}
 use Rattle.build_commands.specs.Mcompile.{McompileMakes}
-use Rattle.build_commands.proofs.WrittenLemmas.{written_makes}
+use Rattle.build_commands.proofs.WrittenLemmas.{firmware_makes}
 use Rattle.build_commands.proofs.mcompile.work.Goals as goal
 
 pub returns : goal.returns
 returns c =
-    let block = c.in-Ok.compiled.block in
-    let firmware = c.in-Ok.compiled.firmware in
-    let gives = c.in-Ok.ensures.gives in
-    let instructions : firmware.instr_bound ≡ mailbox_bound Byte block = search rules in
-    let steps : firmware.step_bound ≡ steps_by block (mailbox_bound Byte block) = search rules in
-    written_makes (McompileMakes c.args.fcl.now) firmware _ c.written.ensures.writes c.written.ensures.memory (λ deed w. record {
-      block = block;
-      firmware = firmware;
-      gives = gives;
-      records = w.records;
-      image = w.image;
-      deed_is =
-          w.deed_is
-          ∙ ap₂ (λ (i s : ℕ). record { text = compile_lines i s (length firmware.image.bytes); file = Some (3, w.records) }) instructions steps;
-    })
+    firmware_makes (McompileMakes c.args.fcl.now) (GivesMailbox c.args.fcl.now) (mailbox_bound Byte)
+    c.in-Ok.compiled.block c.in-Ok.compiled.firmware c.in-Ok.ensures.gives (search rules) (search rules)
+    c.written_firmware.result c.written_firmware.ensures.writes c.written_firmware.ensures.memory (λ deed w. w)

@@ -27,6 +27,8 @@ returns c command.Hcheck contents deed s makes fault =
     c.checked_handlers_have_no_fault.ensures (content_at contents 0) deed s makes fault
 returns c (command.Hrun hrun) contents deed s makes fault =
     c.handled_runs_have_no_fault.ensures hrun (handled_files contents) deed s makes fault
+returns c command.Lcompile contents deed s makes fault =
+    c.two_texts_have_no_fault.ensures (content_at contents 0) (content_at contents 1) deed s makes fault
 returns c command.Mcompile contents deed s makes fault =
     c.mailbox_texts_have_no_fault.ensures (content_at contents 0) deed s makes fault
 returns c (command.Run run) contents deed s makes fault =

@@ -1,0 +1,35 @@
+use Rattle.std.proofs.Common.{◌≡◌, ◌∙◌, ℕ, Bool, List, ap, ap₂, length, subst}
+use Rattle.fz_shelf.specs.Lines.{text_of}
+use Rattle.fuzzy_meaning.specs.declared.block.Block.{Block}
+use Rattle.codegen.specs.Bounds.{instruction_bound}
+use Rattle.codegen.specs.Widths.{width_of}
+use Rattle.codegen.specs.declared.firmware.Firmware.{Firmware}
+use Rattle.codegen.specs.declared.width.Width.TheVariants.{Byte}
+use Rattle.two_level.specs.Images.{IsAlone, fast_most}
+use Rattle.build_commands.specs.Lcompile.{LcompileMakes, lcompile_lines}
+use Rattle.build_commands.specs.Written.{WritesImage}
+use Rattle.build_commands.proofs.WrittenLemmas.{written_makes}
+use Rattle.build_commands.proofs.lcompile.work.Goals as goal
+
+bound_alone : (b : Block) (f : Firmware) → IsAlone b f → f.instr_bound ≡ instruction_bound Byte b
+bound_alone b f is = is.firmware.instructions ∙ ap (λ (wide : Bool). instruction_bound (width_of wide) b) is.narrow
+
+pub returns-in-Ok-lines : goal.returns-in-Ok-lines
+returns-in-Ok-lines c =
+    let slow = c.in-Ok.block in
+    let fast = c.in-Ok-laid_out_block_of.block in
+    let two = c.in-Ok-compile_two.two in
+    let gives = c.in-Ok-compile_two.ensures.two in
+    let bytes = length two.image.bytes in
+    written_makes (LcompileMakes c.args.slow.now c.args.fast.now) two.image 4 (text_of c.in-Ok-lines.lines.items)
+    c.written_image.result c.written_image.ensures.writes c.written_image.ensures.memory (λ deed w. record {
+      slow_block = slow;
+      fast_block = fast;
+      two = two;
+      slow_is = c.in-Ok.ensures.gives;
+      fast_is = c.in-Ok-laid_out_block_of.ensures.gives;
+      gives = gives;
+      writes = subst (λ (text : List ℕ). WritesImage two.image 4 text deed)
+          (c.in-Ok-lines.ensures
+          ∙ ap₂ (λ (s f : ℕ). lcompile_lines s (fast_most f) bytes) (bound_alone slow two.slow gives.slow_alone) (bound_alone fast two.fast gives.fast_alone)) w;
+    })

@@ -1,0 +1,64 @@
+//! The command `lcompile SLOW FAST OUT`.
+ghost use Rattle.std.specs.Prelude.{◌≡◌, ◌≤◌, length, IfOk, List, ℕ};
+ghost use Rattle.fz_shelf.specs.Lines.{text_of};
+ghost use Rattle.two_level.specs.Images.{fast_most};
+ghost use Rattle.build_commands.specs.Deeds.{DeedHasNoFault, IsResultOf};
+ghost use Rattle.build_commands.specs.Lcompile.{LcompileMakes, lcompile_lines};
+
+use crate::firmware::{laid_out_block_of, spelled_texts_have_no_fault};
+use crate::lines::labelled;
+use crate::work::Work;
+use crate::written::written_image;
+use fz_status::Status;
+use std::alloc::{AllocError, Global};
+use two_level::{Two, compile_two};
+
+/// The words SLOW and FAST.
+pub static INPUTS: [u32; 2] = [2, 3];
+
+/// The place of the word OUT.
+const OUT: u32 = 4;
+
+/// Compiles the fast block of one text into the interrupts of the slow one of another, and writes down the
+/// records of the image of both and their bounds.
+pub fn work(alloc: Global, slow: &[u8], fast: &[u8]) -> Result<Work, Status>
+    requires slow { length slow.now ≤ 1048576 }
+    requires fast { length fast.now ≤ 1048576 }
+    ensures { IsResultOf (LcompileMakes slow.now fast.now) result }
+{
+    let slow_block = match laid_out_block_of(alloc, slow) {
+        Ok(block) => block,
+        Err(status) => return Err(status),
+    };
+    let fast_block = match laid_out_block_of(alloc, fast) {
+        Ok(block) => block,
+        Err(status) => return Err(status.of_fast()),
+    };
+    // Both can be laid out, so nothing but memory is wanted.
+    let Ok(two) = compile_two(alloc, &slow_block, &fast_block) else {
+        return Err(Status::Memory);
+    };
+    match lines(alloc, &two) {
+        Ok(lines) => written_image(alloc, &two.image, OUT, lines),
+        Err(_) => Err(Status::Memory),
+    }
+}
+
+/// The bounds on instructions of the slow code and of the fast, and how many bytes the image has.
+fn lines(alloc: Global, two: &Two) -> Result<Vec<String>, AllocError>
+    ensures { IfOk result (λ lines. text_of lines.items ≡
+        lcompile_lines two.now.slow.instr_bound (fast_most two.now.fast.instr_bound) (length two.now.image.bytes)) }
+{
+    let mut lines = Vec::new(alloc);
+    lines.push(labelled(alloc, "instructions ", u128::from(two.slow.instr_bound))?)?;
+    lines.push(labelled(alloc, "fast ", u128::from(two.fast_bound()))?)?;
+    lines.push(labelled(alloc, "bytes ", two.image.bytes.len() as u128)?)?;
+    Ok(lines)
+}
+
+/// Texts that make a deed make no fault.
+pub fn two_texts_have_no_fault()
+    ensures { (slow fast : List ℕ) → DeedHasNoFault (LcompileMakes slow fast) }
+{
+    spelled_texts_have_no_fault()
+}

@@ -1,0 +1,59 @@
+//! What commands write of firmware and images: the records for OUT, and lines.
+ghost use Rattle.std.specs.Prelude.{◌≡◌, length, IfErr, IfOk};
+ghost use Rattle.fz_shelf.specs.Lines.{text_of};
+ghost use Rattle.build_commands.specs.Deeds.{deed_of};
+ghost use Rattle.build_commands.specs.Written.{WritesImage, compile_lines};
+
+use crate::lines::labelled;
+use crate::work::Work;
+use codegen::Firmware;
+use cpu12_asm::Image;
+use fz_status::Status;
+use std::alloc::{AllocError, Global};
+
+/// The place of the word OUT behind one file.
+const OUT: u32 = 3;
+
+/// The records of an image for the file of this word, and these lines.
+pub(crate) fn written_image(
+    alloc: Global,
+    image: &Image,
+    place: u32,
+    lines: Vec<String>,
+) -> Result<Work, Status>
+    ensures writes { IfOk result (λ work. WritesImage image.now place (text_of lines.items) (deed_of work)) }
+    ensures memory { IfErr result (λ status. status ≡ Status.Memory) }
+{
+    match srecord::write(alloc, image) {
+        Ok(records) => Ok(Work {
+            lines,
+            file: Some((place, records)),
+        }),
+        Err(_) => Err(Status::Memory),
+    }
+}
+
+/// The records of the firmware's image, for OUT, and its lines.
+pub(crate) fn written_firmware(alloc: Global, firmware: &Firmware) -> Result<Work, Status>
+    ensures writes { IfOk result (λ work. WritesImage firmware.now.image 3
+        (compile_lines firmware.now.instr_bound firmware.now.step_bound (length firmware.now.image.bytes))
+        (deed_of work)) }
+    ensures memory { IfErr result (λ status. status ≡ Status.Memory) }
+{
+    match lines(alloc, firmware) {
+        Ok(lines) => written_image(alloc, &firmware.image, OUT, lines),
+        Err(_) => Err(Status::Memory),
+    }
+}
+
+/// The bounds on instructions and steps, and how many bytes the image has.
+fn lines(alloc: Global, firmware: &Firmware) -> Result<Vec<String>, AllocError>
+    ensures { IfOk result (λ lines. text_of lines.items ≡
+        compile_lines firmware.now.instr_bound firmware.now.step_bound (length firmware.now.image.bytes)) }
+{
+    let mut lines = Vec::new(alloc);
+    lines.push(labelled(alloc, "instructions ", u128::from(firmware.instr_bound))?)?;
+    lines.push(labelled(alloc, "steps ", u128::from(firmware.step_bound))?)?;
+    lines.push(labelled(alloc, "bytes ", firmware.image.bytes.len() as u128)?)?;
+    Ok(lines)
+}
