@@ -52,7 +52,7 @@ rises_bytes : (at : ℕ) (bytes : List ℕ) (items : List Item) → IsRisingFrom
 rises_bytes at [] items h = subst (λ (n : ℕ). IsRisingFrom n items) (omega arith) h
 rises_bytes at (b ∷ bs) items h = rises_bytes (at + 1) bs items (subst (λ (n : ℕ). IsRisingFrom n items) (omega arith) h)
 
-sum_by-singleton_count : (outputs : List Output) → length outputs ≤ 4 → All IsValidOutput outputs → sum_by singleton_count outputs ≤ 60
+pub sum_by-singleton_count : (outputs : List Output) → length outputs ≤ 4 → All IsValidOutput outputs → sum_by singleton_count outputs ≤ 60
 sum_by-singleton_count outputs few valid =
     let few_terms : All (λ x. singleton_count x ≤ 15) outputs = λ i d h. (All-get_or IsValidOutput outputs i d h valid).few_terms in
     omega (arith, sum_by-le singleton_count 15 outputs few_terms)

@@ -6,3 +6,4 @@ pub mod Turning
 pub mod Founding
 pub mod Law
 pub mod Answering
+pub mod FewSteps

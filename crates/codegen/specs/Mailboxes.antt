@@ -1,6 +1,8 @@
 -- The mailbox form of a firmware: an interrupt posts a sample whenever it comes, and the code copies it while I is 1.
-use Rattle.std.specs.Prelude.{◌≡◌, ℕ, zero, suc, ◌+◌, ◌-◌, ◌*◌, nat_le, nat_lt, ◌&&◌, ◌||◌, Bool, List, [], ◌∷◌, ◌++◌, length}
+use Rattle.std.specs.Prelude.{◌≡◌, ◌≤◌, ℕ, zero, suc, ◌+◌, ◌-◌, ◌*◌, nat_le, nat_lt, ◌&&◌, ◌||◌, Bool, List, [], ◌∷◌, ◌++◌, length}
 use Rattle.fuzzy_meaning.specs.declared.block.Block.{Block}
+use Rattle.fuzzy_meaning.specs.Blocks.{IsValid}
+use Rattle.rule_layout.specs.Layouts.{IsWithinLimits}
 use Rattle.cpu12_isa.specs.declared.instr.Instr.{Instr}
 use Rattle.cpu12_isa.specs.declared.instr.Instr.TheVariants.{LdaaExtended, LdsImmediate, ClrExtended, Beq, Bra, JsrExtended, Rts, Andcc, Orcc, Rti, MovbExtended}
 use Rattle.cpu12_isa.specs.Regions.{is_free}
@@ -63,3 +65,8 @@ pub record IsMailboxOf (b : Block) (f : Firmware) : Type 0 where
   pub outputs : f.outputs ≡ length b.outputs
   pub instructions : f.instr_bound ≡ mailbox_bound (width_of f.wide) b
   pub steps : f.step_bound ≡ steps_by b (mailbox_bound (width_of f.wide) b)
+
+-- A sample takes it a step at least, and at most 20000.
+abbrev pub MailboxStepsAreFew : Type 0
+MailboxStepsAreFew = (b : Block) (f : Firmware) → IsValid b → IsWithinLimits b → IsMailboxOf b f
+    → (1 ≤ f.step_bound) × (f.step_bound ≤ 20000)

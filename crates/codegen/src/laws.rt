@@ -4,6 +4,7 @@ ghost use Rattle.codegen.specs.Answers.{FirmwareAnswers, FirmwareAnswersBeside, 
 ghost use Rattle.codegen.specs.Evaluation.{EvalAnswers};
 ghost use Rattle.codegen.specs.Checksums.{OneChangeIsSeen, TwoChangesMayPass, UnchangedSumIsZero};
 ghost use Rattle.codegen.specs.Firing.{RulesGiveMasses};
+ghost use Rattle.codegen.specs.Mailboxes.{MailboxStepsAreFew};
 ghost use Rattle.codegen.specs.Placed.{BlockGivesBytes, BlockIsShort, BlockRises, BlockStands, BlockStaysInside, GivesBehind};
 ghost use Rattle.codegen.specs.SampleTurns.{MailboxTakesSamples};
 ghost use Rattle.codegen.specs.Turns.{MailboxTakesPosts, MailboxIsUninterrupted};
@@ -122,6 +123,13 @@ pub fn mailbox_is_uninterrupted()
     ensures { MailboxIsUninterrupted }
 {
     mailbox_takes_samples();
+}
+
+/// The bound on the steps of a mailbox firmware is at least 1 and at most 20000.
+pub fn mailbox_steps_are_few()
+    ensures { MailboxStepsAreFew }
+{
+    layout_law();
 }
 
 /// The answers of samples that whole instructions answer, on which interrupts may come, are the
