@@ -27,8 +27,8 @@ pub use firmware::{Firmware, compile, compile16};
 pub use items::firmware_items;
 pub use laws::{
     eval_answers, firmware_answers, firmware_is_uninterrupted, firmwares_are_one,
-    mailbox_is_uninterrupted, mailbox_takes_posts, one_change_is_seen, rules_give_masses,
-    uninterrupted_are_one, watched_answers, watched_firmwares_are_one,
+    mailbox_is_uninterrupted, mailbox_takes_posts, mailboxes_are_one, one_change_is_seen,
+    rules_give_masses, uninterrupted_are_one, watched_answers, watched_firmwares_are_one,
 };
 pub use layout::Layout;
 pub use mailbox::compile_post;
