@@ -1,5 +1,5 @@
 -- Blocks that are the same have one image.
-use Rattle.std.proofs.Common.{◌≡◌, ℕ, Bool, List, [], ◌∷◌, ◌++◌, refl, sym, ◌∙◌, ap, ap₂}
+use Rattle.std.proofs.Common.{◌≡◌, ℕ, Bool, List, [], ◌∷◌, ◌++◌, length, refl, sym, ◌∙◌, ap, ap₂}
 use Rattle.std.specs.Prelude.{flat_map}
 use Rattle.fuzzy_meaning.specs.declared.block.Block.{Block}
 use Rattle.fuzzy_meaning.specs.declared.block.Input.{Input}
@@ -18,11 +18,12 @@ use Rattle.cpu12_isa.specs.declared.instr.Instr.TheVariants.{Rts}
 use Rattle.cpu12_asm.specs.Bytes.{byte_at, word_or_zero}
 use Rattle.cpu12_asm.specs.Items.{given_by}
 use Rattle.cpu12_asm.specs.declared.items.Item.{Item}
-use Rattle.codegen.specs.Alike.{FirmwaresAreOne, HaveOneImage, WatchedFirmwaresAreOne}
+use Rattle.codegen.specs.Alike.{FirmwaresAreOne, HaveOneImage, MailboxesAreOne, WatchedFirmwaresAreOne}
 use Rattle.codegen.specs.Code.{eval_code_over, frame_code}
 use Rattle.codegen.specs.Data.{rule_bytes_by, singleton_bytes_of, weight_bytes_by}
 use Rattle.codegen.specs.Images.{IsImageOf, bytes_at, code_at, block_items, firmware_items, vector_items}
 use Rattle.codegen.specs.Layouts.{main_layout}
+use Rattle.codegen.specs.Mailboxes.{mailbox_code, mailbox_layout}
 use Rattle.codegen.specs.Watched.{watched_items}
 use Rattle.codegen.specs.WatchedCode.{segment, segments_of, watched_front, watched_front_over, watched_layout}
 use Rattle.codegen.specs.WatchedCode.{watched_layout_over, weight_segments}
@@ -125,3 +126,25 @@ pub one_watched_image : LayoutsAreOne → WatchedFirmwaresAreOne
 one_watched_image layouts p q f g says of_p of_q =
     items_alike (watched_items p) (watched_items q) f g
     (same_watched p q says (parts_same p q (layouts.layout p q says))) of_p.image of_q.image
+
+-- ---- in the mailbox form
+
+-- the items of a block, by inputs from which the layout and the code before EVAL come
+abbrev mailbox_by : List Input → Block → Width → List Item
+mailbox_by inputs b w =
+    let l = mailbox_layout (length inputs) in
+    block_items l b w (mailbox_code l (length inputs)) (Rts ∷ []) ++ vector_items l
+
+same_mailbox : (p q : Block) (w : Width) → IsSameBlock p q → SameLayout p q
+    → mailbox_by p.inputs p w ≡ mailbox_by q.inputs q w
+same_mailbox p q w says same =
+    let l = mailbox_layout (length p.inputs) in
+    ap (λ (xs : List Item). xs ++ vector_items l)
+    (same_items l p q w (mailbox_code l (length p.inputs)) (Rts ∷ []) says same)
+    ∙ ap (λ (inputs : List Input). mailbox_by inputs q w) says.inputs
+
+pub one_mailbox_image : LayoutsAreOne → MailboxesAreOne
+one_mailbox_image layouts p q f g says wide of_p of_q =
+    items_alike (mailbox_by p.inputs p (width_of f.wide)) (mailbox_by q.inputs q (width_of g.wide)) f g
+    (same_mailbox p q (width_of f.wide) says (parts_same p q (layouts.layout p q says))
+    ∙ ap (λ (b : Bool). mailbox_by q.inputs q (width_of b)) wide) of_p.image of_q.image

@@ -4,6 +4,7 @@ use Rattle.fuzzy_meaning.specs.declared.block.Block.{Block}
 use Rattle.fuzzy_meaning.specs.SameBlocks.{IsSameBlock}
 use Rattle.cpu12_asm.specs.Bytes.{byte_at}
 use Rattle.codegen.specs.Firmwares.{IsFirmwareOf}
+use Rattle.codegen.specs.Mailboxes.{IsMailboxOf}
 use Rattle.codegen.specs.Watched.{IsWatchedFirmwareOf}
 use Rattle.codegen.specs.declared.firmware.Firmware.{Firmware}
 
@@ -20,3 +21,8 @@ FirmwaresAreOne = (p q : Block) (f g : Firmware) → IsSameBlock p q → f.wide 
 abbrev pub WatchedFirmwaresAreOne : Type 0
 WatchedFirmwaresAreOne = (p q : Block) (f g : Firmware) → IsSameBlock p q
     → IsWatchedFirmwareOf p f → IsWatchedFirmwareOf q g → HaveOneImage f g
+
+-- and in the mailbox form
+abbrev pub MailboxesAreOne : Type 0
+MailboxesAreOne = (p q : Block) (f g : Firmware) → IsSameBlock p q → f.wide ≡ g.wide
+    → IsMailboxOf p f → IsMailboxOf q g → HaveOneImage f g

@@ -1,5 +1,5 @@
 //! Laws of the generated code.
-ghost use Rattle.codegen.specs.Alike.{FirmwaresAreOne, WatchedFirmwaresAreOne};
+ghost use Rattle.codegen.specs.Alike.{FirmwaresAreOne, MailboxesAreOne, WatchedFirmwaresAreOne};
 ghost use Rattle.codegen.specs.Answers.{FirmwareAnswers, FirmwareAnswersBeside, FirmwareArrivesAlike};
 ghost use Rattle.codegen.specs.Evaluation.{EvalAnswers};
 ghost use Rattle.codegen.specs.Checksums.{OneChangeIsSeen, TwoChangesMayPass, UnchangedSumIsZero};
@@ -155,6 +155,13 @@ pub fn firmwares_are_one()
 /// So they have with watched tables.
 pub fn watched_firmwares_are_one()
     ensures { WatchedFirmwaresAreOne }
+{
+    layouts_are_one();
+}
+
+/// And so they have in the mailbox form.
+pub fn mailboxes_are_one()
+    ensures { MailboxesAreOne }
 {
     layouts_are_one();
 }

@@ -29,8 +29,8 @@ pub use items::{firmware_items, push_block, push_vectors};
 pub use laws::{
     blocks_are_placed, eval_answers, firmware_answers, firmware_is_uninterrupted,
     firmwares_are_one, mailbox_is_uninterrupted, mailbox_steps_are_few, mailbox_takes_posts,
-    mailbox_takes_samples, one_change_is_seen, rules_give_masses, uninterrupted_are_one,
-    watched_answers, watched_firmwares_are_one,
+    mailbox_takes_samples, mailboxes_are_one, one_change_is_seen, rules_give_masses,
+    uninterrupted_are_one, watched_answers, watched_firmwares_are_one,
 };
 pub use layout::Layout;
 pub use mailbox::compile_post;
