@@ -13,24 +13,31 @@ use fuzzy_meaning::Block;
 use rule_layout::{Flat, spread};
 use std::alloc::{AllocError, Global};
 
-/// Where the fast block stands.
+/// How far below the ROM of a firmware that stands alone the fast block has its own, and how far above its RAM.
+const LOWERED: u16 = 0x8000;
+
+const RAISED: u16 = 0x0400;
+
+/// Where the fast block stands. Its code begins with the instruction of two bytes that lets interrupts in.
 fn fast_layout() -> Layout
     ensures { result ≡ fast_layout }
 {
+    let main = Layout::MAIN;
+    let code = main.code - LOWERED;
     Layout {
-        code: 0x4000,
-        wait: 0x4008,
-        interrupt: 0x4000,
-        eval: 0x4002,
-        tables: 0x5000,
-        singletons: 0x5200,
-        weights: 0x5300,
-        rules: 0x5800,
-        ready: 0x1400,
-        samples: 0x1401,
-        inputs: 0x1401,
-        outputs: 0x1410,
-        slots: 0x1500,
+        code,
+        wait: main.wait - LOWERED,
+        interrupt: code,
+        eval: code + 2,
+        tables: main.tables - LOWERED,
+        singletons: main.singletons - LOWERED,
+        weights: main.weights - LOWERED,
+        rules: main.rules - LOWERED,
+        ready: main.ready + RAISED,
+        samples: main.samples + RAISED,
+        inputs: main.inputs + RAISED,
+        outputs: main.outputs + RAISED,
+        slots: main.slots + RAISED,
     }
 }
 
@@ -51,11 +58,12 @@ fn two_items(
     requires fast_laid_out { IsLaidOut fast_flat.now }
     ensures { IfOk result (λ items. items.items ≡ two_items slow.now fast.now) }
 {
+    let layout = fast_layout();
     let mut items = Vec::new(alloc);
     push_block(
         alloc,
         &mut items,
-        &fast_layout(),
+        &layout,
         Width::Byte,
         fast,
         fast_flat,
@@ -76,7 +84,7 @@ fn two_items(
     push_vectors(
         &mut items,
         &Layout {
-            interrupt: 0x4000,
+            interrupt: layout.interrupt,
             ..Layout::MAIN
         },
     )?;
