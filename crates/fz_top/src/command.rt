@@ -24,6 +24,7 @@ use fz_words::Refusal;
 use run_commands::debug::{self, DebugRun};
 use run_commands::generate::{self, Generate};
 use run_commands::hrun::{self, Hrun};
+use run_commands::mrun::{self, Mrun};
 use run_commands::run::{self, Run};
 use run_commands::srun::{self, Srun};
 use std::alloc::Global;
@@ -44,6 +45,7 @@ pub(crate) enum Name {
     Hcheck,
     Hrun,
     Mcompile,
+    Mrun,
     Run,
     Run16,
     Scompile,
@@ -51,7 +53,7 @@ pub(crate) enum Name {
 }
 
 /// The commands by their names on the command line, each with the number of words that follow.
-static COMMANDS: [(&str, usize, Name); 17] = [
+static COMMANDS: [(&str, usize, Name); 18] = [
     ("asm", 2, Name::Asm),
     ("certify", 3, Name::Certify),
     ("certify16", 3, Name::Certify16),
@@ -65,6 +67,7 @@ static COMMANDS: [(&str, usize, Name); 17] = [
     ("hcheck", 1, Name::Hcheck),
     ("hrun", 6, Name::Hrun),
     ("mcompile", 2, Name::Mcompile),
+    ("mrun", 6, Name::Mrun),
     ("run", 6, Name::Run),
     ("run16", 6, Name::Run16),
     ("scompile", 2, Name::Scompile),
@@ -94,6 +97,8 @@ pub enum Command {
     Hrun(Hrun),
     /// `mcompile FCL OUT`
     Mcompile,
+    /// `mrun FCL IMAGE CERT TRACE POSTS FLAGS`
+    Mrun(Mrun),
     /// `run FCL IMAGE CERT TRACE PLAN FLAGS`, and `run16 ..`
     Run(Run),
     /// `scompile FCL OUT`
@@ -121,6 +126,7 @@ fn formed(name: Name, words: &[String]) -> Option<Command>
         Name::Hcheck => Some(Command::Hcheck),
         Name::Hrun => Hrun::of(words).map(Command::Hrun),
         Name::Mcompile => Some(Command::Mcompile),
+        Name::Mrun => Mrun::of(words).map(Command::Mrun),
         Name::Run => Run::of(Width::Byte, words).map(Command::Run),
         Name::Run16 => Run::of(Width::Word, words).map(Command::Run),
         Name::Scompile => Some(Command::Scompile),
@@ -145,6 +151,7 @@ impl Command {
             Command::Hcheck => hcheck::INPUTS.as_slice(),
             Command::Hrun(_) => hrun::INPUTS.as_slice(),
             Command::Mcompile => compile::INPUTS.as_slice(),
+            Command::Mrun(_) => mrun::INPUTS.as_slice(),
             Command::Run(_) => run::INPUTS.as_slice(),
             Command::Scompile => scompile::INPUTS.as_slice(),
             Command::Srun(_) => srun::INPUTS.as_slice(),
@@ -168,6 +175,7 @@ impl Command {
             Command::Hcheck => hcheck::work(alloc, content(contents, 0)),
             Command::Hrun(hrun) => hrun.work(alloc, contents),
             Command::Mcompile => mcompile::work(alloc, content(contents, 0)),
+            Command::Mrun(mrun) => mrun.work(alloc, contents),
             Command::Run(run) => run.work(alloc, contents),
             Command::Scompile => scompile::work(alloc, content(contents, 0)),
             Command::Srun(srun) => srun.work(alloc, contents),

@@ -1,5 +1,6 @@
 //! Tests of the program's runs: of the heater under plans, from files that are read in order, whose
-//! interrupts run code, of firmware with upset tables, under a debugger's script, and of workloads.
+//! interrupts run code, of firmware to which interrupts post samples, of firmware with upset tables, under
+//! a debugger's script, and of workloads.
 #![tactic(auto)]
 
 #[cfg(test)]
@@ -8,6 +9,8 @@ mod debug;
 mod generate;
 #[cfg(test)]
 mod hrun;
+#[cfg(test)]
+mod mrun;
 #[cfg(test)]
 mod reads;
 #[cfg(test)]

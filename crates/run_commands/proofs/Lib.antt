@@ -2,5 +2,6 @@ pub mod AnswerLemmas
 pub mod DebugLemmas
 pub mod HandledLemmas
 pub mod LineLemmas
+pub mod PostedLemmas
 pub mod SumLemmas
 pub mod WatchedLemmas
