@@ -6,7 +6,7 @@ use Rattle.srecord.specs.Texts.{GivesImage, HasFault}
 use Rattle.fuzzy_meaning.specs.declared.block.Block.{Block}
 use Rattle.codegen.specs.declared.firmware.Firmware.{Firmware}
 use Rattle.codegen.specs.declared.width.Width.{Width}
-use Rattle.build_commands.specs.Firmwares.{GivesFirmware, GivesWatched}
+use Rattle.build_commands.specs.Firmwares.{GivesFirmware, GivesMailbox, GivesWatched}
 use Rattle.fz_status.specs.Refusals.{Refusals}
 use Rattle.fz_status.specs.declared.status.ImageFault.{ImageFault}
 use Rattle.fz_status.specs.declared.status.ImageFault.TheVariants as image
@@ -48,4 +48,11 @@ abbrev pub WatchedImagesHaveNoFault : Type 0
 WatchedImagesHaveNoFault =
     (text records : List ℕ) (block other : Block) (firmware others : Firmware) (f : ImageFault)
     → GivesWatched text block firmware → GivesWatched text other others
+    → GivesImage records firmware.image → RefusesImage records others.image f → ⊥
+
+-- and in the mailbox form
+abbrev pub MailboxImagesHaveNoFault : Type 0
+MailboxImagesHaveNoFault =
+    (text records : List ℕ) (block other : Block) (firmware others : Firmware) (f : ImageFault)
+    → GivesMailbox text block firmware → GivesMailbox text other others
     → GivesImage records firmware.image → RefusesImage records others.image f → ⊥

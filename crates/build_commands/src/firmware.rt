@@ -46,7 +46,7 @@ pub fn firmware_of(alloc: Global, width: Width, text: &[u8]) -> Result<Compiled,
 
 /// The block that the text spells, and that block's firmware in the mailbox form. The faults are the
 /// same.
-pub(crate) fn mailbox_of(alloc: Global, text: &[u8]) -> Result<Compiled, Status>
+pub fn mailbox_of(alloc: Global, text: &[u8]) -> Result<Compiled, Status>
     requires { length text.now ≤ 1048576 }
     ensures gives { IfOk result (λ c. GivesMailbox text.now c.block c.firmware) }
     ensures fault { IfErr result (IsRefusal (text_refusals text.now)) }

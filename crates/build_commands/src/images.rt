@@ -1,11 +1,11 @@
 //! From a text to its image.
 ghost use Rattle.std.specs.Prelude.{◌≤◌, length, IfOk, IfErr, OnOk};
 ghost use Rattle.srecord.specs.Texts.{GivesImage};
-ghost use Rattle.build_commands.specs.Images.{FirmwareImagesHaveNoFault, WatchedImagesHaveNoFault};
-ghost use Rattle.build_commands.specs.Images.{image_refusals, records_refusals};
+ghost use Rattle.build_commands.specs.Images.{FirmwareImagesHaveNoFault, MailboxImagesHaveNoFault};
+ghost use Rattle.build_commands.specs.Images.{WatchedImagesHaveNoFault, image_refusals, records_refusals};
 ghost use Rattle.fz_status.specs.Refusals.{IsRefusal};
 
-use codegen::{firmwares_are_one, watched_firmwares_are_one};
+use codegen::{firmwares_are_one, mailboxes_are_one, watched_firmwares_are_one};
 use cpu12_asm::Image;
 use fcl_check::spelled_blocks_are_one;
 use fz_status::{ImageFault, Status};
@@ -64,5 +64,14 @@ pub fn watched_images_have_no_fault()
 {
     spelled_blocks_are_one();
     watched_firmwares_are_one();
+    images_are_one()
+}
+
+/// Nor have those that give the image of one firmware of a text in the mailbox form.
+pub fn mailbox_images_have_no_fault()
+    ensures { MailboxImagesHaveNoFault }
+{
+    spelled_blocks_are_one();
+    mailboxes_are_one();
     images_are_one()
 }

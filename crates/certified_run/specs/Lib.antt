@@ -1,2 +1,3 @@
 pub mod Nearness
 pub mod Faultless
+pub mod Posted

@@ -6,6 +6,7 @@
 
 ghost use Rattle.certified_run.specs.Nearness.{AnswersAreWithinErrors};
 ghost use Rattle.certified_run.specs.Faultless.{FaultlessAnswersAreNear};
+ghost use Rattle.certified_run.specs.Posted.{PostedAnswersAreNear};
 
 /// The rows of a block's firmware are within the errors of each accepted certificate of the exact
 /// answers, which know no bytes, tables, slots or machine: for answers of a byte and of 16 bits.
@@ -20,6 +21,14 @@ pub fn answers_are_within_errors()
 /// row in which FAULT was 1.
 pub fn faultless_answers_are_near()
     ensures { FaultlessAnswersAreNear }
+{
+    cert_check::accepted_answers_are_near();
+}
+
+/// A block's answers to samples of a trace that are posted are within the errors of each accepted
+/// certificate of the exact answers to the samples that were answered up to each.
+pub fn posted_answers_are_near()
+    ensures { PostedAnswersAreNear }
 {
     cert_check::accepted_answers_are_near();
 }

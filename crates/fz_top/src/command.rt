@@ -24,6 +24,7 @@ use fz_words::Refusal;
 use run_commands::debug::{self, DebugRun};
 use run_commands::generate::{self, Generate};
 use run_commands::hrun::{self, Hrun};
+use run_commands::mrun::{self, Mrun};
 use run_commands::run::{self, Run};
 use run_commands::srun::{self, Srun};
 use std::alloc::Global;
@@ -45,6 +46,7 @@ pub(crate) enum Name {
     Hrun,
     Lcompile,
     Mcompile,
+    Mrun,
     Run,
     Run16,
     Scompile,
@@ -67,6 +69,7 @@ static COMMANDS: [(&str, usize, Name); 18] = [
     ("hrun", 6, Name::Hrun),
     ("lcompile", 3, Name::Lcompile),
     ("mcompile", 2, Name::Mcompile),
+    ("mrun", 6, Name::Mrun),
     ("run", 6, Name::Run),
     ("run16", 6, Name::Run16),
     ("scompile", 2, Name::Scompile),
@@ -98,6 +101,8 @@ pub enum Command {
     Lcompile,
     /// `mcompile FCL OUT`
     Mcompile,
+    /// `mrun FCL IMAGE CERT TRACE POSTS FLAGS`
+    Mrun(Mrun),
     /// `run FCL IMAGE CERT TRACE PLAN FLAGS`, and `run16 ..`
     Run(Run),
     /// `scompile FCL OUT`
@@ -126,6 +131,7 @@ fn formed(name: Name, words: &[String]) -> Option<Command>
         Name::Hrun => Hrun::of(words).map(Command::Hrun),
         Name::Lcompile => Some(Command::Lcompile),
         Name::Mcompile => Some(Command::Mcompile),
+        Name::Mrun => Mrun::of(words).map(Command::Mrun),
         Name::Run => Run::of(Width::Byte, words).map(Command::Run),
         Name::Run16 => Run::of(Width::Word, words).map(Command::Run),
         Name::Scompile => Some(Command::Scompile),
@@ -151,6 +157,7 @@ impl Command {
             Command::Hrun(_) => hrun::INPUTS.as_slice(),
             Command::Lcompile => lcompile::INPUTS.as_slice(),
             Command::Mcompile => compile::INPUTS.as_slice(),
+            Command::Mrun(_) => mrun::INPUTS.as_slice(),
             Command::Run(_) => run::INPUTS.as_slice(),
             Command::Scompile => scompile::INPUTS.as_slice(),
             Command::Srun(_) => srun::INPUTS.as_slice(),
@@ -175,6 +182,7 @@ impl Command {
             Command::Hrun(hrun) => hrun.work(alloc, contents),
             Command::Lcompile => lcompile::work(alloc, content(contents, 0), content(contents, 1)),
             Command::Mcompile => mcompile::work(alloc, content(contents, 0)),
+            Command::Mrun(mrun) => mrun.work(alloc, contents),
             Command::Run(run) => run.work(alloc, contents),
             Command::Scompile => scompile::work(alloc, content(contents, 0)),
             Command::Srun(srun) => srun.work(alloc, contents),

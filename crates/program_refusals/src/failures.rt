@@ -6,16 +6,20 @@ use program_calls::{
 };
 use std::alloc::Global;
 use std::test::Fail;
-use worked_texts::{BLOCK, HALVES, RECORDS, SOURCE, SOURCE_RECORDS, WATCHED_RECORDS, joined};
+use worked_texts::{
+    BLOCK, HALVES, MAILBOX_RECORDS, RECORDS, SOURCE, SOURCE_RECORDS, WATCHED_RECORDS, joined,
+};
 
 // The files, but for OUT and the records of 16 bits.
-static FILES: [(&str, &[&str]); 11] = [
+static FILES: [(&str, &[&str]); 13] = [
     ("a.fcl", &[BLOCK]),
     ("a.s19", &[RECORDS]),
+    ("mailbox.s19", &[MAILBOX_RECORDS]),
     ("watched.s19", &[WATCHED_RECORDS]),
     ("a.cert", &["FZC 1\nclaim 19609\n", HALVES]),
     ("wide.cert", &["FZC 2\nclaim 15702\n", HALVES]),
     ("a.csv", &["64\n"]),
+    ("posts", &["0,1\n"]),
     ("empty", &[]),
     ("script", &["step 1\nregs\n"]),
     ("small.asm", &[SOURCE]),
@@ -112,6 +116,28 @@ static COMMANDS: [Accepted; 17] = [
         writes: true,
         lines: &["instructions 31\n", "steps 39\n", "bytes 109\n"],
         start: "ins",
+    },
+    Accepted {
+        line: &[
+            "fuzz12",
+            "mrun",
+            "a.fcl",
+            "mailbox.s19",
+            "a.cert",
+            "a.csv",
+            "posts",
+            "00",
+        ],
+        reads: &["a.fcl", "mailbox.s19", "a.cert", "a.csv", "posts"],
+        writes: false,
+        lines: &[
+            "error 1 19609\n",
+            "instructions 31\n",
+            "answer 1 sample 1 at 39 bytes 64 answers 64 instructions 31\n",
+            "frame 0 C008 1FF7 9\n",
+            "resumed 0\n",
+        ],
+        start: "err",
     },
     Accepted {
         line: &[

@@ -1,6 +1,6 @@
 //! Tests of the program's runs: of the heater under plans, from files that are read in order, whose
-//! interrupts run code, of firmware with upset tables, of two blocks at two levels, under a debugger's script,
-//! and of workloads.
+//! interrupts run code, of firmware to which interrupts post samples, of firmware with upset tables, of two
+//! blocks at two levels, under a debugger's script, and of workloads.
 #![tactic(auto)]
 
 #[cfg(test)]
@@ -11,6 +11,7 @@ mod generate;
 mod hrun;
 #[cfg(test)]
 mod lcompile;
+mod mrun;
 #[cfg(test)]
 mod reads;
 #[cfg(test)]

@@ -10,7 +10,7 @@ use Rattle.byte_scaling.specs.Cells.{byte_of, bytes_of}
 use Rattle.cert_check.specs.Acceptance.{IsAccepted}
 use Rattle.codegen.specs.Bounds.{instruction_bound, step_bound}
 use Rattle.codegen.specs.Firing.{AreInputBytes}
-use Rattle.codegen.specs.Uninterrupted.{AreAnswersOf}
+use Rattle.codegen.specs.Uninterrupted.{Answer, AreAnswersOf}
 use Rattle.codegen.specs.Widths.{answer, is_wide, parts, width_of}
 use Rattle.codegen.specs.declared.firmware.Firmware.{Firmware}
 use Rattle.codegen.specs.declared.width.Width.{Width}
@@ -60,15 +60,16 @@ input_bytes_fit b (r ∷ rs) (s ∷ ss) h =
 
 -- ---- the answers of rows
 
-instructions_within : (w : Width) (b : Block) (most : ℕ) (before : ℕ → ℕ) (samples : List (List ℕ))
-    (rows : List (RowSeen (List ℕ)))
-    → AreAnswersOf w b most before samples (map answer_of_row rows) → All (λ r. r.instrs ≤ most) rows
-instructions_within w b most before [] [] answers = none _
-instructions_within w b most before [] (r ∷ rows) answers = absurd answers
-instructions_within w b most before (bytes ∷ samples) [] answers = none _
-instructions_within w b most before (bytes ∷ samples) (r ∷ rows) answers =
-    All-cons (λ q. q.instrs ≤ most) r rows answers.0.instructions
-    (instructions_within w b most (λ o. answer w b o bytes (before o)) samples rows answers.1)
+-- of what is told of an answer, as it is seen
+pub instructions_within : {R : Type 0} (seen : R → Answer) (w : Width) (b : Block) (most : ℕ) (before : ℕ → ℕ)
+    (samples : List (List ℕ)) (rows : List R)
+    → AreAnswersOf w b most before samples (map seen rows) → All (λ r. (seen r).instructions ≤ most) rows
+instructions_within seen w b most before [] [] answers = none _
+instructions_within seen w b most before [] (r ∷ rows) answers = absurd answers
+instructions_within seen w b most before (bytes ∷ samples) [] answers = none _
+instructions_within seen w b most before (bytes ∷ samples) (r ∷ rows) answers =
+    All-cons (λ q. (seen q).instructions ≤ most) r rows answers.0.instructions
+    (instructions_within seen w b most (λ o. answer w b o bytes (before o)) samples rows answers.1)
 
 width_again : (w : Width) → width_of (is_wide w) ≡ w
 width_again Byte = refl
@@ -106,8 +107,8 @@ module _ (near : AnswersAreWithinErrors) (w : Width) (flags : ℕ) (text : List 
     within = within;
     bound = gives.compiled.instructions ∙ ap (λ (v : Width). instruction_bound v block) width;
     instructions =
-        instructions_within (width_of firmware.wide) block firmware.instr_bound (λ o. 0) (map input_bytes samples) rows
-        under.answers.answers;
+        instructions_within answer_of_row (width_of firmware.wide) block firmware.instr_bound (λ o. 0)
+        (map input_bytes samples) rows under.answers.answers;
     steps = subst (λ (v : Width). All (λ (r : RowSeen (List ℕ)). r.steps ≤ step_bound v block) rows) width under.answers.steps;
     follows = under;
   }

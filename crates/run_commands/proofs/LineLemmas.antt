@@ -13,7 +13,7 @@ use Rattle.run_law.specs.Forms.{RowSeen}
 use Rattle.build_commands.specs.Lines.{counted, error_line, line}
 use Rattle.build_commands.proofs.Algebra.{counted-map, flat-map, text_of-snoc}
 use Rattle.run_commands.specs.Generate.{answers_of, frames_of, generate_lines, resumed_of}
-use Rattle.run_commands.specs.Run.{begun_lines, frame_line, numbers, report_of, row_lines, run_lines}
+use Rattle.run_commands.specs.Run.{answered, begun_lines, frame_line, numbers, report_of, row_lines, run_lines}
 
 pub numbers-snoc : (ns : List ℕ) (n : ℕ) → numbers (ns ++ n ∷ []) ≡ numbers ns ++ (codes " " ++ decimal n)
 numbers-snoc [] n = ap (λ (l : List ℕ). codes " " ++ l) (append-nil (decimal n))
@@ -31,42 +31,43 @@ number_more before now next ns i d lt so_far step =
 
 -- ---- the lines of a run
 
-module _ (k instructions steps resumed frames : ℕ) (bytes answers rest : List ℕ) where
+-- a text with what it was made of, and more behind it
+made_with : (t x more u : List ℕ) → u ≡ t ++ x → u ++ more ≡ t ++ (x ++ more)
+made_with t x more u e = ap (λ (l : List ℕ). l ++ more) e ∙ append_assoc t x more
+
+pub answered_written : (instrs : ℕ) (bytes answers t0 t1 t2 t3 t4 t5 : List ℕ)
+    → t1 ≡ t0 ++ codes " bytes" → t2 ≡ t1 ++ numbers bytes → t3 ≡ t2 ++ codes " answers" → t4 ≡ t3 ++ numbers answers
+    → t5 ≡ t4 ++ (codes " instructions " ++ decimal instrs) → t5 ≡ t0 ++ answered bytes answers instrs
+answered_written instrs bytes answers t0 t1 t2 t3 t4 t5 e1 e2 e3 e4 e5 =
+    let r3 = codes " instructions " ++ decimal instrs in
+    let r2 = numbers answers ++ r3 in
+    let r1 = codes " answers" ++ r2 in
+    e5 ∙ made_with t3 (numbers answers) r3 t4 e4 ∙ made_with t2 (codes " answers") r2 t3 e3
+    ∙ made_with t1 (numbers bytes) r1 t2 e2 ∙ made_with t0 (codes " bytes") (numbers bytes ++ r1) t1 e1
+
+module _ (k instrs steps resumed frames : ℕ) (bytes answers rest : List ℕ) where
   abbrev pub sample_text : List ℕ
-  sample_text = codes "sample " ++ (decimal k ++ (codes " bytes" ++ (numbers bytes
-      ++ (codes " answers" ++ (numbers answers ++ (codes " instructions " ++ (decimal instructions
-      ++ (codes " steps " ++ (decimal steps ++ (codes " resumed " ++ (decimal resumed
-      ++ (codes " frames " ++ (decimal frames ++ rest)))))))))))))
+  sample_text = codes "sample " ++ (decimal k ++ (answered bytes answers instrs ++ (codes " steps " ++ (decimal steps
+      ++ (codes " resumed " ++ (decimal resumed ++ (codes " frames " ++ (decimal frames ++ rest))))))))
 
-  pub sample_written : (t0 t1 t2 t3 t4 t5 t6 t7 t8 : List ℕ) → t0 ≡ codes "sample "
-      → t1 ≡ t0 ++ (decimal k ++ codes " bytes")
-      → t2 ≡ t1 ++ numbers bytes → t3 ≡ t2 ++ codes " answers" → t4 ≡ t3 ++ numbers answers
-      → t5 ≡ t4 ++ (codes " instructions " ++ decimal instructions) → t6 ≡ t5 ++ (codes " steps " ++ decimal steps)
-      → t7 ≡ t6 ++ (codes " resumed " ++ decimal resumed) → t8 ≡ t7 ++ (codes " frames " ++ decimal frames)
-      → t8 ++ rest ≡ sample_text
-  sample_written t0 t1 t2 t3 t4 t5 t6 t7 t8 e0 e1 e2 e3 e4 e5 e6 e7 e8 =
-      let t9 = t8 ++ rest in
-      let r7 = codes " frames " ++ (decimal frames ++ rest) in
-      let s8 : t9 ≡ t7 ++ r7 = next t7 (codes " frames ") (decimal frames) rest t8 e8 in
-      let r6 = codes " resumed " ++ (decimal resumed ++ r7) in
-      let s7 : t9 ≡ t6 ++ r6 = s8 ∙ next t6 (codes " resumed ") (decimal resumed) r7 t7 e7 in
-      let s6 : t9 ≡ t5 ++ (codes " steps " ++ (decimal steps ++ r6)) = s7 ∙ next t5 (codes " steps ") (decimal steps) r6 t6 e6 in
-      let r5 = codes " steps " ++ (decimal steps ++ r6) in
-      let s5 : t9 ≡ t4 ++ (codes " instructions " ++ (decimal instructions ++ r5)) =
-      s6 ∙ next t4 (codes " instructions ") (decimal instructions) r5 t5 e5 in
-      let r4 = codes " instructions " ++ (decimal instructions ++ r5) in
-      let s4 : t9 ≡ t3 ++ (numbers answers ++ r4) = s5 ∙ one t3 (numbers answers) r4 t4 e4 in
-      let s3 : t9 ≡ t2 ++ (codes " answers" ++ (numbers answers ++ r4)) = s4 ∙ one t2 (codes " answers") (numbers answers ++ r4) t3 e3 in
-      let r2 = codes " answers" ++ (numbers answers ++ r4) in
-      let s2 : t9 ≡ t1 ++ (numbers bytes ++ r2) = s3 ∙ one t1 (numbers bytes) r2 t2 e2 in
-      s2 ∙ next t0 (decimal k) (codes " bytes") (numbers bytes ++ r2) t1 e1
-      ∙ ap (λ (l : List ℕ). l ++ (decimal k ++ (codes " bytes" ++ (numbers bytes ++ r2)))) e0
+  pub sample_written : (t0 t1 t2 t3 t4 t5 : List ℕ) → t0 ≡ codes "sample " → t1 ≡ t0 ++ decimal k
+      → t2 ≡ t1 ++ answered bytes answers instrs → t3 ≡ t2 ++ (codes " steps " ++ decimal steps)
+      → t4 ≡ t3 ++ (codes " resumed " ++ decimal resumed) → t5 ≡ t4 ++ (codes " frames " ++ decimal frames)
+      → t5 ++ rest ≡ sample_text
+  sample_written t0 t1 t2 t3 t4 t5 e0 e1 e2 e3 e4 e5 =
+      let t6 = t5 ++ rest in
+      let r4 = codes " frames " ++ (decimal frames ++ rest) in
+      let s4 : t6 ≡ t4 ++ r4 = next t4 (codes " frames ") (decimal frames) rest t5 e5 in
+      let r3 = codes " resumed " ++ (decimal resumed ++ r4) in
+      let s3 : t6 ≡ t3 ++ r3 = s4 ∙ next t3 (codes " resumed ") (decimal resumed) r4 t4 e4 in
+      let r2 = codes " steps " ++ (decimal steps ++ r3) in
+      let s2 : t6 ≡ t2 ++ r2 = s3 ∙ next t2 (codes " steps ") (decimal steps) r3 t3 e3 in
+      let r1 = answered bytes answers instrs ++ r2 in
+      let s1 : t6 ≡ t1 ++ r1 = s2 ∙ made_with t1 (answered bytes answers instrs) r2 t2 e2 in
+      s1 ∙ made_with t0 (decimal k) r1 t1 e1 ∙ ap (λ (l : List ℕ). l ++ (decimal k ++ r1)) e0
     where
-      one : (t x more u : List ℕ) → u ≡ t ++ x → u ++ more ≡ t ++ (x ++ more)
-      one t x more u e = ap (λ (l : List ℕ). l ++ more) e ∙ append_assoc t x more
-
       next : (t x y more u : List ℕ) → u ≡ t ++ (x ++ y) → u ++ more ≡ t ++ (x ++ (y ++ more))
-      next t x y more u e = one t (x ++ y) more u e ∙ ap (λ (l : List ℕ). t ++ l) (append_assoc x y more)
+      next t x y more u e = made_with t (x ++ y) more u e ∙ ap (λ (l : List ℕ). t ++ l) (append_assoc x y more)
 
 pub row_written : (before next now : List (String Global)) (line : String Global) (k : ℕ) (text : List ℕ)
     (frames : List (ℕ × Frame))
@@ -90,6 +91,15 @@ begun_written none errors bounded bound_line es bound start e0 e1 b =
     e0 ∙ ap (λ (x : List (String Global)). text_of x ++ counted error_line 1 es) start in
     ap text_of e1 ∙ text_of-snoc errors bound_line ∙ ap₂ (λ (x y : List ℕ). x ++ y) d0 b
 
+-- and each item behind them
+pub begun_items : {X Y : Type 0} (lines_of : ℕ → Y → List ℕ) (seen : X → Y) (begun items : List (String Global))
+    (es : List ℕ) (bound : ℕ) (xs : List X)
+    → text_of begun ≡ begun_lines es bound
+    → text_of items ≡ text_of begun ++ counted (λ k x. lines_of k (seen x)) 1 xs
+    → text_of items ≡ begun_lines es bound ++ counted lines_of 1 (map seen xs)
+begun_items lines_of seen begun items es bound xs begun_so items_so =
+    items_so ∙ ap₂ (λ (x y : List ℕ). x ++ y) begun_so (sym (counted-map lines_of seen 1 xs))
+
 pub run_written : (begun rows lines : List (String Global)) (left_line : String Global) (es : List ℕ)
     (bound left : ℕ) (rs : List Row)
     → text_of begun ≡ begun_lines es bound
@@ -97,11 +107,9 @@ pub run_written : (begun rows lines : List (String Global)) (left_line : String 
     → lines ≡ rows ++ left_line ∷ [] → string_bytes left_line ≡ line (codes "left ") left
     → text_of lines ≡ run_lines (report_of es bound (map row_seen rs)) left
 run_written begun rows lines left_line es bound left rs begun_so rows_so added is =
-    let seen = counted row_lines 1 (map row_seen rs) in
-    let so_far : text_of rows ≡ begun_lines es bound ++ seen =
-    rows_so ∙ ap₂ (λ (x y : List ℕ). x ++ y) begun_so (sym (counted-map row_lines row_seen 1 rs)) in
-    ap text_of added ∙ text_of-snoc rows left_line ∙ ap₂ (λ (x y : List ℕ). x ++ y) so_far is
-    ∙ append_assoc (begun_lines es bound) seen (line (codes "left ") left)
+    ap text_of added ∙ text_of-snoc rows left_line
+    ∙ ap₂ (λ (x y : List ℕ). x ++ y) (begun_items row_lines row_seen begun rows es bound rs begun_so rows_so) is
+    ∙ append_assoc (begun_lines es bound) (counted row_lines 1 (map row_seen rs)) (line (codes "left ") left)
 
 -- ---- the lines of a workload
 

@@ -4,6 +4,8 @@ pub mod Debug
 pub mod Generate
 pub mod HandledRun
 pub mod Hrun
+pub mod Mrun
+pub mod PostedRun
 pub mod Run
 pub mod Srun
 pub mod WatchedRun

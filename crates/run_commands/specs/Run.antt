@@ -51,19 +51,26 @@ abbrev pub numbers : List ℕ → List ℕ
 numbers [] = []
 numbers (n ∷ ns) = codes " " ++ (decimal n ++ numbers ns)
 
--- the line of a frame of the k-th sample: its boundary, where the sample was interrupted, where the stack ends
--- behind the push, and how many bytes were pushed
+-- what is told of a frame: its boundary, where the code was interrupted, where the stack ends behind the push, and how
+-- many bytes were pushed
+abbrev pub frame_told : ℕ × FrameSeen → List ℕ
+frame_told f = decimal f.0 ++ (codes " " ++ (address_digits f.1.pc ++ (codes " " ++ (address_digits f.1.sp
+    ++ (codes " " ++ (decimal (length f.1.bytes) ++ newline))))))
+
+-- the line of a frame of the k-th sample
 abbrev pub frame_line : ℕ → ℕ × FrameSeen → List ℕ
-frame_line k f = codes "frame " ++ (decimal k ++ (codes " " ++ (decimal f.0
-    ++ (codes " " ++ (address_digits f.1.pc ++ (codes " " ++ (address_digits f.1.sp
-    ++ (codes " " ++ (decimal (length f.1.bytes) ++ newline)))))))))
+frame_line k f = codes "frame " ++ (decimal k ++ (codes " " ++ frame_told f))
+
+-- input bytes, the answers to them, and the number of instructions that these took
+abbrev pub answered : List ℕ → List ℕ → ℕ → List ℕ
+answered bytes answers instrs = codes " bytes" ++ (numbers bytes
+    ++ (codes " answers" ++ (numbers answers ++ (codes " instructions " ++ decimal instrs))))
 
 -- the line of the k-th sample, and what stands behind the number of its frames
 abbrev pub sample_line_with : ℕ → RowSeen (List ℕ) → List ℕ → List ℕ
-sample_line_with k r rest = codes "sample " ++ (decimal k ++ (codes " bytes" ++ (numbers r.sample
-    ++ (codes " answers" ++ (numbers r.answers ++ (codes " instructions " ++ (decimal r.instrs
+sample_line_with k r rest = codes "sample " ++ (decimal k ++ (answered r.sample r.answers r.instrs
     ++ (codes " steps " ++ (decimal r.steps ++ (codes " resumed " ++ (decimal r.resumed
-    ++ (codes " frames " ++ (decimal (length r.frames) ++ rest)))))))))))))
+    ++ (codes " frames " ++ (decimal (length r.frames) ++ rest))))))))
 
 -- followed by its frames
 abbrev pub row_lines_with : ℕ → RowSeen (List ℕ) → List ℕ → List ℕ

@@ -4,8 +4,8 @@ ghost use Rattle.std.specs.List.{flat_map};
 ghost use Rattle.fz_shelf.specs.Lines.{text_of};
 ghost use Rattle.fz_run.specs.Rows.{boundary_seen, frames_seen, row_seen};
 ghost use Rattle.build_commands.specs.Lines.{counted};
-ghost use Rattle.run_commands.specs.Run.{begun_lines, frame_line, labelled_row_lines, numbers, report_of, row_lines};
-ghost use Rattle.run_commands.specs.Run.{row_lines_with, run_lines, sample_line_with};
+ghost use Rattle.run_commands.specs.Run.{answered, begun_lines, frame_line, frame_told, labelled_row_lines, numbers};
+ghost use Rattle.run_commands.specs.Run.{report_of, row_lines, row_lines_with, run_lines, sample_line_with};
 
 use build_commands::lines::{labelled, push_address, push_errors};
 use cpu12_emul::ends::Frame;
@@ -105,18 +105,48 @@ pub(crate) fn push_frames(
     Ok(())
 }
 
-/// The line of a frame of the k-th sample, behind its boundary.
+/// The line of a frame of the k-th sample.
 fn line_of_frame(alloc: Global, k: usize, frame: &(u32, Frame)) -> Result<String, AllocError>
     ensures { IfOk result (λ s. string_bytes s ≡ frame_line k (boundary_seen frame.now)) }
 {
+    let mut text = String::from_str(alloc, "frame ")?;
+    write!(&mut text, "{k} ")?;
+    push_frame(alloc, &mut text, frame)?;
+    Ok(text)
+}
+
+/// A frame behind its boundary, and the end of the line.
+pub(crate) fn push_frame(
+    alloc: Global,
+    text: &mut String,
+    frame: &(u32, Frame),
+) -> Result<(), AllocError>
+    ensures { OnOk result (string_bytes text.new ≡ string_bytes text.old ++ frame_told (boundary_seen frame.now)) }
+{
     let boundary = frame.0;
     let bytes = frame.1.bytes.len();
-    let mut text = String::from_str(alloc, "frame ")?;
-    write!(&mut text, "{k} {boundary}")?;
-    push_address(alloc, &mut text, " ", frame.1.pc)?;
-    push_address(alloc, &mut text, " ", frame.1.sp)?;
-    write!(&mut text, " {bytes}\n")?;
-    Ok(text)
+    write!(text, "{boundary}")?;
+    push_address(alloc, text, " ", frame.1.pc)?;
+    push_address(alloc, text, " ", frame.1.sp)?;
+    write!(text, " {bytes}\n")
+}
+
+/// Input bytes, the answers to them, and the number of instructions that these took.
+pub(crate) fn push_answered(
+    text: &mut String,
+    bytes: &[u8],
+    answers: &[u16],
+    instrs: u32,
+) -> Result<(), AllocError>
+    ensures { OnOk result (string_bytes text.new
+        ≡ string_bytes text.old ++ answered bytes.now answers.now instrs) }
+{
+    text.push_str(" bytes")?;
+    push_bytes(text, bytes)?;
+    text.push_str(" answers")?;
+    push_numbers(text, answers)?;
+    push_count(text, " instructions ", instrs as usize)?;
+    Ok(())
 }
 
 /// Bytes as numbers, with a blank before each.
@@ -144,11 +174,13 @@ pub(crate) fn sample_text(alloc: Global, k: usize, row: &Row) -> Result<String, 
     ensures { IfOk result (λ s. (rest : List ℕ) → string_bytes s ++ rest ≡ sample_line_with k (row_seen row.now) rest) }
 {
     let mut text = String::from_str(alloc, "sample ")?;
-    write!(&mut text, "{k} bytes")?;
-    push_bytes(&mut text, row.bytes.as_slice())?;
-    text.push_str(" answers")?;
-    push_numbers(&mut text, row.answers.as_slice())?;
-    push_count(&mut text, " instructions ", row.instrs as usize)?;
+    write!(&mut text, "{k}")?;
+    push_answered(
+        &mut text,
+        row.bytes.as_slice(),
+        row.answers.as_slice(),
+        row.instrs,
+    )?;
     push_count(&mut text, " steps ", row.steps as usize)?;
     push_count(&mut text, " resumed ", row.resumed as usize)?;
     push_count(&mut text, " frames ", row.frames.len())?;

@@ -1,6 +1,7 @@
 use Rattle.build_commands.specs.Contents.{content_at}
 use Rattle.run_commands.specs.Debug.{debug_files}
 use Rattle.run_commands.specs.Hrun.{handled_files}
+use Rattle.run_commands.specs.Mrun.{posted_files}
 use Rattle.run_commands.specs.Run.{files_in}
 use Rattle.run_commands.specs.Srun.{watched_files}
 use Rattle.fz_top.specs.Commands.{Makes}
@@ -31,6 +32,8 @@ returns c command.Lcompile contents deed s makes fault =
     c.two_texts_have_no_fault.ensures (content_at contents 0) (content_at contents 1) deed s makes fault
 returns c command.Mcompile contents deed s makes fault =
     c.mailbox_texts_have_no_fault.ensures (content_at contents 0) deed s makes fault
+returns c (command.Mrun mrun) contents deed s makes fault =
+    c.posted_runs_have_no_fault.ensures mrun (posted_files contents) deed s makes fault
 returns c (command.Run run) contents deed s makes fault =
     c.certified_runs_have_no_fault.ensures run (files_in contents) deed s makes fault
 returns c command.Scompile contents deed s makes fault =

@@ -1,0 +1,10 @@
+use Rattle.std.proofs.Common.{◌∙◌, sym}
+use Rattle.build_commands.proofs.ImageLemmas.{images_apart}
+use Rattle.build_commands.proofs.images.mailbox_images_have_no_fault.Goals as goal
+
+pub returns : goal.returns
+returns c text records block other firmware others f gives gives_other is why =
+    let same = c.spelled_blocks_are_one.ensures text block other gives.spelled gives_other.spelled in
+    let one = c.mailboxes_are_one.ensures block other firmware others same (gives.narrow ∙ sym gives_other.narrow)
+    gives.compiled gives_other.compiled in
+    images_apart c.images_are_one.ensures.one c.images_are_one.ensures.no_fault records firmware others f one is why
