@@ -1,5 +1,5 @@
 -- Good plans.
-use Rattle.std.specs.Prelude.{◌≡◌, ◌<◌, ◌≤◌, ◌⊎◌, true, List, [], ◌∷◌, length, All}
+use Rattle.std.specs.Prelude.{◌≡◌, ◌<◌, ◌≤◌, ◌⊎◌, ℕ, true, List, [], ◌∷◌, length, All}
 use Rattle.cpu12_isa.specs.Regions.{is_free}
 use Rattle.interrupt_plan.specs.declared.Request.{Request}
 
