@@ -97,6 +97,7 @@ module _ (a b : List (ℕ × ℕ)) (one : (at : ℕ) → byte_at a at ≡ byte_a
     sample_from = good.sample_from;
     sample_to = good.sample_to;
     table = ap (λ (o : Bool). nat_le 0xD000 u.at && nat_le u.at 0xFEFF && o) (ap is_there (sym (one u.at))) ∙ good.table;
+    value = good.value;
   }
 
   pub spelled_there : (text : List ℕ) (upsets : List Upset) → SpellsUpsets a text upsets → SpellsUpsets b text upsets
