@@ -1,0 +1,11 @@
+pub mod Stretches
+pub mod Owned
+pub mod Beginnings
+pub mod RuleParts
+pub mod SumParts
+pub mod Instructions
+pub mod Returning
+pub mod Bytes
+pub mod Following
+pub mod Pushing
+pub mod Entering
