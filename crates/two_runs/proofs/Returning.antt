@@ -1,17 +1,14 @@
 -- The fast code as steps, up to behind its return.
 use Rattle.std.proofs.Common.{◌≡◌, ℕ, zero, suc, ◌+◌, ◌^◌, ◌<◌, ◌≤◌, not, Bool, true, false, Result, Ok, List, [], ◌∷◌, length, refl, ap, ap₂, sym, ◌∙◌, subst, inl, inr, arith}
 use Rattle.std.specs.Prelude.{slice_index}
-use Rattle.cpu12_isa.specs.declared.instr.Ccr.{Ccr}
 use Rattle.cpu12_isa.specs.declared.instr.Instr.{Instr}
 use Rattle.cpu12_isa.specs.declared.instr.Instr.TheVariants.{Andcc, Rti, Rev, Revw, Wav}
-use Rattle.cpu12_isa.specs.declared.instr.Regs.{Regs}
 use Rattle.cpu12_isa.specs.Act.{read_by}
 use Rattle.cpu12_isa.specs.Agreement.{AllShown, WritesStay}
 use Rattle.cpu12_isa.specs.Code.{decode_at, six_from}
-use Rattle.cpu12_isa.specs.Flags.{interrupts_masked, has, pulled_flags}
+use Rattle.cpu12_isa.specs.Flags.{interrupts_masked, has}
 use Rattle.cpu12_isa.specs.Meaning.{Effect, act_of, effect}
-use Rattle.cpu12_isa.specs.Memory.{plus, word_of, from, bytes_at}
-use Rattle.cpu12_isa.specs.Registers.{pulled}
+use Rattle.cpu12_isa.specs.Memory.{plus, from, bytes_at}
 use Rattle.cpu12_isa.proofs.Algebra.{shown_append}
 use Rattle.cpu12_parts.specs.State.{State}
 use Rattle.cpu12_parts.specs.Executions.{Execution, all_steps}
@@ -29,6 +26,7 @@ use Rattle.two_runs.specs.Steps.{is_foreign, is_kept, IsFastState, IsOpenState, 
 use Rattle.two_runs.proofs.Owned.{code_own, frame_shown, not_written, stack_kept}
 use Rattle.two_runs.proofs.Stretches.{Stretch, joined, plain_stretch, before_weaker}
 use Rattle.two_runs.proofs.Beginnings.{StepLaws, Begins, Kept, kept, off_ready, same_decode}
+use Rattle.two_runs.proofs.Pulling.{pulled_same}
 use Rattle.two_runs.proofs.Instructions.{begins, plain_next, instruction_at, instructions_at}
 
 -- the return is one step
@@ -100,22 +98,6 @@ frame_kept : (n sp : ℕ) (m k : List ℕ) → 0x1FE0 ≤ sp → sp + n ≤ 0x20
 frame_kept zero sp m k lo hi h = refl
 frame_kept (suc n) sp m k lo hi h =
     ap₂ (λ (v : ℕ) (vs : List ℕ). v ∷ vs) (h sp (stack_kept sp lo)) (frame_kept n (plus sp 1) m k (omega arith) (omega arith) h)
-
--- what is pulled hangs on SP, the flags and the frame
-pulled_with : List ℕ → ℕ → Ccr → Regs
-pulled_with bytes sp c = record {
-  a = slice_index bytes 2;
-  b = slice_index bytes 1;
-  x = word_of (slice_index bytes 3) (slice_index bytes 4);
-  y = word_of (slice_index bytes 5) (slice_index bytes 6);
-  sp = plus sp 9;
-  pc = word_of (slice_index bytes 7) (slice_index bytes 8);
-  ccr = pulled_flags c (slice_index bytes 0);
-}
-
-pulled_same : (r q : Regs) (xs ys : List ℕ) → r.sp ≡ q.sp → xs ≡ ys → pulled r xs ≡ pulled (record q { ccr = r.ccr }) ys
-unfolding pulled_with
-pulled_same r q xs ys sp e = ap₂ (λ (bs : List ℕ) (n : ℕ). pulled_with bs n r.ccr) e sp
 
 -- the steps behind the first, with the return, by the instructions
 tail_at : StepLaws → (image : List ℕ) (flags sp : ℕ) (ds : List ℕ) (v u : State) → flags < 2 ^ 8 → v.regs.sp ≡ sp → u.regs.sp ≡ sp

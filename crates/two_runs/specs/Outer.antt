@@ -25,8 +25,8 @@ pub record HasFastCode (image mem : List ℕ) : Type 0 where
   pub rom : HasFastRom image mem
   pub enters : word_of (slice_index mem vector) (slice_index mem (vector + 1)) ≡ fast_layout.code
 
--- An outer interrupt may enter the fast code from here, after these answers: no sums run, and below SP there is room for
--- its own frame and for one of an inner interrupt.
+-- An outer interrupt may enter the fast code from here, after these answers: no sums run, and below SP there is room
+-- for its own frame and for one of an inner interrupt.
 pub record CanEnter (b : Block) (image : List ℕ) (before : ℕ → ℕ) (v : State) : Type 0 where
   pub off : IsOff v.temps
   pub size : length v.mem ≡ 65536
@@ -39,8 +39,8 @@ pub record CanEnter (b : Block) (image : List ℕ) (before : ℕ → ℕ) (v : S
 
 -- It enters the fast code.
 abbrev pub OuterEnters : Type 0
-OuterEnters = (b : Block) (image bytes : List ℕ) (before : ℕ → ℕ) (v : State) → length b.inputs ≤ 8 → length b.outputs ≤ 8
-    → AreInputBytes b bytes → CanEnter b image before v → IsEntered b image bytes before (entered bytes v)
+OuterEnters = (b : Block) (image bytes : List ℕ) (before : ℕ → ℕ) (v : State) → length b.inputs ≤ 8
+    → length b.outputs ≤ 8 → AreInputBytes b bytes → CanEnter b image before v → IsEntered b image bytes before (entered bytes v)
 
 -- What an interrupt leaves whose fast run is r, from v: the registers, no sums that run, and memory but for the fast
 -- block's RAM and the stack below SP, where the answers after those before stand.

@@ -11,8 +11,8 @@ use Rattle.run_law.specs.Forms.{Form, Ran, run_from}
 abbrev pub sampled : List ℕ → State → State
 sampled bytes s = record s { mem = write_all (placed fast_layout.inputs bytes) s.mem }
 
--- The fast code is entered where no sums run: the nine bytes are pushed, I is set, a sample's bytes are written, and PC
--- comes from the vector.
+-- The fast code is entered where no sums run: the nine bytes are pushed, I is set, a sample's bytes are written, and
+-- PC comes from the vector.
 abbrev pub entered : List ℕ → State → State
 entered bytes v = vectored (sampled bytes (pushed v))
 
@@ -57,7 +57,8 @@ pub record Outer : Type 0 where
   pub sample : Option (List ℕ)
   pub inner : List ℕ
 
--- An outer request is served, from a state in which no sums run: without a sample the nine bytes are pushed and pulled.
+-- An outer request is served, from a state in which no sums run: without a sample the nine bytes are pushed and
+-- pulled.
 abbrev pub served_by : ℕ → ℕ → ℕ → List ℕ → Option (List ℕ) → State → State
 served_by flags outputs most inner None v = framed [] v
 served_by flags outputs most inner (Some bytes) v = (fast_run flags outputs most inner (entered bytes v)).state

@@ -1,13 +1,13 @@
 // Laws of runs at two levels.
 ghost use Rattle.two_runs.specs.Steps.{FastStepsReturn};
 ghost use Rattle.two_runs.specs.Inside.{FastRunsFollow};
-ghost use Rattle.two_runs.specs.Outer.{OuterEnters};
+ghost use Rattle.two_runs.specs.Outer.{OuterEnters, OuterIsQuiet};
 
 use crate::inside::InsideForm;
 use cpu12_emul::laws::{
     plain_is_step, rev_is_step, revw_is_step, step_fits, step_keeps, sums_are_step, wav_is_step,
 };
-use cpu12_isa::laws::{bytes_stay, decoded_has_opcode, writes_stay};
+use cpu12_isa::laws::{bytes_stay, decoded_has_opcode, frame_comes_back, writes_stay};
 use cpu12_parts::laws::{
     rev_fits, rev_is_whole, rev_stays, rev_steady, revw_fits, revw_is_whole, revw_stays,
     revw_steady, wav_fits, wav_is_whole, wav_stays, wav_steady, wav_suspends,
@@ -61,4 +61,15 @@ pub fn outer_enters()
 {
     writes_stay();
     bytes_stay();
+}
+
+/// It leaves the registers, no sums that run, and memory but for the fast block's RAM, where its answers
+/// stand, and the stack below SP, if the fast code leaves X.
+pub fn outer_is_quiet()
+    ensures { OuterIsQuiet }
+{
+    writes_stay();
+    bytes_stay();
+    frame_comes_back();
+    fast_runs_follow();
 }
