@@ -8,6 +8,7 @@ use Rattle.cpu12_isa.specs.Code.{six_from}
 use Rattle.cpu12_isa.specs.Flags.{interrupts_masked, has}
 use Rattle.cpu12_isa.specs.Meaning.{Effect, act_of, effect}
 use Rattle.cpu12_isa.proofs.Algebra.{shown_append}
+use Rattle.cpu12_parts.specs.declared.temps.Temps.TheVariants.{Free}
 use Rattle.cpu12_parts.specs.State.{State}
 use Rattle.cpu12_parts.specs.Cuts.{rev, revw, wav}
 use Rattle.cpu12_parts.specs.Executions.{Execution, all_steps}
@@ -122,3 +123,17 @@ instructions_at laws image flags sp (d ∷ ds) s t hf stack mask e =
     let one : 1 + length ds ≡ suc (length ds) = omega arith in
     subst (λ (k : ℕ). Stretch P flags (suc d + all_steps ds) k s t) one
     (joined P flags (suc d) (all_steps ds) 1 (length ds) s e.0 t first rest)
+
+-- where there are no sums there are none behind an instruction
+free_behind : (R W : ℕ → Type 0) (flags d : ℕ) (s t : State) → IsInstructionOver R W flags d s t → s.temps ≡ Free → t.temps ≡ Free
+free_behind R W flags d s t (inl p) e = (let k = p.1.0 in ap (λ (u : State). u.temps) k.step.after ∙ e)
+free_behind R W flags d s t (inr (inl p)) e = (let k = p.2 in ap (λ (u : State). u.temps) k.step.after ∙ e)
+free_behind R W flags d s t (inr (inr (inl p))) e = (let k = p.2 in ap (λ (u : State). u.temps) k.step.after ∙ e)
+free_behind R W flags d s t (inr (inr (inr k))) e = ap (λ (u : State). u.temps) k.step.after
+
+pub free_stays : (image : List ℕ) (flags : ℕ) (ds : List ℕ) (s t : State) → Execution (IsFastStep image flags) ds s t
+    → s.temps ≡ Free → t.temps ≡ Free
+free_stays image flags [] s t e free = ap (λ (u : State). u.temps) (sym e) ∙ free
+free_stays image flags (d ∷ ds) s t e free =
+    let h : IsFastStep image flags d s e.0 = e.1.0 in
+    free_stays image flags ds e.0 t e.1.1 (free_behind (Reads fast_layout) (Writes fast_layout) flags d s e.0 h.instruction free)

@@ -11,3 +11,4 @@ pub mod Following
 pub mod Pushing
 pub mod Entering
 pub mod Quiet
+pub mod Serving

@@ -79,6 +79,7 @@ outer_is_quiet laws b image bytes flags most before inner v t hf few_in few_out 
   arrived = ran.follows.arrived;
   regs = same.regs ∙ regs;
   off = subst IsOff (sym same.temps) r.off;
+  free = λ e. same.temps ∙ r.free e;
   mem = record { size = same.mem.size ∙ r.size ∙ size_stays laws.writes_stay bytes v; bytes = bytes_same };
   bytes_fit = ran.follows.own;
   answers = λ o from to. (let a = r.answers o from to in (same.mem.bytes (fast_layout.outputs + 1 * (o - 1)) (output_shown o from to) ∙ a.0, tt));

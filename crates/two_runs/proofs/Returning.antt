@@ -27,7 +27,7 @@ use Rattle.two_runs.proofs.Owned.{code_own, frame_shown, not_written, stack_kept
 use Rattle.two_runs.proofs.Stretches.{Stretch, joined, plain_stretch, before_weaker}
 use Rattle.two_runs.proofs.Beginnings.{StepLaws, Begins, Kept, kept, off_ready, same_decode}
 use Rattle.two_runs.proofs.Pulling.{pulled_same}
-use Rattle.two_runs.proofs.Instructions.{begins, plain_next, instruction_at, instructions_at}
+use Rattle.two_runs.proofs.Instructions.{free_stays, begins, plain_next, instruction_at, instructions_at}
 
 -- the return is one step
 rti_at : StepLaws → (image : List ℕ) (flags sp : ℕ) (s : State) → Begins image false sp s → decode_at s.mem s.regs.pc ≡ Ok Rti
@@ -144,6 +144,7 @@ run_of laws b image flags bytes before s v u ds room masked first tail r d is =
       regs = pulled_same u.regs s.regs (bytes_at u.mem (from u.regs.sp 9)) (bytes_at s.mem (from sp 9)) r.stack
           (ap (λ (n : ℕ). bytes_at u.mem (from n 9)) r.stack ∙ same);
       off = (let inside = r.inside in let between = inside.between in between.off);
+      free = λ e. free_stays image flags r.ds s u r.execution e;
       answers = r.answers;
       fit = (let inside = r.inside in let between = inside.between in between.bytes);
       size = ap (λ (w : State). length w.mem) (sym goes) ∙ keeps.0;

@@ -9,6 +9,7 @@ use Rattle.cpu12_isa.specs.Code.{decode_at}
 use Rattle.cpu12_isa.specs.Fits.{AreBytes}
 use Rattle.cpu12_isa.specs.Memory.{from, bytes_at}
 use Rattle.cpu12_isa.specs.Registers.{pulled}
+use Rattle.cpu12_parts.specs.declared.temps.Temps.TheVariants.{Free}
 use Rattle.cpu12_parts.specs.State.{State}
 use Rattle.cpu12_parts.specs.Laws.{IsOff, addresses}
 use Rattle.cpu12_emul.specs.Simulation.{IsShownStep}
@@ -61,7 +62,7 @@ LetsIn image = decode_at image fast_layout.code ≡ Ok (Andcc 0xEF)
 
 -- From s, in which the fast code is entered, so many steps lead to t, where its return is done. I is 1 in s and 0
 -- in each state between. Behind the return the registers are pulled from the frame, over flags before it, no sums
--- run, and the answers stand after those before. Outside the fast block's RAM memory is as it was, and in it outside
+-- run, none are left where there were none, and the answers stand after those before. Outside the fast block's RAM memory is as it was, and in it outside
 -- the answers' bytes and the slots.
 pub record IsFastRun (b : Block) (image : List ℕ) (flags : ℕ) (bytes : List ℕ) (before : ℕ → ℕ) (s t : State)
     : Type 0 where
@@ -73,6 +74,7 @@ pub record IsFastRun (b : Block) (image : List ℕ) (flags : ℕ) (bytes : List 
   pub ccr : ℕ
   pub regs : t.regs ≡ pulled (record (s.regs) { ccr = record { 0 = ccr } }) (bytes_at s.mem (from s.regs.sp 9))
   pub off : IsOff t.temps
+  pub free : s.temps ≡ Free → t.temps ≡ Free
   pub answers : HasAnswers fast_layout b Byte (λ o. answer Byte b o bytes (before o)) t.mem
   pub fit : AreBytes t.mem
   pub size : length t.mem ≡ length s.mem

@@ -1,7 +1,7 @@
 // Laws of runs at two levels.
 ghost use Rattle.two_runs.specs.Steps.{FastStepsReturn};
 ghost use Rattle.two_runs.specs.Inside.{FastRunsFollow};
-ghost use Rattle.two_runs.specs.Outer.{OuterEnters, OuterIsQuiet};
+ghost use Rattle.two_runs.specs.Outer.{OuterEnters, OuterIsQuiet, OuterServes};
 
 use crate::inside::InsideForm;
 use cpu12_emul::laws::{
@@ -12,7 +12,7 @@ use cpu12_parts::laws::{
     rev_fits, rev_is_whole, rev_stays, rev_steady, revw_fits, revw_is_whole, revw_stays,
     revw_steady, wav_fits, wav_is_whole, wav_stays, wav_steady, wav_suspends,
 };
-use run_law::laws::run_follows;
+use run_law::laws::{run_follows, writes_are_quiet};
 
 /// The whole instructions with which the fast code answers, and its return, are steps from the state
 /// in which it was entered to that behind the interrupt, within its bounds; before each step the
@@ -72,4 +72,12 @@ pub fn outer_is_quiet()
     bytes_stay();
     frame_comes_back();
     fast_runs_follow();
+}
+
+/// An outer request, with a fast run or without, is quiet beside the slow firmware, as the law on runs asks.
+pub fn outer_serves()
+    ensures { OuterServes }
+{
+    writes_are_quiet();
+    outer_is_quiet();
 }
