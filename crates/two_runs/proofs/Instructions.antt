@@ -1,5 +1,5 @@
 -- Whole instructions of the fast code are stretches of its steps.
-use Rattle.std.proofs.Common.{◌≡◌, ℕ, suc, ◌+◌, ◌-◌, ◌^◌, ◌<◌, Bool, false, Result, Ok, List, [], ◌∷◌, length, ap, sym, ◌∙◌, subst, inl, inr, arith}
+use Rattle.std.proofs.Common.{◌≡◌, ℕ, suc, ◌+◌, ◌-◌, ◌^◌, ◌<◌, Bool, false, Result, Ok, List, [], ◌∷◌, length, refl, ap, sym, ◌∙◌, subst, inl, inr, arith}
 use Rattle.cpu12_isa.specs.declared.instr.Instr.{Instr}
 use Rattle.cpu12_isa.specs.declared.instr.Instr.TheVariants.{Rev, Revw}
 use Rattle.cpu12_isa.specs.Act.{read_by}
@@ -24,7 +24,7 @@ use Rattle.two_level.specs.Layouts.{fast_layout}
 use Rattle.two_level.specs.Running.{IsFastStack, IsInFast, IsFastStep}
 use Rattle.two_runs.specs.Steps.{is_foreign, is_kept}
 use Rattle.two_runs.proofs.Owned.{reads_own, writes_own, code_own}
-use Rattle.two_runs.proofs.Stretches.{Stretch, no_stretch, joined, plain_stretch}
+use Rattle.two_runs.proofs.Stretches.{Stretch, no_stretch, joined, one_stretch}
 use Rattle.two_runs.proofs.Beginnings.{StepLaws, Begins, Kept, kept, off_ready}
 use Rattle.two_runs.proofs.RuleParts.{parts_at}
 use Rattle.two_runs.proofs.SumParts.{average_at}
@@ -66,7 +66,7 @@ plain_at laws image masked flags sp i s t c p stack =
     let is = laws.plain_is_step flags i s c.off step.decoded step.plain in
     let left : Left = record { regs = e.regs; temps = s.temps; writes = e.writes; kind = Plain } in
     let same : e.regs.sp ≡ sp = ap (λ (u : State). u.regs.sp) (sym step.after) ∙ stack in
-    plain_stretch (Kept image masked flags sp) flags s t
+    one_stretch (Kept image masked flags sp) flags Plain s t refl
     (kept image masked flags sp s left c.stands is.0 (omega (arith, same))
     (subst (AllShown (is_foreign sp)) (sym is.1) (shown_append (is_foreign sp) (six_from s.regs.pc) (read_by (act_of flags i s.regs) s.mem)
     (code_own sp (six_from s.regs.pc) c.code) (reads_own sp (read_by (act_of flags i s.regs) s.mem) p.reads)))

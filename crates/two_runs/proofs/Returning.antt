@@ -24,7 +24,7 @@ use Rattle.two_level.specs.Layouts.{fast_layout}
 use Rattle.two_level.specs.Running.{IsFastStack, fast_code, IsInFast, IsFastStep, IsFastAnswered}
 use Rattle.two_runs.specs.Steps.{is_foreign, is_kept, IsFastState, IsOpenState, IsFastRun, FastStepsReturn}
 use Rattle.two_runs.proofs.Owned.{code_own, frame_shown, not_written, stack_kept}
-use Rattle.two_runs.proofs.Stretches.{Stretch, joined, plain_stretch, before_weaker}
+use Rattle.two_runs.proofs.Stretches.{Stretch, joined, one_stretch, before_weaker}
 use Rattle.two_runs.proofs.Beginnings.{StepLaws, Begins, Kept, kept, off_ready, same_decode}
 use Rattle.two_runs.proofs.Pulling.{pulled_same}
 use Rattle.two_runs.proofs.Instructions.{free_stays, begins, plain_next, instruction_at, instructions_at}
@@ -40,7 +40,7 @@ rti_at laws image flags sp s c decoded =
     let up : sp ≤ left.regs.sp = (let r = stands.room in omega (arith, stands.stack, r.1)) in
     let frame : AllShown (is_foreign sp) (read_by (act_of flags Rti s.regs) s.mem) =
     (let r = stands.room in subst (λ (n : ℕ). AllShown (is_foreign sp) (from n 9)) (sym stands.stack) (frame_shown 9 sp sp (omega arith) (omega arith) r.1 (omega (arith, r.0)))) in
-    plain_stretch (Kept image false flags sp) flags s (after_plain flags Rti s)
+    one_stretch (Kept image false flags sp) flags Plain s (after_plain flags Rti s) refl
     (kept image false flags sp s left stands is.0 up
     (subst (AllShown (is_foreign sp)) (sym is.1) (shown_append (is_foreign sp) (six_from s.regs.pc) (read_by (act_of flags Rti s.regs) s.mem)
     (code_own sp (six_from s.regs.pc) c.code) frame))

@@ -13,11 +13,12 @@ use Rattle.cpu12_parts.specs.Fits.{FitsOutcome}
 use Rattle.cpu12_parts.specs.Laws.{IsOff, addresses, PartsTo}
 use Rattle.cpu12_parts.specs.Touching.{IsIn, Each}
 use Rattle.cpu12_emul.specs.Simulation.{left_of}
+use Rattle.cpu12_emul.specs.declared.ends.Stepped.TheVariants.{LastPart}
 use Rattle.cpu12_emul.specs.Step.{Left, Next, kind_of, applied, next_of}
 use Rattle.two_level.specs.Running.{fast_code}
 use Rattle.two_runs.specs.Steps.{is_foreign, is_kept}
 use Rattle.two_runs.proofs.Owned.{code_own}
-use Rattle.two_runs.proofs.Stretches.{Stretch, last_stretch, part_stretch}
+use Rattle.two_runs.proofs.Stretches.{Stretch, one_stretch, part_stretch}
 use Rattle.two_runs.proofs.Beginnings.{WriteLaws, RuleLaws, Begins, Kept, kept, off_ready, off_fits, same_decode, rom_stays}
 
 kinded : Kind → ℕ → State → PartEnd → Result Next ℕ
@@ -74,7 +75,7 @@ unfolding kinded
 parts_at i k laws writes image masked flags sp zero s t hf c decoded h =
     let P = Kept image masked flags sp in
     subst (λ (u : State). Stretch P flags 1 1 s u) (sym h.2)
-    (last_stretch P flags s (after_part k flags s) (part_kept i k laws image masked flags sp s c decoded h.0.0 h.0.1)
+    (one_stretch P flags LastPart s (after_part k flags s) refl (part_kept i k laws image masked flags sp s c decoded h.0.0 h.0.1)
     (part_goes i k laws flags s c.off decoded ∙ ap (kinded k flags s) h.1))
 parts_at i k laws writes image masked flags sp (suc n) s t hf c decoded h =
     let P = Kept image masked flags sp in

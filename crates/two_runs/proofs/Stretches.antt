@@ -1,8 +1,8 @@
 -- Stretches of steps, put together.
-use Rattle.std.proofs.Common.{◌≡◌, ℕ, zero, suc, ◌+◌, ◌≤◌, not, Result, Ok, refl, ap, ap₂, sym, ◌∙◌, subst, arith}
+use Rattle.std.proofs.Common.{◌≡◌, ℕ, zero, suc, ◌+◌, ◌≤◌, not, Bool, false, Result, Ok, refl, ap, ap₂, sym, ◌∙◌, subst, arith}
 use Rattle.cpu12_parts.specs.State.{State}
 use Rattle.cpu12_emul.specs.declared.ends.Stepped.{Stepped}
-use Rattle.cpu12_emul.specs.declared.ends.Stepped.TheVariants.{Plain, Part, LastPart}
+use Rattle.cpu12_emul.specs.declared.ends.Stepped.TheVariants.{Part}
 use Rattle.cpu12_emul.specs.Step.{Next, next_of}
 use Rattle.run_law.specs.Forms.{is_part, one_if}
 use Rattle.run_law.specs.Uninterrupted.{stepped, kind_at, state_by, kind_by, uninterrupted, counted}
@@ -58,21 +58,12 @@ joined P flags m n i j s u t a b = record {
   each = before_add P flags m n s a.each (subst (λ (v : State). Before P flags n v) (sym a.goes) b.each);
 }
 
--- a plain instruction is one step
-pub plain_stretch : (P : State → Type 0) (flags : ℕ) (s t : State) → P s
-    → next_of flags s ≡ Ok (record { state = t; kind = Plain }) → Stretch P flags 1 1 s t
-plain_stretch P flags s t p e = record {
+-- a plain instruction or a last part is one step
+pub one_stretch : (P : State → Type 0) (flags : ℕ) (k : Stepped) (s t : State) → is_part k ≡ false → P s
+    → next_of flags s ≡ Ok (record { state = t; kind = k }) → Stretch P flags 1 1 s t
+one_stretch P flags k s t whole p e = record {
   goes = ap (state_by s) e;
-  counts = ap (λ (o : Result Next ℕ). one_if (not (is_part (kind_by o))) + 0) e;
-  each = (p, tt);
-}
-
--- so is a last part
-pub last_stretch : (P : State → Type 0) (flags : ℕ) (s t : State) → P s
-    → next_of flags s ≡ Ok (record { state = t; kind = LastPart }) → Stretch P flags 1 1 s t
-last_stretch P flags s t p e = record {
-  goes = ap (state_by s) e;
-  counts = ap (λ (o : Result Next ℕ). one_if (not (is_part (kind_by o))) + 0) e;
+  counts = ap (λ (o : Result Next ℕ). one_if (not (is_part (kind_by o))) + 0) e ∙ ap (λ (b : Bool). one_if (not b) + 0) whole;
   each = (p, tt);
 }
 

@@ -19,11 +19,12 @@ use Rattle.cpu12_parts.specs.Fits.{FitsTemps, FitsOutcome}
 use Rattle.cpu12_parts.specs.Inside.{second_byte}
 use Rattle.cpu12_parts.specs.Laws.{IsOff, addresses, AreKept, PartsTo}
 use Rattle.cpu12_emul.specs.Simulation.{AreSumsReady, left_of}
+use Rattle.cpu12_emul.specs.declared.ends.Stepped.TheVariants.{LastPart}
 use Rattle.cpu12_emul.specs.Step.{Left, Next, kind_of, step_act, applied, next_of}
 use Rattle.two_level.specs.Running.{HasFastRom}
 use Rattle.two_runs.specs.Steps.{is_open_inside, is_foreign, is_kept}
 use Rattle.two_runs.proofs.Owned.{code_own, own_shown}
-use Rattle.two_runs.proofs.Stretches.{Stretch, last_stretch, part_stretch}
+use Rattle.two_runs.proofs.Stretches.{Stretch, one_stretch, part_stretch}
 use Rattle.two_runs.proofs.Beginnings.{SumLaws, Stands, Begins, Kept, kept, off_ready, off_fits}
 
 -- a state within WAV
@@ -123,7 +124,7 @@ unfolding kinded
 sums_at laws image masked flags sp none zero s t hf c h =
     let P = Kept image masked flags sp in
     subst (λ (u : State). Stretch P flags 1 1 s u) (sym h.2)
-    (last_stretch P flags s (after_part wav flags s) (sum_kept laws image masked flags sp s c h.0.0)
+    (one_stretch P flags LastPart s (after_part wav flags s) refl (sum_kept laws image masked flags sp s c h.0.0)
     (sum_goes laws image masked flags sp s c ∙ ap (kinded flags s) h.1))
 sums_at laws image masked flags sp none (suc n) s t hf c h =
     let P = Kept image masked flags sp in
@@ -162,7 +163,7 @@ average_at laws opcode image masked flags sp none d s t hf c decoded h = by d h
     by : (n : ℕ) → PartsTo wav flags (is_foreign sp) none n s t → Stretch (Kept image masked flags sp) flags (suc n) 1 s t
     by zero h =
         subst (λ (u : State). Stretch (Kept image masked flags sp) flags 1 1 s u) (sym h.2)
-        (last_stretch (Kept image masked flags sp) flags s (after_part wav flags s) (here h.0.0) (goes ∙ ap (kinded flags s) h.1))
+        (one_stretch (Kept image masked flags sp) flags LastPart s (after_part wav flags s) refl (here h.0.0) (goes ∙ ap (kinded flags s) h.1))
     by (suc n) h =
         let u = after_part wav flags s in
         let second = second_of s.temps s.regs.pc c.off in

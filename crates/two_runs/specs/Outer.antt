@@ -43,7 +43,8 @@ pub record CanEnter (b : Block) (image : List ℕ) (before : ℕ → ℕ) (v : S
 -- It enters the fast code.
 abbrev pub OuterEnters : Type 0
 OuterEnters = (b : Block) (image bytes : List ℕ) (before : ℕ → ℕ) (v : State) → length b.inputs ≤ 8
-    → length b.outputs ≤ 8 → AreInputBytes b bytes → CanEnter b image before v → IsEntered b image bytes before (entered bytes v)
+    → length b.outputs ≤ 8 → AreInputBytes b bytes → CanEnter b image before v
+    → IsEntered b image bytes before (entered bytes v)
 
 -- What an interrupt leaves whose fast run is r, from v: the registers, no sums that run, and memory but for the fast
 -- block's RAM and the stack below SP, where the answers after those before stand.
@@ -80,7 +81,8 @@ pub record RunsFast (b : Block) (image : List ℕ) (flags most : ℕ) (before : 
 -- a sample is one of the block, and has a run
 abbrev pub IsServable : Block → List ℕ → ℕ → ℕ → (ℕ → ℕ) → State → Option (List ℕ) → Type 0
 IsServable b image flags most before v None = Unit {0}
-IsServable b image flags most before v (Some bytes) = AreInputBytes b bytes × RunsFast b image flags most before v bytes
+IsServable b image flags most before v (Some bytes) =
+    AreInputBytes b bytes × RunsFast b image flags most before v bytes
 
 -- sums that stand in the run without interrupts: none, or running
 abbrev pub AreSlow : Temps → Type 0

@@ -62,8 +62,8 @@ LetsIn image = decode_at image fast_layout.code ≡ Ok (Andcc 0xEF)
 
 -- From s, in which the fast code is entered, so many steps lead to t, where its return is done. I is 1 in s and 0
 -- in each state between. Behind the return the registers are pulled from the frame, over flags before it, no sums
--- run, none are left where there were none, and the answers stand after those before. Outside the fast block's RAM memory is as it was, and in it outside
--- the answers' bytes and the slots.
+-- run, none are left where there were none, and the answers stand after those before. Outside the fast block's RAM
+-- memory is as it was, and in it outside the answers' bytes and the slots.
 pub record IsFastRun (b : Block) (image : List ℕ) (flags : ℕ) (bytes : List ℕ) (before : ℕ → ℕ) (s t : State)
     : Type 0 where
   pub further : ℕ
