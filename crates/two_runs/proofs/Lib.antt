@@ -12,3 +12,4 @@ pub mod Pushing
 pub mod Entering
 pub mod Quiet
 pub mod Serving
+pub mod Existing

@@ -1,7 +1,9 @@
 -- The fast code as steps without interrupts.
 use Rattle.std.specs.Prelude.{◌≡◌, ℕ, suc, ◌+◌, ◌^◌, ◌<◌, ◌≤◌, ◌⊎◌, ◌&&◌, ◌||◌, not, nat_le, nat_lt, Bool, true, false, Ok, List, length, slice_index}
 use Rattle.fuzzy_meaning.specs.declared.block.Block.{Block}
+use Rattle.fuzzy_meaning.specs.Blocks.{IsValid}
 use Rattle.rule_layout.specs.Slots.{slots_of}
+use Rattle.rule_layout.specs.Layouts.{IsWithinLimits}
 use Rattle.cpu12_isa.specs.declared.instr.Instr.TheVariants.{Andcc}
 use Rattle.cpu12_isa.specs.Act.{read_by}
 use Rattle.cpu12_isa.specs.Agreement.{AllShown}
@@ -15,14 +17,17 @@ use Rattle.cpu12_parts.specs.Laws.{IsOff, addresses}
 use Rattle.cpu12_emul.specs.Simulation.{IsShownStep}
 use Rattle.cpu12_emul.specs.Step.{step_act}
 use Rattle.cpu12_emul.specs.Take.{may_interrupt}
+use Rattle.cpu12_emul.specs.Image.{image_memory}
 use Rattle.codegen.specs.declared.width.Width.TheVariants.{Byte}
 use Rattle.codegen.specs.Widths.{answer}
 use Rattle.codegen.specs.Bounds.{instruction_bound, step_bound}
+use Rattle.codegen.specs.Firing.{AreInputBytes}
 use Rattle.codegen.specs.Evaluation.{HasAnswers}
 use Rattle.run_law.specs.Uninterrupted.{stepped, uninterrupted, counted}
 use Rattle.run_law.specs.Soundness.{Before}
 use Rattle.two_level.specs.Layouts.{fast_layout, is_fast_ram, is_fast_rom}
-use Rattle.two_level.specs.Images.{fast_most}
+use Rattle.two_level.specs.declared.two.Two.{Two}
+use Rattle.two_level.specs.Images.{fast_most, IsTwoOf}
 use Rattle.two_level.specs.Running.{HasFastRom, IsFastStack, IsEntered, IsFastAnswered}
 
 -- nothing is open to inner requests
@@ -91,3 +96,12 @@ FastStepsReturn =
     (b : Block) (image : List ℕ) (flags : ℕ) (bytes : List ℕ) (before : ℕ → ℕ) (s u : State) → flags < 2 ^ 8
     → LetsIn image → IsEntered b image bytes before s → IsFastAnswered b image flags bytes before s u
     → (t : State) × IsFastRun b image flags bytes before s t
+
+-- So from wherever it is entered the fast code of two blocks has such a run, where it lets interrupts in at once.
+abbrev pub FastRunsExist : Type 0
+FastRunsExist =
+    (slow fast : Block) (two : Two) (flags : ℕ) (bytes : List ℕ) (before : ℕ → ℕ) (s : State) → IsValid slow
+    → IsWithinLimits slow → IsValid fast → IsWithinLimits fast → IsTwoOf slow fast two
+    → LetsIn (image_memory two.image.bytes) → flags < 2 ^ 8 → AreInputBytes fast bytes
+    → IsEntered fast (image_memory two.image.bytes) bytes before s
+    → (t : State) × IsFastRun fast (image_memory two.image.bytes) flags bytes before s t

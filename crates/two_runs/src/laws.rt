@@ -1,5 +1,5 @@
 // Laws of runs at two levels.
-ghost use Rattle.two_runs.specs.Steps.{FastStepsReturn};
+ghost use Rattle.two_runs.specs.Steps.{FastRunsExist, FastStepsReturn};
 ghost use Rattle.two_runs.specs.Inside.{FastRunsFollow};
 ghost use Rattle.two_runs.specs.Outer.{OuterEnters, OuterIsQuiet, OuterServes};
 
@@ -13,6 +13,7 @@ use cpu12_parts::laws::{
     revw_steady, wav_fits, wav_is_whole, wav_stays, wav_steady, wav_suspends,
 };
 use run_law::laws::{run_follows, writes_are_quiet};
+use two_level::fast_answers_entered;
 
 /// The whole instructions with which the fast code answers, and its return, are steps from the state
 /// in which it was entered to that behind the interrupt, within its bounds; before each step the
@@ -40,6 +41,15 @@ pub fn fast_steps_return()
     wav_stays();
     wav_steady();
     wav_is_whole();
+}
+
+/// From wherever the fast code of two blocks is entered it has such a run, if its first instruction lets
+/// interrupts in.
+pub fn fast_runs_exist()
+    ensures { FastRunsExist }
+{
+    fast_answers_entered();
+    fast_steps_return();
 }
 
 /// Under inner requests, whose moments do not fall, a run of the fast code follows the run without: the

@@ -9,4 +9,7 @@
 mod inside;
 pub mod laws;
 
-pub use laws::{fast_runs_follow, fast_steps_return, outer_enters, outer_is_quiet, outer_serves};
+pub use laws::{
+    fast_runs_exist, fast_runs_follow, fast_steps_return, outer_enters, outer_is_quiet,
+    outer_serves,
+};
