@@ -36,7 +36,8 @@ AreOnStack (f ∷ fs) = (let frame : FrameSeen = f.1 in stack_start ≤ frame.sp
 
 -- A run under inner requests follows the run of n steps without: the same number of steps and instructions, the
 -- resumed count and the frames that are read off the states without, the same last state but for the stack below SP,
--- and a memory of bytes. No frame stands below the stack's start. An inner request is taken at its moment, or at boundary 1 where this is 0.
+-- and a memory of bytes. No frame stands below the stack's start. An inner request is taken at its moment, or at
+-- boundary 1 where this is 0.
 pub record FollowsInside (flags outputs most : ℕ) (inner : List ℕ) (n : ℕ) (s : State) : Type 0 where
   pub follows : Follows is_open_inside (fast_form flags outputs s.regs.sp) HoldsBytes [] 0 n n inner s
       (fast_run flags outputs most inner s)
