@@ -1,5 +1,5 @@
 -- Turn after turn.
-use Rattle.std.proofs.Common.{◌≡◌, ◌≢◌, ℕ, zero, suc, ◌+◌, ◌-◌, ◌*◌, ◌<◌, ◌≤◌, min, List, [], ◌∷◌, ◌++◌, length, Bool, true, false, nat_le, refl, sym, ap, ◌∙◌, subst, arith, ◌⊎◌, inl, inr}
+use Rattle.std.proofs.Common.{◌≡◌, ◌≢◌, ℕ, zero, suc, ◌+◌, ◌-◌, ◌*◌, ◌<◌, ◌≤◌, min, List, [], ◌∷◌, ◌++◌, length, Bool, true, false, nat_le, refl, sym, ap, ◌∙◌, subst, arith, inl, inr}
 use Rattle.std.proofs.lemmas.Bool.Decides.{nat_tests}
 use Rattle.cpu12_parts.specs.State.{State}
 use Rattle.run_law.specs.Soundness.{AllGood}
@@ -11,13 +11,13 @@ use Rattle.codegen.specs.Widths.{width_of, places}
 use Rattle.posted_runs.specs.Turns.{Turn, AreTurns, over, idle, answers, up_to, behind, waiting, taken_from}
 use Rattle.posted_runs.specs.Runs.{RunSeen, before_turns, turns_from}
 use Rattle.posted_runs.specs.Answering.{ended, answer_of, frames_in, resumed_in, run_of_turns}
-use Rattle.posted_runs.specs.UninterruptedTurns.{IsTurnRun, AllTurnRuns}
+use Rattle.posted_runs.specs.UninterruptedTurns.{AllTurnRuns}
 use Rattle.posted_runs.specs.Postings.{IsBox, AreOfSize}
 use Rattle.posted_runs.specs.WholeRuns.{RunsAreTurns}
 use Rattle.posted_runs.proofs.LastOnes.{not_zero, some_answered, zero_or}
 use Rattle.posted_runs.proofs.TakenLists.{Rise, rise_behind}
 use Rattle.posted_runs.proofs.AnswerRuns.{TurnLaws, good_behind}
-use Rattle.posted_runs.proofs.TurnsFollow.{Begins, Next, over_turn, idle_turn, answer_next}
+use Rattle.posted_runs.proofs.TurnsFollow.{Begins, over_turn, idle_turn, answer_next}
 
 -- where posts are left, or came, the boundary is not far
 left_by : (b : Bool) (g : ℕ) (p : Post) (ps : List Post) → nat_le p.moment g ≡ b → p.moment ≤ 1000000 → (behind g ps ≢ [] → g < 1000000) → behind g (p ∷ ps) ≢ [] → g < 1000000

@@ -14,6 +14,7 @@ pub mod AnswerRuns
 pub mod TurnViews
 pub mod TurnsFollow
 pub mod AllTurns
+pub mod WholeAnswers
 pub mod LastOnes
 pub mod Instances
 pub mod Takings

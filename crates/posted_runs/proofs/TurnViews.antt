@@ -1,6 +1,6 @@
 -- The frames and the resumed boundaries of a turn that answers, as they are read off its own steps.
-use Rattle.std.proofs.Common.{◌≡◌, ◌≢◌, ℕ, zero, suc, ◌+◌, ◌-◌, ◌<◌, ◌≤◌, max, nat_le, Bool, true, false, not, ◌&&◌, Option, Some, None, List, [], ◌∷◌, ◌++◌, map, refl, sym, ap, ap₂, ◌∙◌, subst, arith, ◌⊎◌, inl, inr, append_assoc}
-use Rattle.std.specs.Prelude.{◌==◌, ◌||◌, if◌then◌else◌}
+use Rattle.std.proofs.Common.{◌≡◌, ◌≢◌, ℕ, ◌+◌, ◌-◌, ◌<◌, ◌≤◌, max, nat_le, Bool, true, false, not, Option, Some, None, List, [], ◌∷◌, ◌++◌, map, refl, sym, ap, ap₂, ◌∙◌, arith, inl, inr}
+use Rattle.std.specs.Prelude.{◌==◌, ◌||◌}
 use Rattle.std.proofs.lemmas.Bool.{cases_lt}
 use Rattle.std.proofs.lemmas.Bool.Decides.{nat_tests}
 use Rattle.cpu12_parts.specs.declared.temps.Temps.TheVariants.{Free}
@@ -10,11 +10,11 @@ use Rattle.run_law.specs.Moments.{TakenAtFirstOpen}
 use Rattle.run_law.specs.Soundness.{AllGood}
 use Rattle.run_law.specs.Uninterrupted.{uninterrupted, is_inside, has_moment, resumed_of, is_new, frames_after}
 use Rattle.interrupt_plan.specs.declared.Post.{Post}
-use Rattle.posted_runs.specs.Turns.{up_to, behind, waiting, taken_from}
+use Rattle.posted_runs.specs.Turns.{up_to, behind, taken_from}
 use Rattle.posted_runs.specs.Shifts.{frames_from}
 use Rattle.posted_runs.specs.PostedTurns.{plain_frame, part_taken}
 use Rattle.posted_runs.proofs.LastOnes.{split}
-use Rattle.posted_runs.proofs.TakenLists.{Rise, rise_less, rise_behind, frames_at, last_before, frames_behind, resumed_same, has_on}
+use Rattle.posted_runs.proofs.TakenLists.{Rise, frames_at, last_before, frames_behind, resumed_same, has_on}
 use Rattle.posted_runs.proofs.CopyRuns.{IsCopyRun}
 use Rattle.posted_runs.proofs.AnswerRuns.{at_is, at_past}
 

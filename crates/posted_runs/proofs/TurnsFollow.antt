@@ -1,16 +1,13 @@
 -- The run under posts is that of its turns.
-use Rattle.std.proofs.Common.{◌≡◌, ◌≢◌, ℕ, zero, suc, ◌+◌, ◌-◌, ◌*◌, ◌<◌, ◌≤◌, min, max, nat_le, nat_lt, Bool, true, false, not, ◌&&◌, Option, Some, None, List, [], ◌∷◌, ◌++◌, length, map, get_or, refl, sym, ap, ap₂, ◌∙◌, subst, arith, ◌⊎◌, inl, inr, append-nil, append_assoc}
-use Rattle.std.specs.Prelude.{◌==◌, ◌||◌, if◌then◌else◌}
+use Rattle.std.proofs.Common.{◌≡◌, ◌≢◌, ℕ, zero, suc, ◌+◌, ◌-◌, ◌*◌, ◌<◌, ◌≤◌, max, nat_le, nat_lt, Bool, true, false, ◌&&◌, None, List, [], ◌∷◌, ◌++◌, length, map, get_or, refl, sym, ap, ap₂, ◌∙◌, subst, arith, append-nil, append_assoc}
+use Rattle.std.specs.Prelude.{◌==◌, if◌then◌else◌}
 use Rattle.std.proofs.lemmas.Bool.Decides.{nat_tests}
-use Rattle.cpu12_isa.specs.declared.instr.Regs.{Regs}
-use Rattle.cpu12_isa.specs.Agreement.{Agree}
 use Rattle.cpu12_isa.specs.Regions.{is_free, is_hidden}
-use Rattle.cpu12_parts.specs.declared.temps.Temps.TheVariants.{Free}
 use Rattle.cpu12_parts.specs.State.{State}
 use Rattle.cpu12_emul.specs.Image.{image_memory}
 use Rattle.cpu12_emul.specs.Take.{FrameSeen}
 use Rattle.cpu12_emul.specs.Simulation.{Same}
-use Rattle.run_law.specs.Forms.{Taking, Ran, takes, is_empty, is_part, one_if, run_from}
+use Rattle.run_law.specs.Forms.{Ran, takes, is_empty, is_part, one_if, run_from}
 use Rattle.run_law.specs.Following.{asked}
 use Rattle.run_law.specs.Soundness.{AllGood}
 use Rattle.run_law.specs.Uninterrupted.{uninterrupted, counted, is_inside, has_moment, resumed_of, frames_after}
@@ -21,18 +18,17 @@ use Rattle.codegen.specs.Answers.{given}
 use Rattle.codegen.specs.Turns.{IsAt}
 use Rattle.codegen.specs.Uninterrupted.{values_in}
 use Rattle.codegen.specs.Widths.{width_of, places}
-use Rattle.posted_runs.specs.Turns.{Turn, AreTurns, over, idle, answers, up_to, behind, waiting, taken_from}
-use Rattle.posted_runs.specs.Runs.{TurnForm, turn_form, AnswerSeen, RunSeen, bytes_of, no_turn, before_turns, answers_by, waits_by, then_turns, is_over, turns_from}
+use Rattle.posted_runs.specs.Turns.{Turn, up_to, behind, waiting, taken_from}
+use Rattle.posted_runs.specs.Runs.{turn_form, AnswerSeen, RunSeen, bytes_of, no_turn, before_turns, answers_by, waits_by, then_turns, is_over, turns_from}
 use Rattle.posted_runs.specs.Answering.{begun, ended, answer_of, frames_in, resumed_in, run_of_turns}
-use Rattle.posted_runs.specs.UninterruptedTurns.{IsTurnRun, AllTurnRuns, IsIdleRun, IsAnswerRun}
+use Rattle.posted_runs.specs.UninterruptedTurns.{IsIdleRun, IsAnswerRun}
 use Rattle.posted_runs.specs.PostedTurns.{TurnEnds, plain_frame, part_taken}
 use Rattle.posted_runs.specs.Shifts.{frames_from}
 use Rattle.posted_runs.specs.Postings.{mailed, posted, IsBox, AreOfSize}
 use Rattle.posted_runs.proofs.LastOnes.{split, waiting_append, further, not_zero}
 use Rattle.posted_runs.proofs.Posting.{waits_within}
-use Rattle.posted_runs.proofs.Passing.{pass_end}
 use Rattle.posted_runs.proofs.Running.{run_over, run_on, waits_behind}
-use Rattle.posted_runs.proofs.TakenLists.{Rise, rise_behind, frames_at, last_before, resumed_same, up_up, behind_up, behind_behind}
+use Rattle.posted_runs.proofs.TakenLists.{Rise, rise_behind, frames_at, last_before, up_up, behind_up, behind_behind}
 use Rattle.posted_runs.proofs.CopyRuns.{kind_plain, copy_run}
 use Rattle.posted_runs.proofs.TurnViews.{frames_seen, resumed_seen}
 use Rattle.posted_runs.proofs.Mailing.{mailed_apart}

@@ -1,5 +1,6 @@
 //! Laws of turns, each the contract of a function that does nothing.
 ghost use Rattle.interrupt_plan.specs.declared.Post as plan;
+ghost use Rattle.posted_runs.specs.Answering.{AnswersUnderAllPosts};
 ghost use Rattle.posted_runs.specs.Behind.{FollowsBehind};
 ghost use Rattle.posted_runs.specs.PostedTurns.{IdleTurnsFollow, PostedTurnsFollow};
 ghost use Rattle.posted_runs.specs.Shifts.{RunsCountOn};
@@ -10,7 +11,8 @@ ghost use Rattle.posted_runs.specs.WholeRuns.{RunsAreTurns};
 
 use crate::copied::BehindTheCopy;
 use codegen::laws::{
-    mailbox_is_uninterrupted, mailbox_takes_posts, mailbox_takes_samples, uninterrupted_are_one,
+    mailbox_is_uninterrupted, mailbox_steps_are_few, mailbox_takes_posts, mailbox_takes_samples,
+    uninterrupted_are_one,
 };
 use cpu12_emul::laws::{
     frame_is_on_stack, plain_is_step, step_agrees, step_keeps, takes_quietly, wavr_goes_on,
@@ -136,4 +138,15 @@ pub fn runs_are_turns()
     taken_at_first_open();
     turns_count_on();
     turns_follow_behind();
+}
+
+/// The mailbox firmware of a block answers under all good posts by its turns.
+pub fn posts_are_answered()
+    ensures { AnswersUnderAllPosts }
+{
+    posts_have_turns();
+    turns_have_steps();
+    mailbox_runs_turns();
+    runs_are_turns();
+    mailbox_steps_are_few();
 }

@@ -34,7 +34,7 @@ mod turns;
 
 pub use laws::{
     all_are_taken, idle_turns_follow, last_is_answered, mailbox_runs_turns, posted_turns_follow,
-    posts_have_turns, runs_are_turns, turns_are_one, turns_count_on, turns_follow_behind,
-    turns_have_steps,
+    posts_are_answered, posts_have_turns, runs_are_turns, turns_are_one, turns_count_on,
+    turns_follow_behind, turns_have_steps,
 };
 pub use run::{Answer, PostRun, run_posts};

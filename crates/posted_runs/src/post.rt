@@ -57,12 +57,8 @@ fn write_post(layout: &Layout, samples: &[Sample], post: &Post, writes: &mut Vec
 fn is_due<M: Mem>(m: &Machine<M>, posts: &[Post], t: &Tally) -> bool
     ensures { result ≡ is_due t.now.moment (drop t.now.next posts.now) m.now.state }
 {
-    if t.next < posts.len() {
-        if m.may_interrupt() {
-            posts[t.next].moment <= t.moment
-        } else {
-            false
-        }
+    if t.next < posts.len() && posts[t.next].moment <= t.moment {
+        m.may_interrupt()
     } else {
         false
     }

@@ -1,8 +1,10 @@
 // The run of a firmware under posts.
 ghost use Rattle.std.specs.Prelude.{◌≡◌, ◌≤◌, ◌<◌, ◌+◌, ◌*◌, ◌^◌, false, length, map, min, IfOk};
 ghost use Rattle.interrupt_plan.specs.Posts.{AreGoodPosts};
+ghost use Rattle.posted_runs.specs.Answering.{AnswersItsPosts};
 ghost use Rattle.posted_runs.specs.Runs.{run_under_posts, last_boundary, input_bytes, answer_seen, frames_seen};
 
+use crate::laws::posts_are_answered;
 use crate::tally::Tally;
 use crate::turn::turn;
 use crate::turns::run_turns;
@@ -144,7 +146,12 @@ pub fn run_posts(
         ≡ (run_under_posts firmware.now (map input_bytes samples.now) posts.now flags).frames) }
     ensures resumed { IfOk result (λ r. r.resumed
         ≡ (run_under_posts firmware.now (map input_bytes samples.now) posts.now flags).resumed) }
+
+    // For the mailbox firmware of a block this run is that of its turns without interrupts.
+    ensures by_turns { IfOk result (λ r. AnswersItsPosts firmware.now flags (map input_bytes samples.now) posts.now
+        (run_under_posts firmware.now (map input_bytes samples.now) posts.now flags)) }
 {
+    posts_are_answered();
     let Ok(mut answers) = Vec::with_capacity(alloc, posts.len()) else {
         return Err(Memory);
     };

@@ -1,6 +1,5 @@
 use Rattle.posted_runs.proofs.AnswerRuns.{TurnLaws}
 use Rattle.posted_runs.proofs.AllTurns.{runs_are_turns}
-use Rattle.posted_runs.proofs.Behind.{Stepping}
 use Rattle.posted_runs.proofs.Mailing.{Writing}
 use Rattle.posted_runs.proofs.laws.runs_are_turns.Goals as goal
 
