@@ -1,0 +1,15 @@
+pub mod Stretches
+pub mod Owned
+pub mod Beginnings
+pub mod RuleParts
+pub mod SumParts
+pub mod Instructions
+pub mod Pulling
+pub mod Returning
+pub mod Bytes
+pub mod Following
+pub mod Pushing
+pub mod Entering
+pub mod Quiet
+pub mod Serving
+pub mod Existing

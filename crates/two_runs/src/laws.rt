@@ -1,0 +1,93 @@
+// Laws of runs at two levels.
+ghost use Rattle.two_runs.specs.Steps.{FastRunsExist, FastStepsReturn};
+ghost use Rattle.two_runs.specs.Inside.{FastRunsFollow};
+ghost use Rattle.two_runs.specs.Outer.{OuterEnters, OuterIsQuiet, OuterServes};
+
+use crate::inside::InsideForm;
+use cpu12_emul::laws::{
+    plain_is_step, rev_is_step, revw_is_step, step_fits, step_keeps, sums_are_step, wav_is_step,
+};
+use cpu12_isa::laws::{bytes_stay, decoded_has_opcode, frame_comes_back, writes_stay};
+use cpu12_parts::laws::{
+    rev_fits, rev_is_whole, rev_stays, rev_steady, revw_fits, revw_is_whole, revw_stays,
+    revw_steady, wav_fits, wav_is_whole, wav_stays, wav_steady, wav_suspends,
+};
+use run_law::laws::{run_follows, writes_are_quiet};
+use two_level::fast_answers_entered;
+
+/// The whole instructions with which the fast code answers, and its return, are steps from the state
+/// in which it was entered to that behind the interrupt, within its bounds; before each step the
+/// state keeps what the law on runs asks for, and it touches what is the fast block's own alone.
+pub fn fast_steps_return()
+    ensures { FastStepsReturn }
+{
+    decoded_has_opcode();
+    writes_stay();
+    bytes_stay();
+    plain_is_step();
+    rev_is_step();
+    rev_fits();
+    rev_stays();
+    rev_steady();
+    rev_is_whole();
+    revw_is_step();
+    revw_fits();
+    revw_stays();
+    revw_steady();
+    revw_is_whole();
+    wav_is_step();
+    sums_are_step();
+    wav_fits();
+    wav_stays();
+    wav_steady();
+    wav_is_whole();
+}
+
+/// From wherever the fast code of two blocks is entered it has such a run, if its first instruction lets
+/// interrupts in.
+pub fn fast_runs_exist()
+    ensures { FastRunsExist }
+{
+    fast_answers_entered();
+    fast_steps_return();
+}
+
+/// Under inner requests, whose moments do not fall, a run of the fast code follows the run without: the
+/// same steps and instructions, the frames and the resumed count that are read off it, and the same last
+/// state but for the stack below SP. A request of moment 0 is taken at boundary 1.
+pub fn fast_runs_follow()
+    ensures { FastRunsFollow }
+{
+    bytes_stay();
+    step_fits();
+    step_keeps();
+    wav_suspends();
+    run_follows::<InsideForm>();
+}
+
+/// An outer interrupt that finds the fast code in memory enters it.
+pub fn outer_enters()
+    ensures { OuterEnters }
+{
+    writes_stay();
+    bytes_stay();
+}
+
+/// It leaves the registers, no sums that run, and memory but for the fast block's RAM, where its answers
+/// stand, and the stack below SP, if the fast code leaves X.
+pub fn outer_is_quiet()
+    ensures { OuterIsQuiet }
+{
+    writes_stay();
+    bytes_stay();
+    frame_comes_back();
+    fast_runs_follow();
+}
+
+/// An outer request, with a fast run or without, is quiet beside the slow firmware, as the law on runs asks.
+pub fn outer_serves()
+    ensures { OuterServes }
+{
+    writes_are_quiet();
+    outer_is_quiet();
+}

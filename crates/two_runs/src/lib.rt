@@ -1,0 +1,15 @@
+//! Runs of a slow block's firmware with a fast block inside its interrupts.
+//!
+//! An outer interrupt enters the fast code ([`outer_enters`]), which lets inner interrupts in and runs to its
+//! return. [`fast_steps_return`] says what its steps are without inner interrupts, and [`fast_runs_follow`] that
+//! under them it does the same: its counts and frames are read off the run without. [`outer_is_quiet`] says
+//! what it leaves, and [`outer_serves`] that an outer request is quiet as the law on runs asks.
+#![tactic(auto)]
+
+mod inside;
+pub mod laws;
+
+pub use laws::{
+    fast_runs_exist, fast_runs_follow, fast_steps_return, outer_enters, outer_is_quiet,
+    outer_serves,
+};
