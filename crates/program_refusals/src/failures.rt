@@ -40,7 +40,7 @@ struct Accepted {
     start: &'static str,
 }
 
-static COMMANDS: [Accepted; 17] = [
+static COMMANDS: [Accepted; 18] = [
     Accepted {
         line: &["fuzz12", "asm", "small.asm", "out"],
         reads: &["small.asm"],
