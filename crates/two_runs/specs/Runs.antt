@@ -34,16 +34,18 @@ fast_form flags outputs sp = record {
 abbrev pub fast_run : ℕ → ℕ → ℕ → List ℕ → State → Ran ℕ (Unit {0})
 fast_run flags outputs most inner s = run_from (fast_form flags outputs s.regs.sp) most 0 false inner s
 
--- what is told of it
+-- what is told of it: the number of its sample, and what was seen of the run
 pub record FastSeen : Type 0 where
+  pub number : ℕ
   pub answers : List ℕ
   pub instrs : ℕ
   pub steps : ℕ
   pub resumed : ℕ
   pub frames : List (ℕ × FrameSeen)
 
-abbrev pub seen_of : ℕ → Ran ℕ (Unit {0}) → FastSeen
-seen_of outputs r = record {
+abbrev pub seen_of : ℕ → ℕ → Ran ℕ (Unit {0}) → FastSeen
+seen_of number outputs r = record {
+  number = number;
   answers = bytes_at r.state.mem (from fast_layout.outputs outputs);
   instrs = r.instrs;
   steps = r.steps;
@@ -51,9 +53,10 @@ seen_of outputs r = record {
   frames = r.frames;
 }
 
--- an outer request: its moment, the bytes of a fast sample if it has one, and the inner moments
+-- an outer request: its moment, the number of a fast sample and its bytes if it has one, and the inner moments
 pub record Outer : Type 0 where
   pub moment : ℕ
+  pub number : ℕ
   pub sample : Option (List ℕ)
   pub inner : List ℕ
 
@@ -67,10 +70,10 @@ abbrev pub served : ℕ → ℕ → ℕ → Outer → State → State
 served flags outputs most q v = served_by flags outputs most q.inner q.sample v
 
 -- and it tells of its fast run, if it has one
-abbrev pub told_by : ℕ → ℕ → ℕ → List ℕ → Option (List ℕ) → State → Option FastSeen
-told_by flags outputs most inner None v = None
-told_by flags outputs most inner (Some bytes) v =
-    Some (seen_of outputs (fast_run flags outputs most inner (entered bytes v)))
+abbrev pub told_by : ℕ → ℕ → ℕ → ℕ → List ℕ → Option (List ℕ) → State → Option FastSeen
+told_by flags outputs most number inner None v = None
+told_by flags outputs most number inner (Some bytes) v =
+    Some (seen_of number outputs (fast_run flags outputs most inner (entered bytes v)))
 
 abbrev pub told : ℕ → ℕ → ℕ → Outer → State → Option FastSeen
-told flags outputs most q v = told_by flags outputs most q.inner q.sample v
+told flags outputs most q v = told_by flags outputs most q.number q.inner q.sample v
