@@ -13,3 +13,4 @@ pub mod Entering
 pub mod Quiet
 pub mod Serving
 pub mod Existing
+pub mod Servable
