@@ -1,7 +1,6 @@
 -- The outer interrupt in which a fast run runs.
 use Rattle.std.specs.Prelude.{◌≡◌, ℕ, suc, ◌+◌, ◌^◌, ◌<◌, ◌≤◌, true, Option, None, Some, List, length, slice_index}
 use Rattle.fuzzy_meaning.specs.declared.block.Block.{Block}
-use Rattle.cpu12_isa.specs.declared.instr.Ccr.{Ccr}
 use Rattle.cpu12_isa.specs.Agreement.{Agree}
 use Rattle.cpu12_isa.specs.Fits.{FitsRegs, AreBytes}
 use Rattle.cpu12_isa.specs.Flags.{has}
@@ -58,16 +57,13 @@ pub record IsQuietRun {A B : Type 0} (b : Block) (bytes : List ℕ) (before : �
   pub bytes_fit : AreBytes r.state.mem
   pub answers : HasAnswers fast_layout b Byte (λ o. answer Byte b o bytes (before o)) r.state.mem
 
-abbrev pub ccr_of : ℕ → Ccr
-ccr_of n = record { 0 = n }
-
 -- So is each interrupt with a fast run, whose inner moments do not fall, where the run without leaves X.
 abbrev pub OuterIsQuiet : Type 0
 OuterIsQuiet =
     (b : Block) (image bytes : List ℕ) (flags most : ℕ) (before : ℕ → ℕ) (inner : List ℕ) (v t : State) → flags < 2 ^ 8
     → length b.inputs ≤ 8 → length b.outputs ≤ 8 → AreInputBytes b bytes → CanEnter b image before v
     → Ascend (λ k. k) 0 inner → (r : IsFastRun b image flags bytes before (entered bytes v) t) → suc r.further ≤ most
-    → has (ccr_of r.ccr) 6 ≡ has v.regs.ccr 6
+    → has r.ccr 6 ≡ has v.regs.ccr 6
     → IsQuietRun b bytes before v (fast_run flags (length b.outputs) most inner (entered bytes v))
 
 -- the run without inner requests from where a sample is given, within so many steps, which leaves X
@@ -76,7 +72,7 @@ pub record RunsFast (b : Block) (image : List ℕ) (flags most : ℕ) (before : 
   pub behind : State
   pub run : IsFastRun b image flags bytes before (entered bytes v) behind
   pub within : suc run.further ≤ most
-  pub leaves : has (ccr_of run.ccr) 6 ≡ has v.regs.ccr 6
+  pub leaves : has run.ccr 6 ≡ has v.regs.ccr 6
 
 -- a sample is one of the block, and has a run
 abbrev pub IsServable : Block → List ℕ → ℕ → ℕ → (ℕ → ℕ) → State → Option (List ℕ) → Type 0
