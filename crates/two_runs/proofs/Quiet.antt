@@ -96,7 +96,7 @@ outer_is_quiet laws b image bytes flags most before inner v t hf few_in few_out 
     same = subst (λ (u : State). Same is_open_inside (fast_run flags (length b.outputs) most inner (entered bytes v)).state u) r.goes ran.follows.last
 
     regs : t.regs ≡ v.regs
-    regs = r.regs ∙ comes_back laws.frame_comes_back laws.writes_stay b image bytes before v (record { 0 = r.ccr }) few can r.x
+    regs = r.regs ∙ comes_back laws.frame_comes_back laws.writes_stay b image bytes before v r.ccr few can r.x
 
     shown : (at : ℕ) → (nat_le 0x1FE0 at && nat_lt at v.regs.sp) ≡ false → is_hidden is_open_inside t.regs.sp at ≡ false
     shown at h = ap (λ (k : Regs). is_hidden is_open_inside k.sp at) regs ∙ h
