@@ -13,7 +13,7 @@ use cpu12_parts::laws::{
     revw_steady, wav_fits, wav_is_whole, wav_stays, wav_steady, wav_suspends,
 };
 use run_law::laws::{run_follows, writes_are_quiet};
-use two_level::fast_answers_entered;
+use two_level::{fast_answers_entered, two_stand_beside};
 
 /// The whole instructions with which the fast code answers, and its return, are steps from the state
 /// in which it was entered to that behind the interrupt, within its bounds; before each step the
@@ -43,11 +43,11 @@ pub fn fast_steps_return()
     wav_is_whole();
 }
 
-/// From wherever the fast code of two blocks is entered it has such a run, if its first instruction lets
-/// interrupts in.
+/// From wherever the fast code of two blocks is entered it has such a run.
 pub fn fast_runs_exist()
     ensures { FastRunsExist }
 {
+    two_stand_beside();
     fast_answers_entered();
     fast_steps_return();
 }
