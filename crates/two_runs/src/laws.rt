@@ -73,7 +73,7 @@ pub fn outer_enters()
     bytes_stay();
 }
 
-/// There each sample of the fast of two blocks has a run, within its bound.
+/// Where the fast code of two blocks can be entered, each of its samples has a run, within its bound.
 pub fn outer_is_servable()
     ensures { OuterIsServable }
 {
@@ -81,7 +81,7 @@ pub fn outer_is_servable()
     fast_runs_exist();
 }
 
-/// It leaves the registers, no sums that run, and memory but for the fast block's RAM, where its answers
+/// An outer interrupt leaves the registers, no sums that run, and memory but for the fast block's RAM, where its answers
 /// stand, and the stack below SP.
 pub fn outer_is_quiet()
     ensures { OuterIsQuiet }
