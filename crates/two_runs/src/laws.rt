@@ -81,8 +81,8 @@ pub fn outer_is_servable()
     fast_runs_exist();
 }
 
-/// An outer interrupt leaves the registers, no sums that run, and memory but for the fast block's RAM, where its answers
-/// stand, and the stack below SP.
+/// An outer interrupt leaves the registers, no sums that run, and memory but for the fast block's RAM, where
+/// its answers stand, and the stack below SP.
 pub fn outer_is_quiet()
     ensures { OuterIsQuiet }
 {
