@@ -1,13 +1,12 @@
 -- The halves of a box, and the leaf around a list of bytes.
-use Rattle.std.proofs.Common.{◌≡◌, ℕ, suc, ◌≤◌, ◌<◌, List, [], ◌∷◌, length, map, true, refl, sym, ap, ◌∙◌, arith}
+use Rattle.std.proofs.Common.{◌≡◌, ℕ, suc, ◌≤◌, List, [], ◌∷◌, length, map, true, refl, sym, ap, ◌∙◌, arith}
 use Rattle.std.specs.Prelude.{All, nat_le}
 use Rattle.std.proofs.lemmas.Bool.Decides.{nat_tests}
-use Rattle.fuzzy_meaning.specs.declared.block.Block.{Block}
 use Rattle.fuzzy_meaning.specs.declared.block.Input.{Input}
 use Rattle.error_bound.specs.declared.boxes.Interval.{Interval}
-use Rattle.cert_check.specs.Trees.{Part, lies, whole, leaves_with}
+use Rattle.cert_check.specs.Trees.{lies, whole}
 use Rattle.cert_check.specs.Acceptance.{HasBound}
-use Rattle.cert_check.specs.BoxLaws.{HasHalves, CutsHaveHalves, IsLeafAround, LeavesAreAround}
+use Rattle.cert_check.specs.BoxLaws.{CutsHaveHalves, LeavesAreAround}
 use Rattle.cert_check.proofs.CutLemmas.{cut_at, set-left, set-right, IsBox-left, IsBox-right}
 use Rattle.cert_check.proofs.TreeLemmas.{one_leaf, leaf_with, LieIn-lies}
 

@@ -1,12 +1,11 @@
 -- Blocks that are the same have the same best leaves.
-use Rattle.std.proofs.Common.{◌≡◌, ℕ, ◌-◌, ◌*◌, ◌/◌, ◌≤◌, List, Some, None, sym, ap, ◌∙◌, subst}
+use Rattle.std.proofs.Common.{ℕ, ◌-◌, ◌*◌, ◌/◌, ◌≤◌, List, ap, ◌∙◌, subst}
 use Rattle.std.specs.Prelude.{IsTrue}
 use Rattle.fuzzy_meaning.specs.declared.block.Block.{Block}
 use Rattle.fuzzy_meaning.specs.SameBlocks.{IsSameBlock}
 use Rattle.error_bound.specs.declared.boxes.Interval.{Interval}
-use Rattle.error_bound.specs.Boxes.{rule_span, rule_byte_span}
 use Rattle.error_bound.specs.Leaves.{concludes_some}
-use Rattle.error_bound.specs.Best.{IsBest, silent, strong, nothing, IsCandidate, silent_leaf}
+use Rattle.error_bound.specs.Best.{silent, strong, nothing, IsCandidate, silent_leaf}
 use Rattle.cert_check.specs.SameLeaves.{SameBlocksHaveBestLeaves, SameBlocksHaveBounds}
 use Rattle.cert_check.proofs.SameBlocks.{turned, other_rule, span_same, bytes_same, holds, is_bound}
 

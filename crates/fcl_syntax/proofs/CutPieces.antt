@@ -1,5 +1,5 @@
 -- What the lexer finds at the front of a text is what stands there.
-use Rattle.std.proofs.Common.{◌≡◌, ℕ, zero, suc, ◌+◌, ◌<◌, ◌≤◌, Bool, true, false, List, [], ◌∷◌, ◌++◌, length, take, drop, Option, Some, None, Result, Ok, Err, refl, sym, ap, subst, ◌∙◌, append_assoc, arith, inl, inr, ◌⊎◌}
+use Rattle.std.proofs.Common.{◌≡◌, ℕ, ◌+◌, ◌<◌, ◌≤◌, Bool, true, false, List, [], ◌∷◌, ◌++◌, length, take, drop, Option, Some, None, Result, Ok, Err, refl, sym, ap, subst, ◌∙◌, append_assoc, arith, inl, inr}
 use Rattle.std.specs.Prelude.{◌==◌, ◌||◌, if◌then◌else◌, not}
 use Rattle.std.specs.Char.{is_ascii_digit}
 use Rattle.std.specs.List.{list_all, prefix_len, take_while}
@@ -21,7 +21,7 @@ use Rattle.fcl_syntax.specs.declared.token.Token.{Token}
 use Rattle.fcl_syntax.specs.declared.token.Token.TheVariants as tok
 use Rattle.fcl_syntax.specs.Meanings.{meanings}
 use Rattle.fcl_syntax.specs.TokenClasses.{mem}
-use Rattle.fcl_syntax.specs.Tokens.{is_blank, is_name_start, is_name_byte, is_line_byte, starts_name, IsBlank, IsComment, IsLineComment, IsName, IsDigits, IsPointed, IsNumber, amount_of, meaning_in, IsToken, IsGap, IsSpelling, IsTogether, IsLongest, IsRefused, IsFaulty, IsFront}
+use Rattle.fcl_syntax.specs.Tokens.{is_blank, is_name_start, is_name_byte, is_line_byte, starts_name, IsComment, IsLineComment, IsName, IsDigits, IsPointed, IsNumber, amount_of, meaning_in, IsToken, IsSpelling, IsTogether, IsLongest, IsFaulty, IsFront}
 use Rattle.fcl_syntax.specs.Lexing.{run, comment_end, comment_piece, has_fraction, number_len, decimal_piece, number_piece, token_of, word_token, open_piece, slash_piece, point_piece, colon_piece, delimiter_piece, piece_of}
 use Rattle.fcl_syntax.proofs.Cutting.{run_first}
 use Rattle.fcl_syntax.proofs.CutLists.{same_front, begins_with, all_in_run, run_ends, run_is, run_passes, run_splits, FirstEnd, comment_ends, comment_open, same_head, same_tail}

@@ -1,8 +1,8 @@
 -- Bytes spell one token at most, and a text has one fault at its front.
-use Rattle.std.proofs.Common.{◌≡◌, ℕ, zero, suc, ◌+◌, ◌<◌, ◌≤◌, Bool, true, false, List, [], ◌∷◌, ◌++◌, length, take, drop, Option, Some, None, Result, Ok, Err, refl, sym, ap, subst, ◌∙◌, append_assoc, arith, inl, inr}
+use Rattle.std.proofs.Common.{◌≡◌, ℕ, ◌<◌, ◌≤◌, Bool, true, false, List, [], ◌∷◌, ◌++◌, length, take, drop, Option, Some, None, Result, Ok, Err, refl, sym, ap, subst, ◌∙◌, arith, inl, inr}
 use Rattle.std.specs.Prelude.{◌==◌, if◌then◌else◌}
 use Rattle.std.specs.Char.{is_ascii_digit}
-use Rattle.std.specs.List.{list_all, prefix_len}
+use Rattle.std.specs.List.{prefix_len}
 use Rattle.std.proofs.lemmas.Bool.{both_ways, cases_Bool, eq-eqb}
 use Rattle.std.proofs.lemmas.List.{append-nil, length-append}
 use Rattle.std.proofs.lemmas.List.Sums.{prefix_len-le-length}
@@ -10,7 +10,6 @@ use Rattle.std.proofs.Math.Seq.{drop-append_seam, take-append_seam}
 use Rattle.fz_num.specs.Decimals.{decimal}
 use Rattle.fz_num.specs.declared.dec.Dec.{Dec}
 use Rattle.fz_num.specs.declared.dec.DecFault.{DecFault}
-use Rattle.fz_num.specs.declared.dec.DecFault.TheVariants.{Shape}
 use Rattle.fcl_syntax.specs.declared.lexer.LexKind.{LexKind}
 use Rattle.fcl_syntax.specs.declared.lexer.LexKind.TheVariants as kinds
 use Rattle.fcl_syntax.specs.declared.lexer.Piece.{Piece}

@@ -1,18 +1,16 @@
 -- What the lexer cuts a text into is what the text has.
-use Rattle.std.proofs.Common.{◌≡◌, ℕ, zero, suc, ◌+◌, ◌-◌, ◌≤◌, ◌<◌, List, [], ◌∷◌, ◌++◌, length, drop, Option, Some, None, Ok, Err, refl, sym, ap, subst, ◌∙◌, arith, inl, inr}
+use Rattle.std.proofs.Common.{◌≡◌, ℕ, zero, suc, ◌+◌, ◌≤◌, ◌<◌, List, [], ◌∷◌, ◌++◌, length, drop, Option, Some, None, Ok, Err, refl, sym, ap, subst, ◌∙◌, arith}
 use Rattle.std.specs.List.{filter_map, cons_option}
 use Rattle.std.proofs.lemmas.List.{length-append, length-drop}
 use Rattle.std.proofs.Math.Seq.{drop-append_seam}
-use Rattle.fz_num.specs.declared.dec.DecFault.{DecFault}
 use Rattle.fcl_syntax.specs.declared.lexer.LexFault.{LexFault}
 use Rattle.fcl_syntax.specs.declared.lexer.LexKind.{LexKind}
-use Rattle.fcl_syntax.specs.declared.lexer.LexKind.TheVariants as kinds
 use Rattle.fcl_syntax.specs.declared.lexer.Piece.{Piece}
 use Rattle.fcl_syntax.specs.declared.lexer.Piece.TheVariants as piece
 use Rattle.fcl_syntax.specs.declared.token.Token.{Token}
 use Rattle.fcl_syntax.specs.Cuts.{CutsAreTokens}
 use Rattle.fcl_syntax.specs.Lexing.{Lexed, in_front, lexed, next_piece, piece_of, tokenization}
-use Rattle.fcl_syntax.specs.Tokens.{HasTokens, HasTokenFault, IsCut, IsFaulty, IsFront, IsGap, IsLongest, IsSpelling, IsToken, IsTogether, Lexeme, place_before, places_of}
+use Rattle.fcl_syntax.specs.Tokens.{HasTokens, HasTokenFault, IsCut, IsFaulty, IsFront, IsSpelling, Lexeme, place_before, places_of}
 use Rattle.fcl_syntax.proofs.CutLists.{same_front}
 use Rattle.fcl_syntax.proofs.CutSpellings.{no_fault_in_nothing, one_fault, one_spelling, some_bytes}
 use Rattle.fcl_syntax.proofs.CutPieces.{Found, PieceStands, piece_stands, together}

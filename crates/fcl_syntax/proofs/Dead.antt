@@ -1,6 +1,6 @@
 -- Annotated choices, and a form seen as another type.
-use Rattle.std.proofs.Common.{◌≡◌, ℕ, ◌+◌, Bool, true, false, List, [], ◌∷◌, ◌++◌, length, Option, Some, None, Result, Ok, Err, refl, sym, ap, subst, ◌∙◌, arith, inl, inr, ◌⊎◌}
-use Rattle.std.proofs.lemmas.List.{append-nil, length-append}
+use Rattle.std.proofs.Common.{◌≡◌, ℕ, ◌+◌, Bool, true, false, List, [], ◌∷◌, ◌++◌, length, Result, Ok, Err, refl, sym, ap, subst, ◌∙◌, arith, inl, inr, ◌⊎◌}
+use Rattle.std.proofs.lemmas.List.{length-append}
 use Rattle.fcl_syntax.specs.declared.fault.Fault.{Fault}
 use Rattle.fcl_syntax.specs.declared.fault.Kind.{Kind}
 use Rattle.fcl_syntax.specs.declared.fault.Kind.TheVariants.{Expected, Deep, Unsupported}
@@ -8,10 +8,9 @@ use Rattle.fcl_syntax.specs.declared.token.Token.{Token}
 use Rattle.fcl_syntax.specs.TokenClasses.{class_of, mem}
 use Rattle.fcl_syntax.specs.Annotations.{either_text, Sym, tokens_of, IsClean, annotated}
 use Rattle.fcl_syntax.specs.First.{looks_on, SameNext, SameHead, Shown}
-use Rattle.fcl_syntax.specs.Readers.{cond_read, ◌>>=◌, fault_at, starts}
+use Rattle.fcl_syntax.specs.Readers.{cond_read, fault_at, starts}
 use Rattle.fcl_syntax.proofs.Form.{disjoint, Stops, Starts, first_annotation, answer, Stands, Shows, Fails, Form}
-use Rattle.fcl_syntax.proofs.AnnotatedTexts.{bind_ok, bind_err, ok_is, length-tokens}
-use Rattle.fcl_syntax.proofs.Seq.{Shows-in, Viable-in}
+use Rattle.fcl_syntax.proofs.AnnotatedTexts.{length-tokens}
 use Rattle.fcl_syntax.proofs.Small.{seen_as, widen, answer-seen, seen_err, seen_stands, seen_fails, to_right, starts-not, starts-same, bool_cases}
 
 -- ---- a form seen as another type

@@ -1,10 +1,8 @@
 -- A form of the grammar: its texts, its reader, and what holds of both.
-use Rattle.std.specs.Prelude.{◌≡◌, ℕ, zero, suc, ◌+◌, Bool, true, false, List, [], ◌∷◌, ◌++◌, length, Option, Some, None, Result, Ok, Err, ◌==◌, if◌then◌else◌}
+use Rattle.std.specs.Prelude.{◌≡◌, ℕ, suc, ◌+◌, Bool, true, false, List, [], ◌∷◌, ◌++◌, length, Option, Some, None, Result, Ok, Err, if◌then◌else◌}
 use Rattle.fcl_syntax.specs.declared.fault.Fault.{Fault}
 use Rattle.fcl_syntax.specs.declared.fault.Kind.{Kind}
 use Rattle.fcl_syntax.specs.declared.fault.Kind.TheVariants.{Expected, Deep, Unsupported}
-use Rattle.fcl_syntax.specs.declared.fault.ParseError.{ParseError}
-use Rattle.fcl_syntax.specs.declared.fault.ParseError.TheVariants as errors
 use Rattle.fcl_syntax.specs.declared.token.Token.{Token}
 use Rattle.fcl_syntax.specs.TokenClasses.{class_of, mem}
 use Rattle.fcl_syntax.specs.Annotations.{Sym, tokens_of, IsClean}

@@ -1,5 +1,5 @@
 -- A condition's part, by what comes next.
-use Rattle.std.proofs.Common.{◌≡◌, ◌≢◌, ℕ, zero, suc, ◌-◌, true, false, List, [], ◌∷◌, length, Err, refl, arith}
+use Rattle.std.proofs.Common.{◌≡◌, ◌≢◌, ℕ, zero, suc, ◌-◌, true, false, List, length, Err, refl, arith}
 use Rattle.fcl_syntax.specs.declared.fault.Kind.TheVariants.{Deep}
 use Rattle.fcl_syntax.specs.declared.token.Token.{Token}
 use Rattle.fcl_syntax.specs.TokenClasses.{opener_classes}

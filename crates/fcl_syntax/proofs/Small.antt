@@ -10,7 +10,7 @@ use Rattle.fcl_syntax.specs.Annotations.{either_text, IsClean, Sym, tokens_of, p
 use Rattle.fcl_syntax.specs.First.{SameHead}
 use Rattle.fcl_syntax.specs.Readers.{cond_read, ◌>>=◌, fault_at, starts, found, one_at}
 use Rattle.fcl_syntax.proofs.Form.{disjoint, Stops, Starts, first_annotation, answer, Stands, Shows, Fails, Form}
-use Rattle.fcl_syntax.proofs.AnnotatedTexts.{bind_ok, bind_err, ok_is, disjoint-mem}
+use Rattle.fcl_syntax.proofs.AnnotatedTexts.{bind_ok, ok_is, disjoint-mem}
 use Rattle.fcl_syntax.proofs.Seq.{Shows-in, Viable-in}
 
 -- ---- one token of a class

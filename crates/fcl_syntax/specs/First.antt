@@ -4,7 +4,7 @@ use Rattle.fcl_syntax.specs.declared.fault.Fault.{Fault}
 use Rattle.fcl_syntax.specs.declared.fault.Kind.{Kind}
 use Rattle.fcl_syntax.specs.declared.fault.Kind.TheVariants.{Expected, Deep, Unsupported}
 use Rattle.fcl_syntax.specs.declared.token.Token.{Token}
-use Rattle.fcl_syntax.specs.Annotations.{Sym, tokens_of, IsClean, annotated, plain}
+use Rattle.fcl_syntax.specs.Annotations.{Sym, tokens_of, IsClean, annotated}
 
 -- the kinds that stand as annotations in texts
 abbrev pub IsAnnotation : Kind → Type 0

@@ -1,9 +1,7 @@
 -- Cutting a text from the left, piece by piece, as the lexer does.
-use Rattle.std.specs.Prelude.{◌≡◌, ℕ, zero, suc, ◌+◌, ◌<◌, ◌≤◌, Bool, true, false, List, [], ◌∷◌, length, take, drop, Option, Some, None, Result, Ok, Err, ◌==◌, ◌||◌, if◌then◌else◌, pos}
+use Rattle.std.specs.Prelude.{◌≡◌, ℕ, zero, suc, ◌+◌, ◌<◌, ◌≤◌, Bool, false, List, [], ◌∷◌, length, take, drop, Option, Some, None, Result, Ok, Err, ◌==◌, if◌then◌else◌}
 use Rattle.std.specs.List.{take_while}
-use Rattle.std.specs.Char.{is_ascii_digit, is_ascii_alphabetic}
-use Rattle.std.specs.Ordering.{int_eq}
-use Rattle.std.specs.Str.{str_eq_ignore_ascii_case}
+use Rattle.std.specs.Char.{is_ascii_digit}
 use Rattle.fz_num.specs.Decimals.{decimal}
 use Rattle.fz_num.specs.declared.dec.Dec.{Dec}
 use Rattle.fz_num.specs.declared.dec.DecFault.{DecFault}
@@ -14,13 +12,10 @@ use Rattle.fcl_syntax.specs.declared.lexer.LexFault.{LexFault}
 use Rattle.fcl_syntax.specs.declared.lexer.LexKind.TheVariants as kinds
 use Rattle.fcl_syntax.specs.declared.lexer.Piece.{Piece}
 use Rattle.fcl_syntax.specs.declared.lexer.Piece.TheVariants as piece
-use Rattle.fcl_syntax.specs.declared.token.Amount.{Amount}
-use Rattle.fcl_syntax.specs.declared.token.Amount.TheVariants as amount
 use Rattle.fcl_syntax.specs.declared.token.Meaning.{Meaning}
 use Rattle.fcl_syntax.specs.declared.token.Meaning.TheVariants as meaning
 use Rattle.fcl_syntax.specs.declared.token.Token.{Token}
 use Rattle.fcl_syntax.specs.declared.token.Token.TheVariants as tok
-use Rattle.fcl_syntax.specs.declared.token.Word.TheVariants as word
 use Rattle.fcl_syntax.specs.Meanings.{meanings}
 use Rattle.fcl_syntax.specs.Tokens.{is_blank, meaning_in, is_name_start, amount_of, starts_name, is_line_byte, is_name_byte}
 

@@ -1,8 +1,8 @@
 -- What reads a list of tokens from the left, and how such are put together.
-use Rattle.std.specs.Prelude.{◌≡◌, ℕ, zero, suc, ◌+◌, Bool, true, false, List, [], ◌∷◌, ◌++◌, length, Option, Some, None, Result, Ok, Err, ◌==◌, if◌then◌else◌}
+use Rattle.std.specs.Prelude.{◌≡◌, ℕ, zero, suc, Bool, true, false, List, [], ◌∷◌, length, Option, Some, None, Result, Ok, Err}
 use Rattle.fcl_syntax.specs.declared.fault.Fault.{Fault}
 use Rattle.fcl_syntax.specs.declared.fault.Kind.{Kind}
-use Rattle.fcl_syntax.specs.declared.fault.Kind.TheVariants.{Expected, Deep, Unsupported}
+use Rattle.fcl_syntax.specs.declared.fault.Kind.TheVariants.{Expected}
 use Rattle.fcl_syntax.specs.declared.fault.ParseError.{ParseError}
 use Rattle.fcl_syntax.specs.declared.fault.ParseError.TheVariants as errors
 use Rattle.fcl_syntax.specs.declared.token.Token.{Token}

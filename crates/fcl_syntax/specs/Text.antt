@@ -1,7 +1,6 @@
 -- The tree of a text, or its first fault, by the text's bytes.
 use Rattle.std.specs.Prelude.{◌≡◌, ℕ, ◌≤◌, List, [], ◌∷◌, length, drop}
 use Rattle.std.specs.Str.{str_to_ascii_lowercase}
-use Rattle.fcl_syntax.specs.declared.fault.Fault.{Fault}
 use Rattle.fcl_syntax.specs.declared.fault.Kind.{Kind}
 use Rattle.fcl_syntax.specs.declared.fault.Kind.TheVariants.{Expected, Deep, Unsupported}
 use Rattle.fcl_syntax.specs.declared.lexer.LexKind.TheVariants as kinds

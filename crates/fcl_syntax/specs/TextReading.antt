@@ -8,7 +8,6 @@ use Rattle.fcl_syntax.specs.declared.lexer.LexKind.{LexKind}
 use Rattle.fcl_syntax.specs.declared.lexer.LexKind.TheVariants as kinds
 use Rattle.fcl_syntax.specs.declared.text.SyntaxFault.{SyntaxFault}
 use Rattle.fcl_syntax.specs.declared.text.SyntaxFault.TheVariants as faults
-use Rattle.fcl_syntax.specs.declared.token.Token.{Token}
 use Rattle.fcl_syntax.specs.declared.tree.Tree.{Tree}
 use Rattle.fcl_syntax.specs.Lexing.{Lexed, tokenization}
 use Rattle.fcl_syntax.specs.Text.{OrMemory, head_or}

@@ -1,5 +1,5 @@
 -- Blocks that are the same have one layout.
-use Rattle.std.proofs.Common.{arith, ◌≡◌, ◌≢◌, ◌≤◌, ◌<◌, ◌+◌, ◌-◌, ◌*◌, ℕ, zero, suc, Bool, false, cond, List, [], ◌∷◌, ◌++◌, length, take, refl, sym, ◌∙◌, ap, subst}
+use Rattle.std.proofs.Common.{arith, ◌≡◌, ◌≤◌, ◌<◌, ◌+◌, ◌-◌, ◌*◌, ℕ, zero, suc, Bool, false, cond, List, [], ◌∷◌, ◌++◌, length, take, refl, sym, ◌∙◌, ap, subst}
 use Rattle.std.specs.Prelude.{fold, map, filter, sum_by, flat_map, not, nat_le, ◌&&◌, ◌||◌, Option}
 use Rattle.std.specs.List.{AllZip, list_any}
 use Rattle.std.proofs.lemmas.List.{length-map}
@@ -11,10 +11,10 @@ use Rattle.fuzzy_meaning.specs.SameBlocks.{IsSameBlock, IsSameRule}
 use Rattle.fz_num.specs.declared.dec.Dec.{Dec}
 use Rattle.byte_scaling.specs.Weights.{weight_byte_of}
 use Rattle.rule_layout.specs.Alike.{LayoutsAreOne, LimitsHaveNoFault}
-use Rattle.rule_layout.specs.Layouts.{IsFaultOf, IsFirstTooMany, IsTooLong, IsWithinLimits, conjunction_count, conjunctions_of, element_width, flat_of, form_of, is_below_one, list_size, rule_conjunctions, rule_spread, rule_weights, weights_of}
+use Rattle.rule_layout.specs.Layouts.{IsFaultOf, IsWithinLimits, conjunction_count, conjunctions_of, element_width, flat_of, form_of, is_below_one, list_size, rule_conjunctions, rule_spread, weights_of}
 use Rattle.rule_layout.specs.Lists.{marked}
 use Rattle.rule_layout.specs.Slots.{complement_slot, conclusion_number, has_complement, is_complemented, literal_number, out_slot, singleton_count, slots_of, term_count, term_slot, terms_from}
-use Rattle.rule_layout.specs.Spreading.{Literal, spread_of}
+use Rattle.rule_layout.specs.Spreading.{spread_of}
 use Rattle.rule_layout.specs.declared.flat.Conjunction.{Conjunction}
 use Rattle.rule_layout.specs.declared.flat.Form.TheVariants.{Rev, Revw}
 use Rattle.rule_layout.specs.declared.flat.LayoutFault.{LayoutFault}

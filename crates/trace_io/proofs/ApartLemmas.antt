@@ -1,13 +1,13 @@
 -- A text that spells samples has no fault.
-use Rattle.std.proofs.Common.{arith, ◌≡◌, ◌≢◌, ◌⊎◌, inl, inr, ◌<◌, ◌+◌, ◌-◌, ℕ, List, [], ◌∷◌, ◌++◌, length, refl, sym, ◌∙◌, ap, subst}
-use Rattle.std.specs.Prelude.{Option, Some, None}
+use Rattle.std.proofs.Common.{arith, ◌≡◌, ◌<◌, ◌+◌, ◌-◌, ℕ, List, [], ◌∷◌, ◌++◌, length, sym, ◌∙◌, ap, subst}
+use Rattle.std.specs.Prelude.{Some, None}
 use Rattle.std.proofs.lemmas.List.{length-append}
 use Rattle.fz_num.specs.declared.dec.Dec.{Dec}
 use Rattle.fz_rows.specs.Laws.{FirstRowsAreOne}
 use Rattle.fuzzy_meaning.specs.Blocks.{IsWithin}
 use Rattle.fuzzy_meaning.specs.declared.block.Input.{Input}
 use Rattle.trace_io.specs.OneReading.{SpelledTracesHaveNoFault}
-use Rattle.trace_io.specs.Traces.{AreFirstRows, AreWithin, Fields, FirstFault, HasFault, IsFirstOutside, RowFails, SpellSamples, Spells, SpellsSample, at_row, decimals, miscounted, more, outside, unread}
+use Rattle.trace_io.specs.Traces.{AreWithin, Fields, FirstFault, RowFails, SpellSamples, SpellsSample, at_row, miscounted, more, outside, unread}
 use Rattle.trace_io.specs.declared.sample.Sample.{Sample}
 use Rattle.trace_io.specs.declared.sample.TraceFault.{TraceFault}
 

@@ -1,5 +1,4 @@
 use Rattle.fcl_syntax.proofs.CutTexts.{cuts_are_tokens_lem}
-use Rattle.fcl_syntax.proofs.CutSpellings.{some_bytes}
 use Rattle.fcl_syntax.proofs.laws.cuts_are_tokens.Goals as goal
 
 pub returns : goal.returns
