@@ -3,7 +3,6 @@ use Rattle.std.proofs.Common.{◌≡◌, ℕ, suc, ◌+◌, Bool, true, false, �
 use Rattle.std.specs.Prelude.{if◌then◌else◌}
 use Rattle.cpu12_parts.specs.State.{State}
 use Rattle.cpu12_emul.specs.Step.{Next, next_of}
-use Rattle.cpu12_emul.specs.Take.{FrameSeen}
 use Rattle.cpu12_emul.specs.declared.ends.Stepped.{Stepped}
 use Rattle.run_law.specs.Forms.{Form, Ran, takes, is_part, one_if}
 use Rattle.fz_run.specs.declared.boundary.Stand.{Stand}

@@ -1,9 +1,8 @@
 -- The rows of a list of samples by the first of them.
-use Rattle.std.proofs.Common.{◌≡◌, ◌≤◌, ◌+◌, ℕ, suc, true, false, List, [], ◌∷◌, length, map, drop, refl, ap, ap₂, sym, ◌∙◌, arith}
+use Rattle.std.proofs.Common.{◌≡◌, ◌≤◌, ◌+◌, ℕ, suc, true, false, List, [], ◌∷◌, length, map, drop, refl, ap, sym, ◌∙◌, arith}
 use Rattle.cpu12_parts.specs.State.{State}
 use Rattle.run_law.specs.Forms.{Form, Ran, RowSeen, run_from, row_of, Rows, put_row, rows_from}
 use Rattle.fz_run.specs.Rows.{of_sample, tellings, shown}
-use Rattle.fz_run.specs.Forms.{plan_form}
 use Rattle.fz_run.specs.Showing.{RowsAreShown}
 use Rattle.fz_run.specs.Slices.{Follow, requests_first}
 use Rattle.fz_run.proofs.PlanSlices.{first_are, later_are}

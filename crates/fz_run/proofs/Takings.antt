@@ -4,7 +4,7 @@ use Rattle.std.proofs.lemmas.List.{map-append, length-map}
 use Rattle.cpu12_parts.specs.State.{State}
 use Rattle.cpu12_emul.specs.declared.ends.Frame.{Frame}
 use Rattle.cpu12_emul.specs.Take.{FrameSeen, frame_seen, frame_of}
-use Rattle.run_law.specs.Forms.{Form, Taking, takes, taken, told}
+use Rattle.run_law.specs.Forms.{Form, Taking, takes, taken}
 use Rattle.cpu12_parts.specs.Cuts.{suspended, wav}
 use Rattle.fz_run.specs.Rows.{boundary_seen, frames_seen, tellings}
 use Rattle.fz_run.specs.Rest.{is_due, Brought, with_before}

@@ -1,4 +1,4 @@
-use Rattle.std.proofs.Common.{◌≡◌, ◌≤◌, ◌∙◌, ◌+◌, ◌-◌, ◌∷◌, ℕ, false, List, map, vec_len, length, length-drop, drop, take, ap, ap₂, sym, subst, arith}
+use Rattle.std.proofs.Common.{◌≡◌, ◌∙◌, ◌+◌, ◌-◌, ◌∷◌, ℕ, false, List, map, vec_len, length, length-drop, drop, take, ap, ap₂, sym, subst, arith}
 use Rattle.cpu12_parts.specs.State.{State}
 use Rattle.run_law.specs.Forms.{run_from}
 use Rattle.fz_run.specs.declared.sample.Tally.{Tally}

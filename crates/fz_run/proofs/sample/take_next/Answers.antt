@@ -1,5 +1,5 @@
-use Rattle.std.proofs.Common.{◌≡◌, ◌≤◌, ◌<◌, ◌+◌, ◌-◌, ◌++◌, ◌∷◌, [], ℕ, length, ap, ◌∙◌, arith}
-use Rattle.std.specs.Prelude.{if◌then◌else◌, is_ok, vec_len, vec_capacity}
+use Rattle.std.proofs.Common.{◌≡◌, ◌++◌, ◌∷◌, [], ap, ◌∙◌}
+use Rattle.std.specs.Prelude.{if◌then◌else◌, is_ok}
 use Rattle.cpu12_parts.specs.Cuts.{suspended, wav}
 use Rattle.fz_run.specs.Forms.{moment_in, plan_form}
 use Rattle.fz_run.proofs.Takings.{one_taken, due_within}
