@@ -1,24 +1,16 @@
--- What is shown of a run has its rows and what was told.
+-- What is shown of runs has their rows and what was told.
 use Rattle.std.specs.Prelude.{◌≡◌, ℕ, List, map}
 use Rattle.cpu12_parts.specs.State.{State}
-use Rattle.run_law.specs.Forms.{RowSeen}
-use Rattle.interrupt_plan.specs.declared.Request.{Request}
-use Rattle.fz_run.specs.Forms.{Harness}
-use Rattle.fz_run.specs.Rows.{harness_rows, shown, steps_told}
+use Rattle.run_law.specs.Forms.{Form, Rows, rows_from}
+use Rattle.fz_run.specs.Rows.{shown, tellings}
 
--- the row and its handlers' steps are these parts of what is shown of them
-pub record ShowsBoth {R S T : Type 0} (h : Harness R S T) (row_in : T → RowSeen S) (told_in : T → ℕ) : Type 0 where
-  pub row : (row : RowSeen S) (steps : ℕ) → row_in (h.shows row steps) ≡ row
-  pub told : (row : RowSeen S) (steps : ℕ) → told_in (h.shows row steps) ≡ steps
+-- where each row is shown alone, or what was told alone, all of it is shown
+pub record AreShown {S A B : Type 0} (all : Rows S A B) : Type 0 where
+  pub rows : shown (λ row told. row) all ≡ all.rows
+  pub told : shown (λ row told. told) all ≡ map tellings all.told
 
--- the rows of a run and what was told of each are these parts of what is shown of it
-pub record AreShown {R S T : Type 0} (h : Harness R S T) (flags most : ℕ) (plan : List Request) (s : State)
-    (row_in : T → RowSeen S) (told_in : T → ℕ) : Type 0 where
-  pub rows : map row_in (shown h.shows (harness_rows flags h most plan s)) ≡ (harness_rows flags h most plan s).rows
-  pub told : map told_in (shown h.shows (harness_rows flags h most plan s))
-      ≡ map steps_told (harness_rows flags h most plan s).told
-
+-- so is it of the runs of any form
 abbrev pub RowsAreShown : Type 0 → Type 0 → Type 0 → Type 0
-RowsAreShown R S T =
-    (h : Harness R S T) (flags most : ℕ) (plan : List Request) (s : State) (row_in : T → RowSeen S) (told_in : T → ℕ)
-    → ShowsBoth h row_in told_in → AreShown h flags most plan s row_in told_in
+RowsAreShown S A B =
+    (form : Form S A B) (most : ℕ) (asks : ℕ → List A) (k : ℕ) (samples : List S) (s : State)
+    → AreShown (rows_from form most asks k samples s)

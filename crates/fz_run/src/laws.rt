@@ -2,7 +2,7 @@
 ghost use Rattle.fz_run.specs.Answering.{AnswersUnderPlans, FirmwareRunsBeside, FirstStatesAlike};
 ghost use Rattle.fz_run.specs.Arrival.{ArrivesPlainly};
 ghost use Rattle.fz_run.specs.Following.{RunsFollowAlone, RunsFollowBeside};
-ghost use Rattle.fz_run.specs.Given.{GivenIsPut, RequestsAreGood};
+ghost use Rattle.fz_run.specs.Given.{GivenIsPut, PlansAreInOrder, RequestsAreGood};
 ghost use Rattle.fz_run.specs.Instructions.{InstructionsAreSteps, PlainIsOneStep};
 ghost use Rattle.fz_run.specs.Showing.{RowsAreShown};
 
@@ -107,10 +107,14 @@ pub fn requests_are_good()
     ensures { RequestsAreGood }
 {}
 
-/// Where what a form shows of a row and of its handlers' steps has both, what is shown of its runs has the
-/// rows, and the sums of what was told.
-pub fn rows_are_shown<R, F: RunForm<R>>()
-    ensures { RowsAreShown R F.Given F.Shown }
+/// The requests of a good plan are in order.
+pub fn plans_are_in_order()
+    ensures { PlansAreInOrder }
+{}
+
+/// What is shown of the runs of a form has a row for each sample, and what was told of its requests.
+pub fn rows_are_shown<A, U, R, F: RunForm<A, U, R>>()
+    ensures { RowsAreShown F.Given A F.Told }
 {}
 
 /// The firmware of a block answers all samples without interrupts, each within its bound of steps, and

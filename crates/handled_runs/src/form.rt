@@ -1,5 +1,6 @@
 // A firmware whose interrupts run code, as a form of runs.
-ghost use Rattle.std.specs.Prelude.{ℕ, ◌≡◌, ◌≤◌, List};
+ghost use Rattle.std.specs.Prelude.{ℕ, ◌≡◌, ◌≤◌, ◌<◌, List, Some, length, slice_get, sum, vec_len};
+ghost use Rattle.fz_run.specs.Rest.{counted_at, shown_by};
 ghost use Rattle.handled_runs.specs.Forms.{HandledSeen, code_harness};
 
 use crate::back::until_rti;
@@ -26,8 +27,18 @@ pub(crate) struct WithCode<'a> {
     ghost outputs: { firmware.now.outputs ≤ 4 },
 }
 
-impl<'a> RunForm<HandledRow> for WithCode<'a> {
+/// How many steps were told of in all.
+fn steps_in(told: &[u16]) -> u32
+    requires { length told.now ≤ 10000 }
+    ensures { result ≡ sum told.now }
+{
+    told.iter().map(|steps| u32::from(*steps)).sum()
+}
+
+impl<'a> RunForm<Request, u16, HandledRow> for WithCode<'a> {
     ghost Given = { List ℕ };
+
+    ghost Told = { ℕ };
 
     ghost Shown = { HandledSeen };
 
@@ -47,14 +58,27 @@ impl<'a> RunForm<HandledRow> for WithCode<'a> {
         is_idle(&self.firmware.layout, m)
     }
 
+    fn place(&self, request: &Request) -> (u32, u32) {
+        (request.sample, request.moment)
+    }
+
     fn take<M: Mem>(&self, m: &mut Machine<M>, request: &Request) -> (Frame, u16) {
         let frame = m.enter(request.writes.as_slice());
         let steps = until_rti(m, self.most);
         (frame, steps)
     }
 
-    fn row<M: Mem>(&self, m: &Machine<M>, k: usize, tally: Tally) -> HandledRow {
-        let handler = tally.handler;
+    fn row<M: Mem>(&self, m: &Machine<M>, k: usize, tally: Tally<u16>) -> HandledRow
+        requires sample { k < length (code_harness self.now.firmware.now self.now.most self.now.samples.now).samples }
+        requires few { vec_len tally.told ≤ 10000 }
+        ensures { (x : List ℕ)
+            → slice_get (code_harness self.now.firmware.now self.now.most self.now.samples.now).samples k ≡ Some x
+            → (code_harness self.now.firmware.now self.now.most self.now.samples.now).seen result
+            ≡ shown_by (code_harness self.now.firmware.now self.now.most self.now.samples.now).shows
+            (code_harness self.now.firmware.now self.now.most self.now.samples.now).parts.answers
+            (counted_at (code_harness self.now.firmware.now self.now.most self.now.samples.now).told tally m.now.state) x }
+    {
+        let handler = steps_in(tally.told.as_slice());
         let bytes = self.samples[k].bytes.as_slice();
         let row = row_of(bytes, answers(self.firmware, m), tally);
         HandledRow { row, handler }

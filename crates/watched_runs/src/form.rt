@@ -1,5 +1,6 @@
 //! A firmware with watched tables, as a form of runs.
-ghost use Rattle.std.specs.Prelude.{ℕ, ◌≡◌, ◌<◌, ◌≤◌, ◌+◌, List, Some, length, map, slice_get};
+ghost use Rattle.std.specs.Prelude.{ℕ, ◌≡◌, ◌<◌, ◌≤◌, ◌+◌, List, Some, length, map, slice_get, vec_len};
+ghost use Rattle.fz_run.specs.Rest.{counted_at, shown_by};
 ghost use Rattle.fz_run.specs.Rows.{input_bytes};
 ghost use Rattle.codegen.specs.Watched as tables;
 ghost use Rattle.watched_runs.specs.Rows.{FaultSeen, watched_harness};
@@ -59,8 +60,10 @@ fn number_of(samples: &[Sample], k: usize) -> usize
     k + 1
 }
 
-impl<'a> RunForm<WatchedRow> for WithUpsets<'a> {
+impl<'a> RunForm<Request, (), WatchedRow> for WithUpsets<'a> {
     ghost Given = { tables.Watched };
+
+    ghost Told = { Unit {0} };
 
     ghost Shown = { FaultSeen };
 
@@ -87,11 +90,24 @@ impl<'a> RunForm<WatchedRow> for WithUpsets<'a> {
         is_idle(&self.firmware.layout, m)
     }
 
-    fn take<M: Mem>(&self, m: &mut Machine<M>, request: &Request) -> (Frame, u16) {
-        (m.interrupt(request.writes.as_slice()), 0)
+    fn place(&self, request: &Request) -> (u32, u32) {
+        (request.sample, request.moment)
     }
 
-    fn row<M: Mem>(&self, m: &Machine<M>, k: usize, tally: Tally) -> WatchedRow {
+    fn take<M: Mem>(&self, m: &mut Machine<M>, request: &Request) -> (Frame, ()) {
+        (m.interrupt(request.writes.as_slice()), ())
+    }
+
+    fn row<M: Mem>(&self, m: &Machine<M>, k: usize, tally: Tally<()>) -> WatchedRow
+        requires sample { k < length (watched_harness self.now.firmware.now self.now.samples.now self.now.upsets.now).samples }
+        requires few { vec_len tally.told ≤ 10000 }
+        ensures { (x : tables.Watched)
+            → slice_get (watched_harness self.now.firmware.now self.now.samples.now self.now.upsets.now).samples k ≡ Some x
+            → (watched_harness self.now.firmware.now self.now.samples.now self.now.upsets.now).seen result
+            ≡ shown_by (watched_harness self.now.firmware.now self.now.samples.now self.now.upsets.now).shows
+            (watched_harness self.now.firmware.now self.now.samples.now self.now.upsets.now).parts.answers
+            (counted_at (watched_harness self.now.firmware.now self.now.samples.now self.now.upsets.now).told tally m.now.state) x }
+    {
         let answers = answers(self.firmware, m);
         WatchedRow {
             row: row_of(bytes_of(self.samples, k), answers, tally),
