@@ -4,6 +4,7 @@ use Rattle.cpu12_isa.specs.Memory.{plus}
 use Rattle.cpu12_parts.specs.State.{State}
 use Rattle.cpu12_emul.specs.declared.ends.RunEnd.{RunEnd}
 use Rattle.cpu12_emul.specs.declared.ends.RunEnd.TheVariants.{Arrived, Trap, Budget}
+use Rattle.cpu12_emul.specs.declared.ends.Stepped.TheVariants.{Plain}
 use Rattle.cpu12_emul.specs.Step.{Next, next_of}
 
 -- PC is at 20 FE
@@ -28,3 +29,9 @@ EndsRun flags n s (Trap pc byte) t =
 abbrev pub RunsEndOnce : Type 0
 RunsEndOnce =
     (flags n : ℕ) (s t u : State) (e f : RunEnd) → EndsRun flags n s e t → EndsRun flags n s f u → (e ≡ f) × (t ≡ u)
+
+-- n plain instructions lead from s to t, and P holds wherever one leads
+abbrev pub PlainlyTo : (State → Type 0) → ℕ → ℕ → State → State → Type 0
+PlainlyTo P flags zero s t = s ≡ t
+PlainlyTo P flags (suc n) s t =
+    (u : State) × ((next_of flags s ≡ Ok (record { state = u; kind = Plain })) × P u × PlainlyTo P flags n u t)

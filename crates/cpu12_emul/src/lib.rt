@@ -7,6 +7,7 @@
 //! takes memory.
 #![tactic(auto)]
 
+mod adding;
 pub mod ends;
 mod fetch;
 pub mod interrupt;

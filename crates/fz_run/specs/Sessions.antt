@@ -1,6 +1,7 @@
 -- What is to come of a sample's run, at a boundary of it.
-use Rattle.std.specs.Prelude.{◌≡◌, ◌≤◌, ◌<◌, ℕ, ◌+◌, ◌-◌, ◌^◌, not, Bool, false, if◌then◌else◌}
-use Rattle.std.specs.Prelude.{Result, Ok, Err, List, [], ◌∷◌, length, drop, vec_len, vec_capacity}
+use Rattle.std.specs.Prelude.{◌≡◌, ◌≤◌, ◌<◌, ℕ, ◌+◌, ◌-◌, ◌^◌, ◌==◌, ◌&&◌, not, Bool, false}
+use Rattle.std.specs.Prelude.{if◌then◌else◌, Result, Ok, Err, List, [], ◌∷◌, ◌++◌, length, drop}
+use Rattle.std.specs.Prelude.{vec_len, vec_capacity}
 use Rattle.cpu12_parts.specs.State.{State}
 use Rattle.cpu12_emul.specs.Step.{Next, next_of}
 use Rattle.run_law.specs.Forms.{is_part, one_if, run_from}
@@ -16,6 +17,9 @@ pub record Coming (B : Type 0) : Type 0 where
 
 abbrev pub after_state : {B : Type 0} → State → Coming B → Coming B
 after_state s c = record { brief = c.brief; states = s ∷ c.states }
+
+abbrev pub after_states : {B : Type 0} → List State → Coming B → Coming B
+after_states ss c = record { brief = c.brief; states = ss ++ c.states }
 
 -- at a boundary, before what is taken there
 abbrev pub before_takes : {A U R S B T : Type 0} → ℕ → Harness A U R S B T → List A → Stand U → State → Coming B
@@ -56,3 +60,20 @@ pub record IsSteady {A U : Type 0} (requests : List A) (st : Stand U) : Type 0 w
   pub instrs : st.tally.instrs ≤ st.tally.moment
   pub resumed : st.tally.resumed ≤ st.tally.moment + 1
   pub on : st.over ≡ false → (st.tally.arrived ≡ false) × (st.tally.moment + st.left + 1 < 2 ^ 32)
+
+-- a stand after n plain instructions at whose ends nothing is taken
+abbrev pub moved : {U : Type 0} → ℕ → Stand U → Stand U
+moved n st = record {
+  tally = record (st.tally) {
+    moment = st.tally.moment + n;
+    inside = (n == 0) && st.tally.inside;
+    instrs = st.tally.instrs + n;
+  };
+  left = st.left - n;
+  over = st.over;
+}
+
+-- no request is due at the n boundaries after boundary m
+abbrev pub NoneDue : {A : Type 0} → (A → ℕ) → ℕ → ℕ → List A → Type 0
+NoneDue moment m n [] = Unit {0}
+NoneDue moment m n (q ∷ qs) = 1 ≤ n → m + n < moment q

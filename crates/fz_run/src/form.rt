@@ -1,6 +1,7 @@
 //! Forms of firmware: what a run is given, and what serves its requests.
-ghost use Rattle.std.specs.Prelude.{ℕ, ◌≡◌, ◌<◌, ◌≤◌, Some, List, length, vec_len, slice_get, IsTrue};
+ghost use Rattle.std.specs.Prelude.{ℕ, ◌≡◌, ◌<◌, ◌≤◌, false, Some, List, length, vec_len, slice_get, IsTrue};
 ghost use Rattle.cpu12_parts.specs.Cuts.{suspended, wav};
+ghost use Rattle.cpu12_emul.specs.Run.{PlainlyTo};
 ghost use Rattle.cpu12_emul.specs.Take.{may_interrupt, frame_seen, frame_of};
 ghost use Rattle.run_law.specs.Forms.{RowSeen};
 ghost use Rattle.fz_run.specs.Forms.{Harness};
@@ -54,6 +55,13 @@ pub trait RunForm<A, U, R> {
     /// Whether a sample is over.
     fn ends<M: Mem>(&self, m: &Machine<M>) -> bool
         ensures { result ≡ (harness self.now).parts.ends m.now.state };
+
+    /// Does plain instructions at once, at most `most`, at whose ends the sample goes on. Answers how many.
+    fn plain_steps<M: Mem>(&self, m: &mut Machine<M>, most: u32) -> u32
+        ensures steps { PlainlyTo (λ s. (harness self.now).parts.ends s ≡ false) m.old.flags result m.old.state
+            m.new.state }
+        ensures most { result ≤ most }
+        ensures flags { m.new.flags ≡ m.old.flags };
 
     /// The sample of a request, counted from 1, and the moment in it from which on it is due.
     fn place(&self, request: &A) -> (u32, u32)
@@ -111,6 +119,11 @@ impl<'a> RunForm<Request, (), Row> for WithWrites<'a> {
 
     fn ends<M: Mem>(&self, m: &Machine<M>) -> bool {
         is_idle(&self.firmware.layout, m)
+    }
+
+    #[inline(always)]
+    fn plain_steps<M: Mem>(&self, _m: &mut Machine<M>, _most: u32) -> u32 {
+        0
     }
 
     fn place(&self, request: &Request) -> (u32, u32) {

@@ -19,6 +19,7 @@ pub mod alone;
 mod boundary;
 pub mod form;
 pub mod laws;
+mod plain;
 pub mod ports;
 mod progress;
 mod rows;

@@ -10,6 +10,7 @@ ghost use Rattle.fz_run.specs.Outlooks.{rows_here, sample_at, shown_run, state_h
 
 use crate::boundary::{Stand, come, pass};
 use crate::form::RunForm;
+use crate::plain::pass_plain;
 use crate::runs::count_of;
 use crate::sample::{Room, Tally};
 use cpu12_emul::machine::Machine;
@@ -235,7 +236,9 @@ pub(crate) fn drive<M: Mem, A, U: Drop, R, F: RunForm<A, U, R>>(
         ≡ (outlook_at m.old.flags (F.harness form.now) plan.now p.old m.old.state).state }
     ensures way { IsUnderWay (F.harness form.now) plan.now p.new }
 {
-    while advance(m, form, plan, p) {}
+    while advance(m, form, plan, p) {
+        pass_plain(m, form, &plan[p.first..p.behind], &mut p.stand);
+    }
 }
 
 /// All rows of a run whose last sample ends here, and is taken away.

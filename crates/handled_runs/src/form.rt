@@ -58,6 +58,11 @@ impl<'a> RunForm<Request, u16, HandledRow> for WithCode<'a> {
         is_idle(&self.firmware.layout, m)
     }
 
+    #[inline(always)]
+    fn plain_steps<M: Mem>(&self, _m: &mut Machine<M>, _most: u32) -> u32 {
+        0
+    }
+
     fn place(&self, request: &Request) -> (u32, u32) {
         (request.sample, request.moment)
     }

@@ -5,3 +5,4 @@ pub mod WatchedRows
 pub mod Places
 pub mod Samples
 pub mod Shown
+pub mod Busy

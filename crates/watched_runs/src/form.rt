@@ -90,6 +90,16 @@ impl<'a> RunForm<Request, (), WatchedRow> for WithUpsets<'a> {
         is_idle(&self.firmware.layout, m)
     }
 
+    #[inline(always)]
+    fn plain_steps<M: Mem>(&self, m: &mut Machine<M>, most: u32) -> u32 {
+        // The tables are added up while READY is not 0, and so before the sample is over.
+        let ready = m.peek(self.firmware.layout.ready);
+        if ready == 0 {
+            return 0;
+        }
+        m.add_up(most)
+    }
+
     fn place(&self, request: &Request) -> (u32, u32) {
         (request.sample, request.moment)
     }

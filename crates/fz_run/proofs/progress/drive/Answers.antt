@@ -1,31 +1,56 @@
-use Rattle.std.proofs.Common.{◌≡◌, ◌∙◌, ℕ, ap, ap₂, sym, subst}
-use Rattle.fz_run.specs.Outlooks.{Outlook, at_position, from_here, outlook_at, rows_here, state_here}
+use Rattle.std.proofs.Common.{◌≡◌, ◌∙◌, ℕ, ap, ap₂, sym}
+use Rattle.fz_run.specs.Outlooks.{Outlook, outlook_at, rows_here, state_here}
+use Rattle.fz_run.proofs.AtOnce.{passes_on}
 use Rattle.fz_run.proofs.progress.drive.Goals as goal
 
-pub loop-preserved : goal.loop-preserved
-loop-preserved g c =
+pub loop-m-preserved : goal.loop-m-preserved
+loop-m-preserved g c =
     let h = g.F.RunForm.harness c.args.form.now in
     let plan = c.args.plan.now in
-    let l = c.loop in
+    let l = c.loop-m in
     let n = c.advance.new in
-    let goes = subst (λ (k : ℕ). outlook_at k h plan l.p l.m.state
-    ≡ at_position (record { sample = l.p.number; moment = l.p.stand.tally.moment; state = l.m.state })
-    (from_here (outlook_at k h plan n.p n.m.state))) l.invariant.flags (c.advance.ensures.goes c.loop-test.true) in
+    let q = c.pass_plain.new in
+    let coming = c.pass_plain.ensures.coming in
+    let on = passes_on c.args.m.now.flags l.m.flags n.m.flags h plan l.p n.p q.st l.m.state n.m.state q.m.state _ coming.0
+    l.invariant.flags (c.advance.ensures.flags ∙ l.invariant.flags) (c.advance.ensures.goes c.loop-m-test.true) coming.1 in
+    let way = c.advance.ensures.way in
     record {
-      way = c.advance.ensures.way;
-      rows = sym (ap (λ (o : Outlook g.F.RunForm.Shown). o.rows) goes) ∙ l.invariant.rows;
-      state = sym (ap (λ (o : Outlook g.F.RunForm.Shown). o.state) goes) ∙ l.invariant.state;
-      flags = c.advance.ensures.flags ∙ l.invariant.flags;
+      way = record {
+        few = way.few;
+        number = way.number;
+        first = way.first;
+        behind = way.behind;
+        follow = way.follow;
+        rooms = way.rooms;
+        rows = way.rows;
+        room = way.room;
+        stand = c.pass_plain.ensures.steady;
+      };
+      rows = on.rows ∙ l.invariant.rows;
+      state = on.state ∙ l.invariant.state;
+      flags = c.pass_plain.ensures.flags ∙ c.advance.ensures.flags ∙ l.invariant.flags;
     }
+
+pub loop-m-smaller : goal.loop-m-smaller
+loop-m-smaller g c =
+    let h = g.F.RunForm.harness c.args.form.now in
+    let plan = c.args.plan.now in
+    let l = c.loop-m in
+    let n = c.advance.new in
+    let q = c.pass_plain.new in
+    let coming = c.pass_plain.ensures.coming in
+    let on = passes_on c.args.m.now.flags l.m.flags n.m.flags h plan l.p n.p q.st l.m.state n.m.state q.m.state _ coming.0
+    l.invariant.flags (c.advance.ensures.flags ∙ l.invariant.flags) (c.advance.ensures.goes c.loop-m-test.true) coming.1 in
+    on.less
 
 pub returns-clause-rows : goal.returns-clause-rows
 returns-clause-rows g c =
     let h = g.F.RunForm.harness c.args.form.now in
     let plan = c.args.plan.now in
-    let l = c.loop in
-    let same = c.advance.ensures.same c.loop-test.false in
+    let l = c.loop-m in
+    let same = c.advance.ensures.same c.loop-m-test.false in
     ap₂ (λ p m. rows_here h p m.state) same.0 same.1
-    ∙ sym (ap (λ (o : Outlook g.F.RunForm.Shown). o.rows) (c.advance.ensures.ends c.loop-test.false))
+    ∙ sym (ap (λ (o : Outlook g.F.RunForm.Shown). o.rows) (c.advance.ensures.ends c.loop-m-test.false))
     ∙ ap (λ (k : ℕ). (outlook_at k h plan l.p l.m.state).rows) l.invariant.flags
     ∙ l.invariant.rows
 
@@ -33,9 +58,9 @@ pub returns-clause-state : goal.returns-clause-state
 returns-clause-state g c =
     let h = g.F.RunForm.harness c.args.form.now in
     let plan = c.args.plan.now in
-    let l = c.loop in
-    let same = c.advance.ensures.same c.loop-test.false in
+    let l = c.loop-m in
+    let same = c.advance.ensures.same c.loop-m-test.false in
     ap₂ (λ p m. state_here h p m.state) same.0 same.1
-    ∙ sym (ap (λ (o : Outlook g.F.RunForm.Shown). o.state) (c.advance.ensures.ends c.loop-test.false))
+    ∙ sym (ap (λ (o : Outlook g.F.RunForm.Shown). o.state) (c.advance.ensures.ends c.loop-m-test.false))
     ∙ ap (λ (k : ℕ). (outlook_at k h plan l.p l.m.state).state) l.invariant.flags
     ∙ l.invariant.state

@@ -3,8 +3,8 @@ use Rattle.fz_run.specs.Outlooks.{outlook_at, IsUnderWay}
 use Rattle.fz_run.proofs.progress.drive.Given as goal
 
 -- the rows and the last state to come are those of the whole run
-abbrev pub invariant-loop : goal.invariant-loop
-invariant-loop g l = record {
+abbrev pub invariant-loop-m : goal.invariant-loop-m
+invariant-loop-m g l = record {
   way : IsUnderWay (g.F.RunForm.harness l.form) l.plan l.p;
   rows : (outlook_at l.fn.m.flags (g.F.RunForm.harness l.form) l.plan l.p l.m.state).rows
       ≡ (outlook_at l.fn.m.flags (g.F.RunForm.harness l.form) l.plan l.fn.p l.fn.m.state).rows;
@@ -13,5 +13,5 @@ invariant-loop g l = record {
   flags : l.m.flags ≡ l.fn.m.flags;
 }
 
-abbrev pub decreases-loop : goal.decreases-loop
-decreases-loop g l = length (outlook_at l.fn.m.flags (g.F.RunForm.harness l.form) l.plan l.p l.m.state).later
+abbrev pub decreases-loop-m : goal.decreases-loop-m
+decreases-loop-m g l = length (outlook_at l.fn.m.flags (g.F.RunForm.harness l.form) l.plan l.p l.m.state).later
