@@ -13,3 +13,5 @@ pub mod Entering
 pub mod Quiet
 pub mod Serving
 pub mod Existing
+pub mod Counting
+pub mod Writing

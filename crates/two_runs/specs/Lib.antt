@@ -1,4 +1,5 @@
 pub mod Runs
+pub mod Counts
 pub mod Steps
 pub mod Inside
 pub mod Outer

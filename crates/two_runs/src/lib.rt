@@ -6,6 +6,8 @@
 //! what it leaves, and [`outer_serves`] that an outer request is quiet as the law on runs asks.
 #![tactic(auto)]
 
+mod counts;
+mod fast;
 mod inside;
 pub mod laws;
 
