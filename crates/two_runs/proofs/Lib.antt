@@ -15,3 +15,5 @@ pub mod Serving
 pub mod Existing
 pub mod Counting
 pub mod Writing
+pub mod Ordering
+pub mod FastRows
