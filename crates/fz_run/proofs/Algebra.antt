@@ -1,9 +1,12 @@
--- What holds before each step of a run without interrupts, its steps one after another, and where SP stands.
-use Rattle.std.proofs.Common.{◌≡◌, ℕ, zero, suc, ◌+◌, ◌≤◌, ◌⊎◌, inl, inr, ap, ◌∙◌, subst, arith}
+-- What holds before each step of a run without interrupts, its steps one after another, where SP stands, and parts of what
+-- is shown.
+use Rattle.std.proofs.Common.{◌≡◌, ℕ, zero, suc, ◌+◌, ◌≤◌, ◌⊎◌, List, [], ◌∷◌, map, inl, inr, refl, ap, ◌∙◌, subst, arith}
 use Rattle.cpu12_parts.specs.State.{State}
+use Rattle.run_law.specs.Forms.{RowSeen}
 use Rattle.run_law.specs.Uninterrupted.{stepped, uninterrupted, counted}
 use Rattle.run_law.specs.Soundness.{Before}
 use Rattle.fz_run.specs.Facts.{IsStackOfOneCall}
+use Rattle.fz_run.specs.Rows.{shown_rows, tellings}
 
 pub before_at : (P : State → Type 0) (flags n m : ℕ) (s : State) → Before P flags n s → suc m ≤ n
     → P (uninterrupted flags m s)
@@ -34,3 +37,11 @@ before_add P flags (suc m) n s a b = let e : suc (m + n) ≡ suc m + n = omega a
 pub at_stack : (sp : ℕ) → (sp ≡ 0x1FFE) ⊎ (sp ≡ 0x2000) → IsStackOfOneCall sp
 at_stack sp (inl e) = inl (omega arith)
 at_stack sp (inr e) = inr e
+
+-- a part of what is shown of each row
+pub map-shown_rows : {S A B T C : Type 0} (part : T → C) (shows : RowSeen S → List B → T) (rows : List (RowSeen S)) (tss : List (List (A × B)))
+    → map part (shown_rows shows rows tss) ≡ shown_rows (λ row told. part (shows row told)) rows tss
+map-shown_rows part shows [] tss = refl
+map-shown_rows part shows (row ∷ rows) [] = refl
+map-shown_rows {C = C} part shows (row ∷ rows) (ts ∷ tss) =
+    ap (λ (cs : List C). part (shows row (tellings ts)) ∷ cs) (map-shown_rows part shows rows tss)
