@@ -17,3 +17,4 @@ pub mod Counting
 pub mod Writing
 pub mod Ordering
 pub mod FastRows
+pub mod SampleBytes

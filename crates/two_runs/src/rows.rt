@@ -49,7 +49,12 @@ pub fn run_two(
         wait: two.slow.layout.wait,
         most: two.slow.step_bound,
     };
-    let (rows, _memory): (Vec<TwoRow>, PageMem) =
-        run_form(alloc, &form, &start, levels.as_slice(), flags)?;
+    let (rows, _memory): (Vec<TwoRow>, PageMem) = run_form(
+        alloc,
+        &form,
+        &start,
+        levels.as_slice(),
+        flags,
+    )?;
     Ok(rows)
 }
