@@ -1,9 +1,14 @@
 -- What is seen of a fast run, by what was counted of it.
-use Rattle.std.proofs.Common.{◌≡◌, ℕ, zero, suc, ◌-◌, ◌<◌, ◌≤◌, Option, List, [], ◌∷◌, map, length, get_or, refl, ap, ap₂, sym, ◌∙◌, arith}
-use Rattle.std.specs.Prelude.{None, Some, slice_get}
+use Rattle.std.proofs.Common.{◌≡◌, ℕ, zero, suc, ◌-◌, ◌<◌, Option, List, [], ◌∷◌, map, length, get_or, ap, ap₂, sym, ◌∙◌, arith, Bor}
+use Rattle.std.specs.Prelude.{None, Some, MatchOption, slice_get}
+use Rattle.std.specs.Slice.{IsItemAt}
+use Rattle.std.proofs.lemmas.List.{length-map}
+use Rattle.std.proofs.lemmas.Option.{slice_get_past}
 use Rattle.cpu12_isa.specs.Memory.{from, bytes_at}
 use Rattle.cpu12_parts.specs.State.{State}
 use Rattle.run_law.specs.Forms.{Ran}
+use Rattle.trace_io.specs.declared.sample.Sample.{Sample}
+use Rattle.fz_run.specs.Rows.{input_bytes}
 use Rattle.two_level.specs.Layouts.{fast_layout}
 use Rattle.two_runs.specs.declared.counts.Counts.{Counts}
 use Rattle.two_runs.specs.Runs.{FastSeen, fast_run, seen_of}
@@ -34,9 +39,23 @@ seen_by_counts number outputs c s r answers e are =
     cc
 
 -- the sample of a number that is not 0
-pub sample_there : (fast : List (List ℕ)) (number : ℕ) → 0 < number → sample_of fast number ≡ slice_get fast (number - 1)
+sample_there : (fast : List (List ℕ)) (number : ℕ) → 0 < number → sample_of fast number ≡ slice_get fast (number - 1)
 sample_there fast zero some = absurd (omega arith)
 sample_there fast (suc j) some = ap (slice_get fast) (let e : j ≡ suc j - 1 = omega arith in e)
+
+bytes_there : (xs : List Sample) (k : ℕ) (v : Sample) → k < length xs → v ≡ get_or xs k v → slice_get (map input_bytes xs) k ≡ Some (input_bytes v)
+bytes_there [] k v l e = absurd (omega arith)
+bytes_there (y ∷ ys) zero v l e = ap (λ (x : Sample). Some (input_bytes x)) (sym e)
+bytes_there (y ∷ ys) (suc k) v l e = bytes_there ys k v (omega arith) e
+
+pub sample_got : (samples : List Sample) (number : ℕ) (r : Option (Bor Sample)) → 0 < number → IsItemAt samples (number - 1) r
+    → MatchOption r (sample_of (map input_bytes samples) number ≡ None) (λ s. sample_of (map input_bytes samples) number ≡ Some (input_bytes s.now))
+sample_got samples number None some got =
+    let count = length-map samples input_bytes in
+    let past = got.3 in
+    sample_there (map input_bytes samples) number some ∙ slice_get_past (map input_bytes samples) (number - 1) (omega (arith, count, past))
+sample_got samples number (Some s) some got =
+    sample_there (map input_bytes samples) number some ∙ bytes_there samples (number - 1) s.now got.3.0 (got.3.1 s.now)
 
 -- a run by equal parts
 pub same_run : (outputs k k2 most most2 : ℕ) (inner : List ℕ) (u u2 : State) (x : Counted) → x ≡ counted (fast_run k outputs most inner u)

@@ -1,5 +1,5 @@
 -- The rows of the code at two levels, and the form of which they are.
-use Rattle.std.specs.Prelude.{Option, None, Some, List, map}
+use Rattle.std.specs.Prelude.{ℕ, Option, None, Some, List, map}
 use Rattle.interrupt_plan.specs.declared.levels.Level.{Level}
 use Rattle.trace_io.specs.declared.sample.Sample.{Sample}
 use Rattle.fz_run.specs.Forms.{Harness}

@@ -1,5 +1,6 @@
 // A slow firmware with a fast block beside it, as a form of runs.
-ghost use Rattle.std.specs.Prelude.{ℕ, ◌≤◌, List, Option};
+ghost use Rattle.std.specs.Prelude.{ℕ, ◌≡◌, ◌≤◌, ◌<◌, List, Option, Some, length, slice_get, vec_len};
+ghost use Rattle.fz_run.specs.Rest.{counted_at, shown_by};
 ghost use Rattle.two_runs.specs.Runs.{FastSeen};
 ghost use Rattle.two_runs.specs.Rows.{TwoSeen};
 ghost use Rattle.two_runs.specs.Harness.{level_harness};
@@ -61,7 +62,16 @@ impl<'a> RunForm<Level, Option<FastRow>, TwoRow> for WithLevels<'a> {
         serve(m, self.two, self.fast, level)
     }
 
-    fn row<M: Mem>(&self, m: &Machine<M>, k: usize, tally: Tally<Option<FastRow>>) -> TwoRow {
+    fn row<M: Mem>(&self, m: &Machine<M>, k: usize, tally: Tally<Option<FastRow>>) -> TwoRow
+        requires sample { k < length (level_harness self.now.two.now self.now.slow.now self.now.fast.now).samples }
+        requires few { vec_len tally.told ≤ 10000 }
+        ensures { (x : List ℕ)
+            → slice_get (level_harness self.now.two.now self.now.slow.now self.now.fast.now).samples k ≡ Some x
+            → (level_harness self.now.two.now self.now.slow.now self.now.fast.now).seen result
+            ≡ shown_by (level_harness self.now.two.now self.now.slow.now self.now.fast.now).shows
+            (level_harness self.now.two.now self.now.slow.now self.now.fast.now).parts.answers
+            (counted_at (level_harness self.now.two.now self.now.slow.now self.now.fast.now).told tally m.now.state) x }
+    {
         let row = Row {
             bytes: copy_of(self.slow[k].bytes.as_slice()),
             answers: answers(&self.two.slow, m),

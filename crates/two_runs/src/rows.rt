@@ -25,9 +25,10 @@ pub struct TwoRow {
     pub fast: Vec<Option<FastRow>>,
 }
 
-/// Runs a slow firmware over a trace, where the interrupts of levels run the fast block over samples of its own, which
-/// inner interrupts interrupt in turn. Answers a row for each slow sample. Bits of `flags` give the flags that the CPU12
-/// Reference Manual leaves undefined. All memory is taken before the first step, and want of it is the one error.
+/// Runs a slow firmware over a trace, where the interrupts of levels run the fast block over samples of its
+/// own, which inner interrupts interrupt in turn. Answers a row for each slow sample. Bits of `flags` give
+/// the flags that the CPU12 Reference Manual leaves undefined. All memory is taken before the first step,
+/// and want of it is the one error.
 pub fn run_two(
     alloc: Global,
     two: &Two,
