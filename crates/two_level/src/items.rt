@@ -19,7 +19,7 @@ const LOWERED: u16 = 0x8000;
 const RAISED: u16 = 0x0400;
 
 /// Where the fast block stands. Its code begins with the instruction of two bytes that lets interrupts in.
-fn fast_layout() -> Layout
+pub fn fast_layout() -> Layout
     ensures { result ≡ fast_layout }
 {
     let main = Layout::MAIN;

@@ -12,5 +12,6 @@ mod items;
 pub mod laws;
 mod two;
 
+pub use items::fast_layout;
 pub use laws::{fast_answers_entered, two_stand_beside};
 pub use two::{Two, TwoFault, compile_two};

@@ -46,8 +46,22 @@ impl Two {
     pub fn fast_bound(&self) -> u32
         ensures { result ≡ fast_most self.now.fast.instr_bound }
     {
-        self.fast.instr_bound.saturating_sub(4)
+        fast_most(self.fast.instr_bound)
     }
+
+    /// The most steps that the fast code takes, its return counted.
+    pub fn fast_step_bound(&self) -> u32
+        ensures { result ≡ fast_most self.now.fast.step_bound }
+    {
+        fast_most(self.fast.step_bound)
+    }
+}
+
+/// How many instructions or steps the fast code takes at most, by the bound of its block alone.
+fn fast_most(bound: u32) -> u32
+    ensures { result ≡ fast_most bound }
+{
+    bound.saturating_sub(4)
 }
 
 /// The firmware of a slow block with a fast block that runs inside its interrupts. It is refused where

@@ -14,3 +14,8 @@ pub mod Quiet
 pub mod Serving
 pub mod Existing
 pub mod Servable
+pub mod Counting
+pub mod Writing
+pub mod Ordering
+pub mod FastRows
+pub mod SampleBytes

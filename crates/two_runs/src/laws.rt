@@ -1,6 +1,7 @@
 // Laws of runs at two levels.
 ghost use Rattle.two_runs.specs.Steps.{FastRunsExist, FastStepsReturn};
 ghost use Rattle.two_runs.specs.Inside.{FastRunsFollow};
+ghost use Rattle.two_runs.specs.Order.{LevelsAreInOrder};
 ghost use Rattle.two_runs.specs.Outer.{OuterEnters, OuterIsServable, OuterIsQuiet, OuterServes};
 
 use crate::inside::InsideForm;
@@ -99,3 +100,8 @@ pub fn outer_serves()
     writes_are_quiet();
     outer_is_quiet();
 }
+
+/// Good levels are requests in order.
+pub fn levels_are_in_order()
+    ensures { LevelsAreInOrder }
+{}

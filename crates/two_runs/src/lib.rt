@@ -7,10 +7,18 @@
 //! is quiet as the law on runs asks.
 #![tactic(auto)]
 
+mod counts;
+mod fast;
+mod form;
 mod inside;
 pub mod laws;
+mod rows;
+mod serve;
 
+pub use counts::InnerFrame;
 pub use laws::{
     fast_runs_exist, fast_runs_follow, fast_steps_return, outer_enters, outer_is_quiet,
     outer_is_servable, outer_serves,
 };
+pub use rows::{TwoRow, run_two};
+pub use serve::FastRow;

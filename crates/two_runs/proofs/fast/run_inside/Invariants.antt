@@ -1,0 +1,21 @@
+use Rattle.std.proofs.Common.{◌≡◌, ℕ, ◌≤◌, ◌+◌, ◌-◌, length}
+use Rattle.arrayvec.specs.ArrayVec.{array_vec_len}
+use Rattle.run_law.specs.Forms.{one_if}
+use Rattle.two_runs.specs.Runs.{fast_form, fast_run}
+use Rattle.two_runs.specs.Counts.{counted, past_of}
+use Rattle.two_runs.proofs.fast.run_inside.Given as goal
+
+-- what is left of the run leads to the same as all of it
+abbrev pub invariant-loop-counts : goal.invariant-loop-counts
+invariant-loop-counts g l = record {
+  rest : (outputs : ℕ) → past_of (fast_form l.fn.m.flags outputs l.entered) l.most l.moments l.counts l.m.state
+      ≡ counted (fast_run l.fn.m.flags outputs l.most l.moments l.fn.m.state);
+  frames : array_vec_len l.counts.frames ≤ length l.moments;
+  instrs : l.counts.instrs ≤ l.counts.steps;
+  resumed : l.counts.resumed + one_if l.counts.inside ≤ l.counts.steps;
+  most : l.counts.steps ≤ l.most;
+  flags : l.m.flags ≡ l.fn.m.flags;
+}
+
+abbrev pub decreases-loop-counts : goal.decreases-loop-counts
+decreases-loop-counts g l = l.most - l.counts.steps + (length l.moments - array_vec_len l.counts.frames)

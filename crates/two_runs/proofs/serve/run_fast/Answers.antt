@@ -1,0 +1,31 @@
+use Rattle.std.proofs.Common.{◌≡◌, ◌∙◌, ap}
+use Rattle.std.specs.Prelude.{Some}
+use Rattle.cpu12_parts.specs.Cuts.{suspended, wav}
+use Rattle.two_level.specs.Images.{fast_most}
+use Rattle.two_runs.specs.Runs.{FastSeen, fast_run, entered}
+use Rattle.two_runs.specs.Counts.{Counted, counted, counted_at}
+use Rattle.two_runs.proofs.FastRows.{same_run, seen_by_counts}
+use Rattle.two_runs.proofs.serve.run_fast.Goals as goal
+
+pub returns-clause-state : goal.returns-clause-state
+returns-clause-state g c =
+    let a = c.args in
+    let f = a.two.now.fast in
+    let n = c.enter-frame.new.m in
+    ap (λ (k : Counted). k.state)
+    (same_run f.outputs n.flags a.m.now.flags c.fast_step_bound.result (fast_most f.step_bound) a.moments.now n.state (entered a.bytes.now (suspended wav a.m.now.state))
+    (counted_at c.run_inside-counts.result c.run_inside-counts.new.m.state) (c.run_inside-counts.ensures.counted f.outputs) c.enter-frame.ensures.flags
+    c.fast_step_bound.ensures c.enter-frame.ensures.state)
+
+pub returns-clause-row : goal.returns-clause-row
+returns-clause-row g c =
+    let a = c.args in
+    let f = a.two.now.fast in
+    let n = c.enter-frame.new.m in
+    let v = entered a.bytes.now (suspended wav a.m.now.state) in
+    ap (λ (x : FastSeen). Some x)
+    (seen_by_counts a.number f.outputs c.run_inside-counts.result c.run_inside-counts.new.m.state (fast_run a.m.now.flags f.outputs (fast_most f.step_bound) a.moments.now v)
+    c.answers.result.items
+    (same_run f.outputs n.flags a.m.now.flags c.fast_step_bound.result (fast_most f.step_bound) a.moments.now n.state v
+    (counted_at c.run_inside-counts.result c.run_inside-counts.new.m.state) (c.run_inside-counts.ensures.counted f.outputs) c.enter-frame.ensures.flags
+    c.fast_step_bound.ensures c.enter-frame.ensures.state) c.answers.ensures)

@@ -1,0 +1,88 @@
+// A slow firmware with a fast block beside it, as a form of runs.
+ghost use Rattle.std.specs.Prelude.{ℕ, ◌≡◌, ◌≤◌, ◌<◌, List, Option, Some, length, slice_get, vec_len};
+ghost use Rattle.fz_run.specs.Rest.{counted_at, shown_by};
+ghost use Rattle.two_runs.specs.Runs.{FastSeen};
+ghost use Rattle.two_runs.specs.Rows.{TwoSeen};
+ghost use Rattle.two_runs.specs.Harness.{level_harness};
+
+use crate::rows::TwoRow;
+use crate::serve::{FastRow, serve};
+use cpu12_emul::ends::Frame;
+use cpu12_emul::machine::Machine;
+use cpu12_isa::mem::Mem;
+use fz_list::List as Items;
+use fz_run::form::RunForm;
+use fz_run::ports::{answers, copy_of, give, is_idle};
+use fz_run::{Row, Tally};
+use interrupt_plan::Level;
+use trace_io::Sample;
+use two_level::Two;
+
+/// A slow firmware with a fast block that runs inside its interrupts, with a trace of each.
+#[derive(Drop)]
+pub(crate) struct WithLevels<'a> {
+    /// Both, of at most four outputs each.
+    pub(crate) two: &'a Two,
+    /// The slow trace.
+    pub(crate) slow: &'a [Sample],
+    /// The fast trace.
+    pub(crate) fast: &'a [Sample],
+    ghost slow_outputs: { two.now.slow.outputs ≤ 4 },
+    ghost fast_outputs: { two.now.fast.outputs ≤ 4 },
+}
+
+impl<'a> RunForm<Level, Option<FastRow>, TwoRow> for WithLevels<'a> {
+    ghost Given = { List ℕ };
+
+    ghost Told = { Option FastSeen };
+
+    ghost Shown = { TwoSeen };
+
+    ghost harness = { λ x. level_harness x.two.now x.slow.now x.fast.now };
+
+    fn count(&self) -> usize {
+        self.slow.len()
+    }
+
+    fn give<M: Mem>(&self, m: &mut Machine<M>, k: usize) {
+        give(&self.two.slow.layout, m, self.slow[k].bytes.as_slice());
+    }
+
+    fn leave<M: Mem>(&self, _m: &mut Machine<M>, _k: usize) {}
+
+    fn ends<M: Mem>(&self, m: &Machine<M>) -> bool {
+        is_idle(&self.two.slow.layout, m)
+    }
+
+    fn place(&self, level: &Level) -> (u32, u32) {
+        (level.sample, level.moment)
+    }
+
+    fn take<M: Mem>(&self, m: &mut Machine<M>, level: &Level) -> (Frame, Option<FastRow>) {
+        serve(m, self.two, self.fast, level)
+    }
+
+    fn row<M: Mem>(&self, m: &Machine<M>, k: usize, tally: Tally<Option<FastRow>>) -> TwoRow
+        requires sample { k < length (level_harness self.now.two.now self.now.slow.now self.now.fast.now).samples }
+        requires few { vec_len tally.told ≤ 10000 }
+        ensures { (x : List ℕ)
+            → slice_get (level_harness self.now.two.now self.now.slow.now self.now.fast.now).samples k ≡ Some x
+            → (level_harness self.now.two.now self.now.slow.now self.now.fast.now).seen result
+            ≡ shown_by (level_harness self.now.two.now self.now.slow.now self.now.fast.now).shows
+            (level_harness self.now.two.now self.now.slow.now self.now.fast.now).parts.answers
+            (counted_at (level_harness self.now.two.now self.now.slow.now self.now.fast.now).told tally m.now.state) x }
+    {
+        let row = Row {
+            bytes: copy_of(self.slow[k].bytes.as_slice()),
+            answers: answers(&self.two.slow, m),
+            instrs: tally.instrs,
+            steps: tally.moment,
+            resumed: tally.resumed,
+            frames: Items::new(tally.frames),
+        };
+        TwoRow {
+            row,
+            fast: tally.told,
+        }
+    }
+}

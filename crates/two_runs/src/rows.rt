@@ -1,0 +1,61 @@
+//! The rows of a slow firmware with fast runs inside its interrupts.
+ghost use Rattle.std.specs.Prelude.{◌≡◌, ◌≤◌, map, length, IfOk};
+ghost use Rattle.interrupt_plan.specs.Levels.{AreGoodLevels};
+ghost use Rattle.fz_run.specs.Rows.{input_bytes};
+ghost use Rattle.two_runs.specs.Rows.{two_seen};
+ghost use Rattle.two_runs.specs.Harness.{row_seen};
+
+use crate::form::WithLevels;
+use crate::laws::levels_are_in_order;
+use crate::serve::FastRow;
+use cpu12_isa::pages::PageMem;
+use fz_list::Memory;
+use fz_run::{Row, Start, run_form};
+use interrupt_plan::Levels;
+use std::alloc::Global;
+use trace_io::Sample;
+use two_level::Two;
+
+/// What the run of a slow sample gave, and the fast runs in its interrupts.
+#[derive(Drop)]
+pub struct TwoRow {
+    /// The slow firmware's row.
+    pub row: Row,
+    /// Of each interrupt in turn its fast run, if it had one.
+    pub fast: Vec<Option<FastRow>>,
+}
+
+/// Runs a slow firmware over a trace, where the interrupts of levels run the fast block over samples of its
+/// own, which inner interrupts interrupt in turn. Answers a row for each slow sample. Bits of `flags` give
+/// the flags that the CPU12 Reference Manual leaves undefined. All memory is taken before the first step,
+/// and want of it is the one error.
+pub fn run_two(
+    alloc: Global,
+    two: &Two,
+    slow: &[Sample],
+    fast: &[Sample],
+    levels: &Levels,
+    flags: u8,
+) -> Result<Vec<TwoRow>, Memory>
+    requires slow_outputs { two.now.slow.outputs ≤ 4 }
+    requires fast_outputs { two.now.fast.outputs ≤ 4 }
+    requires levels { AreGoodLevels (length fast.now) levels.now }
+    ensures rows { IfOk result (λ rows. map row_seen rows.items
+        ≡ two_seen two.now (map input_bytes slow.now) (map input_bytes fast.now) levels.now flags) }
+{
+    levels_are_in_order();
+    let form = WithLevels { two, slow, fast };
+    let start = Start {
+        image: &two.image,
+        wait: two.slow.layout.wait,
+        most: two.slow.step_bound,
+    };
+    let (rows, _memory): (Vec<TwoRow>, PageMem) = run_form(
+        alloc,
+        &form,
+        &start,
+        levels.as_slice(),
+        flags,
+    )?;
+    Ok(rows)
+}
