@@ -1,9 +1,17 @@
--- What holds before each step of a run without interrupts, its steps one after another, and where SP stands.
-use Rattle.std.proofs.Common.{◌≡◌, ℕ, zero, suc, ◌+◌, ◌≤◌, ◌⊎◌, inl, inr, ap, ◌∙◌, subst, arith}
+-- What holds before each step of a run without interrupts, its steps one after another, where SP stands, when requests
+-- are taken where I is 0 throughout, and where a run begins beside open bytes.
+use Rattle.std.proofs.Common.{◌≡◌, ℕ, zero, suc, ◌-◌, ◌+◌, ◌≤◌, ◌⊎◌, inl, inr, true, Bool, nat_le, nat_lt, List, refl, ap, ◌∙◌, subst, arith}
+use Rattle.std.specs.Prelude.{◌&&◌}
+use Rattle.std.proofs.lemmas.Bool.{or_parts}
 use Rattle.cpu12_parts.specs.State.{State}
-use Rattle.run_law.specs.Uninterrupted.{stepped, uninterrupted, counted}
+use Rattle.cpu12_emul.specs.Simulation.{Same}
+use Rattle.cpu12_emul.specs.Take.{may_interrupt}
+use Rattle.codegen.specs.declared.firmware.Firmware.{Firmware}
+use Rattle.run_law.specs.Uninterrupted.{stepped, uninterrupted, counted, first_open, taken_at}
 use Rattle.run_law.specs.Soundness.{Before}
+use Rattle.fz_run.specs.Answering.{FirstAlike}
 use Rattle.fz_run.specs.Facts.{IsStackOfOneCall}
+use Rattle.fz_run.specs.Rows.{first_state}
 
 pub before_at : (P : State → Type 0) (flags n m : ℕ) (s : State) → Before P flags n s → suc m ≤ n
     → P (uninterrupted flags m s)
@@ -34,3 +42,33 @@ before_add P flags (suc m) n s a b = let e : suc (m + n) ≡ suc m + n = omega a
 pub at_stack : (sp : ℕ) → (sp ≡ 0x1FFE) ⊎ (sp ≡ 0x2000) → IsStackOfOneCall sp
 at_stack sp (inl e) = inl (omega arith)
 at_stack sp (inr e) = inr e
+
+-- where I is 0 throughout a request is taken at its moment
+at_once : (flags : ℕ) (s : State) (k m : ℕ)
+    → ((j : ℕ) → suc j ≤ m + k → may_interrupt (uninterrupted flags j s) ≡ true) → first_open flags s k m ≡ m
+at_once flags s zero m h = refl
+at_once flags s (suc k) m h = let e = h m (omega arith) in rw e refl
+
+pub taken_is : {A : Type 0} (flags : ℕ) (moment : A → ℕ) (n : ℕ) (s : State)
+    → ((j : ℕ) → suc j ≤ n → may_interrupt (uninterrupted flags j s) ≡ true) → taken_at flags moment n s ≡ moment
+taken_is {A} flags moment n s h = λ i. λ q. at q (within (moment q)) i
+  where
+    within : (a : ℕ) → (n - a ≡ 0) ⊎ (n - a + a ≡ n)
+    within a = grind arith
+
+    at : (q : A) → (n - moment q ≡ 0) ⊎ (n - moment q + moment q ≡ n) → taken_at flags moment n s q ≡ moment q
+    at q (inl e) = ap (λ (k : ℕ). first_open flags s k (moment q)) e
+    at q (inr e) = at_once flags s (n - moment q) (moment q) (λ j l. h j (omega arith))
+
+-- the first state beside open bytes is the same but for what is hidden
+pub first_same : (open_to : ℕ → Bool) (f : Firmware) (flags : ℕ) (mem : List ℕ) (w : State)
+    → FirstAlike open_to f flags mem w → Same open_to w (first_state f flags)
+first_same open_to f flags mem w h = record {
+  regs = h.regs;
+  temps = h.temps;
+  mem = (let a = h.bytes in record {
+    size = a.size;
+    bytes = λ at shown. a.bytes at
+        (or_parts (open_to at) (nat_le 0x1FE0 at && nat_lt at (first_state f flags).regs.sp) shown).0;
+  });
+}

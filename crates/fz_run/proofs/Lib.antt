@@ -18,3 +18,4 @@ pub mod StandAlone
 pub mod UsedLaws
 pub mod Comings
 pub mod Outlooks
+pub mod OpenBytes

@@ -111,14 +111,7 @@ joint_has holds firmware handler w =
           a.1 at (omega arith) ∙ ap byte_or_zero (behind_vector firmware handler at (λ z. omega arith) (λ z. omega arith) ∙ ap (λ (o : Option ℕ). or_else o (byte_at firmware at)) e));
     }
 
--- the first state is that of the firmware alone but for what is open, and the handler stands there
-pub first_same : (f : Firmware) (flags : ℕ) (mem : List ℕ) (w : State) → FirstAlike is_open_to_code f flags mem w → Same is_open_to_code w (first_state f flags)
-first_same f flags mem w h = record {
-  regs = h.regs;
-  temps = h.temps;
-  mem = (let a = h.bytes in record { size = a.size; bytes = λ at shown. a.bytes at (or_parts (is_open_to_code at) (nat_le 0x1FE0 at && nat_lt at (first_state f flags).regs.sp) shown).0 });
-}
-
+-- the handler stands in the first state
 pub first_stands : (f : Firmware) (flags : ℕ) (handler : List (ℕ × ℕ)) (most : ℕ) (mem : List ℕ) (w : State) → IsWhole handler → FirstAlike is_open_to_code f flags mem w
     → HasImage handler mem → HandlerStands handler most [] w
 first_stands f flags handler most mem w whole h has = record {

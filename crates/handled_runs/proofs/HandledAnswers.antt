@@ -25,13 +25,14 @@ use Rattle.fz_run.specs.Facts.{FactsBeside}
 use Rattle.fz_run.specs.Following.{RunsFollowBeside}
 use Rattle.fz_run.specs.Given.{RequestsAreGood}
 use Rattle.fz_run.specs.Answering.{FirmwareRunsBeside, FirstAlike, FirstStatesAlike}
+use Rattle.fz_run.proofs.Algebra.{first_same}
 use Rattle.handled_runs.specs.Open.{is_open_to_code}
 use Rattle.handled_runs.specs.Joint.{joint_memory}
 use Rattle.handled_runs.specs.declared.rows.HandledRow as declared
 use Rattle.handled_runs.specs.Forms.{code_parts, with_code, first_handled, handled_rows, HandledSeen, with_steps, row_seen, handled_seen}
 use Rattle.handled_runs.specs.Answering.{AreShort, HandledAnswers, HandlesItsBlock}
 use Rattle.handled_runs.specs.SoundHandled.{CodeLaws, Handled, HandlerStands, opens_free}
-use Rattle.handled_runs.proofs.Beginnings.{code_leaves, joint_agrees, joint_has, first_same, first_stands}
+use Rattle.handled_runs.proofs.Beginnings.{code_leaves, joint_agrees, joint_has, first_stands}
 
 -- samples of at most eight bytes
 abbrev AreFew : List (List ℕ) → Type 0
@@ -116,7 +117,7 @@ handled_answers laws b f handler most flags samples plan hf good is v limits h a
     let asks : ℕ → List Request = λ k. requests_of k plan in
     let P = FactsBeside is_open_to_code flags f in
     let code = laws.runs_follow x asks (laws.requests_are_good plan good) [] 1 f.step_bound ns samples w s runs.within
-    (complete P flags f most ns samples s few runs.complete) (first_same f flags mem w alike) stands in
+    (complete P flags f most ns samples s few runs.complete) (first_same is_open_to_code f flags mem w alike) stands in
     let listed = laws.runs_follow_beside is_open_to_code flags f opens_free runs.low asks (laws.requests_are_good plan good) [] 1 f.step_bound ns samples s s runs.within
     runs.complete (record { regs = refl; temps = refl; mem = agree_self (is_hidden is_open_to_code s.regs.sp) s.mem }) tt in
     let own = code.own in

@@ -13,3 +13,14 @@ pub mod Entering
 pub mod Quiet
 pub mod Serving
 pub mod Existing
+pub mod Frames
+pub mod Standing
+pub mod Telling
+pub mod LevelServing
+pub mod LevelSound
+pub mod Fitting
+pub mod LevelPlans
+pub mod LevelRows
+pub mod FastRuns
+pub mod Arriving
+pub mod LevelAnswers

@@ -2,3 +2,6 @@ pub mod Runs
 pub mod Steps
 pub mod Inside
 pub mod Outer
+pub mod Rows
+pub mod Answering
+pub mod Levels
