@@ -5,7 +5,6 @@ use Rattle.fuzzy_meaning.specs.Blocks.{IsValid}
 use Rattle.rule_layout.specs.Slots.{slots_of}
 use Rattle.rule_layout.specs.Layouts.{IsWithinLimits}
 use Rattle.cpu12_isa.specs.Code.{six_from}
-use Rattle.cpu12_isa.specs.Flags.{has, interrupts_masked}
 use Rattle.cpu12_parts.specs.State.{State}
 use Rattle.cpu12_parts.specs.Touching.{IsIn, IsInOne, Each, IsInstructionOver, IsBetween}
 use Rattle.cpu12_parts.specs.Executions.{Execution, all_steps}
@@ -13,6 +12,7 @@ use Rattle.codegen.specs.declared.layout.Layout.{Layout}
 use Rattle.codegen.specs.declared.width.Width.{Width}
 use Rattle.codegen.specs.Widths.{places, bytes_of, answer}
 use Rattle.codegen.specs.Bounds.{instruction_bound, step_bound}
+use Rattle.codegen.specs.Masks.{interrupt_masks}
 use Rattle.codegen.specs.Code.{code_bytes, eval_code}
 use Rattle.codegen.specs.Data.{table_bytes, singleton_bytes, weight_bytes, rule_bytes}
 use Rattle.codegen.specs.Images.{IsApart}
@@ -30,13 +30,13 @@ Reads l =
     IsInOne ((l.inputs, 8) ∷ (l.slots, 300) ∷ (l.tables, 480) ∷ (l.singletons, 60) ∷ (l.weights, 512) ∷ (l.rules, 9984)
     ∷ [])
 
--- a whole instruction of EVAL: it stands in EVAL's code, touches what is owned alone, and leaves SP and I
+-- a whole instruction of EVAL: it stands in EVAL's code, touches what is owned alone, and leaves SP, I and X
 pub record IsEvalStep (l : Layout) (flags d : ℕ) (s t : State) : Type 0 where
   pub between : IsBetween s
   pub code : Each (IsIn (code_region l)) (six_from s.regs.pc)
   pub instruction : IsInstructionOver (Reads l) (Writes l) flags d s t
   pub stack : t.regs.sp ≡ s.regs.sp
-  pub mask : has t.regs.ccr interrupts_masked ≡ has s.regs.ccr interrupts_masked
+  pub masks : interrupt_masks t.regs.ccr ≡ interrupt_masks s.regs.ccr
 
 abbrev pub eval_bytes : Layout → Block → Width → List ℕ
 eval_bytes l b w = code_bytes (eval_code l b w)

@@ -6,6 +6,7 @@ pub mod Images
 pub mod Bounds
 pub mod Firmwares
 pub mod Firing
+pub mod Masks
 pub mod Evaluation
 pub mod Placed
 pub mod Interruptible

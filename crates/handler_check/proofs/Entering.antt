@@ -112,7 +112,12 @@ begins : PushesRunning → PushesNone → HidesPushed → (s : State) → CanEnt
 begins running none pushed s k = cases s.temps refl
   where
     same : IsOff s.temps → s.regs ≡ below_sums s.regs s.temps → Begins is_free (suspended wav s) s
-    same off e = subst (λ (v : State). Begins is_free v s) (sym (none s off)) (record { temps = off; regs = e; mem = agree_self (is_hidden is_free s.regs.sp) s.mem })
+    same off e = subst (λ (v : State). Begins is_free v s) (sym (none s off)) (record {
+      temps = off;
+      free = λ f. f;
+      regs = e;
+      mem = agree_self (is_hidden is_free s.regs.sp) s.mem;
+    })
 
     cases : (t : Temps) → s.temps ≡ t → Begins is_free (suspended wav s) s
     cases Free e = same (inl e) (ap (below_sums s.regs) (sym e))
@@ -122,9 +127,13 @@ begins running none pushed s k = cases s.temps refl
         let sp : s.regs.sp - 6 ≡ plus s.regs.sp 65530 = (let high = k.high in omega arith) in
         subst (λ (v : State). Begins is_free v s) (sym (running s p w e)) (record {
           temps = inr refl;
+          free = λ f. absurd (never f);
           regs = ap (below_sums s.regs) (sym e);
           mem = subst (λ (n : ℕ). Agree (is_hidden is_free s.regs.sp) (write_all (placed n (sum_bytes p w)) s.mem) s.mem) sp (pushed is_free s.regs.sp 6 (sum_bytes p w) s.mem k.high refl (omega arith));
         })
+      where
+        never : s.temps ≡ Free → ⊥
+        never f = (let r : s.temps ≡ Running p w = e in cc)
 
 pub handlers_run_as_takes : AcceptedIsTake → PushesRunning → PushesNone → HidesPushed → HandlersRunAsTakes
 handlers_run_as_takes law running none pushed image instrs k flags ws s free h can =

@@ -9,7 +9,7 @@ use Rattle.cpu12_isa.specs.Agreement.{Agree}
 use Rattle.cpu12_isa.specs.Regions.{stack_start, stack_end, is_hidden, LeavesStack}
 use Rattle.cpu12_isa.proofs.Algebra.{agree_with, read_placed, same_bytes}
 use Rattle.cpu12_parts.specs.declared.temps.Temps.{Temps}
-use Rattle.cpu12_parts.specs.declared.temps.Temps.TheVariants.{Running}
+use Rattle.cpu12_parts.specs.declared.temps.Temps.TheVariants.{Free, Running}
 use Rattle.cpu12_parts.specs.State.{State}
 use Rattle.cpu12_parts.specs.Sums.{sum_bytes}
 use Rattle.cpu12_parts.specs.Cuts.{suspended, wav}
@@ -33,6 +33,10 @@ left_off t u v (inr e) l = subst (λ (x : Temps). AreLeft x u v) e l
 
 off_as : (t u : Temps) → t ≡ u → IsOff u → IsOff t
 off_as t u e off = subst (λ (x : Temps). IsOff x) (sym e) off
+
+-- where sums run they are not none
+running_differs : (t : Temps) (p q : ℕ) → t ≡ Running p q → t ≡ Free → ⊥
+running_differs t p q r f = cc
 
 below_off : (r : Regs) (t : Temps) → IsOff t → r ≡ below_sums r t
 below_off r t (inl e) = ap (below_sums r) (sym e)
@@ -89,6 +93,7 @@ taken_running laws open_to w s p q a k l run =
     record {
       begins = subst (λ (v : State). Begins open_to v s) (sym is) (record {
         temps = inr refl;
+        free = λ e. absurd (running_differs s.temps p q run e);
         regs = ap (λ (r : Regs). record r { sp = plus r.sp 65530 }) l.regs ∙ ap (below_sums s.regs) (sym run);
         mem = below;
       });
@@ -143,7 +148,12 @@ taken_off laws open_to first w s k l off =
     let off_w : IsOff w.temps = off_as w.temps s.temps l.temps off in
     let is : suspended wav w ≡ w = laws.none w off_w in
     record {
-      begins = subst (λ (v : State). Begins open_to v s) (sym is) (record { temps = off_w; regs = l.regs ∙ below_off s.regs s.temps off; mem = l.mem });
+      begins = subst (λ (v : State). Begins open_to v s) (sym is) (record {
+        temps = off_w;
+        free = λ e. l.temps ∙ e;
+        regs = l.regs ∙ below_off s.regs s.temps off;
+        mem = l.mem;
+      });
       frame = laws.frame_is_on_stack w (l.mem.size ∙ k.size) (omega arith) ∙ frame_off w off_w ∙ ap (λ (r : Regs). nine_frame r (plus r.sp 65527)) l.regs
           ∙ sym (expected_off first s off);
       after = λ u q. inl (same_by u (subst (λ (v : State). Quiet open_to u v s) is q), inr off);
@@ -168,7 +178,12 @@ taken_parked laws open_to w s a k l =
     let is : suspended wav w ≡ w = laws.none w l.temps in
     let low : plus (plus s.regs.sp 65530) 65527 ≡ plus s.regs.sp 65521 = omega arith in
     record {
-      begins = subst (λ (v : State). Begins open_to v s) (sym is) (record { temps = l.temps; regs = l.regs ∙ ap (below_sums s.regs) (sym l.running); mem = l.mem });
+      begins = subst (λ (v : State). Begins open_to v s) (sym is) (record {
+        temps = l.temps;
+        free = λ e. absurd (running_differs s.temps l.product l.weight l.running e);
+        regs = l.regs ∙ ap (below_sums s.regs) (sym l.running);
+        mem = l.mem;
+      });
       frame = laws.frame_is_on_stack w (l.mem.size ∙ k.size) (omega arith) ∙ frame_off w l.temps ∙ ap (λ (r : Regs). nine_frame r (plus r.sp 65527)) l.regs
           ∙ ap (nine_frame (s.regs)) low
           ∙ ap (λ (t : Temps). frame_on false s t) (sym l.running);

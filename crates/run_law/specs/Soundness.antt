@@ -31,9 +31,11 @@ below_sums r Free = r
 below_sums r OnStack = r
 below_sums r (Running p w) = record r { sp = plus r.sp 65530 }
 
--- v is the state in which a handler begins where the run without interrupts is in s
+-- v is the state in which a handler begins where the run without interrupts is in s: no sums run, and none are on the
+-- stack where none are in s.
 pub record Begins (open_to : ℕ → Bool) (v s : State) : Type 0 where
   pub temps : IsOff v.temps
+  pub free : s.temps ≡ Free → v.temps ≡ Free
   pub regs : v.regs ≡ below_sums s.regs s.temps
   pub mem : Agree (is_hidden open_to s.regs.sp) v.mem s.mem
 

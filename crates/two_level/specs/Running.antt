@@ -4,7 +4,7 @@ use Rattle.fuzzy_meaning.specs.declared.block.Block.{Block}
 use Rattle.fuzzy_meaning.specs.Blocks.{IsValid}
 use Rattle.rule_layout.specs.Slots.{slots_of}
 use Rattle.rule_layout.specs.Layouts.{IsWithinLimits}
-use Rattle.cpu12_isa.specs.declared.instr.Instr.TheVariants.{Rti}
+use Rattle.cpu12_isa.specs.declared.instr.Instr.TheVariants.{Andcc, Rti}
 use Rattle.cpu12_isa.specs.Code.{decode_at, six_from}
 use Rattle.cpu12_isa.specs.Flags.{has, interrupts_masked}
 use Rattle.cpu12_isa.specs.Regions.{stack_start, stack_end}
@@ -16,6 +16,7 @@ use Rattle.codegen.specs.declared.width.Width.TheVariants.{Byte}
 use Rattle.codegen.specs.Widths.{answer}
 use Rattle.codegen.specs.Bounds.{instruction_bound, step_bound}
 use Rattle.codegen.specs.Firing.{AreInputBytes}
+use Rattle.codegen.specs.Masks.{x_masked}
 use Rattle.codegen.specs.Evaluation.{Reads, Writes, HasBytes, HasAnswers}
 use Rattle.two_level.specs.declared.two.Two.{Two}
 use Rattle.two_level.specs.Layouts.{fast_layout, fast_rom_end}
@@ -25,6 +26,10 @@ use Rattle.two_level.specs.Images.{fast_most, IsTwoOf}
 abbrev pub HasFastRom : List ℕ → List ℕ → Type 0
 HasFastRom image mem =
     (at : ℕ) → fast_layout.code ≤ at → at < fast_rom_end → slice_index mem at ≡ slice_index image at
+
+-- an image whose fast code lets interrupts in at once
+abbrev pub LetsIn : List ℕ → Type 0
+LetsIn image = decode_at image fast_layout.code ≡ Ok (Andcc 0xEF)
 
 -- SP in the fast code: the nine bytes of its interrupt's frame stand from there on, and one more interrupt has room
 abbrev pub IsFastStack : ℕ → Type 0
@@ -50,16 +55,17 @@ pub record IsEntered (b : Block) (image bytes : List ℕ) (before : ℕ → ℕ)
   pub inputs : HasBytes s.mem fast_layout.inputs bytes
   pub outputs : HasAnswers fast_layout b Byte before s.mem
 
--- A whole instruction of it before the return reads and writes what is the fast block's own, leaves SP, and behind it
--- I is 0.
+-- A whole instruction of it before the return reads and writes what is the fast block's own, leaves SP and X, and
+-- behind it I is 0.
 pub record IsFastStep (image : List ℕ) (flags d : ℕ) (s t : State) : Type 0 where
   pub inside : IsInFast image s
   pub instruction : IsInstructionOver (Reads fast_layout) (Writes fast_layout) flags d s t
   pub stack : t.regs.sp ≡ s.regs.sp
+  pub x : has t.regs.ccr x_masked ≡ has s.regs.ccr x_masked
   pub unmasked : has t.regs.ccr interrupts_masked ≡ false
 
--- Such instructions lead to its return, with the answers after those before; outside their bytes and the slots memory
--- is as it was. With the return they are no more than the bounds say.
+-- Such instructions lead to its return, with the answers after those before, and leave SP and X; outside the answers'
+-- bytes and the slots memory is as it was. With the return they are no more than the bounds say.
 pub record IsFastAnswered (b : Block) (image : List ℕ) (flags : ℕ) (bytes : List ℕ) (before : ℕ → ℕ) (s t : State)
     : Type 0 where
   pub ds : List ℕ
@@ -67,6 +73,7 @@ pub record IsFastAnswered (b : Block) (image : List ℕ) (flags : ℕ) (bytes : 
   pub inside : IsInFast image t
   pub returns : decode_at t.mem t.regs.pc ≡ Ok Rti
   pub stack : t.regs.sp ≡ s.regs.sp
+  pub x : has t.regs.ccr x_masked ≡ has s.regs.ccr x_masked
   pub unmasked : has t.regs.ccr interrupts_masked ≡ false
   pub answers : HasAnswers fast_layout b Byte (λ o. answer Byte b o bytes (before o)) t.mem
   pub elsewhere : (at : ℕ) → (at < fast_layout.outputs) ⊎ (fast_layout.outputs + length b.outputs ≤ at)

@@ -13,13 +13,16 @@ use Rattle.codegen.specs.Answers.{LeavesLayout, AnswersBeside, ArrivesAlike}
 use Rattle.two_level.specs.declared.two.Two.{Two}
 use Rattle.two_level.specs.Layouts.{fast_layout, vector, is_open_to_fast}
 use Rattle.two_level.specs.Images.{IsTwoOf}
+use Rattle.two_level.specs.Running.{LetsIn}
 
--- Memory from the image is one of bytes: an interrupt enters the fast code, whose outputs are 0; and it is as the slow
--- firmware's alone but for what is open to the fast block, which leaves the slow firmware's layout.
+-- Memory from the image is one of bytes: an interrupt enters the fast code, which lets interrupts in at once and whose
+-- outputs are 0; and it is as the slow firmware's alone but for what is open to the fast block, which leaves the slow
+-- firmware's layout.
 pub record StandsBeside (fast : Block) (two : Two) : Type 0 where
   pub bytes : AreBytes (image_memory two.image.bytes)
   pub enters : word_of (slice_index (image_memory two.image.bytes) vector)
       (slice_index (image_memory two.image.bytes) (vector + 1)) ≡ fast_layout.code
+  pub lets_in : LetsIn (image_memory two.image.bytes)
   pub outputs : HasAnswers fast_layout fast Byte (λ o. 0) (image_memory two.image.bytes)
   pub leaves : LeavesLayout is_open_to_fast two.slow.layout
   pub alike : Agree is_open_to_fast (image_memory two.image.bytes) (image_memory two.slow.image.bytes)

@@ -24,3 +24,4 @@ pub mod LevelRows
 pub mod FastRuns
 pub mod Arriving
 pub mod LevelAnswers
+pub mod Servable

@@ -13,7 +13,7 @@ use Rattle.cpu12_isa.specs.Interrupts.{FrameComesBack}
 use Rattle.cpu12_isa.specs.Memory.{plus, from, bytes_at}
 use Rattle.cpu12_isa.specs.Regions.{is_hidden}
 use Rattle.cpu12_isa.specs.Registers.{pulled, frame_bytes}
-use Rattle.cpu12_isa.proofs.Algebra.{bit, bit_or_is}
+use Rattle.cpu12_isa.proofs.Algebra.{bit}
 use Rattle.cpu12_parts.specs.State.{State}
 use Rattle.cpu12_parts.specs.Laws.{IsOff}
 use Rattle.cpu12_emul.specs.Simulation.{Same}
@@ -35,7 +35,7 @@ pub record QuietLaws : Type 0 where
 
 -- the registers come back from the frame, over flags with the same X
 comes_back : FrameComesBack → WritesStay → (b : Block) (image bytes : List ℕ) (before : ℕ → ℕ) (v : State) (c : Ccr)
-    → length bytes ≤ 8 → CanEnter b image before v → bit c.0 6 ≡ bit v.regs.ccr.0 6
+    → length bytes ≤ 8 → CanEnter b image before v → bit c.0 6 ≡ bit (entered bytes v).regs.ccr.0 6
     → pulled (record ((entered bytes v).regs) { ccr = c })
     (bytes_at (entered bytes v).mem (from (entered bytes v).regs.sp 9)) ≡ v.regs
 comes_back back stay b image bytes before v c few can x =
@@ -43,9 +43,8 @@ comes_back back stay b image bytes before v c few can x =
     frame_read stay bytes v can.size few can.low can.high in
     let fits = can.fits in
     let q : Regs = record (v.regs) { sp = plus v.regs.sp 65527; ccr = put v.regs.ccr interrupts_masked true } in
-    let same : bit c.0 6 ≡ bit q.ccr.0 6 = x ∙ sym (bit_or_is v.regs.ccr.0 16 6) in
     pulled_alike (record ((entered bytes v).regs) { ccr = c }) q v.regs (bytes_at (entered_mem bytes v) (from (plus v.regs.sp 65527) 9))
-    fits.ccr frame refl same
+    fits.ccr frame refl x
     ∙ ap (pulled q) frame ∙ back v.regs fits
 
 -- a byte outside the fast block's RAM, and outside the stack below SP
@@ -75,7 +74,7 @@ away sp at lo hi h = elim (cases_lt at 0x1FE0) [
     never ge l = (let t : (nat_le 0x1FE0 at && nat_lt at sp) ≡ true = grind (arith, nat_tests) in cc)
 
 pub outer_is_quiet : QuietLaws → OuterIsQuiet
-outer_is_quiet laws b image bytes flags most before inner v t hf few_in few_out input can ascend r le x = record {
+outer_is_quiet laws b image bytes flags most before inner v t hf few_in few_out input can ascend r le = record {
   arrived = ran.follows.arrived;
   regs = same.regs ∙ regs;
   off = subst IsOff (sym same.temps) r.off;
@@ -97,7 +96,7 @@ outer_is_quiet laws b image bytes flags most before inner v t hf few_in few_out 
     same = subst (λ (u : State). Same is_open_inside (fast_run flags (length b.outputs) most inner (entered bytes v)).state u) r.goes ran.follows.last
 
     regs : t.regs ≡ v.regs
-    regs = r.regs ∙ comes_back laws.frame_comes_back laws.writes_stay b image bytes before v (record { 0 = r.ccr }) few can x
+    regs = r.regs ∙ comes_back laws.frame_comes_back laws.writes_stay b image bytes before v r.ccr few can r.x
 
     shown : (at : ℕ) → (nat_le 0x1FE0 at && nat_lt at v.regs.sp) ≡ false → is_hidden is_open_inside t.regs.sp at ≡ false
     shown at h = ap (λ (k : Regs). is_hidden is_open_inside k.sp at) regs ∙ h

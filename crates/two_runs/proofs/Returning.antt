@@ -140,7 +140,8 @@ run_of laws b image flags bytes before s v u ds room masked first tail r d is =
       first = first.each.0.0;
       masked = ap not masked;
       each = each;
-      ccr = u.regs.ccr.0;
+      ccr = u.regs.ccr;
+      x = r.x;
       regs = pulled_same u.regs s.regs (bytes_at u.mem (from u.regs.sp 9)) (bytes_at s.mem (from sp 9)) r.stack
           (ap (λ (n : ℕ). bytes_at u.mem (from n 9)) r.stack ∙ same);
       off = (let inside = r.inside in let between = inside.between in between.off);

@@ -1,10 +1,10 @@
 -- The outer interrupt in which a fast run runs.
 use Rattle.std.specs.Prelude.{◌≡◌, ℕ, suc, ◌+◌, ◌^◌, ◌<◌, ◌≤◌, true, Option, None, Some, List, length, slice_index}
 use Rattle.fuzzy_meaning.specs.declared.block.Block.{Block}
-use Rattle.cpu12_isa.specs.declared.instr.Ccr.{Ccr}
+use Rattle.fuzzy_meaning.specs.Blocks.{IsValid}
+use Rattle.rule_layout.specs.Layouts.{IsWithinLimits}
 use Rattle.cpu12_isa.specs.Agreement.{Agree}
 use Rattle.cpu12_isa.specs.Fits.{FitsRegs, AreBytes}
-use Rattle.cpu12_isa.specs.Flags.{has}
 use Rattle.cpu12_isa.specs.Memory.{word_of}
 use Rattle.cpu12_isa.specs.Regions.{stack_start, stack_end, is_hidden}
 use Rattle.cpu12_parts.specs.declared.temps.Temps.{Temps}
@@ -15,10 +15,13 @@ use Rattle.codegen.specs.declared.width.Width.TheVariants.{Byte}
 use Rattle.codegen.specs.Widths.{answer}
 use Rattle.codegen.specs.Firing.{AreInputBytes}
 use Rattle.codegen.specs.Evaluation.{HasAnswers}
+use Rattle.cpu12_emul.specs.Image.{image_memory}
 use Rattle.cpu12_emul.specs.Simulation.{HasRoom}
 use Rattle.run_law.specs.Forms.{Ran}
 use Rattle.run_law.specs.Soundness.{Ascend, Begins, Quiet}
+use Rattle.two_level.specs.declared.two.Two.{Two}
 use Rattle.two_level.specs.Layouts.{fast_layout, is_fast_ram, vector, is_open_to_fast}
+use Rattle.two_level.specs.Images.{fast_most, IsTwoOf}
 use Rattle.two_level.specs.Running.{HasFastRom, IsEntered}
 use Rattle.two_runs.specs.Runs.{entered, fast_run, Outer, served}
 use Rattle.two_runs.specs.Steps.{IsFastRun}
@@ -58,31 +61,34 @@ pub record IsQuietRun {A B : Type 0} (b : Block) (bytes : List ℕ) (before : �
   pub bytes_fit : AreBytes r.state.mem
   pub answers : HasAnswers fast_layout b Byte (λ o. answer Byte b o bytes (before o)) r.state.mem
 
-abbrev pub ccr_of : ℕ → Ccr
-ccr_of n = record { 0 = n }
-
--- So is each interrupt with a fast run, whose inner moments do not fall, where the run without leaves X.
+-- So is each interrupt with a fast run, whose inner moments do not fall.
 abbrev pub OuterIsQuiet : Type 0
 OuterIsQuiet =
     (b : Block) (image bytes : List ℕ) (flags most : ℕ) (before : ℕ → ℕ) (inner : List ℕ) (v t : State) → flags < 2 ^ 8
     → length b.inputs ≤ 8 → length b.outputs ≤ 8 → AreInputBytes b bytes → CanEnter b image before v
     → Ascend (λ k. k) 0 inner → (r : IsFastRun b image flags bytes before (entered bytes v) t) → suc r.further ≤ most
-    → has (ccr_of r.ccr) 6 ≡ has v.regs.ccr 6
     → IsQuietRun b bytes before v (fast_run flags (length b.outputs) most inner (entered bytes v))
 
--- the run without inner requests from where a sample is given, within so many steps, which leaves X
+-- the run without inner requests from where a sample is given, within so many steps
 pub record RunsFast (b : Block) (image : List ℕ) (flags most : ℕ) (before : ℕ → ℕ) (v : State) (bytes : List ℕ)
     : Type 0 where
   pub behind : State
   pub run : IsFastRun b image flags bytes before (entered bytes v) behind
   pub within : suc run.further ≤ most
-  pub leaves : has (ccr_of run.ccr) 6 ≡ has v.regs.ccr 6
 
 -- a sample is one of the block, and has a run
 abbrev pub IsServable : Block → List ℕ → ℕ → ℕ → (ℕ → ℕ) → State → Option (List ℕ) → Type 0
 IsServable b image flags most before v None = Unit {0}
 IsServable b image flags most before v (Some bytes) =
     AreInputBytes b bytes × RunsFast b image flags most before v bytes
+
+-- So is each sample of the fast of two blocks from where its code can be entered, within its bound.
+abbrev pub OuterIsServable : Type 0
+OuterIsServable =
+    (slow fast : Block) (two : Two) (flags : ℕ) (bytes : List ℕ) (before : ℕ → ℕ) (v : State) → IsValid slow
+    → IsWithinLimits slow → IsValid fast → IsWithinLimits fast → IsTwoOf slow fast two → flags < 2 ^ 8
+    → AreInputBytes fast bytes → CanEnter fast (image_memory two.image.bytes) before v
+    → IsServable fast (image_memory two.image.bytes) flags (fast_most two.fast.step_bound) before v (Some bytes)
 
 -- sums that stand in the run without interrupts: none, or running
 abbrev pub AreSlow : Temps → Type 0
@@ -91,11 +97,11 @@ AreSlow OnStack = ⊥
 AreSlow (Running p w) = Unit {0}
 
 -- An outer request is quiet beside the slow firmware, from where the fast code can be entered: where the slow sums are
--- none they are none at the entry, and stay so; where they run they may end as none.
+-- none they stay so; where they run they may end as none.
 abbrev pub OuterServes : Type 0
 OuterServes =
     (b : Block) (image : List ℕ) (flags most : ℕ) (before : ℕ → ℕ) (q : Outer) (v s : State) → flags < 2 ^ 8
     → length b.inputs ≤ 8 → length b.outputs ≤ 8 → CanEnter b image before v
     → IsServable b image flags most before v q.sample → Ascend (λ k. k) 0 q.inner → HasRoom s
-    → Begins is_open_to_fast v s → AreSlow s.temps → (s.temps ≡ Free → v.temps ≡ Free)
+    → Begins is_open_to_fast v s → AreSlow s.temps
     → Quiet is_open_to_fast (served flags (length b.outputs) most q v) v s

@@ -1,14 +1,14 @@
 -- The fast code as steps without interrupts.
-use Rattle.std.specs.Prelude.{◌≡◌, ℕ, suc, ◌+◌, ◌^◌, ◌<◌, ◌≤◌, ◌⊎◌, ◌&&◌, ◌||◌, not, nat_le, nat_lt, Bool, true, false, Ok, List, length, slice_index}
+use Rattle.std.specs.Prelude.{◌≡◌, ℕ, suc, ◌+◌, ◌^◌, ◌<◌, ◌≤◌, ◌⊎◌, ◌&&◌, ◌||◌, not, nat_le, nat_lt, Bool, true, false, List, length, slice_index}
 use Rattle.fuzzy_meaning.specs.declared.block.Block.{Block}
 use Rattle.fuzzy_meaning.specs.Blocks.{IsValid}
 use Rattle.rule_layout.specs.Slots.{slots_of}
 use Rattle.rule_layout.specs.Layouts.{IsWithinLimits}
-use Rattle.cpu12_isa.specs.declared.instr.Instr.TheVariants.{Andcc}
+use Rattle.cpu12_isa.specs.declared.instr.Ccr.{Ccr}
 use Rattle.cpu12_isa.specs.Act.{read_by}
 use Rattle.cpu12_isa.specs.Agreement.{AllShown}
-use Rattle.cpu12_isa.specs.Code.{decode_at}
 use Rattle.cpu12_isa.specs.Fits.{AreBytes}
+use Rattle.cpu12_isa.specs.Flags.{has}
 use Rattle.cpu12_isa.specs.Memory.{from, bytes_at}
 use Rattle.cpu12_isa.specs.Registers.{pulled}
 use Rattle.cpu12_parts.specs.declared.temps.Temps.TheVariants.{Free}
@@ -22,13 +22,14 @@ use Rattle.codegen.specs.declared.width.Width.TheVariants.{Byte}
 use Rattle.codegen.specs.Widths.{answer}
 use Rattle.codegen.specs.Bounds.{instruction_bound, step_bound}
 use Rattle.codegen.specs.Firing.{AreInputBytes}
+use Rattle.codegen.specs.Masks.{x_masked}
 use Rattle.codegen.specs.Evaluation.{HasAnswers}
 use Rattle.run_law.specs.Uninterrupted.{stepped, uninterrupted, counted}
 use Rattle.run_law.specs.Soundness.{Before}
 use Rattle.two_level.specs.Layouts.{fast_layout, is_fast_ram, is_fast_rom}
 use Rattle.two_level.specs.declared.two.Two.{Two}
 use Rattle.two_level.specs.Images.{fast_most, IsTwoOf}
-use Rattle.two_level.specs.Running.{HasFastRom, IsFastStack, IsEntered, IsFastAnswered}
+use Rattle.two_level.specs.Running.{HasFastRom, LetsIn, IsFastStack, IsEntered, IsFastAnswered}
 
 -- nothing is open to inner requests
 abbrev pub is_open_inside : ℕ → Bool
@@ -61,14 +62,10 @@ pub record IsOpenState (image : List ℕ) (flags sp : ℕ) (s : State) : Type 0 
   pub state : IsFastState image flags sp s
   pub unmasked : may_interrupt s ≡ true
 
--- an image whose fast code lets interrupts in at once
-abbrev pub LetsIn : List ℕ → Type 0
-LetsIn image = decode_at image fast_layout.code ≡ Ok (Andcc 0xEF)
-
 -- From s, in which the fast code is entered, so many steps lead to t, where its return is done. I is 1 in s and 0
--- in each state between. Behind the return the registers are pulled from the frame, over flags before it, no sums
--- run, none are left where there were none, and the answers stand after those before. Outside the fast block's RAM
--- memory is as it was, and in it outside the answers' bytes and the slots.
+-- in each state between. Behind the return the registers are pulled from the frame, over flags with the X of s, no
+-- sums run, none are left where there were none, and the answers stand after those before. Outside the fast block's
+-- RAM memory is as it was, and in it outside the answers' bytes and the slots.
 pub record IsFastRun (b : Block) (image : List ℕ) (flags : ℕ) (bytes : List ℕ) (before : ℕ → ℕ) (s t : State)
     : Type 0 where
   pub further : ℕ
@@ -76,8 +73,9 @@ pub record IsFastRun (b : Block) (image : List ℕ) (flags : ℕ) (bytes : List 
   pub first : IsFastState image flags s.regs.sp s
   pub masked : may_interrupt s ≡ false
   pub each : Before (IsOpenState image flags s.regs.sp) flags further (stepped flags s)
-  pub ccr : ℕ
-  pub regs : t.regs ≡ pulled (record (s.regs) { ccr = record { 0 = ccr } }) (bytes_at s.mem (from s.regs.sp 9))
+  pub ccr : Ccr
+  pub x : has ccr x_masked ≡ has s.regs.ccr x_masked
+  pub regs : t.regs ≡ pulled (record (s.regs) { ccr = ccr }) (bytes_at s.mem (from s.regs.sp 9))
   pub off : IsOff t.temps
   pub free : s.temps ≡ Free → t.temps ≡ Free
   pub answers : HasAnswers fast_layout b Byte (λ o. answer Byte b o bytes (before o)) t.mem

@@ -1,7 +1,7 @@
 // Laws of runs at two levels.
 ghost use Rattle.two_runs.specs.Steps.{FastRunsExist, FastStepsReturn};
 ghost use Rattle.two_runs.specs.Inside.{FastRunsFollow};
-ghost use Rattle.two_runs.specs.Outer.{OuterEnters, OuterIsQuiet, OuterServes};
+ghost use Rattle.two_runs.specs.Outer.{OuterEnters, OuterIsServable, OuterIsQuiet, OuterServes};
 
 use crate::inside::InsideForm;
 use cpu12_emul::laws::{
@@ -73,8 +73,16 @@ pub fn outer_enters()
     bytes_stay();
 }
 
+/// There each sample of the fast of two blocks has a run, within its bound.
+pub fn outer_is_servable()
+    ensures { OuterIsServable }
+{
+    outer_enters();
+    fast_runs_exist();
+}
+
 /// It leaves the registers, no sums that run, and memory but for the fast block's RAM, where its answers
-/// stand, and the stack below SP, if the fast code leaves X.
+/// stand, and the stack below SP.
 pub fn outer_is_quiet()
     ensures { OuterIsQuiet }
 {

@@ -2,8 +2,8 @@
 //!
 //! An outer interrupt enters the fast code ([`outer_enters`]), which lets inner interrupts in and runs to its
 //! return. [`fast_steps_return`] says what its steps are without inner interrupts, and [`fast_runs_follow`] that
-//! under them it does the same: its counts and frames are read off the run without. [`outer_is_quiet`] says
-//! what it leaves, and [`outer_serves`] that an outer request is quiet as the law on runs asks.
+//! under them it does the same: its counts and frames are read off the run without. [`outer_is_servable`] says
+//! that each sample has such a run, [`outer_is_quiet`] what it leaves, and [`outer_serves`] that an outer request is quiet as the law on runs asks.
 #![tactic(auto)]
 
 mod inside;
@@ -11,5 +11,5 @@ pub mod laws;
 
 pub use laws::{
     fast_runs_exist, fast_runs_follow, fast_steps_return, outer_enters, outer_is_quiet,
-    outer_serves,
+    outer_is_servable, outer_serves,
 };
