@@ -23,15 +23,18 @@ use Rattle.two_runs.proofs.Standing.{code_stays, outputs_stay}
 arrival_fits : StepFits → (flags loop n : ℕ) (s : State) → flags < 2 ^ 8 → FitsState s → FitsState (arrival flags loop n s)
 unfolding arrival
 arrival_fits law flags loop zero s hf fits = fits
-arrival_fits law flags loop (suc n) s hf fits = by (s.regs.pc == loop)
+arrival_fits law flags loop (suc n) s hf fits =
+    by (s.regs.pc == loop) (λ t h. arrival_fits law flags loop n t hf h)
   where
-    step : (o : Result Next ℕ) → next_of flags s ≡ o → FitsState (then_arrival s (arrival flags loop n) o)
-    step (Ok next) e = arrival_fits law flags loop n next.state hf (law flags s next hf fits e)
-    step (Err byte) e = fits
+    step : ((t : State) → FitsState t → FitsState (arrival flags loop n t)) → (o : Result Next ℕ) → next_of flags s ≡ o
+        → FitsState (then_arrival s (arrival flags loop n) o)
+    step rest (Ok next) e = rest next.state (law flags s next hf fits e)
+    step rest (Err byte) e = fits
 
-    by : (t : Bool) → FitsState (if t then s else then_arrival s (arrival flags loop n) (next_of flags s))
-    by true = fits
-    by false = step (next_of flags s) refl
+    by : (t : Bool) → ((t : State) → FitsState t → FitsState (arrival flags loop n t))
+        → FitsState (if t then s else then_arrival s (arrival flags loop n) (next_of flags s))
+    by true rest = fits
+    by false rest = step rest (next_of flags s) refl
 
 reset_fits : (mem : List ℕ) → AreBytes mem → FitsState (reset_with mem)
 reset_fits mem bytes = record {

@@ -21,23 +21,21 @@ use Rattle.two_runs.specs.Answering.{request_of, plan_of}
 -- those of a list that pass a test
 filter_each : {A B : Type 0} (p : B → Bool) (g : A → B) (xs : List A) → filter p (map g xs) ≡ map g (filter (λ x. p (g x)) xs)
 filter_each p g [] = refl
-filter_each {A} {B} p g (x ∷ xs) = by (p (g x))
+filter_each {A} {B} p g (x ∷ xs) = by (p (g x)) (filter_each p g xs)
   where
-    by : (t : Bool) → cond t (g x ∷ filter p (map g xs)) (filter p (map g xs))
+    by : (t : Bool) → filter p (map g xs) ≡ map g (filter (λ y. p (g y)) xs)
+        → cond t (g x ∷ filter p (map g xs)) (filter p (map g xs))
         ≡ map g (cond t (x ∷ filter (λ y. p (g y)) xs) (filter (λ y. p (g y)) xs))
-    by true = ap (λ (ys : List B). g x ∷ ys) (filter_each p g xs)
-    by false = filter_each p g xs
+    by true rest = ap (λ (ys : List B). g x ∷ ys) rest
+    by false rest = rest
 
 all_passing : {A : Type 0} (P : A → Type 0) (p : A → Bool) (xs : List A) → All P xs → AllGood P (filter p xs)
 all_passing P p [] h = tt
-all_passing {A} P p (x ∷ xs) h = by (p x)
+all_passing {A} P p (x ∷ xs) h = by (p x) (all_passing P p xs (λ k d l. h (suc k) d (omega arith)))
   where
-    rest : AllGood P (filter p xs)
-    rest = all_passing P p xs (λ k d l. h (suc k) d (omega arith))
-
-    by : (t : Bool) → AllGood P (cond t (x ∷ filter p xs) (filter p xs))
-    by true = (h 0 x (omega arith), rest)
-    by false = rest
+    by : (t : Bool) → AllGood P (filter p xs) → AllGood P (cond t (x ∷ filter p xs) (filter p xs))
+    by true rest = (h 0 x (omega arith), rest)
+    by false rest = rest
 
 ascend_each : {A B : Type 0} (moment : B → ℕ) (g : A → B) (m : ℕ) (xs : List A) → Ascend moment m (map g xs)
     → Ascend (λ x. moment (g x)) m xs
@@ -92,15 +90,13 @@ levels_are_good law fast levels h k = (
 taken_each : {A B : Type 0} (moment : B → ℕ) (g : A → B) (n : ℕ) (xs : List A)
     → taken_before moment n (map g xs) ≡ map g (taken_before (λ x. moment (g x)) n xs)
 taken_each moment g n [] = refl
-taken_each {A} {B} moment g n (x ∷ xs) = by (nat_lt (moment (g x)) n)
+taken_each {A} {B} moment g n (x ∷ xs) = by (nat_lt (moment (g x)) n) (taken_each moment g n xs)
   where
-    rest : taken_before moment n (map g xs) ≡ map g (taken_before (λ x. moment (g x)) n xs)
-    rest = taken_each moment g n xs
-
-    by : (t : Bool) → (if t then g x ∷ taken_before moment n (map g xs) else taken_before moment n (map g xs))
+    by : (t : Bool) → taken_before moment n (map g xs) ≡ map g (taken_before (λ x. moment (g x)) n xs)
+        → (if t then g x ∷ taken_before moment n (map g xs) else taken_before moment n (map g xs))
         ≡ map g (if t then x ∷ taken_before (λ x. moment (g x)) n xs else taken_before (λ x. moment (g x)) n xs)
-    by true = ap (λ (ys : List B). g x ∷ ys) rest
-    by false = rest
+    by true rest = ap (λ (ys : List B). g x ∷ ys) rest
+    by false rest = rest
 
 has_each : {A B : Type 0} (moment : B → ℕ) (g : A → B) (m : ℕ) (xs : List A)
     → has_moment moment m (map g xs) ≡ has_moment (λ x. moment (g x)) m xs

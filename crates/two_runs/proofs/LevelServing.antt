@@ -37,7 +37,7 @@ use Rattle.fz_run.specs.OpenBytes.{StepsLeaveOpen, GivenLeavesOpen}
 use Rattle.two_runs.specs.Runs.{Outer, FastSeen, entered, fast_run, seen_of, served, told, served_by, told_by}
 use Rattle.two_runs.specs.Steps.{is_open_inside}
 use Rattle.two_runs.specs.Inside.{FastRunsFollow}
-use Rattle.two_runs.specs.Outer.{HasFastCode, CanEnter, IsQuietRun, OuterIsQuiet, RunsFast, IsServable, AreSlow, OuterServes}
+use Rattle.two_runs.specs.Outer.{HasFastCode, CanEnter, IsQuietRun, OuterIsQuiet, IsServable, OuterIsServable, AreSlow, OuterServes}
 use Rattle.two_runs.specs.Rows.{bytes_of, sample_of, outer_of}
 use Rattle.two_runs.specs.Answering.{IsTold}
 use Rattle.two_runs.specs.Levels.{outputs_after, FastStands}
@@ -46,14 +46,6 @@ use Rattle.two_runs.proofs.Entering.{bytes_stay}
 use Rattle.two_runs.proofs.Serving.{open_apart}
 use Rattle.two_runs.proofs.Standing.{stands}
 use Rattle.two_runs.proofs.Telling.{answers_told, read_off}
-
--- from where the fast code can be entered it has a run within its bound
-abbrev pub FastRunsFrom : Type 0
-FastRunsFrom =
-    (slow fast : Block) (two : Two) (flags : ℕ) (before : ℕ → ℕ) (v : State) (bytes : List ℕ) → IsValid slow
-    → IsWithinLimits slow → IsValid fast → IsWithinLimits fast → IsTwoOf slow fast two → flags < 2 ^ 8
-    → AreInputBytes fast bytes → CanEnter fast (image_memory two.image.bytes) before v
-    → RunsFast fast (image_memory two.image.bytes) flags (fast_most two.fast.step_bound) before v bytes
 
 -- the laws on which levels stand
 pub record LevelLaws : Type 0 where
@@ -64,7 +56,7 @@ pub record LevelLaws : Type 0 where
   pub follow : FastRunsFollow
   pub is_quiet : OuterIsQuiet
   pub serves : OuterServes
-  pub runs_from : FastRunsFrom
+  pub servable : OuterIsServable
 
 -- two valid blocks with their image, open flags, and samples of the fast one
 pub record Given : Type 0 where
@@ -183,12 +175,13 @@ bounds x =
     let firmware = alone.firmware in
     (firmware.instructions ∙ ap (λ (wide : Bool). instruction_bound (width_of wide) x.fast) alone.narrow, firmware.outputs)
 
-run_from : (x : Given) (done : List (Level × Option FastSeen)) (l : Level) (v s : State) → Serves x done v s
+servable : (x : Given) (done : List (Level × Option FastSeen)) (l : Level) (v s : State) → Serves x done v s
     → AreInputBytes x.fast (bytes_in x l)
-    → RunsFast x.fast (image_memory x.two.image.bytes) x.flags (most_of x) (outputs_after x.fast x.samples done) v (bytes_in x l)
-run_from x done l v s h input =
+    → IsServable x.fast (image_memory x.two.image.bytes) x.flags (most_of x) (outputs_after x.fast x.samples done) v
+    (Some (bytes_in x l))
+servable x done l v s h input =
     let laws = x.laws in
-    laws.runs_from x.slow x.fast x.two x.flags (outputs_after x.fast x.samples done) v (bytes_in x l) x.slow_valid x.slow_limits
+    laws.servable x.slow x.fast x.two x.flags (bytes_in x l) (outputs_after x.fast x.samples done) v x.slow_valid x.slow_limits
     x.fast_valid x.fast_limits x.is_two x.flags_fit input (can_enter x done v s h)
 
 -- the code stays where the fast block's RAM alone changes
@@ -211,7 +204,7 @@ served_stands x done l v s h input ascend =
     let before = outputs_after x.fast x.samples done in
     let can = can_enter x done v s h in
     let own = h.stands in
-    let fast = run_from x done l v s h input in
+    let fast = (servable x done l v s h input).1 in
     let run = fast.run in
     let k : IsQuietRun x.fast (bytes_in x l) before v (ran_of x l v) =
     laws.is_quiet x.fast image (bytes_in x l) x.flags (most_of x) before l.inner.items v fast.behind x.flags_fit
@@ -300,11 +293,11 @@ serves x done l v s good h =
     quiet : (sample : Option (List ℕ))
         → IsServable x.fast (image_memory x.two.image.bytes) x.flags (most_of x) (outputs_after x.fast x.samples done) v sample
         → Quiet is_open_to_fast (served_by x.flags (length x.fast.outputs) (most_of x) l.inner.items sample v) v s
-    quiet sample servable =
+    quiet sample good_sample =
         (let laws = x.laws in
         let slow = (let p = h.facts in let facts = p.facts in slow_sums s.temps facts.sums) in
         laws.serves x.fast (image_memory x.two.image.bytes) x.flags (most_of x) (outputs_after x.fast x.samples done) (outer sample) v s
-        x.flags_fit (few_inputs x) (few_outputs x) (can_enter x done v s h) servable ascend (room_of x done v s h) h.begins slow)
+        x.flags_fit (few_inputs x) (few_outputs x) (can_enter x done v s h) good_sample ascend (room_of x done v s h) h.begins slow)
 
     by : IsSampleOf x l → AfterLevel x done l v s (length x.fast.outputs) (sample_of x.samples l.fast)
     by (inl e) =
@@ -312,4 +305,4 @@ serves x done l v s good h =
         (quiet None tt, unserved x done l v s h e.1)
     by (inr e) =
         subst (λ (sample : Option (List ℕ)). AfterLevel x done l v s (length x.fast.outputs) sample) (sym e.0)
-        (quiet (Some (bytes_in x l)) (e.1, run_from x done l v s h e.1), served_stands x done l v s h e.1 ascend)
+        (quiet (Some (bytes_in x l)) (servable x done l v s h e.1), served_stands x done l v s h e.1 ascend)

@@ -25,3 +25,4 @@ pub mod FastRuns
 pub mod Arriving
 pub mod LevelAnswers
 pub mod Servable
+pub mod Entered

@@ -5,3 +5,4 @@ pub mod Outer
 pub mod Rows
 pub mod Answering
 pub mod Levels
+pub mod Entered
