@@ -1,5 +1,5 @@
 -- The condition codes that mask interrupts (CPU12 Reference Manual, section 2.2.5).
-use Rattle.std.specs.Prelude.{ℕ, ◌×◌, Bool}
+use Rattle.std.specs.Prelude.{ℕ, Bool}
 use Rattle.cpu12_isa.specs.declared.instr.Ccr.{Ccr}
 use Rattle.cpu12_isa.specs.Flags.{has, interrupts_masked}
 

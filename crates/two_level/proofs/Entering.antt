@@ -1,11 +1,11 @@
 -- The fast code from where an interrupt enters it up to its return.
-use Rattle.std.proofs.Common.{◌≡◌, ◌⊎◌, inl, inr, ℕ, ◌+◌, ◌*◌, ◌^◌, ◌<◌, ◌≤◌, Ok, false, List, [], ◌∷◌, length, bit_and, refl, sym, ap, ◌∙◌, subst, arith}
+use Rattle.std.proofs.Common.{◌≡◌, ◌⊎◌, inl, inr, ℕ, ◌+◌, ◌*◌, ◌^◌, ◌<◌, ◌≤◌, Ok, Bool, false, List, [], ◌∷◌, length, bit_and, refl, sym, ap, ◌∙◌, subst, arith}
 use Rattle.fuzzy_meaning.specs.declared.block.Block.{Block}
 use Rattle.cpu12_isa.proofs.Algebra.{bit_and_is}
 use Rattle.cpu12_isa.specs.declared.instr.Ccr.{Ccr}
 use Rattle.cpu12_isa.specs.declared.instr.Instr.TheVariants.{Andcc, Rti}
 use Rattle.cpu12_isa.specs.Agreement.{WritesStay}
-use Rattle.cpu12_isa.specs.Code.{decode_at, six_from, StandsAt, DecodesEncoded}
+use Rattle.cpu12_isa.specs.Code.{decode_at, six_from, StandsAt}
 use Rattle.cpu12_isa.specs.Fits.{StaysFit}
 use Rattle.cpu12_isa.specs.Flags.{has, interrupts_masked}
 use Rattle.cpu12_isa.specs.Memory.{plus}
@@ -16,29 +16,22 @@ use Rattle.cpu12_parts.specs.Whole.{after_plain}
 use Rattle.cpu12_emul.specs.Image.{image_memory}
 use Rattle.codegen.specs.declared.width.Width.TheVariants.{Byte}
 use Rattle.codegen.specs.Evaluation.{Writes, code_region, IsEvalStep, IsAtEval, IsEvaluated, EvalAnswers}
-use Rattle.codegen.specs.Placed.{BlockRises, BlockStands, StandsBetween}
+use Rattle.codegen.specs.Masks.{x_masked}
+use Rattle.codegen.specs.Placed.{StandsBetween}
 use Rattle.two_level.specs.declared.two.Two.{Two}
 use Rattle.two_level.specs.Layouts.{fast_front, fast_back, fast_layout}
-use Rattle.two_level.specs.Images.{slow_items, IsTwoOf}
+use Rattle.two_level.specs.Images.{IsTwoOf}
 use Rattle.two_level.specs.Running.{HasFastRom, IsFastStack, fast_code, IsEntered, IsFastStep, IsFastAnswered, FastAnswersEntered}
 use Rattle.two_level.proofs.Leaving.{leaves}
-use Rattle.two_level.proofs.Places.{fast_in_order, fast_apart, AreSound, two_rise}
+use Rattle.two_level.proofs.FastCode.{CodeLaws, standing, first_decoded}
+use Rattle.two_level.proofs.Places.{fast_apart, AreSound}
 
 -- the laws of lower crates
 pub record EnteringLaws : Type 0 where
-  pub rises : BlockRises
-  pub stands : BlockStands
+  pub code : CodeLaws
   pub eval_answers : EvalAnswers
-  pub decodes : DecodesEncoded
   pub stays_fit : StaysFit
   pub writes_stay : WritesStay
-
--- the fast code stands in a memory that has its ROM
-standing : EnteringLaws → (slow fast : Block) (two : Two) (mem : List ℕ) → AreSound slow fast → IsTwoOf slow fast two
-    → HasFastRom (image_memory two.image.bytes) mem → StandsBetween fast_layout fast Byte fast_front fast_back mem
-standing laws slow fast two mem h is same =
-    laws.stands two.image.bytes mem [] (slow_items slow) fast_layout fast Byte fast_front fast_back fast_in_order h.fast_valid h.fast_limits
-    is.image.bytes (two_rise laws.rises slow fast h) same
 
 -- six bytes in the code
 six_in : (pc : ℕ) → fast_layout.code ≤ pc → pc + 6 ≤ fast_layout.code + 2434 → Each (IsIn fast_code) (six_from pc)
@@ -69,12 +62,13 @@ step_kept stay image flags d s t k e = (
     inside = record { between = e.between; rom = k.rom; stack = k.stack; code = eval_in (six_from s.regs.pc) e.code };
     instruction = e.instruction;
     stack = e.stack;
-    unmasked = e.mask ∙ k.unmasked;
+    x = ap (λ (m : Bool × Bool). m.1) e.masks;
+    unmasked = ap (λ (m : Bool × Bool). m.0) e.masks ∙ k.unmasked;
   },
   record {
     rom = λ at from to. leaves stay _ (Writes fast_layout) flags d s t at e.instruction (written_low at from) ∙ k.rom at from to;
     stack = subst IsFastStack (sym e.stack) k.stack;
-    unmasked = e.mask ∙ k.unmasked;
+    unmasked = ap (λ (m : Bool × Bool). m.0) e.masks ∙ k.unmasked;
   },
 )
 
@@ -82,6 +76,7 @@ record Ran (image : List ℕ) (flags : ℕ) (ds : List ℕ) (s t : State) : Type
   execution : Execution (IsFastStep image flags) ds s t
   kept : Kept image t
   sp : t.regs.sp ≡ s.regs.sp
+  x : has t.regs.ccr x_masked ≡ has s.regs.ccr x_masked
 
 ran : WritesStay → (image : List ℕ) (flags : ℕ) (ds : List ℕ) (s t : State) → Kept image s
     → Execution (IsEvalStep fast_layout flags) ds s t → Ran image flags ds s t
@@ -89,6 +84,7 @@ ran stay image flags [] s t k e = record {
   execution = e;
   kept = subst (Kept image) e k;
   sp = ap (λ (u : State). u.regs.sp) (sym e);
+  x = ap (λ (u : State). has u.regs.ccr x_masked) (sym e);
 }
 ran stay image flags (d ∷ ds) s t k e =
     let step = step_kept stay image flags d s e.0 k e.1.0 in
@@ -97,14 +93,18 @@ ran stay image flags (d ∷ ds) s t k e =
       execution = (e.0, (step.0, rest.execution));
       kept = rest.kept;
       sp = rest.sp ∙ e.1.0.stack;
+      x = (let first = step.0 in rest.x ∙ first.x);
     }
 
--- ANDCC lets interrupts in
+-- ANDCC lets interrupts in, and leaves X
 abbrev opened : ℕ → State → State
 opened flags s = after_plain flags (Andcc 0xEF) s
 
 unmasked : (n : ℕ) → has (let c : Ccr = record { 0 = bit_and n 239 } in c) 4 ≡ false
 unmasked n = bit_and_is n 239 4
+
+x_left : (n : ℕ) → has (let c : Ccr = record { 0 = bit_and n 239 } in c) 6 ≡ has (let c : Ccr = record { 0 = n } in c) 6
+x_left n = bit_and_is n 239 6
 
 record Opened (fast : Block) (image : List ℕ) (flags : ℕ) (bytes : List ℕ) (before : ℕ → ℕ) (s : State) : Type 0 where
   step : IsFastStep image flags 0 s (opened flags s)
@@ -118,15 +118,14 @@ enter laws fast image flags bytes before s fits code h =
     let inside = h.inside in
     let between = inside.between in
     let i = Andcc 0xEF in
-    let here : StandsAt s.mem fast_layout.code i = (code.front.0, (code.front.1.0, tt)) in
-    let stands : StandsAt s.mem s.regs.pc i = subst (λ (k : ℕ). StandsAt s.mem k i) (sym h.pc) here in
-    let decoded : decode_at s.mem s.regs.pc ≡ Ok i = laws.decodes s.mem s.regs.pc i (omega arith) stands in
+    let decoded : decode_at s.mem s.regs.pc ≡ Ok i = ap (decode_at s.mem) h.pc ∙ first_decoded laws.code fast s.mem code in
     let fit = laws.stays_fit flags i s.regs s.mem fits (omega arith) between.fits between.bytes in
     record {
       step = record {
         inside = inside;
         instruction = inl (i, (record { step = record { decoded = decoded; plain = refl; after = refl }; reads = tt; writes = tt }, refl));
         stack = refl;
+        x = x_left s.regs.ccr.0;
         unmasked = unmasked s.regs.ccr.0;
       };
       kept = record { rom = inside.rom; stack = inside.stack; unmasked = unmasked s.regs.ccr.0 };
@@ -148,7 +147,7 @@ answered laws slow fast two flags bytes before s t h is o e =
     let image = image_memory two.image.bytes in
     let r = ran laws.writes_stay image flags e.ds (opened flags s) t o.kept e.execution in
     let kept = r.kept in
-    let code = standing laws slow fast two t.mem h is kept.rom in
+    let code = standing laws.code slow fast two t.mem h is kept.rom in
     let room = code.room in
     let pc = e.pc in
     let stands : StandsAt t.mem t.regs.pc Rti = subst (λ (k : ℕ). StandsAt t.mem k Rti) (sym pc) (code.back.0, tt) in
@@ -161,8 +160,9 @@ answered laws slow fast two flags bytes before s t h is o e =
         stack = kept.stack;
         code = six_in t.regs.pc (omega arith) (omega arith);
       };
-      returns = laws.decodes t.mem t.regs.pc Rti tt stands;
+      returns = (let lower = laws.code in lower.decodes t.mem t.regs.pc Rti tt stands);
       stack = r.sp;
+      x = (let first = o.step in r.x ∙ first.x);
       unmasked = kept.unmasked;
       answers = e.answers;
       elsewhere = λ at x y. e.elsewhere at (outside at x) y;
@@ -179,7 +179,7 @@ pub fast_answers_entered : EnteringLaws → FastAnswersEntered
 fast_answers_entered laws slow fast two vs ls vf lf is flags bytes before s fits input h =
     let image = image_memory two.image.bytes in
     let sound : AreSound slow fast = record { slow_valid = vs; slow_limits = ls; fast_valid = vf; fast_limits = lf } in
-    let code = standing laws slow fast two s.mem sound is h.inside.rom in
+    let code = standing laws.code slow fast two s.mem sound is h.inside.rom in
     let o = enter laws fast image flags bytes before s fits code h in
     let r = laws.eval_answers fast_layout fast Byte flags bytes before (opened flags s) fast_apart vf lf fits input o.at in
     (r.0, answered laws slow fast two flags bytes before s r.0 sound is o r.1)

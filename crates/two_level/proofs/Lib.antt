@@ -1,4 +1,5 @@
 mod Places
+mod FastCode
 mod Leaving
 mod Entering
 mod Standing

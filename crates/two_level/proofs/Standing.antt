@@ -32,10 +32,12 @@ use Rattle.two_level.specs.declared.two.Two.{Two}
 use Rattle.two_level.specs.Layouts.{fast_front, fast_back, fast_layout, slow_layout, is_fast_ram, is_fast_rom, is_vector, is_open_to_fast}
 use Rattle.two_level.specs.Images.{fast_items, slow_items, two_items, IsTwoOf}
 use Rattle.two_level.specs.Standing.{TwoStandBeside}
+use Rattle.two_level.proofs.FastCode.{CodeLaws, standing, first_decoded}
 use Rattle.two_level.proofs.Places.{fast_in_order, main_in_order, fast_apart, main_apart, AreSound}
 
 -- the laws of lower crates
 pub record StandingLaws : Type 0 where
+  pub code : CodeLaws
   pub inside : BlockStaysInside
   pub behind : GivesBehind
   pub bytes : BlockGivesBytes
@@ -283,6 +285,7 @@ two_stand_beside laws slow fast two vs ls vf lf is =
       record {
         bytes = two_bytes laws slow fast two h is;
         enters = ap₂ word_of first second;
+        lets_in = first_decoded laws.code fast mem (standing laws.code slow fast two mem h is (λ at from to. refl));
         outputs = no_outputs laws slow fast two h is;
         leaves = left;
         alike = agree;

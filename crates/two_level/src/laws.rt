@@ -10,7 +10,7 @@ use cpu12_isa::decode::decodes_encoded;
 use cpu12_isa::laws::{stays_fit, writes_stay};
 
 /// Wherever an interrupt enters the fast code it leads to its return with its block's answers, within its
-/// bounds, and touches what is the fast block's alone.
+/// bounds, touches what is the fast block's alone, and leaves X.
 pub fn fast_answers_entered()
     ensures { FastAnswersEntered }
 {
@@ -22,11 +22,12 @@ pub fn fast_answers_entered()
 }
 
 /// The slow firmware answers as it does alone, beside interrupts that may change all that is the fast
-/// block's, and the free bytes.
+/// block's, and the free bytes; and an interrupt enters the fast code, which lets interrupts in at once.
 pub fn two_stand_beside()
     ensures { TwoStandBeside }
 {
     blocks_are_placed();
+    decodes_encoded();
     holds_image();
     firmware_answers_beside();
     firmware_arrives_alike();

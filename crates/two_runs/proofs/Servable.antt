@@ -24,9 +24,11 @@ outer_is_servable enters exist slow fast two flags bytes before v vs ls vf lf is
     let there = enters fast image bytes before v vf.few_inputs (omega (arith, vf.few_outputs)) input can in
     let ran = exist slow fast two flags bytes before (entered bytes v) vs ls vf lf is hf input there in
     let run : IsFastRun fast image flags bytes before (entered bytes v) ran.0 = ran.1 in
-    let bound : step_bound Byte fast ≡ two.fast.step_bound = sym (bound_alone fast two.fast is.fast_alone) in
-    (input, record {
-      behind = ran.0;
-      run = run;
-      within = subst (λ n. suc run.further ≤ fast_most n) bound run.steps;
-    })
+    let bound : step_bound Byte fast ≡ two.fast.step_bound = sym (bound_alone fast two.fast is.fast_alone) in (
+      input,
+      record {
+        behind = ran.0;
+        run = run;
+        within = subst (λ n. suc run.further ≤ fast_most n) bound run.steps;
+      },
+    )

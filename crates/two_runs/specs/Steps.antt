@@ -95,11 +95,11 @@ FastStepsReturn =
     → LetsIn image → IsEntered b image bytes before s → IsFastAnswered b image flags bytes before s u
     → (t : State) × IsFastRun b image flags bytes before s t
 
--- So from wherever it is entered the fast code of two blocks has such a run, where it lets interrupts in at once.
+-- So from wherever it is entered the fast code of two blocks has such a run.
 abbrev pub FastRunsExist : Type 0
 FastRunsExist =
     (slow fast : Block) (two : Two) (flags : ℕ) (bytes : List ℕ) (before : ℕ → ℕ) (s : State) → IsValid slow
     → IsWithinLimits slow → IsValid fast → IsWithinLimits fast → IsTwoOf slow fast two
-    → LetsIn (image_memory two.image.bytes) → flags < 2 ^ 8 → AreInputBytes fast bytes
+    → flags < 2 ^ 8 → AreInputBytes fast bytes
     → IsEntered fast (image_memory two.image.bytes) bytes before s
     → (t : State) × IsFastRun fast (image_memory two.image.bytes) flags bytes before s t

@@ -51,11 +51,11 @@ pub fn fast_steps_return()
     wav_is_whole();
 }
 
-/// From wherever the fast code of two blocks is entered it has such a run, if its first instruction lets
-/// interrupts in.
+/// From wherever the fast code of two blocks is entered it has such a run.
 pub fn fast_runs_exist()
     ensures { FastRunsExist }
 {
+    two_stand_beside();
     fast_answers_entered();
     fast_steps_return();
 }

@@ -102,7 +102,7 @@ wav_run c s p sx sy us vs l ep h ex ey eb ev some few hu hv lo hi slo low =
     each_from (Reads c.layout) s.regs.x s.regs.b (omega arith) (λ k from to. inr (inr (inr (inl (omega arith, omega arith))))) in
     let r2 : Each (Reads c.layout) (from s.regs.y s.regs.b) =
     each_from (Reads c.layout) s.regs.y s.regs.b (omega arith) (λ k from to. inr (inl (omega arith, omega arith))) in
-    let mask = masked_put (opened s.regs.ccr 43 c.flags) 2 true (omega arith) ∙ masked_open_hnvc s.regs.ccr c.flags in
+    let masks = masked_put (opened s.regs.ccr 43 c.flags) 2 true (omega arith) ∙ masked_open_hnvc s.regs.ccr c.flags in
     record {
       t = t;
       goes = goes_part c (length us - 1) s t (record {
@@ -114,7 +114,7 @@ wav_run c s p sx sy us vs l ep h ex ey eb ev some few hu hv lo hi slo low =
           reads = each_append (Reads c.layout) (from s.regs.x s.regs.b) (from s.regs.y s.regs.b) r1 r2;
         })));
         stack = refl;
-        mask = mask;
+        masks = masks;
       });
       live = record {
         off = inl refl;
@@ -122,7 +122,7 @@ wav_run c s p sx sy us vs l ep h ex ey eb ev some few hu hv lo hi slo low =
         bytes = l.bytes;
         fits = wav_fits c.flags s.regs P W (plus s.regs.pc 1) c.fits l.fits (omega arith) (omega arith);
         stack = l.stack;
-        mask = mask ∙ l.mask;
+        masks = masks ∙ l.masks;
         same = l.same;
       };
       pc_is = omega (arith, h.high);

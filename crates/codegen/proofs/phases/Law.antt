@@ -17,11 +17,11 @@ use Rattle.codegen.specs.Widths.{places, bytes_of, answer}
 use Rattle.cpu12_isa.specs.declared.instr.Instr.{Instr}
 use Rattle.cpu12_isa.specs.Code.{encode_of}
 use Rattle.cpu12_isa.specs.Fits.{StaysFit}
-use Rattle.cpu12_isa.specs.Flags.{has}
 use Rattle.cpu12_parts.specs.State.{State}
 use Rattle.codegen.specs.Firing.{AreInputBytes, slots_after, RulesGiveMasses}
 use Rattle.codegen.specs.Answers.{put}
 use Rattle.cpu12_parts.specs.Executions.{all_steps}
+use Rattle.codegen.specs.Masks.{interrupt_masks}
 use Rattle.codegen.specs.Evaluation.{HasBytes, HasEval, IsAtEval, IsEvaluated, EvalAnswers}
 use Rattle.codegen.specs.Code.{eval_code}
 use Rattle.codegen.proofs.steps.Memory.{has_put, at_put_out, length-put, bytes_front, bytes_back}
@@ -171,7 +171,7 @@ eval_answers laws l b w flags bytes before s a v lim fits i k =
       flags = flags;
       fits = fits;
       sp = s.regs.sp;
-      mask = has s.regs.ccr 4;
+      masks = interrupt_masks s.regs.ccr;
     } in
     let live : Live c s = record {
       off = k.between.off;
@@ -179,7 +179,7 @@ eval_answers laws l b w flags bytes before s a v lim fits i k =
       bytes = k.between.bytes;
       fits = k.between.fits;
       stack = refl;
-      mask = refl;
+      masks = refl;
       same = λ at h. refl;
     } in
     begun laws.rules_give_masses laws.nearest_is_byte c b w bytes before s v (block_facts laws.layout_law b v) lim i k.eval live k

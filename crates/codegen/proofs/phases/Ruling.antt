@@ -24,6 +24,7 @@ use Rattle.codegen.specs.Code.{rules_code}
 use Rattle.codegen.specs.Firing.{fired}
 use Rattle.codegen.specs.Answers.{put}
 use Rattle.cpu12_parts.specs.Touching.{Each, IsRulesOver}
+use Rattle.codegen.specs.Masks.{interrupt_masks}
 use Rattle.codegen.specs.Evaluation.{Reads, Writes}
 use Rattle.codegen.proofs.steps.Flags.{masked_put, masked_open_hnzc, masked_open_hnz, overflow_off, overflow_or, carry_or}
 use Rattle.codegen.proofs.steps.Decoding.{sizes, decode_same}
@@ -139,25 +140,25 @@ weights_each P false y (p ∷ ps) hi h = tt
 record Ruled (c : Ctx) (i : Instr) (f : Form) (d : ℕ) (p : Rule) (ps : List Rule) (s : State) : Type 0 where
   over : IsRulesOver (Reads c.layout) (Writes c.layout) i f c.flags d p ps s (rules_whole f c.flags s.regs s.temps s.mem p ps)
   live : Live c (rules_whole f c.flags s.regs s.temps s.mem p ps)
-  mask : has (rules_whole f c.flags s.regs s.temps s.mem p ps).regs.ccr 4 ≡ has s.regs.ccr 4
+  masks : interrupt_masks (rules_whole f c.flags s.regs s.temps s.mem p ps).regs.ccr ≡ interrupt_masks s.regs.ccr
 
 rules_next : (c : Ctx) (s : State) (i : Instr) (f : Form) (d : ℕ) (p : Rule) (ps : List Rule) → Live c s → decode_at s.mem s.regs.pc ≡ Ok i
     → AreReady f s.regs s.mem p ps → length (elements_of f p ps) ≡ suc d
     → LightRules (p ∷ ps) → Below 0x1800 (rules_target f (p ∷ ps)) → Each (Writes c.layout) (rules_target f (p ∷ ps))
     → Each (Reads c.layout) (rules_named f (p ∷ ps)) → Each (Reads c.layout) (element_bytes f s.regs.x (elements_of f p ps))
     → Each (Reads c.layout) (weight_bytes (f.weighs s.regs.ccr) s.regs.y (p ∷ ps))
-    → has (opened s.regs.ccr f.mask c.flags) 4 ≡ has s.regs.ccr 4
+    → interrupt_masks (opened s.regs.ccr f.mask c.flags) ≡ interrupt_masks s.regs.ccr
     → Ruled c i f d p ps s
-rules_next c s i f d p ps l de ready el light target writes names elements weights mask =
+rules_next c s i f d p ps l de ready el light target writes names elements weights masks =
     let k = all_keep f c.image s.mem p ps light target l.size l.bytes l.same in
-    let same = masked_put (opened s.regs.ccr f.mask c.flags) 1 true (omega arith) ∙ mask in
+    let same = masked_put (opened s.regs.ccr f.mask c.flags) 1 true (omega arith) ∙ masks in
     record {
       over = record {
         step = record { decoded = de; ready = ready; parts = el; after = refl };
         reads = each_append (Reads c.layout) (element_bytes f s.regs.x (elements_of f p ps)) _ elements (each_append (Reads c.layout) (rules_named f (p ∷ ps)) (weight_bytes (f.weighs s.regs.ccr) s.regs.y (p ∷ ps)) names weights);
         writes = writes;
       };
-      mask = same;
+      masks = same;
       live = record {
         off = l.off;
         size = k.0;
@@ -172,7 +173,7 @@ rules_next c s i f d p ps l de ready el light target writes names elements weigh
           ccr = fits_put (opened s.regs.ccr f.mask c.flags) 1 true (omega arith) (fits_opened s.regs.ccr f.mask c.flags l.fits.ccr c.fits);
         };
         stack = l.stack;
-        mask = same ∙ l.mask;
+        masks = same ∙ l.masks;
         same = k.2;
       };
     }
@@ -302,7 +303,7 @@ rev_run c m ss k ks w ws s p h ep st full few hl le =
     let r = rev_step c m ss k ks w ws s4 h4 de refl refl refl (overflow_off s3.regs.ccr.0) full few hl le in
     let t : State = rules_whole (rev_form s4.regs.y) c.flags s4.regs s4.temps s4.mem (rule_by number k w) (rules_by number ks ws) in
     let g5 : Goes c 1 (sum_by entry_count (k ∷ ks) - 1) s4 t =
-    goes_part c (sum_by entry_count (k ∷ ks) - 1) s4 t (record { between = between_of c s4 n4.live; code = code_in c s4.regs.pc (omega (arith, n4.pc_is, here.above)) (omega (arith, n4.pc_is, here.below)) (omega (arith, n4.pc_is)); instruction = inr (inl (rule_by number k w, rules_by number ks ws, r.over)); stack = refl; mask = r.mask }) in
+    goes_part c (sum_by entry_count (k ∷ ks) - 1) s4 t (record { between = between_of c s4 n4.live; code = code_in c s4.regs.pc (omega (arith, n4.pc_is, here.above)) (omega (arith, n4.pc_is, here.below)) (omega (arith, n4.pc_is)); instruction = inr (inl (rule_by number k w, rules_by number ks ws, r.over)); stack = refl; masks = r.masks }) in
     let g4 =
     goes_on c 1 0 3 0 s s1 s4 (goes_one c s s1 (p + 3) n1) (goes_on c 1 0 2 0 s1 s2 s4 (goes_one c s1 s2 (p + 3 + 3) n2) (goes_on c 1 0 1 0 s2 s3 s4 (goes_one c s2 s3 (p + 3 + 3 + 2) n3) (goes_one c s3 s4 (p + 3 + 3 + 2 + 2) n4))) in
     let g = goes_on c 4 0 1 (sum_by entry_count (k ∷ ks) - 1) s s4 t g4 g5 in
@@ -340,7 +341,7 @@ revw_run c m ss k ks w ws s p h ep st light hl le hw whi =
     revw_step c m ss k ks w ws s5 h5 de refl refl refl (overflow_or s4.regs.ccr.0 ∙ overflow_off s3.regs.ccr.0) (carry_or s4.regs.ccr.0) light hl le hw whi in
     let t : State = rules_whole revw_form c.flags s5.regs s5.temps s5.mem (rule_by name k w) (rules_by name ks ws) in
     let g6 : Goes c 1 j s5 t =
-    goes_part c j s5 t (record { between = between_of c s5 n5.live; code = code_in c s5.regs.pc (omega (arith, n5.pc_is, here.above)) (omega (arith, n5.pc_is, here.below)) (omega (arith, n5.pc_is)); instruction = inr (inr (inl (rule_by name k w, rules_by name ks ws, r.over))); stack = refl; mask = r.mask }) in
+    goes_part c j s5 t (record { between = between_of c s5 n5.live; code = code_in c s5.regs.pc (omega (arith, n5.pc_is, here.above)) (omega (arith, n5.pc_is, here.below)) (omega (arith, n5.pc_is)); instruction = inr (inr (inl (rule_by name k w, rules_by name ks ws, r.over))); stack = refl; masks = r.masks }) in
     let g5 =
     goes_on c 1 0 4 0 s s1 s5 (goes_one c s s1 (p + 3) n1) (goes_on c 1 0 3 0 s1 s2 s5 (goes_one c s1 s2 (p + 3 + 3) n2) (goes_on c 1 0 2 0 s2 s3 s5 (goes_one c s2 s3 (p + 3 + 3 + 2) n3) (goes_on c 1 0 1 0 s3 s4 s5 (goes_one c s3 s4 (p + 3 + 3 + 2 + 2) n4) (goes_one c s4 s5 (p + 3 + 3 + 2 + 2 + 2) n5)))) in
     let g = goes_on c 5 0 1 j s s5 t g5 g6 in

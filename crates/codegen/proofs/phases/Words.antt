@@ -15,6 +15,7 @@ use Rattle.cpu12_isa.specs.Registers.{divided_fraction}
 use Rattle.cpu12_parts.specs.State.{State}
 use Rattle.cpu12_parts.specs.Whole.{after_plain}
 use Rattle.codegen.specs.Answers.{put}
+use Rattle.codegen.specs.Masks.{interrupt_masks}
 use Rattle.codegen.specs.Evaluation.{Writes}
 use Rattle.codegen.specs.declared.width.Width.TheVariants.{Word}
 use Rattle.codegen.specs.Widths.{bytes_of}
@@ -32,13 +33,13 @@ fraction_is : (r : Regs) (d : ℕ) → r.a * 2 ^ 8 + r.b ≡ d → d < r.x
     → divided_fraction r ≡ record r { x = d * 2 ^ 16 / r.x; a = d * 2 ^ 16 % r.x / 2 ^ 8; b = d * 2 ^ 16 % r.x % 2 ^ 8; pc = plus r.pc 2; ccr = flag.put (flag.put (flag.put r.ccr 2 (d * 2 ^ 16 / r.x == 0)) 1 false) 0 false }
 fraction_is r d e lt = let a : nat_lt d r.x ≡ true = grind (arith, nat_tests) in rw (e, a)
 
-masked_three : (c : Ccr) (z : Bool) → has (flag.put (flag.put (flag.put c 2 z) 1 false) 0 false) 4 ≡ has c 4
+masked_three : (c : Ccr) (z : Bool) → interrupt_masks (flag.put (flag.put (flag.put c 2 z) 1 false) 0 false) ≡ interrupt_masks c
 masked_three c z = masked_put (flag.put (flag.put c 2 z) 1 false) 0 false (omega arith) ∙ masked_put (flag.put c 2 z) 1 false (omega arith) ∙ masked_put c 2 z (omega arith)
 
 fdiv : (c : Ctx) (s : State) (p d : ℕ) → Live c s → s.regs.pc ≡ p → Here c p Fdiv → s.regs.a * 2 ^ 8 + s.regs.b ≡ d → d < s.regs.x → Next c s (after_plain c.flags Fdiv s) (p + 2)
 fdiv c s p d l ep h e lt =
     let q = fraction_is s.regs d e lt in
-    next c s p (p + 2) Fdiv l ep h refl tt tt tt (ap (λ (r : Regs). r.sp) q) (ap (λ (r : Regs). has r.ccr 4) q ∙ masked_three s.regs.ccr _) (ap (λ (r : Regs). r.pc) q ∙ omega (arith, h.high))
+    next c s p (p + 2) Fdiv l ep h refl tt tt tt (ap (λ (r : Regs). r.sp) q) (ap (λ (r : Regs). interrupt_masks r.ccr) q ∙ masked_three s.regs.ccr _) (ap (λ (r : Regs). r.pc) q ∙ omega (arith, h.high))
 
 transfer : (c : Ctx) (s : State) (p : ℕ) → Live c s → s.regs.pc ≡ p → Here c p TransferXD → Next c s (after_plain c.flags TransferXD s) (p + 2)
 transfer c s p l ep h = next c s p (p + 2) TransferXD l ep h refl tt tt tt refl refl (omega (arith, h.high))

@@ -195,7 +195,7 @@ interruptible_step open_to l image flags d s t u a w c h e =
         interruptible = record { temps = h.temps; size = e.between.size; bytes = e.between.bytes; fits = e.between.fits; stack = inl h.stack; mask = h.unmasked; same = h.same; code = code_seen open_to l s.regs.sp (six_from s.regs.pc) u a c low e.code };
         instruction = k.instruction;
       },
-      record { temps = k.temps; stack = e.stack ∙ h.stack; unmasked = e.mask ∙ h.unmasked; same = k.same },
+      record { temps = k.temps; stack = e.stack ∙ h.stack; unmasked = ap (λ (m : Bool × Bool). m.0) e.masks ∙ h.unmasked; same = k.same },
     )
 
 interruptible_execution : (open_to : ℕ → Bool) (l : Layout) (image : List ℕ) (flags : ℕ) (ds : List ℕ) (s t : State) → IsShut open_to l → IsApart l → l.wait < l.eval → IsInCode l → Alone image s

@@ -18,6 +18,7 @@ use Rattle.cpu12_parts.specs.Laws.{addresses}
 use Rattle.cpu12_parts.specs.Whole.{after_plain}
 use Rattle.codegen.specs.declared.layout.Layout.{Layout}
 use Rattle.cpu12_isa.specs.Regions.{is_hidden}
+use Rattle.codegen.specs.Masks.{interrupt_masks}
 use Rattle.codegen.specs.Evaluation.{Reads, Writes}
 use Rattle.codegen.specs.Interruptible.{is_idle, IsSteady, IsInterruptible, IsShownPlain, IsInterruptibleStep}
 use Rattle.codegen.proofs.steps.Memory.{SameHigh, WriteBelow, below_more, high_writes, bytes_writes, HasBytes, bytes_front, bytes_back}
@@ -170,11 +171,11 @@ pub plain_next : (c : Ctx) (s : State) (p q : ℕ) (i : Instr) → Live c s → 
     → Uncovers (is_hidden c.open_to s.regs.sp) (effect c.flags i s.regs s.mem).writes (is_hidden c.open_to (effect c.flags i s.regs s.mem).regs.sp)
     → WriteBelow 0x2000 (effect c.flags i s.regs s.mem).writes
     → ((effect c.flags i s.regs s.mem).regs.sp ≡ 0x1FFE) ⊎ ((effect c.flags i s.regs s.mem).regs.sp ≡ 0x2000)
-    → has (effect c.flags i s.regs s.mem).regs.ccr 4 ≡ has s.regs.ccr 4
+    → interrupt_masks (effect c.flags i s.regs s.mem).regs.ccr ≡ interrupt_masks s.regs.ccr
     → (effect c.flags i s.regs s.mem).regs.pc ≡ q
     → Next c s (after_plain c.flags i s) q
-plain_next c s p q i l busy ep lo hi de pl fo reads writes uncovers below stack mask pc =
-    let w = plain_went c false false s p q i l ep lo hi de pl fo reads writes uncovers below stack (mask ∙ l.mask) pc in
+plain_next c s p q i l busy ep lo hi de pl fo reads writes uncovers below stack masks pc =
+    let w = plain_went c false false s p q i l ep lo hi de pl fo reads writes uncovers below stack (ap (λ (m : Bool × Bool). m.0) masks ∙ l.mask) pc in
     record {
       step = record { busy = busy; interruptible = interruptible_of c s l (omega arith) (omega arith); instruction = inl (i, (w.shown, refl)) };
       live = w.lives;
@@ -190,12 +191,12 @@ pub next : (c : Ctx) (s : State) (p q : ℕ) (i : Instr) → Live c s → s.regs
     → WriteBelow 0x1800 (effect c.flags i s.regs s.mem).writes
     → AllShown c.open_to (addresses (effect c.flags i s.regs s.mem).writes)
     → (effect c.flags i s.regs s.mem).regs.sp ≡ s.regs.sp
-    → has (effect c.flags i s.regs s.mem).regs.ccr 4 ≡ has s.regs.ccr 4
+    → interrupt_masks (effect c.flags i s.regs s.mem).regs.ccr ≡ interrupt_masks s.regs.ccr
     → (effect c.flags i s.regs s.mem).regs.pc ≡ q
     → Next c s (after_plain c.flags i s) q
-next c s p q i l ep h pl fo reads below shut esp mask pc =
+next c s p q i l ep h pl fo reads below shut esp masks pc =
     let e = effect c.flags i s.regs s.mem in
-    plain_next c s p q i l (not_at c.layout s p ep h.off) ep h.from h.to h.decoded pl fo reads (writes_shown c.open_to (min s.regs.sp e.regs.sp) e.writes below shut) (λ at g. inl (ap (λ k. is_hidden c.open_to k at) (sym esp) ∙ g)) (below_more 0x1800 0x2000 e.writes (omega arith) below) (⊎_elim (λ a. inl (esp ∙ a)) (λ b. inr (esp ∙ b)) l.stack) mask pc
+    plain_next c s p q i l (not_at c.layout s p ep h.off) ep h.from h.to h.decoded pl fo reads (writes_shown c.open_to (min s.regs.sp e.regs.sp) e.writes below shut) (λ at g. inl (ap (λ k. is_hidden c.open_to k at) (sym esp) ∙ g)) (below_more 0x1800 0x2000 e.writes (omega arith) below) (⊎_elim (λ a. inl (esp ∙ a)) (λ b. inr (esp ∙ b)) l.stack) masks pc
 
 -- executions of at most n instructions, with at most k parts beyond their first
 abbrev pub Goes : Ctx → ℕ → ℕ → State → State → Type 0

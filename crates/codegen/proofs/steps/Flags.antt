@@ -1,35 +1,60 @@
--- The flags that the code rests on: I, V, Z and C.
-use Rattle.std.proofs.Common.{◌≡◌, ℕ, zero, suc, ◌<◌, Bool, true, false, bit_and, bit_or, ◌∙◌, arith}
+-- The flags that the code rests on: I, X, V, Z and C.
+use Rattle.std.proofs.Common.{◌≡◌, ℕ, zero, suc, ◌<◌, Bool, true, false, ◌&&◌, ◌||◌, bit_and, bit_or, refl, ap, ap₂, ◌∙◌, arith}
 use Rattle.cpu12_isa.specs.declared.instr.Ccr.{Ccr}
 use Rattle.cpu12_isa.specs.Flags.{has, put, opened}
-use Rattle.cpu12_isa.proofs.Algebra.{bit_or_is, bit_and_is}
+use Rattle.cpu12_isa.proofs.Algebra.{bit, bit_or_is, bit_and_is}
+use Rattle.codegen.specs.Masks.{interrupt_masks}
 
--- another flag leaves I
-pub masked_put : (c : Ccr) (k : ℕ) (b : Bool) → k < 4 → has (put c k b) 4 ≡ has c 4
-masked_put c zero true h = bit_or_is c.0 1 4
-masked_put c zero false h = bit_and_is c.0 254 4
-masked_put c (suc zero) true h = bit_or_is c.0 2 4
-masked_put c (suc zero) false h = bit_and_is c.0 253 4
-masked_put c (suc (suc zero)) true h = bit_or_is c.0 4 4
-masked_put c (suc (suc zero)) false h = bit_and_is c.0 251 4
-masked_put c (suc (suc (suc zero))) true h = bit_or_is c.0 8 4
-masked_put c (suc (suc (suc zero))) false h = bit_and_is c.0 247 4
+abbrev ccr_of : ℕ → Ccr
+ccr_of n = record { 0 = n }
+
+-- What is set leaves I and X where it has neither; what is kept does where it has both.
+pub masked_or : (a m : ℕ) → bit m 4 ≡ false → bit m 6 ≡ false
+    → interrupt_masks (ccr_of (bit_or a m)) ≡ interrupt_masks (ccr_of a)
+masked_or a m i x =
+    ap₂ (λ (p q : Bool). (p, q)) (bit_or_is a m 4 ∙ ap (λ (b : Bool). b || bit a 4) i)
+    (bit_or_is a m 6 ∙ ap (λ (b : Bool). b || bit a 6) x)
+
+pub masked_and : (a m : ℕ) → bit m 4 ≡ true → bit m 6 ≡ true
+    → interrupt_masks (ccr_of (bit_and a m)) ≡ interrupt_masks (ccr_of a)
+masked_and a m i x =
+    ap₂ (λ (p q : Bool). (p, q)) (bit_and_is a m 4 ∙ ap (λ (b : Bool). b && bit a 4) i)
+    (bit_and_is a m 6 ∙ ap (λ (b : Bool). b && bit a 6) x)
+
+-- so does each other flag
+pub masked_put : (c : Ccr) (k : ℕ) (b : Bool) → k < 4 → interrupt_masks (put c k b) ≡ interrupt_masks c
+masked_put c zero true h = masked_or c.0 1 refl refl
+masked_put c zero false h = masked_and c.0 254 refl refl
+masked_put c (suc zero) true h = masked_or c.0 2 refl refl
+masked_put c (suc zero) false h = masked_and c.0 253 refl refl
+masked_put c (suc (suc zero)) true h = masked_or c.0 4 refl refl
+masked_put c (suc (suc zero)) false h = masked_and c.0 251 refl refl
+masked_put c (suc (suc (suc zero))) true h = masked_or c.0 8 refl refl
+masked_put c (suc (suc (suc zero))) false h = masked_and c.0 247 refl refl
 masked_put c (suc (suc (suc (suc k)))) b h = absurd (omega arith)
 
-pub masked_tested : (c : Ccr) (n z : Bool) → has (put (put (put c 3 n) 2 z) 1 false) 4 ≡ has c 4
+pub masked_tested : (c : Ccr) (n z : Bool) → interrupt_masks (put (put (put c 3 n) 2 z) 1 false) ≡ interrupt_masks c
 masked_tested c n z = masked_put (put (put c 3 n) 2 z) 1 false (omega arith) ∙ masked_put (put c 3 n) 2 z (omega arith) ∙ masked_put c 3 n (omega arith)
 
-pub masked_open : (c : Ccr) (flags : ℕ) → has (opened c 47 flags) 4 ≡ has c 4
-masked_open c flags = bit_or_is (bit_and c.0 208) (bit_and flags 47) 4 ∙ rw (bit_and_is flags 47 4, bit_and_is c.0 208 4)
+pub masked_open : (c : Ccr) (flags : ℕ) → interrupt_masks (opened c 47 flags) ≡ interrupt_masks c
+masked_open c flags =
+    masked_or (bit_and c.0 208) (bit_and flags 47) (bit_and_is flags 47 4) (bit_and_is flags 47 6)
+    ∙ masked_and c.0 208 refl refl
 
-pub masked_open_hnzc : (c : Ccr) (flags : ℕ) → has (opened c 45 flags) 4 ≡ has c 4
-masked_open_hnzc c flags = bit_or_is (bit_and c.0 210) (bit_and flags 45) 4 ∙ rw (bit_and_is flags 45 4, bit_and_is c.0 210 4)
+pub masked_open_hnzc : (c : Ccr) (flags : ℕ) → interrupt_masks (opened c 45 flags) ≡ interrupt_masks c
+masked_open_hnzc c flags =
+    masked_or (bit_and c.0 210) (bit_and flags 45) (bit_and_is flags 45 4) (bit_and_is flags 45 6)
+    ∙ masked_and c.0 210 refl refl
 
-pub masked_open_hnz : (c : Ccr) (flags : ℕ) → has (opened c 44 flags) 4 ≡ has c 4
-masked_open_hnz c flags = bit_or_is (bit_and c.0 211) (bit_and flags 44) 4 ∙ rw (bit_and_is flags 44 4, bit_and_is c.0 211 4)
+pub masked_open_hnz : (c : Ccr) (flags : ℕ) → interrupt_masks (opened c 44 flags) ≡ interrupt_masks c
+masked_open_hnz c flags =
+    masked_or (bit_and c.0 211) (bit_and flags 44) (bit_and_is flags 44 4) (bit_and_is flags 44 6)
+    ∙ masked_and c.0 211 refl refl
 
-pub masked_open_hnvc : (c : Ccr) (flags : ℕ) → has (opened c 43 flags) 4 ≡ has c 4
-masked_open_hnvc c flags = bit_or_is (bit_and c.0 212) (bit_and flags 43) 4 ∙ rw (bit_and_is flags 43 4, bit_and_is c.0 212 4)
+pub masked_open_hnvc : (c : Ccr) (flags : ℕ) → interrupt_masks (opened c 43 flags) ≡ interrupt_masks c
+masked_open_hnvc c flags =
+    masked_or (bit_and c.0 212) (bit_and flags 43) (bit_and_is flags 43 4) (bit_and_is flags 43 6)
+    ∙ masked_and c.0 212 refl refl
 
 -- what was put
 pub zero_put : (c : Ccr) (b : Bool) → has (put c 2 b) 2 ≡ b
@@ -46,31 +71,25 @@ zero_kept c (suc (suc k)) b h = absurd (omega arith)
 pub zero_tested : (c : Ccr) (n z : Bool) → has (put (put (put c 3 n) 2 z) 1 false) 2 ≡ z
 zero_tested c n z = zero_kept (put (put c 3 n) 2 z) 1 false (omega arith) ∙ zero_put (put c 3 n) z
 
--- ANDCC #$FD clears V and leaves I; ORCC #$01 sets C and leaves V and I; ANDCC #$EF clears I
-pub overflow_off : (n : ℕ) → has (let c : Ccr = record { 0 = bit_and n 253 } in c) 1 ≡ false
+-- ANDCC #$FD clears V; ORCC #$01 sets C and leaves V; ANDCC #$EF clears I
+pub overflow_off : (n : ℕ) → has (ccr_of (bit_and n 253)) 1 ≡ false
 overflow_off n = bit_and_is n 253 1
 
-pub masked_and : (n : ℕ) → has (let c : Ccr = record { 0 = bit_and n 253 } in c) 4 ≡ has (let c : Ccr = record { 0 = n } in c) 4
-masked_and n = bit_and_is n 253 4
-
-pub masked_or : (n : ℕ) → has (let c : Ccr = record { 0 = bit_or n 1 } in c) 4 ≡ has (let c : Ccr = record { 0 = n } in c) 4
-masked_or n = bit_or_is n 1 4
-
-pub overflow_or : (n : ℕ) → has (let c : Ccr = record { 0 = bit_or n 1 } in c) 1 ≡ has (let c : Ccr = record { 0 = n } in c) 1
+pub overflow_or : (n : ℕ) → has (ccr_of (bit_or n 1)) 1 ≡ has (ccr_of n) 1
 overflow_or n = bit_or_is n 1 1
 
-pub carry_or : (n : ℕ) → has (let c : Ccr = record { 0 = bit_or n 1 } in c) 0 ≡ true
+pub carry_or : (n : ℕ) → has (ccr_of (bit_or n 1)) 0 ≡ true
 carry_or n = bit_or_is n 1 0
 
-pub unmasked : (n : ℕ) → has (let c : Ccr = record { 0 = bit_and n 239 } in c) 4 ≡ false
+pub unmasked : (n : ℕ) → has (ccr_of (bit_and n 239)) 4 ≡ false
 unmasked n = bit_and_is n 239 4
 
 -- ORCC #$10 sets I
-pub masked_on : (n : ℕ) → has (let c : Ccr = record { 0 = bit_or n 16 } in c) 4 ≡ true
+pub masked_on : (n : ℕ) → has (ccr_of (bit_or n 16)) 4 ≡ true
 masked_on n = bit_or_is n 16 4
 
 -- four flags put one after another
-pub masked_four : (c : Ccr) (n z v k : Bool) → has (put (put (put (put c 3 n) 2 z) 1 v) 0 k) 4 ≡ has c 4
+pub masked_four : (c : Ccr) (n z v k : Bool) → interrupt_masks (put (put (put (put c 3 n) 2 z) 1 v) 0 k) ≡ interrupt_masks c
 masked_four c n z v k =
     masked_put (put (put (put c 3 n) 2 z) 1 v) 0 k (omega arith) ∙ masked_put (put (put c 3 n) 2 z) 1 v (omega arith) ∙ masked_put (put c 3 n) 2 z (omega arith) ∙ masked_put c 3 n (omega arith)
 

@@ -11,6 +11,7 @@ use Rattle.cpu12_parts.specs.State.{State}
 use Rattle.cpu12_parts.specs.Whole.{after_plain}
 use Rattle.point_slope.specs.Tables.{grade_under, grade_of}
 use Rattle.codegen.proofs.steps.Flags.{masked_tested, masked_four, zero_four, masked_open, masked_and, masked_or}
+use Rattle.codegen.specs.Masks.{interrupt_masks}
 use Rattle.codegen.specs.Evaluation.{Reads, Writes}
 use Rattle.codegen.proofs.steps.Stepping.{Ctx, Here, Live, Next, next}
 
@@ -50,10 +51,10 @@ pub coma : (c : Ctx) (s : State) (p : ℕ) → Live c s → s.regs.pc ≡ p → 
 coma c s p l ep h = next c s p (p + 1) Coma l ep h refl tt tt tt refl (masked_four s.regs.ccr _ _ false true) (omega (arith, h.high))
 
 pub andcc_v : (c : Ctx) (s : State) (p : ℕ) → Live c s → s.regs.pc ≡ p → Here c p (Andcc 0xFD) → Next c s (after_plain c.flags (Andcc 0xFD) s) (p + 2)
-andcc_v c s p l ep h = next c s p (p + 2) (Andcc 0xFD) l ep h refl (omega arith) tt tt refl (masked_and s.regs.ccr.0) (omega (arith, h.high))
+andcc_v c s p l ep h = next c s p (p + 2) (Andcc 0xFD) l ep h refl (omega arith) tt tt refl (masked_and s.regs.ccr.0 253 refl refl) (omega (arith, h.high))
 
 pub orcc_c : (c : Ctx) (s : State) (p : ℕ) → Live c s → s.regs.pc ≡ p → Here c p (Orcc 0x01) → Next c s (after_plain c.flags (Orcc 0x01) s) (p + 2)
-orcc_c c s p l ep h = next c s p (p + 2) (Orcc 0x01) l ep h refl (omega arith) tt tt refl (masked_or s.regs.ccr.0) (omega (arith, h.high))
+orcc_c c s p l ep h = next c s p (p + 2) (Orcc 0x01) l ep h refl (omega arith) tt tt refl (masked_or s.regs.ccr.0 1 refl refl) (omega (arith, h.high))
 
 pub tfr : (c : Ctx) (s : State) (p : ℕ) → Live c s → s.regs.pc ≡ p → Here c p TransferYD → Next c s (after_plain c.flags TransferYD s) (p + 2)
 tfr c s p l ep h = next c s p (p + 2) TransferYD l ep h refl tt tt tt refl refl (omega (arith, h.high))
@@ -81,7 +82,7 @@ bra_on c s p to l ep h lt hi =
 pub ediv : (c : Ctx) (s : State) (p n : ℕ) → Live c s → s.regs.pc ≡ p → Here c p Ediv → s.regs.y * 2 ^ 16 + (s.regs.a * 2 ^ 8 + s.regs.b) ≡ n → s.regs.x ≢ 0 → n / s.regs.x < 65536 → Next c s (after_plain c.flags Ediv s) (p + 1)
 ediv c s p n l ep h en nz small =
     let e = divided_is c.flags s.regs n en nz small in
-    next c s p (p + 1) Ediv l ep h refl tt tt tt (ap (λ (r : Regs). r.sp) e) (ap (λ (r : Regs). has r.ccr 4) e ∙ masked_four s.regs.ccr _ _ false false) (ap (λ (r : Regs). r.pc) e ∙ omega (arith, h.high))
+    next c s p (p + 1) Ediv l ep h refl tt tt tt (ap (λ (r : Regs). r.sp) e) (ap (λ (r : Regs). interrupt_masks r.ccr) e ∙ masked_four s.regs.ccr _ _ false false) (ap (λ (r : Regs). r.pc) e ∙ omega (arith, h.high))
 
 pub ediv_y : (c : Ctx) (s : State) (n : ℕ) → s.regs.y * 2 ^ 16 + (s.regs.a * 2 ^ 8 + s.regs.b) ≡ n → s.regs.x ≢ 0 → n / s.regs.x < 65536 → (after_plain c.flags Ediv s).regs.y ≡ n / s.regs.x
 ediv_y c s n en nz small = ap (λ (r : Regs). r.y) (divided_is c.flags s.regs n en nz small)

@@ -4,7 +4,6 @@ use Rattle.cpu12_isa.specs.declared.instr.Instr.{Instr}
 use Rattle.cpu12_isa.specs.Act.{read_by}
 use Rattle.cpu12_isa.specs.Code.{encode_of, decode_at, six_from, FitsOperands}
 use Rattle.cpu12_isa.specs.Fits.{FitsRegs, AreBytes, StaysFit}
-use Rattle.cpu12_isa.specs.Flags.{has}
 use Rattle.cpu12_isa.specs.Meaning.{act_of, effect, is_plain}
 use Rattle.cpu12_isa.specs.Memory.{plus}
 use Rattle.cpu12_isa.proofs.Algebra.{length_writes}
@@ -14,12 +13,13 @@ use Rattle.cpu12_parts.specs.Whole.{after_plain}
 use Rattle.codegen.specs.declared.layout.Layout.{Layout}
 use Rattle.codegen.specs.Images.{IsApart}
 use Rattle.cpu12_parts.specs.Touching.{IsIn, Each, IsBetween}
+use Rattle.codegen.specs.Masks.{interrupt_masks}
 use Rattle.codegen.specs.Evaluation.{Writes, Reads, code_region, IsEvalStep}
 use Rattle.codegen.proofs.steps.Memory.{SameHigh, WriteBelow, high_writes, bytes_writes}
 use Rattle.codegen.proofs.steps.Decoding.{sizes, decode_same}
 use Rattle.codegen.proofs.steps.Executions.{Bounded, bounded_none, bounded_one, bounded_on, bounded_more}
 
--- what a run is under: the layout, memory where EVAL begins and the open flags, and SP and I as they stay
+-- what a run is under: the layout, memory where EVAL begins and the open flags, and SP, I and X as they stay
 pub record Ctx : Type 0 where
   pub stays_fit : StaysFit
   pub layout : Layout
@@ -28,7 +28,7 @@ pub record Ctx : Type 0 where
   pub flags : ℕ
   pub fits : flags < 2 ^ 8
   pub sp : ℕ
-  pub mask : Bool
+  pub masks : Bool × Bool
 
 -- an instruction stands in EVAL's code
 pub record Here (c : Ctx) (p : ℕ) (i : Instr) : Type 0 where
@@ -64,7 +64,7 @@ pub record Live (c : Ctx) (s : State) : Type 0 where
   pub bytes : AreBytes s.mem
   pub fits : FitsRegs s.regs
   pub stack : s.regs.sp ≡ c.sp
-  pub mask : has s.regs.ccr 4 ≡ c.mask
+  pub masks : interrupt_masks s.regs.ccr ≡ c.masks
   pub same : SameHigh c.image s.mem
 
 pub between_of : (c : Ctx) (s : State) → Live c s → IsBetween s
@@ -97,10 +97,10 @@ pub next : (c : Ctx) (s : State) (p q : ℕ) (i : Instr) → Live c s → s.regs
     → Each (Reads c.layout) (read_by (act_of c.flags i s.regs) s.mem)
     → Each (Writes c.layout) (addresses (effect c.flags i s.regs s.mem).writes)
     → (effect c.flags i s.regs s.mem).regs.sp ≡ s.regs.sp
-    → has (effect c.flags i s.regs s.mem).regs.ccr 4 ≡ has s.regs.ccr 4
+    → interrupt_masks (effect c.flags i s.regs s.mem).regs.ccr ≡ interrupt_masks s.regs.ccr
     → (effect c.flags i s.regs s.mem).regs.pc ≡ q
     → Next c s (after_plain c.flags i s) q
-next c s p q i l ep h pl fo reads writes esp mask pc =
+next c s p q i l ep h pl fo reads writes esp masks pc =
     let e = effect c.flags i s.regs s.mem in
     let fit = c.stays_fit c.flags i s.regs s.mem c.fits fo l.fits l.bytes in
     let d : decode_at s.mem s.regs.pc ≡ Ok i = ap (decode_at s.mem) ep ∙ decode_same c.image s.mem p h.low h.high l.same ∙ h.decoded in
@@ -110,7 +110,7 @@ next c s p q i l ep h pl fo reads writes esp mask pc =
         code = code_in c s.regs.pc (omega (arith, h.above)) (omega (arith, h.below)) (omega (arith, h.high));
         instruction = inl (i, (record { step = record { decoded = d; plain = pl; after = refl }; reads = reads; writes = writes }, refl));
         stack = esp;
-        mask = mask;
+        masks = masks;
       };
       live = record {
         off = l.off;
@@ -118,7 +118,7 @@ next c s p q i l ep h pl fo reads writes esp mask pc =
         bytes = bytes_writes s.mem e.writes l.size fit.1 l.bytes;
         fits = fit.0;
         stack = esp ∙ l.stack;
-        mask = mask ∙ l.mask;
+        masks = masks ∙ l.masks;
         same = high_writes c.image s.mem e.writes (writes_low c.layout e.writes c.apart writes) l.same;
       };
       pc_is = pc;

@@ -116,7 +116,7 @@ clear_run p at s l e h =
     let lo = h.from in
     let hi = h.to in
     let high = h.high in
-    plain_went (free_ctx p) true true s at (at + 3) (ClrExtended 0x1028) l e lo hi h.decoded refl h.fits tt (low_shown is_free (min s.regs.sp s.regs.sp) 0x1028 refl (omega arith), tt) (λ at g. inl g) (omega arith, tt) l.stack (masked_four s.regs.ccr false true false false ∙ l.mask) (omega arith)
+    plain_went (free_ctx p) true true s at (at + 3) (ClrExtended 0x1028) l e lo hi h.decoded refl h.fits tt (low_shown is_free (min s.regs.sp s.regs.sp) 0x1028 refl (omega arith), tt) (λ at g. inl g) (omega arith, tt) l.stack (ap (λ (m : Bool × Bool). m.0) (masked_four s.regs.ccr false true false false) ∙ l.mask) (omega arith)
 
 -- ANDCC
 allow_run : (p : Post) (at : ℕ) (s : State) → Lives p.image true s → s.regs.pc ≡ at → Here (free_ctx p) at (Andcc 0xEF)

@@ -1,5 +1,5 @@
 -- The code looks at POSTED.
-use Rattle.std.proofs.Common.{◌≡◌, inl, ℕ, ◌+◌, ◌≤◌, nat_lt, Bool, true, false, get_or, refl, ◌∙◌, arith}
+use Rattle.std.proofs.Common.{◌≡◌, inl, ℕ, ◌+◌, ◌≤◌, nat_lt, Bool, true, false, get_or, refl, ap, ◌∙◌, arith}
 use Rattle.std.specs.Prelude.{◌==◌, if◌then◌else◌}
 use Rattle.cpu12_isa.specs.declared.instr.Instr.TheVariants.{LdaaExtended, Beq}
 use Rattle.cpu12_isa.specs.Flags.{has}
@@ -17,7 +17,7 @@ pub look_run : (p : Post) → HasTurn p → (s : State) → IsAt p.image 0xC008 
 look_run p h s at =
     let l = lives_of is_postable false p.image s at.steady in
     let w =
-    plain_went (free_ctx p) false false s 0xC008 0xC00B (LdaaExtended 0x1028) l at.pc (omega arith) (omega arith) h.look refl (omega arith) (low_shown is_free s.regs.sp 0x1028 refl (omega arith), tt) tt (λ at g. inl g) tt l.stack (masked_tested s.regs.ccr _ _ ∙ l.mask) (omega (arith, at.pc)) in (
+    plain_went (free_ctx p) false false s 0xC008 0xC00B (LdaaExtended 0x1028) l at.pc (omega arith) (omega arith) h.look refl (omega arith) (low_shown is_free s.regs.sp 0x1028 refl (omega arith), tt) tt (λ at g. inl g) tt l.stack (ap (λ (m : Bool × Bool). m.0) (masked_tested s.regs.ccr _ _) ∙ l.mask) (omega (arith, at.pc)) in (
       after_plain p.flags (LdaaExtended 0x1028) s,
       record {
         step = w.shown;

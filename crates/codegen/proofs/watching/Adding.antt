@@ -8,23 +8,23 @@ use Rattle.cpu12_isa.specs.declared.instr.Instr.TheVariants.{LdabImmediate, LdxI
 use Rattle.cpu12_isa.specs.Code.{encode_of}
 use Rattle.cpu12_isa.specs.Flags.{has, put}
 use Rattle.cpu12_isa.specs.Memory.{plus}
-use Rattle.cpu12_isa.proofs.Algebra.{bit_or_is, bit_and_is}
 use Rattle.cpu12_parts.specs.State.{State}
 use Rattle.cpu12_parts.specs.Whole.{after_plain}
 use Rattle.codegen.specs.declared.segments.Segment.{Segment}
+use Rattle.codegen.specs.Masks.{interrupt_masks}
 use Rattle.codegen.specs.WatchedCode.{segment_code, segments_code, IsSegment}
 pub use Rattle.codegen.specs.WatchedCode.{AreSegments}
 use Rattle.codegen.specs.Interruptible.{IsInterruptibleStep}
 use Rattle.codegen.proofs.steps.Executions.{bounded_none}
-use Rattle.codegen.proofs.steps.Flags.{masked_tested, masked_four, zero_four}
+use Rattle.codegen.proofs.steps.Flags.{masked_or, masked_and, masked_tested, masked_four, zero_four}
 use Rattle.codegen.proofs.runs.Stepping.{Ctx, Here, Live, Stands, Next, next, Goes, goes_on, goes_one, high_shown, sp_high}
 
--- H leaves I, and with the other flags Z
-masked_half : (c : Ccr) (b : Bool) → has (put c 5 b) 4 ≡ has c 4
-masked_half c true = bit_or_is c.0 32 4
-masked_half c false = bit_and_is c.0 223 4
+-- H leaves I and X, and with the other flags Z
+masked_half : (c : Ccr) (b : Bool) → interrupt_masks (put c 5 b) ≡ interrupt_masks c
+masked_half c true = masked_or c.0 32 refl refl
+masked_half c false = masked_and c.0 223 refl refl
 
-masked_five : (c : Ccr) (h n z v k : Bool) → has (put (put (put (put (put c 5 h) 3 n) 2 z) 1 v) 0 k) 4 ≡ has c 4
+masked_five : (c : Ccr) (h n z v k : Bool) → interrupt_masks (put (put (put (put (put c 5 h) 3 n) 2 z) 1 v) 0 k) ≡ interrupt_masks c
 masked_five c h n z v k = masked_four (put c 5 h) n z v k ∙ masked_half c h
 
 zero_five : (c : Ccr) (h n z v k : Bool) → has (put (put (put (put (put c 5 h) 3 n) 2 z) 1 v) 0 k) 2 ≡ z

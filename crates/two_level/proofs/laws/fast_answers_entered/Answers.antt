@@ -3,10 +3,12 @@ use Rattle.two_level.proofs.laws.fast_answers_entered.Goals as goal
 
 pub returns : goal.returns
 returns c = fast_answers_entered (record {
-  rises = c.blocks_are_placed.ensures.rises;
-  stands = c.blocks_are_placed.ensures.stands;
+  code = record {
+    rises = c.blocks_are_placed.ensures.rises;
+    stands = c.blocks_are_placed.ensures.stands;
+    decodes = c.decodes_encoded.ensures;
+  };
   eval_answers = c.eval_answers.ensures;
-  decodes = c.decodes_encoded.ensures;
   stays_fit = c.stays_fit.ensures;
   writes_stay = c.writes_stay.ensures;
 })

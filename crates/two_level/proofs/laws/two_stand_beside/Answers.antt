@@ -3,6 +3,11 @@ use Rattle.two_level.proofs.laws.two_stand_beside.Goals as goal
 
 pub returns : goal.returns
 returns c = two_stand_beside (record {
+  code = record {
+    rises = c.blocks_are_placed.ensures.rises;
+    stands = c.blocks_are_placed.ensures.stands;
+    decodes = c.decodes_encoded.ensures;
+  };
   inside = c.blocks_are_placed.ensures.inside;
   behind = c.blocks_are_placed.ensures.behind;
   bytes = c.blocks_are_placed.ensures.bytes;
