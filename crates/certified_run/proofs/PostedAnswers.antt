@@ -10,8 +10,7 @@ use Rattle.cert_check.specs.Laws.{AcceptedAnswersAreNear}
 use Rattle.codegen.specs.Uninterrupted.{AreAnswersOf}
 use Rattle.trace_io.specs.Traces.{Fields, SpellSamples}
 use Rattle.trace_io.specs.declared.sample.Sample.{Sample}
-use Rattle.fz_run.specs.Rows.{input_bytes}
-use Rattle.posted_runs.specs.Runs.{bytes_of}
+use Rattle.fz_run.specs.Rows.{input_bytes, bytes_of}
 use Rattle.certified_run.specs.Nearness.{numbers_of}
 use Rattle.certified_run.specs.Posted.{IsOneOf, PostedAnswersAreNear, numbers_at}
 use Rattle.certified_run.proofs.RowLemmas.{are_inputs, bytes_read, near_answers}

@@ -11,8 +11,7 @@ use Rattle.codegen.specs.Widths.{parts}
 use Rattle.codegen.specs.declared.width.Width.{Width}
 use Rattle.trace_io.specs.Traces.{Spells}
 use Rattle.trace_io.specs.declared.sample.Sample.{Sample}
-use Rattle.fz_run.specs.Rows.{input_bytes}
-use Rattle.posted_runs.specs.Runs.{bytes_of}
+use Rattle.fz_run.specs.Rows.{input_bytes, bytes_of}
 use Rattle.certified_run.specs.Nearness.{numbers_of, IsWithinErrors}
 
 -- the numbers of the inputs of sample k, counted from 1

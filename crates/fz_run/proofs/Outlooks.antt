@@ -1,118 +1,129 @@
 -- What is ahead of a run, by its next position.
 use Rattle.std.proofs.Common.{◌≡◌, ◌≤◌, ◌<◌, ℕ, zero, suc, ◌+◌, ◌-◌, ◌*◌, Bool, true, false, Result, Ok, Err, List, [], ◌∷◌, ◌++◌, length, drop, refl, ap, ap₂, sym, ◌∙◌, subst, vec_len, vec_capacity, arith, append_assoc, append-nil}
-use Rattle.std.specs.Prelude.{if◌then◌else◌, Option, Some, slice_get, Vec}
-use Rattle.std.specs.Global.{Global}
+use Rattle.std.specs.Prelude.{if◌then◌else◌, Option, Some, slice_get, map}
 use Rattle.cpu12_parts.specs.State.{State}
 use Rattle.cpu12_emul.specs.declared.ends.Frame.{Frame}
 use Rattle.cpu12_emul.specs.Step.{Next, next_of}
-use Rattle.run_law.specs.Forms.{Ran, run_from, RowSeen, row_of, Rows}
-use Rattle.interrupt_plan.specs.declared.Request.{Request}
+use Rattle.run_law.specs.Forms.{Form, Ran, run_from, RowSeen, row_of, Rows}
 use Rattle.fz_run.specs.declared.boundary.Stand.{Stand}
 use Rattle.fz_run.specs.declared.sample.Tally.{Tally}
-use Rattle.fz_run.specs.Forms.{PlanForm}
+use Rattle.fz_run.specs.declared.sample.Room.{Room}
+use Rattle.fz_run.specs.Forms.{plan_form, Harness}
 use Rattle.fz_run.specs.Rest.{Brief, brief, after, rest_at, counted_at, shown_by}
-use Rattle.fz_run.specs.Rows.{frames_seen, steps_told, shown}
+use Rattle.fz_run.specs.Rows.{frames_seen, tellings, shown}
 use Rattle.fz_run.specs.Slices.{Follow, requests_first, HasRoom}
 use Rattle.fz_run.specs.Positions.{Position, numbered, all_numbered, positions_or, positions}
-use Rattle.fz_run.specs.Sessions.{Coming, before_takes, after_takes, after_state, at_end, by_step, IsSteady}
+use Rattle.fz_run.specs.Sessions.{Coming, before_takes, after_takes, after_state, at_end, by_step, HasRoomLeft, IsSteady}
 use Rattle.fz_run.specs.Outlooks.{Ahead, Outlook, from_here, at_position, shown_run, ahead, sample_at, with_row, left_by, outlook}
 use Rattle.fz_run.proofs.Onward.{from_nothing}
 use Rattle.fz_run.proofs.RowSteps.{rows_under, one_row, no_row}
 
-abbrev pub coming : Brief → List State → Coming
+abbrev pub coming : {B : Type 0} → Brief B → List State → Coming B
 coming b ss = record { brief = b; states = ss }
 
-abbrev pub coming_of : Ran Request ℕ → Coming
+abbrev pub coming_of : {A B : Type 0} → Ran A B → Coming B
 coming_of r = coming (brief r) r.states
 
 abbrev pub made : {T : Type 0} → List Position → List T → State → Ahead T
 made ps rows s = record { left = ps; rows = rows; state = s }
 
 -- where a session stands is the first of the states to come
-pub states_here : {S : Type 0} (g : PlanForm S) (qs : List Request) (st : Stand) (s : State) → (after_takes g qs st s).states ≡ s ∷ drop 1 (after_takes g qs st s).states
-states_here g qs st s = by st.over (next_of g.flags s)
+pub states_here : {A U R S B T : Type 0} (flags : ℕ) (h : Harness A U R S B T) (qs : List A) (st : Stand U) (s : State) → (after_takes flags h qs st s).states ≡ s ∷ drop 1 (after_takes flags h qs st s).states
+states_here flags h qs st s = by st.over (next_of flags s)
   where
-    by : (b : Bool) (o : Result Next ℕ) → (if b then at_end st.tally s else by_step g qs st s o).states ≡ s ∷ drop 1 (if b then at_end st.tally s else by_step g qs st s o).states
+    by : (b : Bool) (o : Result Next ℕ) → (if b then at_end h.told st.tally s else by_step flags h qs st s o).states ≡ s ∷ drop 1 (if b then at_end h.told st.tally s else by_step flags h qs st s o).states
     by true o = refl
     by false (Ok next) = refl
     by false (Err byte) = refl
 
 -- what is counted before the first boundary
-abbrev pub fresh : Vec (ℕ × Frame) Global → Tally
-fresh frames = record { arrived = false; moment = 0; inside = false; next = 0; instrs = 0; resumed = 0; handler = 0; frames = frames }
+abbrev pub fresh : {U : Type 0} → Room U → Tally U
+fresh room = record {
+  arrived = false;
+  moment = 0;
+  inside = false;
+  next = 0;
+  instrs = 0;
+  resumed = 0;
+  frames = room.frames;
+  told = room.told;
+}
 
 -- all of a sample's run is to come
-pub fresh_coming : {S : Type 0} (g : PlanForm S) (n : ℕ) (qs : List Request) (frames : Vec (ℕ × Frame) Global) (st : Stand) (s : State) → st.tally ≡ fresh frames → st.left ≡ n → frames.items ≡ []
-    → before_takes g qs st s ≡ coming_of (run_from g n 0 false qs s)
-fresh_coming g n qs frames st s et el ef =
-    let r : Ran Request ℕ = run_from g n 0 false qs s in
-    ap₂ (λ (t : Tally) (k : ℕ). coming (rest_at g k qs t s) (run_from g k t.moment t.inside (drop t.next qs) s).states) et el
-    ∙ ap (λ (l : List (ℕ × Frame)). coming (after 0 0 0 0 (frames_seen l) (brief r)) r.states) ef
-    ∙ ap (λ (b : Brief). coming b r.states) (from_nothing (brief r))
+pub fresh_coming : {A U R S B T : Type 0} (flags : ℕ) (h : Harness A U R S B T) (n : ℕ) (qs : List A) (room : Room U) (st : Stand U) (s : State) → st.tally ≡ fresh room → st.left ≡ n
+    → room.frames.items ≡ [] → room.told.items ≡ []
+    → before_takes flags h qs st s ≡ coming_of (run_from (plan_form flags h.parts) n 0 false qs s)
+fresh_coming {A = A} {U = U} {S = S} {B = B} flags h n qs room st s et el ef eu =
+    let g : Form S A B = plan_form flags h.parts in
+    let r : Ran A B = run_from g n 0 false qs s in
+    ap₂ (λ (t : Tally U) (k : ℕ). coming (rest_at h.told g k qs t s) (run_from g k t.moment t.inside (drop t.next qs) s).states) et el
+    ∙ ap₂ (λ (fs : List (ℕ × Frame)) (us : List U). coming (after 0 0 0 (map h.told us) (frames_seen fs) (brief r)) r.states) ef eu
+    ∙ ap (λ (b : Brief B). coming b r.states) (from_nothing (brief r))
 
 -- a sample that ends here
-pub outlook_ends : {S T : Type 0} (g : PlanForm S) (shows : RowSeen S → ℕ → T) (most k m : ℕ) (x : Option S) (s : State) (t : Tally) (c : Coming) (plan : List Request) (rest : List S) (rows : List T) → c ≡ at_end t s
-    → outlook g shows most k m x s c plan rest rows
+pub outlook_ends : {A U R S B T : Type 0} (flags : ℕ) (h : Harness A U R S B T) (most k m : ℕ) (x : Option S) (s : State) (t : Tally U) (c : Coming B) (plan : List A) (rest : List S) (rows : List T) → c ≡ at_end h.told t s
+    → outlook flags h most k m x s c plan rest rows
     ≡ at_position (record { sample = k; moment = m; state = s })
-    (ahead g shows most (k + 1) plan rest (with_row rows (shown_by shows g.answers (counted_at t s)) x) (left_by g.leave x s))
-outlook_ends g shows most k m x s t c plan rest rows e = ap (λ (d : Coming). outlook g shows most k m x s d plan rest rows) e
+    (ahead flags h most (k + 1) plan rest (with_row rows (shown_by h.shows h.parts.answers (counted_at h.told t s)) x) (left_by h.parts.leave x s))
+outlook_ends {B = B} flags h most k m x s t c plan rest rows e = ap (λ (d : Coming B). outlook flags h most k m x s d plan rest rows) e
 
 -- the last sample
-pub outlook_last : {S T : Type 0} (g : PlanForm S) (shows : RowSeen S → ℕ → T) (most k m : ℕ) (x : Option S) (s : State) (t : Tally) (c : Coming) (plan : List Request) (rest : List S) (rows : List T) → c ≡ at_end t s → rest ≡ []
-    → outlook g shows most k m x s c plan rest rows
+pub outlook_last : {A U R S B T : Type 0} (flags : ℕ) (h : Harness A U R S B T) (most k m : ℕ) (x : Option S) (s : State) (t : Tally U) (c : Coming B) (plan : List A) (rest : List S) (rows : List T) → c ≡ at_end h.told t s → rest ≡ []
+    → outlook flags h most k m x s c plan rest rows
     ≡ at_position (record { sample = k; moment = m; state = s })
-    (made [] (with_row rows (shown_by shows g.answers (counted_at t s)) x) (left_by g.leave x s))
-outlook_last {S = S} {T = T} g shows most k m x s t c plan rest rows e none =
+    (made [] (with_row rows (shown_by h.shows h.parts.answers (counted_at h.told t s)) x) (left_by h.parts.leave x s))
+outlook_last {A = A} {S = S} {B = B} {T = T} flags h most k m x s t c plan rest rows e none =
     let here : Position = record { sample = k; moment = m; state = s } in
-    let rows2 : List T = with_row rows (shown_by shows g.answers (counted_at t s)) x in
-    let u : State = left_by g.leave x s in
-    outlook_ends g shows most k m x s t c plan rest rows e
-    ∙ ap (λ (l : List S). at_position here (ahead g shows most (k + 1) plan l rows2 u)) none
-    ∙ ap (λ (all : Rows S Request ℕ). at_position here (made (all_numbered (k + 1) all.states) (rows2 ++ shown shows all) all.state)) (no_row g most plan (k + 1) u)
+    let rows2 : List T = with_row rows (shown_by h.shows h.parts.answers (counted_at h.told t s)) x in
+    let u : State = left_by h.parts.leave x s in
+    outlook_ends flags h most k m x s t c plan rest rows e
+    ∙ ap (λ (l : List S). at_position here (ahead flags h most (k + 1) plan l rows2 u)) none
+    ∙ ap (λ (all : Rows S A B). at_position here (made (all_numbered (k + 1) all.states) (rows2 ++ shown h.shows all) all.state)) (no_row (plan_form flags h.parts) h.parts.place most plan (k + 1) u)
     ∙ ap (λ (l : List T). at_position here (made [] l u)) (append-nil rows2)
 
 -- a sample that goes on
-pub outlook_goes : {S T : Type 0} (g : PlanForm S) (shows : RowSeen S → ℕ → T) (most k m m2 : ℕ) (x : Option S) (s s2 : State) (c c2 : Coming) (plan : List Request) (rest : List S) (rows : List T) → c ≡ after_state s c2
+pub outlook_goes : {A U R S B T : Type 0} (flags : ℕ) (h : Harness A U R S B T) (most k m m2 : ℕ) (x : Option S) (s s2 : State) (c c2 : Coming B) (plan : List A) (rest : List S) (rows : List T) → c ≡ after_state s c2
     → c2.states ≡ s2 ∷ drop 1 c2.states → m2 ≡ m + 1
-    → outlook g shows most k m x s c plan rest rows ≡ at_position (record { sample = k; moment = m; state = s }) (from_here (outlook g shows most k m2 x s2 c2 plan rest rows))
-outlook_goes {S = S} {T = T} g shows most k m m2 x s s2 c c2 plan rest rows e here em =
-    let next : Ahead T = ahead g shows most (k + 1) plan rest (with_row rows (shown_by shows g.answers c2.brief) x) (left_by g.leave x c2.brief.state) in
+    → outlook flags h most k m x s c plan rest rows ≡ at_position (record { sample = k; moment = m; state = s }) (from_here (outlook flags h most k m2 x s2 c2 plan rest rows))
+outlook_goes {B = B} {T = T} flags h most k m m2 x s s2 c c2 plan rest rows e here em =
+    let next : Ahead T = ahead flags h most (k + 1) plan rest (with_row rows (shown_by h.shows h.parts.answers c2.brief) x) (left_by h.parts.leave x c2.brief.state) in
     let one : suc m ≡ m2 = omega (arith, em) in
-    ap (λ (d : Coming). outlook g shows most k m x s d plan rest rows) e
+    ap (λ (d : Coming B). outlook flags h most k m x s d plan rest rows) e
     ∙ ap₂ (λ (j : ℕ) (ws : List State). at_position (record { sample = k; moment = m; state = s }) (made (numbered k j ws ++ next.left) next.rows next.state)) one here
 
 -- the first boundary of a sample that was given
-pub given_ahead : {S T : Type 0} (g : PlanForm S) (shows : RowSeen S → ℕ → T) (most n m : ℕ) (plan plan2 qs : List Request) (o : Option S) (y : S) (rest : List S) (rows : List T) (s t : State) (c : Coming) → Follow (n + 1) plan
-    → qs ≡ requests_first (n + 1) plan → plan2 ≡ drop (length (requests_first (n + 1) plan)) plan → c ≡ coming_of (run_from g most 0 false qs (g.give y s))
+pub given_ahead : {A U R S B T : Type 0} (flags : ℕ) (h : Harness A U R S B T) (most n m : ℕ) (plan plan2 qs : List A) (o : Option S) (y : S) (rest : List S) (rows : List T) (s t : State) (c : Coming B) → Follow h.parts.place (n + 1) plan
+    → qs ≡ requests_first h.parts.place (n + 1) plan → plan2 ≡ drop (length (requests_first h.parts.place (n + 1) plan)) plan → c ≡ coming_of (run_from (plan_form flags h.parts) most 0 false qs (h.parts.give y s))
     → c.states ≡ t ∷ drop 1 c.states → m ≡ 0 → o ≡ Some y
-    → from_here (outlook g shows most (n + 1) m o t c plan2 rest rows) ≡ ahead g shows most (n + 1) plan (y ∷ rest) rows s
-given_ahead {S = S} {T = T} g shows most n m plan plan2 qs o y rest rows s t c follow eq ep ec here em eo =
+    → from_here (outlook flags h most (n + 1) m o t c plan2 rest rows) ≡ ahead flags h most (n + 1) plan (y ∷ rest) rows s
+given_ahead {A = A} {S = S} {B = B} {T = T} flags h most n m plan plan2 qs o y rest rows s t c follow eq ep ec here em eo =
     let k : ℕ = n + 1 in
-    let r : Ran Request ℕ = run_from g most 0 false (requests_first k plan) (g.give y s) in
+    let g : Form S A B = plan_form flags h.parts in
+    let r : Ran A B = run_from g most 0 false (requests_first h.parts.place k plan) (g.give y s) in
     let u : State = g.leave y r.state in
-    let row : T = shows (row_of g y r) (steps_told r.told) in
-    let left : List Request = drop (length (requests_first k plan)) plan in
-    let all : Rows S Request ℕ = rows_under g most left (k + 1) rest u in
-    let same : c ≡ coming_of r = ec ∙ ap (λ (l : List Request). coming_of (run_from g most 0 false l (g.give y s))) eq in
+    let row : T = h.shows (row_of g y r) (tellings r.told) in
+    let left : List A = drop (length (requests_first h.parts.place k plan)) plan in
+    let all : Rows S A B = rows_under g h.parts.place most left (k + 1) rest u in
+    let same : c ≡ coming_of r = ec ∙ ap (λ (l : List A). coming_of (run_from g most 0 false l (g.give y s))) eq in
     let next : suc k ≡ k + 1 = omega arith in
     ap first em
     ∙ ap (λ (ws : List State). started ws) (sym here)
     ∙ ap (λ (x : Option S). full c plan2 x) eo
-    ∙ ap₂ (λ (d : Coming) (p : List Request). full d p (Some y)) same ep
-    ∙ ap₂ (λ (j : ℕ) (l : List T). made (numbered k 0 r.states ++ all_numbered j all.states) l all.state) (sym next) (append_assoc rows (row ∷ []) (shown shows all))
-    ∙ ap (λ (rs : Rows S Request ℕ). made (all_numbered k rs.states) (rows ++ shown shows rs) rs.state) (sym (one_row g most plan k y rest s r follow refl))
+    ∙ ap₂ (λ (d : Coming B) (p : List A). full d p (Some y)) same ep
+    ∙ ap₂ (λ (j : ℕ) (l : List T). made (numbered k 0 r.states ++ all_numbered j all.states) l all.state) (sym next) (append_assoc rows (row ∷ []) (shown h.shows all))
+    ∙ ap (λ (rs : Rows S A B). made (all_numbered k rs.states) (rows ++ shown h.shows rs) rs.state) (sym (one_row g h.parts.place most plan k y rest s r follow refl))
   where
-    full : Coming → List Request → Option S → Ahead T
+    full : Coming B → List A → Option S → Ahead T
     full d p x =
-        let next = ahead g shows most (n + 1 + 1) p rest (with_row rows (shown_by shows g.answers d.brief) x) (left_by g.leave x d.brief.state) in
+        let next = ahead flags h most (n + 1 + 1) p rest (with_row rows (shown_by h.shows h.parts.answers d.brief) x) (left_by h.parts.leave x d.brief.state) in
         made (numbered (n + 1) 0 d.states ++ next.left) next.rows next.state
 
     first : ℕ → Ahead T
-    first j = from_here (outlook g shows most (n + 1) j o t c plan2 rest rows)
+    first j = from_here (outlook flags h most (n + 1) j o t c plan2 rest rows)
 
     started : List State → Ahead T
     started ws =
-        let next = ahead g shows most (n + 1 + 1) plan2 rest (with_row rows (shown_by shows g.answers c.brief) o) (left_by g.leave o c.brief.state) in
+        let next = ahead flags h most (n + 1 + 1) plan2 rest (with_row rows (shown_by h.shows h.parts.answers c.brief) o) (left_by h.parts.leave o c.brief.state) in
         made (numbered (n + 1) 0 ws ++ next.left) next.rows next.state
 
 -- a sample of a list, and those behind it
@@ -137,17 +148,25 @@ pub sample_before : {S : Type 0} (n : ℕ) (samples : List S) → 0 < n → samp
 sample_before zero samples h = absurd (omega (arith, h))
 sample_before (suc n) samples h = let e : n ≡ suc n - 1 = omega arith in ap (λ (k : ℕ). slice_get samples k) e
 
--- room for a sample's frames, before its first boundary
-pub given_room : (qs first : List Request) (room : Vec (ℕ × Frame) Global) (t : Tally) → t ≡ fresh room → HasRoom first room → qs ≡ first → vec_len t.frames + (length qs - t.next) ≤ vec_capacity t.frames
-given_room qs first room t et h eq =
-    let len = room.ok in
-    let none : length room.items ≡ 0 = ap length h.empty in
-    let wide = h.wide in
+-- there is room for what a sample's requests push and tell, before its first boundary
+pub given_room : {A U : Type 0} (qs first : List A) (room : Room U) (t : Tally U) → t ≡ fresh room → HasRoom first room → qs ≡ first → length qs ≤ 10000
+    → HasRoomLeft (length qs - t.next) t
+given_room {U = U} qs first room t et h eq few =
+    let frames = room.frames.ok in
+    let told = room.told.ok in
+    let no_frames : length room.frames.items ≡ 0 = ap length h.no_frames in
+    let none_told : length room.told.items ≡ 0 = ap length h.none_told in
+    let wide = h.frames in
+    let wide_told = h.told in
     let same : length qs ≡ length first = ap length eq in
-    subst (λ (u : Tally). vec_len u.frames + (length qs - u.next) ≤ vec_capacity u.frames) (sym et) (omega (arith, len.0, none, wide, same))
+    subst (λ (u : Tally U). HasRoomLeft (length qs - u.next) u) (sym et) (record {
+      frames = omega (arith, frames.0, no_frames, wide, same);
+      told = omega (arith, told.0, none_told, wide_told, same);
+      few = omega (arith, told.0, none_told, few);
+    })
 
 -- the first position of a run, behind the one before its samples
-pub first_goes : {S T : Type 0} (shows : RowSeen S → ℕ → T) (first : State) (o n : Outlook T) (p q : Position) (all : Rows S Request ℕ)
+pub first_goes : {S A B T : Type 0} (shows : RowSeen S → List B → T) (first : State) (o n : Outlook T) (p q : Position) (all : Rows S A B)
     → o ≡ at_position p (made (all_numbered 1 all.states) (shown shows all) all.state) → o ≡ at_position q (from_here n)
     → from_here n ≡ shown_run shows first all
 first_goes {T = T} shows first o n p q all e f =
@@ -157,7 +176,7 @@ first_goes {T = T} shows first o n p q all e f =
     ∙ ap (λ (a : Ahead T). made (positions first all) a.rows a.state) same
 
 -- and where there are no samples, that one is the only one
-pub first_stays : {S T : Type 0} (shows : RowSeen S → ℕ → T) (first : State) (o : Outlook T) (all : Rows S Request ℕ)
+pub first_stays : {S A B T : Type 0} (shows : RowSeen S → List B → T) (first : State) (o : Outlook T) (all : Rows S A B)
     → o ≡ at_position (record { sample = 0; moment = 0; state = first }) (made (all_numbered 1 all.states) (shown shows all) all.state) → o.later ≡ []
     → from_here o ≡ shown_run shows first all
 first_stays {T = T} shows first o all e none =
@@ -168,18 +187,16 @@ first_stays {T = T} shows first o all e none =
     ∙ ap (λ (ps : List Position). made (positions_or first ps) rows all.state) there
 
 -- the stand before the first sample
-pub steady_before : (frames : Vec (ℕ × Frame) Global) (st : Stand) → st.tally ≡ fresh frames → frames.items ≡ [] → IsSteady [] (record st { over = true })
-steady_before frames st et none =
-    let len = frames.ok in
-    let zero_len : length frames.items ≡ 0 = ap length none in
-    let t : Tally = st.tally in
-    let moment : t.moment ≡ 0 = ap (λ (u : Tally). u.moment) et in
-    let instrs : t.instrs ≡ 0 = ap (λ (u : Tally). u.instrs) et in
-    let resumed : t.resumed ≡ 0 = ap (λ (u : Tally). u.resumed) et in
+pub steady_before : {A U : Type 0} (room : Room U) (st : Stand U) → st.tally ≡ fresh room → room.frames.items ≡ [] → room.told.items ≡ []
+    → IsSteady {A = A} [] (record st { over = true })
+steady_before {A = A} {U = U} room st et ef eu =
+    let t : Tally U = st.tally in
+    let moment : t.moment ≡ 0 = ap (λ (u : Tally U). u.moment) et in
+    let instrs : t.instrs ≡ 0 = ap (λ (u : Tally U). u.instrs) et in
+    let resumed : t.resumed ≡ 0 = ap (λ (u : Tally U). u.resumed) et in
+    let none : List A = [] in
     record {
-      few = omega arith;
-      handler = subst (λ (u : Tally). u.handler ≤ 65535 * u.next) (sym et) (omega arith);
-      room = subst (λ (u : Tally). vec_len u.frames + (0 - u.next) ≤ vec_capacity u.frames) (sym et) (omega (arith, len.0, zero_len));
+      room = given_room none none room t et (record { no_frames = ef; none_told = eu; frames = omega arith; told = omega arith }) refl (omega arith);
       instrs = omega (arith, moment, instrs);
       resumed = omega (arith, moment, resumed);
       on = λ e. absurd (let no : true ≡ false = e in cc);

@@ -3,6 +3,7 @@ use Rattle.std.proofs.Common.{◌≡◌, ℕ, suc, ◌<◌, ◌≤◌, Bool, tru
 use Rattle.std.specs.Prelude.{All}
 use Rattle.interrupt_plan.specs.declared.Request.{Request}
 use Rattle.interrupt_plan.specs.Plans.{NotAfter, Ascends, IsGoodRequest, IsGood}
+use Rattle.fz_run.specs.Forms.{place_of}
 use Rattle.fz_run.specs.Rows.{is_of, requests_of}
 use Rattle.fz_run.specs.Given.{RequestsAreGood}
 use Rattle.run_law.specs.Soundness.{AllGood, Ascend}
@@ -32,21 +33,21 @@ bool_cases false = inr refl
 -- the requests of one sample are good, and ascend
 requests_good : (k j m : ℕ) (plan : List Request) → Goes j m plan → AllGood IsGoodRequest (requests_of k plan)
 requests_good k j m [] h = tt
-requests_good k j m (q ∷ qs) h = elim (bool_cases (is_of k q)) [
-  | inl e ↦ subst (λ (l : List Request). AllGood IsGoodRequest l) (sym (of_here k q qs e)) (h.2, requests_good k q.sample q.moment qs h.3)
-  | inr e ↦ subst (λ (l : List Request). AllGood IsGoodRequest l) (sym (of_not k q qs e)) (requests_good k q.sample q.moment qs h.3)
+requests_good k j m (q ∷ qs) h = elim (bool_cases (is_of place_of k q)) [
+  | inl e ↦ subst (λ (l : List Request). AllGood IsGoodRequest l) (sym (of_here place_of k q qs e)) (h.2, requests_good k q.sample q.moment qs h.3)
+  | inr e ↦ subst (λ (l : List Request). AllGood IsGoodRequest l) (sym (of_not place_of k q qs e)) (requests_good k q.sample q.moment qs h.3)
 ]
 
 requests_ascend : (k j m : ℕ) (plan : List Request) → Goes j m plan → (i : ℕ) → (j ≡ k → i ≤ m) → (j < k → i ≤ 0) → Ascend (λ (r : Request). r.moment) i (requests_of k plan)
 requests_ascend k j m [] h i e f = tt
-requests_ascend k j m (q ∷ qs) h i e f = elim (bool_cases (is_of k q)) [
+requests_ascend k j m (q ∷ qs) h i e f = elim (bool_cases (is_of place_of k q)) [
   | inl t ↦
-      let here = one_is k q t in
+      let here = one_is place_of k q t in
       let at : i ≤ q.moment = at_most here (one_of j q.sample h.0) in
-      subst (λ (l : List Request). Ascend (λ (r : Request). r.moment) i l) (sym (of_here k q qs t)) (at, requests_ascend k q.sample q.moment qs h.3 q.moment (λ y. omega arith) (λ y. absurd (omega arith)))
+      subst (λ (l : List Request). Ascend (λ (r : Request). r.moment) i l) (sym (of_here place_of k q qs t)) (at, requests_ascend k q.sample q.moment qs h.3 q.moment (λ y. omega arith) (λ y. absurd (omega arith)))
   | inr t ↦
-      let other = other_is k q t in
-      subst (λ (l : List Request). Ascend (λ (r : Request). r.moment) i l) (sym (of_not k q qs t)) (requests_ascend k q.sample q.moment qs h.3 i (λ y. absurd (other y)) (λ y. f (omega (arith, h.0))))
+      let other = other_is place_of k q t in
+      subst (λ (l : List Request). Ascend (λ (r : Request). r.moment) i l) (sym (of_not place_of k q qs t)) (requests_ascend k q.sample q.moment qs h.3 i (λ y. absurd (other y)) (λ y. f (omega (arith, h.0))))
 ]
   where
     one_of : (a b : ℕ) → a ≤ b → (a ≡ b) ⊎ (a < b)

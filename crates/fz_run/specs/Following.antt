@@ -59,12 +59,12 @@ pub record Alone : Type 0 where
   pub open_to : ℕ → Bool
   pub opens : OpensFree open_to
 
--- listed writes tell of no steps, and leave nothing in the open bytes that is spoken of
-abbrev pub Nothing : List (Request × ℕ) → State → Type 0
+-- listed writes tell nothing, and leave nothing in the open bytes that is spoken of
+abbrev pub Nothing : List (Request × Unit {0}) → State → Type 0
 Nothing done s = Unit {0}
 
 -- the run of samples under a plan from s, and the last state of the run without interrupts
-abbrev pub rows_under : ℕ → Firmware → ℕ → List Request → List (List ℕ) → State → Rows (List ℕ) Request ℕ
+abbrev pub rows_under : ℕ → Firmware → ℕ → List Request → List (List ℕ) → State → Rows (List ℕ) Request (Unit {0})
 rows_under flags f most plan samples s =
     rows_from (with_writes flags f) most (λ k. requests_of k plan) 1 samples s
 

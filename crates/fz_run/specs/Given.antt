@@ -6,8 +6,9 @@ use Rattle.interrupt_plan.specs.Plans.{IsGoodRequest, IsGood}
 use Rattle.codegen.specs.declared.layout.Layout.{Layout}
 use Rattle.codegen.specs.Answers as answers
 use Rattle.run_law.specs.Soundness.{AllGood, Ascend}
-use Rattle.fz_run.specs.Forms.{given}
+use Rattle.fz_run.specs.Forms.{given, place_of}
 use Rattle.fz_run.specs.Rows.{requests_of}
+use Rattle.fz_run.specs.Slices.{IsInOrder}
 
 -- Bytes that end in memory are given as whole instructions are.
 abbrev pub GivenIsPut : Type 0
@@ -18,3 +19,7 @@ GivenIsPut = (l : Layout) (bytes : List ℕ) (s : State) → l.samples + length 
 abbrev pub RequestsAreGood : Type 0
 RequestsAreGood = (plan : List Request) → IsGood plan → (k : ℕ)
     → AllGood IsGoodRequest (requests_of k plan) × Ascend (λ r. r.moment) 0 (requests_of k plan)
+
+-- A good plan's requests are in order.
+abbrev pub PlansAreInOrder : Type 0
+PlansAreInOrder = (plan : List Request) → IsGood plan → IsInOrder place_of plan

@@ -1,6 +1,6 @@
 -- The rows of a list of samples under a plan.
-use Rattle.std.specs.Prelude.{ℕ, zero, suc, ◌==◌, Bool, if◌then◌else◌, Result}
-use Rattle.std.specs.Prelude.{Ok, Err, List, [], ◌∷◌, filter, map, sum_by}
+use Rattle.std.specs.Prelude.{ℕ, zero, suc, ◌-◌, ◌==◌, Bool, if◌then◌else◌, Result}
+use Rattle.std.specs.Prelude.{Ok, Err, List, [], ◌∷◌, filter, map, slice_index_or}
 use Rattle.cpu12_parts.specs.State.{State}
 use Rattle.cpu12_emul.specs.declared.ends.Frame.{Frame}
 use Rattle.cpu12_emul.specs.Image.{image_memory}
@@ -11,14 +11,17 @@ use Rattle.interrupt_plan.specs.declared.Request.{Request}
 use Rattle.trace_io.specs.declared.sample.Sample.{Sample}
 use Rattle.codegen.specs.declared.firmware.Firmware.{Firmware}
 use Rattle.fz_run.specs.declared.rows.Row as declared
-use Rattle.fz_run.specs.Forms.{Harness, plan_form, listed_writes, with_writes}
-
-abbrev pub is_of : ℕ → Request → Bool
-is_of k r = r.sample == k
+use Rattle.fz_run.specs.Forms.{Harness, sample_in, plan_form, place_of, listed_writes, with_writes}
 
 -- the requests of sample k
+abbrev pub is_of : {A : Type 0} → (A → ℕ × ℕ) → ℕ → A → Bool
+is_of place k r = sample_in place r == k
+
+abbrev pub of_sample : {A : Type 0} → (A → ℕ × ℕ) → ℕ → List A → List A
+of_sample place k plan = filter (is_of place k) plan
+
 abbrev pub requests_of : ℕ → List Request → List Request
-requests_of k plan = filter (is_of k) plan
+requests_of k plan = of_sample place_of k plan
 
 abbrev pub boundary_seen : ℕ × Frame → ℕ × FrameSeen
 boundary_seen f = (f.0, frame_seen f.1)
@@ -57,34 +60,40 @@ first_state f flags = arrived_at flags f.layout.wait f.step_bound f.image.bytes
 abbrev pub input_bytes : Sample → List ℕ
 input_bytes s = s.bytes.items
 
+-- the input bytes of sample k, counted from 1
+abbrev pub bytes_of : List (List ℕ) → ℕ → List ℕ
+bytes_of samples k = slice_index_or samples (k - 1) []
+
 -- the run of a firmware over a list of samples, each given by its input bytes, under a plan
-abbrev pub firmware_rows : Firmware → List (List ℕ) → List Request → ℕ → Rows (List ℕ) Request ℕ
+abbrev pub firmware_rows : Firmware → List (List ℕ) → List Request → ℕ → Rows (List ℕ) Request (Unit {0})
 firmware_rows f samples plan flags =
     rows_from (with_writes flags f) f.step_bound (λ k. requests_of k plan) 1 samples (first_state f flags)
 
--- the numbers of steps that were told of requests, added up
-abbrev pub steps_told : {A : Type 0} → List (A × ℕ) → ℕ
-steps_told ts = sum_by (λ t. t.1) ts
+-- what requests told, without these
+abbrev pub tellings : {A B : Type 0} → List (A × B) → List B
+tellings ts = map (λ t. t.1) ts
 
 -- each row with what was told of its sample's requests, as these are shown
-abbrev pub shown_rows : {S T A : Type 0} → (RowSeen S → ℕ → T) → List (RowSeen S) → List (List (A × ℕ)) → List T
+abbrev pub shown_rows : {S A B T : Type 0} → (RowSeen S → List B → T) → List (RowSeen S) → List (List (A × B)) → List T
 shown_rows shows [] tss = []
 shown_rows shows (row ∷ rows) [] = []
-shown_rows shows (row ∷ rows) (ts ∷ tss) = shows row (steps_told ts) ∷ shown_rows shows rows tss
+shown_rows shows (row ∷ rows) (ts ∷ tss) = shows row (tellings ts) ∷ shown_rows shows rows tss
 
-abbrev pub shown : {S T : Type 0} → (RowSeen S → ℕ → T) → Rows S Request ℕ → List T
+abbrev pub shown : {S A B T : Type 0} → (RowSeen S → List B → T) → Rows S A B → List T
 shown shows all = shown_rows shows all.rows all.told
 
 -- the run of a form over its samples under a plan, from a state, each sample of at most so many steps
-abbrev pub harness_rows : {R S T : Type 0} → ℕ → Harness R S T → ℕ → List Request → State → Rows S Request ℕ
+abbrev pub harness_rows : {A U R S B T : Type 0} → ℕ → Harness A U R S B T → ℕ → List A → State → Rows S A B
 harness_rows flags h most plan s =
-    rows_from (plan_form flags h.parts) most (λ k. requests_of k plan) 1 h.samples s
+    rows_from (plan_form flags h.parts) most (λ k. of_sample h.parts.place k plan) 1 h.samples s
 
--- a firmware that stands alone, with samples and requests that list writes: its rows do not tell of handlers' steps
-abbrev pub writes_harness : Firmware → List Sample → Harness declared.Row (List ℕ) (RowSeen (List ℕ))
+-- a firmware that stands alone, with samples and requests that list writes: nothing is told of these
+abbrev pub writes_harness : Firmware → List Sample
+    → Harness Request (Unit {0}) declared.Row (List ℕ) (Unit {0}) (RowSeen (List ℕ))
 writes_harness f samples = record {
   samples = map input_bytes samples;
   parts = listed_writes f;
-  shows = λ row steps. row;
+  told = λ u. u;
+  shows = λ row told. row;
   seen = row_seen;
 }

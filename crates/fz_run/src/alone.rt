@@ -19,7 +19,7 @@ impl SoundForm for StandAlone {
 
     ghost Request = { plan.Request };
 
-    ghost Told = { ℕ };
+    ghost Told = { Unit {0} };
 
     ghost form = { λ x. with_writes x.flags x.firmware };
 

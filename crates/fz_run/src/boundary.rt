@@ -1,24 +1,22 @@
 // A boundary of a sample: what is taken there, and the step after it. What is done at each is inlined into the loop
 // over all of them, what is seldom done is not.
-ghost use Rattle.std.specs.Prelude.{ℕ, ◌≡◌, ◌≤◌, ◌<◌, ◌+◌, ◌-◌, ◌*◌};
-ghost use Rattle.std.specs.Prelude.{◌^◌, true, false, Ok, Err, length, vec_len, vec_capacity};
+ghost use Rattle.std.specs.Prelude.{ℕ, ◌≡◌, ◌≤◌, ◌<◌, ◌+◌, ◌-◌, ◌^◌, true, false, Ok, Err, length};
 ghost use Rattle.cpu12_emul.specs.declared.ends.Stepped.{Stepped as Kind};
 ghost use Rattle.cpu12_emul.specs.Step.{next_of};
 ghost use Rattle.run_law.specs.Forms.{is_part};
-ghost use Rattle.fz_run.specs.Forms.{plan_form};
-ghost use Rattle.fz_run.specs.Sessions.{before_takes, after_takes, after_state, at_end, stepped_tally, IsSteady};
+ghost use Rattle.fz_run.specs.Sessions.{before_takes, after_takes, after_state, at_end, stepped_tally};
+ghost use Rattle.fz_run.specs.Sessions.{HasRoomLeft, IsSteady};
 
 use crate::form::RunForm;
 use crate::sample::{Tally, both, count, is_part, less, one_if, take_due};
 use cpu12_emul::machine::Machine;
 use cpu12_isa::mem::Mem;
-use interrupt_plan::Request;
 
 /// Where a sample's run stands.
 #[derive(Drop)]
-pub struct Stand {
+pub struct Stand<U> {
     /// What was counted.
-    pub tally: Tally,
+    pub tally: Tally<U>,
     /// How many more steps may be done.
     pub left: u32,
     /// Whether the sample is over.
@@ -28,25 +26,21 @@ pub struct Stand {
 /// Comes to a boundary: the sample is over where the firmware waits or no step is left, else what is
 /// due is taken.
 #[inline(always)]
-pub(crate) fn come<M: Mem, R, F: RunForm<R>>(
+pub(crate) fn come<M: Mem, A, U, R, F: RunForm<A, U, R>>(
     m: &mut Machine<M>,
     form: &F,
-    requests: &[Request],
-    st: &mut Stand,
+    requests: &[A],
+    st: &mut Stand<U>,
 )
     requires on { (st.old.over ≡ false) × (st.old.tally.arrived ≡ false) }
-    requires room { vec_len st.old.tally.frames + (length requests.now - st.old.tally.next)
-        ≤ vec_capacity st.old.tally.frames }
+    requires room { HasRoomLeft (length requests.now - st.old.tally.next) st.old.tally }
     requires counts { (st.old.tally.instrs ≤ st.old.tally.moment) × (st.old.tally.resumed ≤ st.old.tally.moment) }
-    requires handler { (length requests.now ≤ 10000) × (st.old.tally.handler ≤ 65535 * st.old.tally.next) }
     requires sum { st.old.tally.moment + st.old.left < 2 ^ 32 }
-    ensures coming { after_takes (plan_form m.old.flags (F.harness form.now).parts) requests.now st.new m.new.state
-        ≡ before_takes (plan_form m.old.flags (F.harness form.now).parts) requests.now st.old m.old.state }
+    ensures coming { after_takes m.old.flags (F.harness form.now) requests.now st.new m.new.state
+        ≡ before_takes m.old.flags (F.harness form.now) requests.now st.old m.old.state }
     ensures moment { st.new.tally.moment ≡ st.old.tally.moment }
-    ensures room { vec_len st.new.tally.frames + (length requests.now - st.new.tally.next)
-        ≤ vec_capacity st.new.tally.frames }
+    ensures room { HasRoomLeft (length requests.now - st.new.tally.next) st.new.tally }
     ensures counts { (st.new.tally.instrs ≤ st.new.tally.moment) × (st.new.tally.resumed ≤ st.new.tally.moment + 1) }
-    ensures handler { st.new.tally.handler ≤ 65535 * st.new.tally.next }
     ensures on { st.new.over ≡ false → (st.new.tally.arrived ≡ false)
         × (st.new.tally.moment + st.new.left + 1 < 2 ^ 32) }
     ensures flags { m.new.flags ≡ m.old.flags }
@@ -69,7 +63,7 @@ pub(crate) fn come<M: Mem, R, F: RunForm<R>>(
 
 /// Does a step from a boundary. Answers whether one was defined.
 #[inline(always)]
-pub(crate) fn step_on<M: Mem>(m: &mut Machine<M>, st: &mut Stand) -> bool
+pub(crate) fn step_on<M: Mem, U>(m: &mut Machine<M>, st: &mut Stand<U>) -> bool
     requires on { st.old.over ≡ false }
     requires counts { (st.old.tally.instrs ≤ st.old.tally.moment) × (st.old.tally.moment + 1 < 2 ^ 32) }
     ensures goes { result ≡ true → (kind : Kind) × (next_of m.old.flags m.old.state
@@ -102,20 +96,19 @@ pub(crate) fn step_on<M: Mem>(m: &mut Machine<M>, st: &mut Stand) -> bool
 
 /// Goes on to the next boundary of the sample. Answers whether there is one.
 #[inline(always)]
-pub(crate) fn pass<M: Mem, R, F: RunForm<R>>(
+pub(crate) fn pass<M: Mem, A, U, R, F: RunForm<A, U, R>>(
     m: &mut Machine<M>,
     form: &F,
-    requests: &[Request],
-    st: &mut Stand,
+    requests: &[A],
+    st: &mut Stand<U>,
 ) -> bool
     requires steady { IsSteady requests.now st.old }
     ensures goes { result ≡ true
-        → after_takes (plan_form m.old.flags (F.harness form.now).parts) requests.now st.old m.old.state
-        ≡ after_state m.old.state
-        (after_takes (plan_form m.old.flags (F.harness form.now).parts) requests.now st.new m.new.state) }
+        → after_takes m.old.flags (F.harness form.now) requests.now st.old m.old.state
+        ≡ after_state m.old.state (after_takes m.old.flags (F.harness form.now) requests.now st.new m.new.state) }
     ensures ends { result ≡ false
-        → after_takes (plan_form m.old.flags (F.harness form.now).parts) requests.now st.old m.old.state
-        ≡ at_end st.old.tally m.old.state }
+        → after_takes m.old.flags (F.harness form.now) requests.now st.old m.old.state
+        ≡ at_end (F.harness form.now).told st.old.tally m.old.state }
     ensures same { result ≡ false → (st.new ≡ st.old) × (m.new ≡ m.old) }
     ensures moment { result ≡ true → st.new.tally.moment ≡ st.old.tally.moment + 1 }
     ensures steady { IsSteady requests.now st.new }

@@ -1,11 +1,11 @@
 //! Forms of firmware: what a run is given, and what serves its requests.
-ghost use Rattle.std.specs.Prelude.{ℕ, ◌≡◌, ◌<◌, ◌≤◌, Some, List, length, slice_get, IsTrue};
+ghost use Rattle.std.specs.Prelude.{ℕ, ◌≡◌, ◌<◌, ◌≤◌, Some, List, length, map, vec_len, slice_get, IsTrue};
 ghost use Rattle.cpu12_parts.specs.Cuts.{suspended, wav};
 ghost use Rattle.cpu12_emul.specs.Take.{may_interrupt, frame_seen, frame_of};
 ghost use Rattle.run_law.specs.Forms.{RowSeen};
-ghost use Rattle.fz_run.specs.Forms.{Harness};
-ghost use Rattle.fz_run.specs.Rest.{counted_at, shown_by};
-ghost use Rattle.fz_run.specs.Rows.{writes_harness};
+ghost use Rattle.fz_run.specs.Forms.{answers_in, Harness};
+ghost use Rattle.fz_run.specs.Rest.{counted_at, row_by, shown_by};
+ghost use Rattle.fz_run.specs.Rows.{input_bytes, row_seen, writes_harness};
 
 use crate::ports::{answers, give, is_idle};
 use crate::rows::{Row, row_of};
@@ -17,17 +17,21 @@ use cpu12_isa::mem::Mem;
 use interrupt_plan::Request;
 use trace_io::Sample;
 
-/// A form of firmware with its samples and the handler of its requests, whose runs have rows of type
-/// `R`. No call changes the byte from which open flags are taken.
-pub trait RunForm<R> {
+/// A form of firmware with its samples and the handler of its requests: requests are of type `A`, what
+/// a handler tells is of type `U`, and runs have rows of type `R`. No call changes the byte from which
+/// open flags are taken.
+pub trait RunForm<A, U, R> {
     /// What the firmware is given.
     ghost Given: { Type 0 };
+
+    /// What is seen of what a handler tells.
+    ghost Told: { Type 0 };
 
     /// What a row shows.
     ghost Shown: { Type 0 };
 
     /// The samples, the parts of the form, and what rows show.
-    ghost harness: { Self → Harness R Given Shown };
+    ghost harness: { Self → Harness A U R Given Told Shown };
 
     /// How many samples there are.
     fn count(&self) -> usize
@@ -51,23 +55,29 @@ pub trait RunForm<R> {
     fn ends<M: Mem>(&self, m: &Machine<M>) -> bool
         ensures { result ≡ (harness self.now).parts.ends m.now.state };
 
+    /// The sample of a request, counted from 1, and the moment in it from which on it is due.
+    fn place(&self, request: &A) -> (u32, u32)
+        ensures { result ≡ (harness self.now).parts.place request.now };
+
     /// Takes the interrupt of a request, from the push of the frame to the return, and answers what it
-    /// pushed and how many steps its handler did.
-    fn take<M: Mem>(&self, m: &mut Machine<M>, request: &Request) -> (Frame, u16)
+    /// pushed and what its handler tells.
+    fn take<M: Mem>(&self, m: &mut Machine<M>, request: &A) -> (Frame, U)
         requires { IsTrue (may_interrupt m.old.state) }
         ensures state { m.new.state
             ≡ (harness self.now).parts.handle m.old.flags request.now (suspended wav m.old.state) }
         ensures frame { frame_seen result.0 ≡ frame_of m.old.state }
-        ensures steps { result.1
-            ≡ (harness self.now).parts.steps m.old.flags request.now (suspended wav m.old.state) }
+        ensures told { (harness self.now).told result.1
+            ≡ (harness self.now).parts.tells m.old.flags request.now (suspended wav m.old.state) }
         ensures flags { m.new.flags ≡ m.old.flags };
 
     /// The row of sample `k`, which ends here, and of which this was counted.
-    fn row<M: Mem>(&self, m: &Machine<M>, k: usize, tally: Tally) -> R
-        requires { k < length (harness self.now).samples }
+    fn row<M: Mem>(&self, m: &Machine<M>, k: usize, tally: Tally<U>) -> R
+        requires sample { k < length (harness self.now).samples }
+        requires few { vec_len tally.told ≤ 10000 }
         ensures { (x : Given) → slice_get (harness self.now).samples k ≡ Some x
             → (harness self.now).seen result
-            ≡ shown_by (harness self.now).shows (harness self.now).parts.answers (counted_at tally m.now.state) x };
+            ≡ shown_by (harness self.now).shows (harness self.now).parts.answers
+            (counted_at (harness self.now).told tally m.now.state) x };
 }
 
 /// A firmware that stands alone, with a trace. Its handler does the writes that a request lists.
@@ -80,8 +90,10 @@ pub struct WithWrites<'a> {
     ghost outputs: { firmware.now.outputs ≤ 4 },
 }
 
-impl<'a> RunForm<Row> for WithWrites<'a> {
+impl<'a> RunForm<Request, (), Row> for WithWrites<'a> {
     ghost Given = { List ℕ };
+
+    ghost Told = { Unit {0} };
 
     ghost Shown = { RowSeen (List ℕ) };
 
@@ -101,11 +113,20 @@ impl<'a> RunForm<Row> for WithWrites<'a> {
         is_idle(&self.firmware.layout, m)
     }
 
-    fn take<M: Mem>(&self, m: &mut Machine<M>, request: &Request) -> (Frame, u16) {
-        (m.interrupt(request.writes.as_slice()), 0)
+    fn place(&self, request: &Request) -> (u32, u32) {
+        (request.sample, request.moment)
     }
 
-    fn row<M: Mem>(&self, m: &Machine<M>, k: usize, tally: Tally) -> Row {
+    fn take<M: Mem>(&self, m: &mut Machine<M>, request: &Request) -> (Frame, ()) {
+        (m.interrupt(request.writes.as_slice()), ())
+    }
+
+    fn row<M: Mem>(&self, m: &Machine<M>, k: usize, tally: Tally<()>) -> Row
+        requires sample { k < length self.now.samples.now }
+        requires few { vec_len tally.told ≤ 10000 }
+        ensures { (x : List ℕ) → slice_get (map input_bytes self.now.samples.now) k ≡ Some x
+            → row_seen result ≡ row_by (answers_in self.now.firmware.now) x (counted_at (λ u. u) tally m.now.state) }
+    {
         let bytes = self.samples[k].bytes.as_slice();
         row_of(bytes, answers(self.firmware, m), tally)
     }

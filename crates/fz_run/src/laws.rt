@@ -2,7 +2,7 @@
 ghost use Rattle.fz_run.specs.Answering.{AnswersUnderPlans, FirmwareRunsBeside, FirstStatesAlike};
 ghost use Rattle.fz_run.specs.Arrival.{ArrivesPlainly};
 ghost use Rattle.fz_run.specs.Following.{RunsFollowAlone, RunsFollowBeside};
-ghost use Rattle.fz_run.specs.Given.{GivenIsPut, RequestsAreGood};
+ghost use Rattle.fz_run.specs.Given.{GivenIsPut, PlansAreInOrder, RequestsAreGood};
 ghost use Rattle.fz_run.specs.Instructions.{InstructionsAreSteps, PlainIsOneStep};
 ghost use Rattle.fz_run.specs.OpenBytes.{GivenLeavesOpen, StepsLeaveOpen};
 ghost use Rattle.fz_run.specs.Showing.{RowsAreShown};
@@ -110,10 +110,15 @@ pub fn requests_are_good()
     ensures { RequestsAreGood }
 {}
 
-/// Where what a form shows of a row and of its handlers' steps has both, what is shown of its runs has the
-/// rows, and the sums of what was told.
-pub fn rows_are_shown<R, F: RunForm<R>>()
-    ensures { RowsAreShown R F.Given F.Shown }
+/// The requests of a good plan are in order.
+pub fn plans_are_in_order()
+    ensures { PlansAreInOrder }
+{}
+
+/// Where what a form shows of a row and of what its handlers told has the row, and what is kept of the
+/// latter, what is shown of its runs has the rows, and what is kept of all that was told.
+pub fn rows_are_shown<A, U, R, F: RunForm<A, U, R>>()
+    ensures { RowsAreShown A U R F.Given F.Told F.Shown }
 {}
 
 /// The firmware of a block answers all samples without interrupts, each within its bound of steps, and

@@ -28,5 +28,5 @@ mod session;
 
 pub use rows::{Row, row_of, run, run_on};
 pub use runs::{Start, run_form};
-pub use sample::Tally;
+pub use sample::{Room, Tally};
 pub use session::Session;

@@ -2,31 +2,27 @@
 ghost use Rattle.std.specs.Prelude.{ℕ, ◌≡◌, ◌≤◌, ◌<◌, ◌+◌, ◌-◌, ◌^◌, List};
 ghost use Rattle.std.specs.Prelude.{[], true, false, length, map, drop, vec_len, vec_capacity};
 ghost use Rattle.cpu12_parts.specs.State.{State};
-ghost use Rattle.interrupt_plan.specs.Plans.{IsGood};
-ghost use Rattle.fz_run.specs.Forms.{plan_form};
 ghost use Rattle.fz_run.specs.Rest.{counted_at, shown_by};
 ghost use Rattle.fz_run.specs.Rows.{harness_rows};
-ghost use Rattle.fz_run.specs.Slices.{HaveRoom};
+ghost use Rattle.fz_run.specs.Slices.{HaveRoom, IsInOrder};
 ghost use Rattle.fz_run.specs.Outlooks.{ahead, at_position, from_here, left_by, outlook_at};
 ghost use Rattle.fz_run.specs.Outlooks.{rows_here, sample_at, shown_run, state_here, with_row, IsUnderWay};
 
 use crate::boundary::{Stand, come, pass};
 use crate::form::RunForm;
 use crate::runs::count_of;
-use crate::sample::Tally;
-use cpu12_emul::ends::Frame;
+use crate::sample::{Room, Tally};
 use cpu12_emul::machine::Machine;
 use cpu12_isa::mem::Mem;
-use interrupt_plan::Request;
 use std::alloc::Global;
 use std::collections::VecDeque;
 use std::mem;
 
 /// What a run under way has done, and the room that is left.
 #[derive(Drop)]
-pub struct Progress<R> {
+pub struct Progress<U, R> {
     /// Where the run of the last sample that was given stands.
-    pub stand: Stand,
+    pub stand: Stand<U>,
     /// How many steps a sample may take at most.
     pub most: u32,
     /// How many samples were given.
@@ -35,14 +31,14 @@ pub struct Progress<R> {
     pub first: usize,
     /// Where those of the next begin.
     pub behind: usize,
-    /// Room for the frames of each sample that is left.
-    pub rooms: VecDeque<Vec<(u32, Frame)>>,
+    /// Room for what the requests of each sample that is left push and tell.
+    pub rooms: VecDeque<Room<U>>,
     /// The rows of the samples before.
     pub rows: Vec<R>,
 }
 
 /// Before the first boundary of a sample that may take `budget` steps.
-fn fresh_stand(budget: u32, frames: Vec<(u32, Frame)>) -> Stand
+fn fresh_stand<U>(budget: u32, room: Room<U>) -> Stand<U>
     ensures tally { result.tally ≡ record {
       arrived = false;
       moment = 0;
@@ -50,8 +46,8 @@ fn fresh_stand(budget: u32, frames: Vec<(u32, Frame)>) -> Stand
       next = 0;
       instrs = 0;
       resumed = 0;
-      handler = 0;
-      frames = frames;
+      frames = room.frames;
+      told = room.told;
     } }
     ensures left { result.left ≡ budget }
     ensures on { result.over ≡ false }
@@ -64,8 +60,8 @@ fn fresh_stand(budget: u32, frames: Vec<(u32, Frame)>) -> Stand
         next: 0,
         instrs: 0,
         resumed: 0,
-        handler: 0,
-        frames,
+        frames: room.frames,
+        told: room.told,
     };
     Stand {
         tally,
@@ -76,19 +72,21 @@ fn fresh_stand(budget: u32, frames: Vec<(u32, Frame)>) -> Stand
 
 /// Takes sample `number` away, which ends here, and puts its row behind those before. There is none of
 /// number 0.
-fn end_sample<M: Mem, R, F: RunForm<R>>(
+fn end_sample<M: Mem, A, U: Drop, R, F: RunForm<A, U, R>>(
     m: &mut Machine<M>,
     form: &F,
     number: usize,
-    tally: Tally,
+    tally: Tally<U>,
     rows: &mut Vec<R>,
 )
     requires number { number ≤ length (F.harness form.now).samples }
     requires len { vec_len rows.old ≡ number - 1 }
+    requires few { vec_len tally.told ≤ 10000 }
     requires room { number ≤ vec_capacity rows.old }
     ensures rows { map (F.harness form.now).seen rows.new.items
         ≡ with_row (map (F.harness form.now).seen rows.old.items)
-        (shown_by (F.harness form.now).shows (F.harness form.now).parts.answers (counted_at tally m.old.state))
+        (shown_by (F.harness form.now).shows (F.harness form.now).parts.answers
+        (counted_at (F.harness form.now).told tally m.old.state))
         (sample_at number (F.harness form.now).samples) }
     ensures state { m.new.state ≡ left_by (F.harness form.now).parts.leave
         (sample_at number (F.harness form.now).samples) m.old.state }
@@ -106,17 +104,16 @@ fn end_sample<M: Mem, R, F: RunForm<R>>(
 
 /// Gives the next sample, and comes to its first boundary.
 #[inline(never)]
-fn give_next<M: Mem, R, F: RunForm<R>>(
+fn give_next<M: Mem, A, U: Drop, R, F: RunForm<A, U, R>>(
     m: &mut Machine<M>,
     form: &F,
-    plan: &[Request],
-    p: &mut Progress<R>,
+    plan: &[A],
+    p: &mut Progress<U, R>,
 )
     requires way { IsUnderWay (F.harness form.now) plan.now p.old }
     requires left { p.old.number < length (F.harness form.now).samples }
     ensures outlook { from_here (outlook_at m.old.flags (F.harness form.now) plan.now p.new m.new.state)
-        ≡ ahead (plan_form m.old.flags (F.harness form.now).parts) (F.harness form.now).shows p.old.most
-        (p.old.number + 1) (drop p.old.behind plan.now) (drop p.old.number (F.harness form.now).samples)
+        ≡ ahead m.old.flags (F.harness form.now) p.old.most (p.old.number + 1) (drop p.old.behind plan.now) (drop p.old.number (F.harness form.now).samples)
         (rows_here (F.harness form.now) p.old m.old.state) (state_here (F.harness form.now) p.old m.old.state) }
     ensures way { IsUnderWay (F.harness form.now) plan.now p.new }
     ensures flags { m.new.flags ≡ m.old.flags }
@@ -129,17 +126,17 @@ fn give_next<M: Mem, R, F: RunForm<R>>(
     form.give(m, p.number);
     p.number += 1;
     p.first = p.behind;
-    p.behind += count_of(&plan[p.first..], p.number);
+    p.behind += count_of(form, &plan[p.first..], p.number);
     come(m, form, &plan[p.first..p.behind], &mut p.stand);
 }
 
 /// Goes on to the next position of the run. Answers whether there is one.
 #[inline(always)]
-pub(crate) fn advance<M: Mem, R, F: RunForm<R>>(
+pub(crate) fn advance<M: Mem, A, U: Drop, R, F: RunForm<A, U, R>>(
     m: &mut Machine<M>,
     form: &F,
-    plan: &[Request],
-    p: &mut Progress<R>,
+    plan: &[A],
+    p: &mut Progress<U, R>,
 ) -> bool
     requires way { IsUnderWay (F.harness form.now) plan.now p.old }
     ensures goes { result ≡ true → outlook_at m.old.flags (F.harness form.now) plan.now p.old m.old.state
@@ -167,26 +164,29 @@ pub(crate) fn advance<M: Mem, R, F: RunForm<R>>(
 }
 
 /// Before the first sample of a run each of whose samples may take `most` steps.
-pub(crate) fn before_samples<R, F: RunForm<R>>(
+pub(crate) fn before_samples<A, U, R, F: RunForm<A, U, R>>(
     alloc: Global,
     form: &F,
     most: u32,
-    plan: &[Request],
-    rooms: VecDeque<Vec<(u32, Frame)>>,
+    plan: &[A],
+    rooms: VecDeque<Room<U>>,
     rows: Vec<R>,
-) -> Progress<R>
-    requires plan { IsGood plan.now }
-    requires rooms { HaveRoom 1 (length (F.harness form.now).samples) plan.now rooms.items }
+) -> Progress<U, R>
+    requires order { IsInOrder (F.harness form.now).parts.place plan.now }
+    requires rooms { HaveRoom (F.harness form.now).parts.place 1 (length (F.harness form.now).samples) plan.now rooms.items }
     requires none { rows.items ≡ [] }
     requires room { length (F.harness form.now).samples ≤ vec_capacity rows }
     ensures outlook { (flags : ℕ) (s : State) → outlook_at flags (F.harness form.now) plan.now result s
         ≡ at_position (record { sample = 0; moment = 0; state = s })
-        (ahead (plan_form flags (F.harness form.now).parts) (F.harness form.now).shows most 1 plan.now
-        (F.harness form.now).samples [] s) }
+        (ahead flags (F.harness form.now) most 1 plan.now (F.harness form.now).samples [] s) }
     ensures most { result.most ≡ most }
     ensures way { IsUnderWay (F.harness form.now) plan.now result }
 {
-    let mut stand = fresh_stand(0, Vec::new(alloc));
+    let none = Room {
+        frames: Vec::new(alloc),
+        told: Vec::new(alloc),
+    };
+    let mut stand = fresh_stand(0, none);
     stand.over = true;
     Progress {
         stand,
@@ -200,17 +200,16 @@ pub(crate) fn before_samples<R, F: RunForm<R>>(
 }
 
 /// Comes to the first position of a run, from before the first sample.
-pub(crate) fn begin<M: Mem, R, F: RunForm<R>>(
+pub(crate) fn begin<M: Mem, A, U: Drop, R, F: RunForm<A, U, R>>(
     m: &mut Machine<M>,
     form: &F,
-    plan: &[Request],
-    p: &mut Progress<R>,
+    plan: &[A],
+    p: &mut Progress<U, R>,
 )
     requires way { IsUnderWay (F.harness form.now) plan.now p.old }
     requires before { outlook_at m.old.flags (F.harness form.now) plan.now p.old m.old.state
         ≡ at_position (record { sample = 0; moment = 0; state = m.old.state })
-        (ahead (plan_form m.old.flags (F.harness form.now).parts) (F.harness form.now).shows p.old.most 1 plan.now
-        (F.harness form.now).samples [] m.old.state) }
+        (ahead m.old.flags (F.harness form.now) p.old.most 1 plan.now (F.harness form.now).samples [] m.old.state) }
     ensures first { from_here (outlook_at m.old.flags (F.harness form.now) plan.now p.new m.new.state)
         ≡ shown_run (F.harness form.now).shows m.old.state
         (harness_rows m.old.flags (F.harness form.now) p.old.most plan.now m.old.state) }
@@ -221,11 +220,11 @@ pub(crate) fn begin<M: Mem, R, F: RunForm<R>>(
 }
 
 /// Goes on to the last position.
-pub(crate) fn drive<M: Mem, R, F: RunForm<R>>(
+pub(crate) fn drive<M: Mem, A, U: Drop, R, F: RunForm<A, U, R>>(
     m: &mut Machine<M>,
     form: &F,
-    plan: &[Request],
-    p: &mut Progress<R>,
+    plan: &[A],
+    p: &mut Progress<U, R>,
 )
     requires way { IsUnderWay (F.harness form.now) plan.now p.old }
     ensures rows { rows_here (F.harness form.now) p.new m.new.state
@@ -238,12 +237,13 @@ pub(crate) fn drive<M: Mem, R, F: RunForm<R>>(
 }
 
 /// All rows of a run whose last sample ends here, and is taken away.
-pub(crate) fn into_rows<M: Mem, R, F: RunForm<R>>(
+pub(crate) fn into_rows<M: Mem, A, U: Drop, R, F: RunForm<A, U, R>>(
     m: &mut Machine<M>,
     form: &F,
-    p: Progress<R>,
+    p: Progress<U, R>,
 ) -> Vec<R>
     requires number { p.number ≤ length (F.harness form.now).samples }
+    requires few { vec_len p.stand.tally.told ≤ 10000 }
     requires len { vec_len p.rows ≡ p.number - 1 }
     requires room { p.number ≤ vec_capacity p.rows }
     ensures rows { map (F.harness form.now).seen result.items ≡ rows_here (F.harness form.now) p m.old.state }

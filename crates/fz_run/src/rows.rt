@@ -38,7 +38,7 @@ pub struct Row {
 }
 
 /// The row of a sample of at most eight bytes, of which this was counted.
-pub fn row_of(bytes: &[u8], answers: ArrayVec<u16, 4>, tally: Tally) -> Row
+pub fn row_of<U: Drop>(bytes: &[u8], answers: ArrayVec<u16, 4>, tally: Tally<U>) -> Row
     requires { length bytes.now ≤ 8 }
     ensures { row_seen result ≡ record {
       sample = bytes.now;

@@ -1,18 +1,16 @@
 //! The run of any form over its samples under a plan.
-ghost use Rattle.std.specs.Prelude.{ℕ, ◌≡◌, ◌≤◌, ◌+◌, length, map, IfOk};
-ghost use Rattle.interrupt_plan.specs.Plans.{IsGood};
+ghost use Rattle.std.specs.Prelude.{ℕ, ◌≡◌, ◌≤◌, ◌+◌, [], length, map, vec_capacity, IfOk};
 ghost use Rattle.fz_run.specs.Rows.{arrival, arrived_at, harness_rows, shown};
-ghost use Rattle.fz_run.specs.Slices.{HaveRoom, requests_first};
+ghost use Rattle.fz_run.specs.Slices.{HaveRoom, IsInOrder, requests_first};
 ghost use Rattle.fz_run.specs.Outlooks.{from_here, shown_run, outlook_at, IsUnderWay};
 
 use crate::form::RunForm;
 use crate::progress::{Progress, before_samples, begin, drive, into_rows};
+use crate::sample::Room;
 use cpu12_asm::Image;
-use cpu12_emul::ends::Frame;
 use cpu12_emul::machine::Machine;
 use cpu12_isa::mem::Mem;
 use fz_list::Memory;
-use interrupt_plan::{Plan, Request};
 use std::alloc::Global;
 use std::collections::VecDeque;
 
@@ -27,17 +25,17 @@ pub struct Start<'a> {
     pub most: u32,
 }
 
-/// Runs a form over its samples under a plan, and answers a row for each sample and the memory of the
+/// Runs a form over its samples under requests in order, and answers a row for each sample and the memory of the
 /// last state. Bits of `flags` give the flags that the CPU12 Reference Manual leaves undefined. All
 /// memory is taken before the first step, and want of it is the one error.
-pub fn run_form<M: Mem, R: Drop, F: RunForm<R>>(
+pub fn run_form<M: Mem, A, U: Drop, R: Drop, F: RunForm<A, U, R>>(
     alloc: Global,
     form: &F,
     start: &Start,
-    plan: &Plan,
+    plan: &[A],
     flags: u8,
 ) -> Result<(Vec<R>, M), Memory>
-    requires plan { IsGood plan.now }
+    requires order { IsInOrder (F.harness form.now).parts.place plan.now }
     ensures rows { IfOk result (λ r. map (F.harness form.now).seen r.0.items
         ≡ shown (F.harness form.now).shows (harness_rows flags (F.harness form.now) start.now.most plan.now
         (arrived_at flags start.now.wait start.now.most start.now.image.now.bytes))) }
@@ -46,20 +44,20 @@ pub fn run_form<M: Mem, R: Drop, F: RunForm<R>>(
         (arrived_at flags start.now.wait start.now.most start.now.image.now.bytes)).state.mem) }
 {
     let (mut machine, mut progress) = begun(alloc, form, start, plan, flags)?;
-    drive(&mut machine, form, plan.as_slice(), &mut progress);
+    drive(&mut machine, form, plan, &mut progress);
     let rows = into_rows(&mut machine, form, progress);
     Ok((rows, machine.into_mem()))
 }
 
 /// A machine and a run at its first position. All memory is taken here.
-pub(crate) fn begun<M: Mem, R: Drop, F: RunForm<R>>(
+pub(crate) fn begun<M: Mem, A, U: Drop, R: Drop, F: RunForm<A, U, R>>(
     alloc: Global,
     form: &F,
     start: &Start,
-    plan: &Plan,
+    plan: &[A],
     flags: u8,
-) -> Result<(Machine<M>, Progress<R>), Memory>
-    requires plan { IsGood plan.now }
+) -> Result<(Machine<M>, Progress<U, R>), Memory>
+    requires order { IsInOrder (F.harness form.now).parts.place plan.now }
     ensures first { IfOk result (λ r. from_here (outlook_at flags (F.harness form.now) plan.now r.1 r.0.state)
         ≡ shown_run (F.harness form.now).shows
         (arrived_at flags start.now.wait start.now.most start.now.image.now.bytes)
@@ -69,15 +67,14 @@ pub(crate) fn begun<M: Mem, R: Drop, F: RunForm<R>>(
     ensures flags { IfOk result (λ r. r.0.flags ≡ flags) }
 {
     let count = form.count();
-    let requests = plan.as_slice();
-    let rooms = make_rooms(alloc, count, requests)?;
+    let rooms = make_rooms(alloc, form, count, plan)?;
     let Ok(rows) = Vec::with_capacity(alloc, count) else {
         return Err(Memory);
     };
     let mut machine = Machine::new(alloc, start.image, flags)?;
     arrive(&mut machine, start.wait, start.most);
-    let mut progress = before_samples(alloc, form, start.most, requests, rooms, rows);
-    begin(&mut machine, form, requests, &mut progress);
+    let mut progress = before_samples(alloc, form, start.most, plan, rooms, rows);
+    begin(&mut machine, form, plan, &mut progress);
     Ok((machine, progress))
 }
 
@@ -99,12 +96,12 @@ fn arrive<M: Mem>(m: &mut Machine<M>, loop_at: u16, budget: u32)
 }
 
 /// How many of these requests, from the first on, are of sample `k`.
-pub(crate) fn count_of(requests: &[Request], k: usize) -> usize
-    ensures { result ≡ length (requests_first k requests.now) }
+pub(crate) fn count_of<A, U, R, F: RunForm<A, U, R>>(form: &F, requests: &[A], k: usize) -> usize
+    ensures { result ≡ length (requests_first (F.harness form.now).parts.place k requests.now) }
 {
     let mut count = 0;
     for request in requests {
-        if request.sample as usize != k {
+        if form.place(request).0 as usize != k {
             return count;
         }
         count += 1;
@@ -112,14 +109,28 @@ pub(crate) fn count_of(requests: &[Request], k: usize) -> usize
     count
 }
 
-/// Room for the frames of each sample.
-fn make_rooms(
+/// Room for what so many requests push and tell.
+fn room_for<U: Drop>(alloc: Global, count: usize) -> Result<Room<U>, Memory>
+    ensures { IfOk result (λ room. (room.frames.items ≡ []) × (room.told.items ≡ [])
+        × (count ≤ vec_capacity room.frames) × (count ≤ vec_capacity room.told)) }
+{
+    let Ok(frames) = Vec::with_capacity(alloc, count) else {
+        return Err(Memory);
+    };
+    let Ok(told) = Vec::with_capacity(alloc, count) else {
+        return Err(Memory);
+    };
+    Ok(Room { frames, told })
+}
+
+/// Room for what the requests of each sample push and tell.
+fn make_rooms<A, U: Drop, R, F: RunForm<A, U, R>>(
     alloc: Global,
+    form: &F,
     samples: usize,
-    plan: &[Request],
-) -> Result<VecDeque<Vec<(u32, Frame)>>, Memory>
-    requires { IsGood plan.now }
-    ensures { IfOk result (λ rooms. HaveRoom 1 samples plan.now rooms.items) }
+    plan: &[A],
+) -> Result<VecDeque<Room<U>>, Memory>
+    ensures { IfOk result (λ rooms. HaveRoom (F.harness form.now).parts.place 1 samples plan.now rooms.items) }
 {
     let Ok(mut rooms) = VecDeque::with_capacity(alloc, samples) else {
         return Err(Memory);
@@ -128,10 +139,8 @@ fn make_rooms(
     let mut first = 0;
     while next < samples {
         next += 1;
-        let count = count_of(&plan[first..], next);
-        let Ok(room) = Vec::with_capacity(alloc, count) else {
-            return Err(Memory);
-        };
+        let count = count_of(form, &plan[first..], next);
+        let room = room_for(alloc, count)?;
         match rooms.push_back(room) {
             Ok(()) => {}
             Err(_) => return Err(Memory),

@@ -1,20 +1,28 @@
 // What is taken at a boundary, and what is counted.
-ghost use Rattle.std.specs.Prelude.{◌≡◌, ◌≤◌, ◌<◌, ◌+◌, ◌-◌, ◌*◌};
-ghost use Rattle.std.specs.Prelude.{◌&&◌, true, length, vec_len, vec_capacity, drop, nat_lt};
+ghost use Rattle.std.specs.Prelude.{◌≡◌, ◌≤◌, ◌+◌, ◌-◌, ◌&&◌, true, length, map, drop, nat_lt};
 ghost use Rattle.run_law.specs.Forms.{takes, is_part, one_if};
-ghost use Rattle.fz_run.specs.Forms.{moment_of, plan_form};
+ghost use Rattle.fz_run.specs.Forms.{moment_in, plan_form};
 ghost use Rattle.fz_run.specs.Rows.{frames_seen};
 ghost use Rattle.fz_run.specs.Rest.{is_due, with_before};
+ghost use Rattle.fz_run.specs.Sessions.{HasRoomLeft};
 
 use crate::form::RunForm;
 use cpu12_emul::ends::{Frame, Stepped};
 use cpu12_emul::machine::Machine;
 use cpu12_isa::mem::Mem;
-use interrupt_plan::Request;
 
-/// What was counted of a sample's run.
+/// Room for what the requests of a sample push and tell.
 #[derive(Drop)]
-pub struct Tally {
+pub struct Room<U> {
+    /// What each interrupt pushes, with its boundary.
+    pub frames: Vec<(u32, Frame)>,
+    /// What each handler tells.
+    pub told: Vec<U>,
+}
+
+/// What was counted of a sample's run, whose handlers tell values of type `U`.
+#[derive(Drop)]
+pub struct Tally<U> {
     /// Whether the firmware waited at the end.
     pub arrived: bool,
     /// How many steps were done.
@@ -27,10 +35,10 @@ pub struct Tally {
     pub instrs: u32,
     /// At how many boundaries inside an instruction an interrupt was taken.
     pub resumed: u32,
-    /// How many steps the handlers of the requests did.
-    pub handler: u32,
     /// What each interrupt pushed, with its boundary.
     pub frames: Vec<(u32, Frame)>,
+    /// What each handler told.
+    pub told: Vec<U>,
 }
 
 pub(crate) fn is_part(kind: Stepped) -> bool
@@ -70,12 +78,18 @@ pub(crate) fn count(frames: &Vec<(u32, Frame)>) -> usize
 
 /// Whether the next request is due, and may be taken.
 #[inline(always)]
-fn is_due<M: Mem>(m: &Machine<M>, requests: &[Request], t: &Tally) -> bool
-    ensures { result ≡ is_due moment_of t.now.moment (drop t.now.next requests.now) m.now.state }
+fn is_due<M: Mem, A, U, R, F: RunForm<A, U, R>>(
+    m: &Machine<M>,
+    form: &F,
+    requests: &[A],
+    t: &Tally<U>,
+) -> bool
+    ensures { result ≡ is_due (moment_in (F.harness form.now).parts.place) t.now.moment
+        (drop t.now.next requests.now) m.now.state }
 {
     if t.next < requests.len() {
         if m.may_interrupt() {
-            requests[t.next].moment <= t.moment
+            form.place(&requests[t.next]).1 <= t.moment
         } else {
             false
         }
@@ -86,59 +100,55 @@ fn is_due<M: Mem>(m: &Machine<M>, requests: &[Request], t: &Tally) -> bool
 
 /// Takes the next request.
 #[inline(never)]
-fn take_next<M: Mem, R, F: RunForm<R>>(
+fn take_next<M: Mem, A, U, R, F: RunForm<A, U, R>>(
     m: &mut Machine<M>,
     form: &F,
-    requests: &[Request],
-    t: &mut Tally,
+    requests: &[A],
+    t: &mut Tally<U>,
 )
-    requires due { is_due moment_of t.old.moment (drop t.old.next requests.now) m.old.state ≡ true }
-    requires room { vec_len t.old.frames < vec_capacity t.old.frames }
-    requires handler { (length requests.now ≤ 10000) × (t.old.handler ≤ 65535 * t.old.next) }
-    ensures takes { with_before (frames_seen t.old.frames.items) t.old.handler
+    requires due { is_due (moment_in (F.harness form.now).parts.place) t.old.moment
+        (drop t.old.next requests.now) m.old.state ≡ true }
+    requires room { HasRoomLeft (length requests.now - t.old.next) t.old }
+    ensures takes { with_before (frames_seen t.old.frames.items) (map (F.harness form.now).told t.old.told.items)
         (takes (plan_form m.old.flags (F.harness form.now).parts) t.old.moment
         (drop t.old.next requests.now) m.old.state)
-        ≡ with_before (frames_seen t.new.frames.items) t.new.handler
+        ≡ with_before (frames_seen t.new.frames.items) (map (F.harness form.now).told t.new.told.items)
         (takes (plan_form m.old.flags (F.harness form.now).parts) t.old.moment
         (drop t.new.next requests.now) m.new.state) }
     ensures next { t.new.next ≡ t.old.next + 1 }
-    ensures handler { t.new.handler ≤ 65535 * t.new.next }
-    ensures len { vec_len t.new.frames ≡ vec_len t.old.frames + 1 }
-    ensures capacity { vec_capacity t.old.frames ≤ vec_capacity t.new.frames }
-    ensures rest { t.new ≡ record t.old { next = t.new.next; handler = t.new.handler; frames = t.new.frames } }
+    ensures room { HasRoomLeft (length requests.now - t.new.next) t.new }
+    ensures rest { t.new ≡ record t.old { next = t.new.next; frames = t.new.frames; told = t.new.told } }
     ensures flags { m.new.flags ≡ m.old.flags }
 {
-    let (frame, steps) = form.take(m, &requests[t.next]);
+    let (frame, told) = form.take(m, &requests[t.next]);
     t.frames.push((t.moment, frame)).unwrap();
-    t.handler += u32::from(steps);
+    t.told.push(told).unwrap();
     t.next += 1;
 }
 
 /// Takes all requests that are due.
 #[inline(always)]
-pub(crate) fn take_due<M: Mem, R, F: RunForm<R>>(
+pub(crate) fn take_due<M: Mem, A, U, R, F: RunForm<A, U, R>>(
     m: &mut Machine<M>,
     form: &F,
-    requests: &[Request],
-    t: &mut Tally,
+    requests: &[A],
+    t: &mut Tally<U>,
 )
-    requires room { vec_len t.old.frames + (length requests.now - t.old.next) ≤ vec_capacity t.old.frames }
-    requires handler { (length requests.now ≤ 10000) × (t.old.handler ≤ 65535 * t.old.next) }
-    ensures takes { with_before (frames_seen t.old.frames.items) t.old.handler
+    requires room { HasRoomLeft (length requests.now - t.old.next) t.old }
+    ensures takes { with_before (frames_seen t.old.frames.items) (map (F.harness form.now).told t.old.told.items)
         (takes (plan_form m.old.flags (F.harness form.now).parts) t.old.moment
         (drop t.old.next requests.now) m.old.state)
         ≡ record {
           state = m.new.state;
           frames = frames_seen t.new.frames.items;
-          handler = t.new.handler;
+          told = map (F.harness form.now).told t.new.told.items;
           left = drop t.new.next requests.now;
         } }
-    ensures handler { t.new.handler ≤ 65535 * t.new.next }
-    ensures room { vec_len t.new.frames + (length requests.now - t.new.next) ≤ vec_capacity t.new.frames }
-    ensures rest { t.new ≡ record t.old { next = t.new.next; handler = t.new.handler; frames = t.new.frames } }
+    ensures room { HasRoomLeft (length requests.now - t.new.next) t.new }
+    ensures rest { t.new ≡ record t.old { next = t.new.next; frames = t.new.frames; told = t.new.told } }
     ensures flags { m.new.flags ≡ m.old.flags }
 {
-    while is_due(m, requests, t) {
+    while is_due(m, form, requests, t) {
         take_next(m, form, requests, t);
     }
 }

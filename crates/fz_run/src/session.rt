@@ -26,7 +26,7 @@ pub struct Session<'a, M: Mem> {
     machine: Machine<M>,
     form: WithWrites<'a>,
     plan: &'a Plan,
-    progress: Progress<Row>,
+    progress: Progress<(), Row>,
 }
 
 impl<'a, M: Mem> Model for Session<'a, M> {
@@ -64,7 +64,7 @@ impl<'a, M: Mem> Session<'a, M> {
             wait: firmware.layout.wait,
             most: firmware.step_bound,
         };
-        let (machine, progress) = begun(alloc, &form, &start, plan, flags)?;
+        let (machine, progress) = begun(alloc, &form, &start, plan.as_slice(), flags)?;
         Ok(Session {
             machine,
             form,

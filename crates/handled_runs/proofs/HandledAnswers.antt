@@ -128,11 +128,12 @@ handled_answers laws b f handler most flags samples plan hf good is v limits h a
     }
 
 -- the rows as they are shown
-pub handles_block : HandledAnswers → RowsAreShown declared.HandledRow (List ℕ) HandledSeen → (f : Firmware) (handler : List (ℕ × ℕ)) (most flags : ℕ) (samples : List (List ℕ)) (plan : List Request) (rows : List HandledSeen)
+pub handles_block : HandledAnswers → RowsAreShown Request ℕ declared.HandledRow (List ℕ) ℕ HandledSeen → (f : Firmware) (handler : List (ℕ × ℕ)) (most flags : ℕ) (samples : List (List ℕ)) (plan : List Request) (rows : List HandledSeen)
     → flags < 2 ^ 8 → IsGood plan → IsHandler handler most → rows ≡ handled_seen f handler most samples plan flags → HandlesItsBlock f handler most flags samples plan rows
 handles_block law shows f handler most flags samples plan rows hf good is same b v limits h all =
-    let harness : Harness declared.HandledRow (List ℕ) HandledSeen = record { samples = samples; parts = code_parts f most; shows = with_steps; seen = row_seen } in
-    let parts = shows harness flags f.step_bound plan (first_handled f handler flags) (λ r. r.row) (λ r. r.handler) (record { row = λ row steps. refl; told = λ row steps. refl }) in
+    let harness : Harness Request ℕ declared.HandledRow (List ℕ) ℕ HandledSeen =
+    record { samples = samples; parts = code_parts f most; told = λ steps. steps; shows = with_steps; seen = row_seen } in
+    let parts = shows ℕ harness flags f.step_bound plan (first_handled f handler flags) (λ r. r.row) (λ r. r.handler) sum (record { row = λ row steps. refl; told = λ row steps. refl }) in
     let run = law b f handler most flags samples plan hf good is v limits h all in
     record {
       listed = ap (λ (rs : List HandledSeen). map (λ (r : HandledSeen). r.row) rs) same ∙ parts.rows ∙ run.rows_are;

@@ -1,5 +1,5 @@
 -- The rows of a block's firmware whose interrupts run an accepted handler.
-use Rattle.std.specs.Prelude.{◌≡◌, ℕ, ◌^◌, ◌<◌, ◌≤◌, true, List, All, map}
+use Rattle.std.specs.Prelude.{◌≡◌, ℕ, ◌^◌, ◌<◌, ◌≤◌, true, List, All, map, sum}
 use Rattle.fuzzy_meaning.specs.declared.block.Block.{Block}
 use Rattle.fuzzy_meaning.specs.Blocks.{IsValid}
 use Rattle.rule_layout.specs.Layouts.{IsWithinLimits}
@@ -9,12 +9,16 @@ use Rattle.interrupt_plan.specs.Plans.{IsGood}
 use Rattle.codegen.specs.declared.firmware.Firmware.{Firmware}
 use Rattle.codegen.specs.Firing.{AreInputBytes}
 use Rattle.codegen.specs.Firmwares.{IsFirmwareOf}
-use Rattle.fz_run.specs.Rows.{firmware_rows, steps_told}
+use Rattle.fz_run.specs.Rows.{firmware_rows, tellings}
 use Rattle.handled_runs.specs.Forms.{handled_rows, HandledSeen}
 
 -- each interrupt of a sample does at most so many steps
 abbrev pub AreShort : ℕ → List (Request × ℕ) → Type 0
 AreShort most told = All (λ (t : Request × ℕ). t.1 ≤ most) told
+
+-- the numbers of steps that were told of requests, added up
+abbrev pub steps_told : List (Request × ℕ) → ℕ
+steps_told told = sum (tellings told)
 
 -- The run comes to the end of each sample, its rows are those of the run of that firmware under that plan in which
 -- handlers do the listed writes alone, and each interrupt does at most as many steps as the handler has instructions on

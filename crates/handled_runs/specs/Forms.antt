@@ -1,12 +1,12 @@
 -- A firmware that stands alone, whose interrupts run code, as a form of the law on runs.
-use Rattle.std.specs.Prelude.{ℕ, List, take, map}
+use Rattle.std.specs.Prelude.{ℕ, List, take, map, sum}
 use Rattle.cpu12_parts.specs.State.{State}
-use Rattle.run_law.specs.Forms.{RowSeen, Rows, rows_from}
+use Rattle.run_law.specs.Forms.{Form, RowSeen, Rows, rows_from}
 use Rattle.handler_check.specs.Running.{Returned, until_rti, at_code}
 use Rattle.interrupt_plan.specs.declared.Request.{Request}
 use Rattle.codegen.specs.declared.firmware.Firmware.{Firmware}
 use Rattle.trace_io.specs.declared.sample.Sample.{Sample}
-use Rattle.fz_run.specs.Forms.{given, FormParts, PlanForm, plan_form, stand_alone, Harness}
+use Rattle.fz_run.specs.Forms.{given, FormParts, plan_form, place_of, stand_alone, Harness}
 use Rattle.fz_run.specs.Rows.{requests_of, arrived_at, input_bytes, shown}
 use Rattle.fz_run.specs.Rows as rows
 use Rattle.handled_runs.specs.declared.rows.HandledRow as declared
@@ -18,13 +18,14 @@ abbrev pub served : ℕ → ℕ → Request → State → Returned
 served flags most r v = until_rti flags most (at_code r.writes v)
 
 -- The parts of the form: a sample is given by at most eight bytes, and a request tells the steps of its handler.
-abbrev pub code_parts : Firmware → ℕ → FormParts (List ℕ)
+abbrev pub code_parts : Firmware → ℕ → FormParts (List ℕ) Request ℕ
 code_parts f most =
-    record (stand_alone f (λ flags r v. (served flags most r v).state) (λ flags r v. (served flags most r v).steps)) {
+    record (stand_alone f place_of (λ flags r v. (served flags most r v).state)
+    (λ flags r v. (served flags most r v).steps)) {
       give = λ bytes. given f.layout (take 8 bytes);
     }
 
-abbrev pub with_code : ℕ → Firmware → ℕ → PlanForm (List ℕ)
+abbrev pub with_code : ℕ → Firmware → ℕ → Form (List ℕ) Request ℕ
 with_code flags f most = plan_form flags (code_parts f most)
 
 -- the state in which the firmware waits for its first sample, where the handler's bytes stand beside it
@@ -42,8 +43,8 @@ pub record HandledSeen : Type 0 where
   pub row : RowSeen (List ℕ)
   pub handler : ℕ
 
-abbrev pub with_steps : RowSeen (List ℕ) → ℕ → HandledSeen
-with_steps row steps = record { row = row; handler = steps }
+abbrev pub with_steps : RowSeen (List ℕ) → List ℕ → HandledSeen
+with_steps row steps = record { row = row; handler = sum steps }
 
 -- the rows of the run so
 abbrev pub handled_seen : Firmware → List (ℕ × ℕ) → ℕ → List (List ℕ) → List Request → ℕ → List HandledSeen
@@ -53,10 +54,12 @@ handled_seen f handler most samples plan flags = shown with_steps (handled_rows 
 abbrev pub row_seen : declared.HandledRow → HandledSeen
 row_seen r = record { row = rows.row_seen r.row; handler = r.handler }
 
-abbrev pub code_harness : Firmware → ℕ → List Sample → Harness declared.HandledRow (List ℕ) HandledSeen
+abbrev pub code_harness : Firmware → ℕ → List Sample
+    → Harness Request ℕ declared.HandledRow (List ℕ) ℕ HandledSeen
 code_harness f most samples = record {
   samples = map input_bytes samples;
   parts = code_parts f most;
+  told = λ steps. steps;
   shows = with_steps;
   seen = row_seen;
 }

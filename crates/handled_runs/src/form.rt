@@ -1,6 +1,9 @@
 // A firmware whose interrupts run code, as a form of runs.
-ghost use Rattle.std.specs.Prelude.{ℕ, ◌≡◌, ◌≤◌, List};
-ghost use Rattle.handled_runs.specs.Forms.{HandledSeen, code_harness};
+ghost use Rattle.std.specs.Prelude.{ℕ, ◌≡◌, ◌≤◌, ◌<◌, List, Some, length, map, slice_get, sum, vec_len};
+ghost use Rattle.fz_run.specs.Forms.{answers_in};
+ghost use Rattle.fz_run.specs.Rest.{counted_at, shown_by};
+ghost use Rattle.fz_run.specs.Rows.{input_bytes};
+ghost use Rattle.handled_runs.specs.Forms.{HandledSeen, code_harness, row_seen, with_steps};
 
 use crate::back::until_rti;
 use crate::rows::HandledRow;
@@ -26,8 +29,18 @@ pub(crate) struct WithCode<'a> {
     ghost outputs: { firmware.now.outputs ≤ 4 },
 }
 
-impl<'a> RunForm<HandledRow> for WithCode<'a> {
+/// How many steps were told of in all.
+fn steps_in(told: &[u16]) -> u32
+    requires { length told.now ≤ 10000 }
+    ensures { result ≡ sum told.now }
+{
+    told.iter().map(|steps| u32::from(*steps)).sum()
+}
+
+impl<'a> RunForm<Request, u16, HandledRow> for WithCode<'a> {
     ghost Given = { List ℕ };
+
+    ghost Told = { ℕ };
 
     ghost Shown = { HandledSeen };
 
@@ -47,14 +60,24 @@ impl<'a> RunForm<HandledRow> for WithCode<'a> {
         is_idle(&self.firmware.layout, m)
     }
 
+    fn place(&self, request: &Request) -> (u32, u32) {
+        (request.sample, request.moment)
+    }
+
     fn take<M: Mem>(&self, m: &mut Machine<M>, request: &Request) -> (Frame, u16) {
         let frame = m.enter(request.writes.as_slice());
         let steps = until_rti(m, self.most);
         (frame, steps)
     }
 
-    fn row<M: Mem>(&self, m: &Machine<M>, k: usize, tally: Tally) -> HandledRow {
-        let handler = tally.handler;
+    fn row<M: Mem>(&self, m: &Machine<M>, k: usize, tally: Tally<u16>) -> HandledRow
+        requires sample { k < length self.now.samples.now }
+        requires few { vec_len tally.told ≤ 10000 }
+        ensures { (x : List ℕ) → slice_get (map input_bytes self.now.samples.now) k ≡ Some x
+            → row_seen result
+            ≡ shown_by with_steps (answers_in self.now.firmware.now) (counted_at (λ steps. steps) tally m.now.state) x }
+    {
+        let handler = steps_in(tally.told.as_slice());
         let bytes = self.samples[k].bytes.as_slice();
         let row = row_of(bytes, answers(self.firmware, m), tally);
         HandledRow { row, handler }

@@ -14,11 +14,11 @@ use cpu12_asm::Image;
 use cpu12_emul::laws::images_load_alike;
 use cpu12_isa::pages::PageMem;
 use fz_list::Memory;
-use fz_run::laws::rows_are_shown;
+use fz_run::laws::{plans_are_in_order, rows_are_shown};
 use fz_run::{Row, Start, run_form};
 use handler_check::Handler;
 use handler_check::laws::handlers_are_short;
-use interrupt_plan::Plan;
+use interrupt_plan::{Plan, Request};
 use std::alloc::Global;
 use trace_io::Sample;
 
@@ -45,6 +45,7 @@ fn joint_rows(
     ensures { IfOk result (λ rows. map row_seen rows.items
         ≡ handled_seen firmware.now image.now.bytes handler.now.instrs (map input_bytes samples.now) plan.now flags) }
 {
+    plans_are_in_order();
     handlers_are_short();
     images_load_alike();
     let joint = joint_image(alloc, &firmware.image, image)?;
@@ -58,7 +59,7 @@ fn joint_rows(
         wait: firmware.layout.wait,
         most: firmware.step_bound,
     };
-    let (rows, _memory): (Vec<HandledRow>, PageMem) = run_form(alloc, &form, &start, plan, flags)?;
+    let (rows, _memory): (Vec<HandledRow>, PageMem) = run_form(alloc, &form, &start, plan.as_slice(), flags)?;
     Ok(rows)
 }
 
@@ -84,7 +85,7 @@ pub fn run_handler(
         (map input_bytes samples.now) plan.now (map row_seen rows.items)) }
 {
     handled_answers();
-    rows_are_shown::<HandledRow, WithCode>();
+    rows_are_shown::<Request, u16, HandledRow, WithCode>();
     let rows = joint_rows(alloc, firmware, image, handler, samples, plan, flags)?;
     Ok(rows)
 }

@@ -18,7 +18,8 @@ use Rattle.interrupt_plan.specs.declared.Post.{Post}
 use Rattle.codegen.specs.declared.layout.Layout.{Layout}
 use Rattle.codegen.specs.Answers.{put}
 use Rattle.codegen.specs.Mailboxes.{is_postable}
-use Rattle.posted_runs.specs.Runs.{writes_from, bytes_of, post_writes}
+use Rattle.fz_run.specs.Rows.{bytes_of}
+use Rattle.posted_runs.specs.Runs.{writes_from, post_writes}
 use Rattle.posted_runs.specs.Postings.{mailed, last_of, IsBox, AreOfSize}
 
 pub record Writing : Type 0 where

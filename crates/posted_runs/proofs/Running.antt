@@ -14,7 +14,8 @@ use Rattle.codegen.specs.declared.firmware.Firmware.{Firmware}
 use Rattle.posted_runs.specs.declared.tally.Tally.{Tally}
 use Rattle.codegen.specs.Uninterrupted.{values_in}
 use Rattle.posted_runs.specs.Turns.{up_to, behind, waiting}
-use Rattle.posted_runs.specs.Runs.{TurnForm, turn_form, AnswerSeen, RunSeen, bytes_of, no_turn, before_turns, answers_by, waits_by, then_turns, is_over, turns_from, frames_seen}
+use Rattle.fz_run.specs.Rows.{bytes_of}
+use Rattle.posted_runs.specs.Runs.{TurnForm, turn_form, AnswerSeen, RunSeen, no_turn, before_turns, answers_by, waits_by, then_turns, is_over, turns_from, frames_seen}
 use Rattle.posted_runs.specs.Tallies.{Brought, with_frames, turned, rest_of, Counted, counted_at, with_rest}
 
 -- those that are taken come before those that are left

@@ -24,7 +24,8 @@ use Rattle.codegen.specs.Uninterrupted.{is_waiting, AreUninterrupted, AreAnswers
 use Rattle.codegen.specs.Widths.{width_of}
 use Rattle.fz_run.specs.Instructions.{AreSteps, InstructionsAreSteps, PlainIsOneStep}
 use Rattle.posted_runs.specs.Turns.{Turn, samples_of}
-use Rattle.posted_runs.specs.Runs.{bytes_of, arrival}
+use Rattle.fz_run.specs.Rows.{bytes_of}
+use Rattle.posted_runs.specs.Runs.{arrival}
 use Rattle.posted_runs.specs.Answering.{run_of_turns, answer_in}
 use Rattle.posted_runs.specs.UninterruptedTurns.{steps_of, HasSteps, HaveSteps, MailboxRunsTurns}
 use Rattle.posted_runs.proofs.WholeTurns.{IsOnWay, one_step, steps_on}

@@ -13,7 +13,8 @@ use Rattle.codegen.specs.Uninterrupted.{values_in, AreAnswersTo}
 use Rattle.codegen.specs.Widths.{width_of, answer}
 use Rattle.fz_run.specs.Facts.{FactsBeside}
 use Rattle.posted_runs.specs.Turns.{Turn, samples_of}
-use Rattle.posted_runs.specs.Runs.{AnswerSeen, bytes_of, arrival}
+use Rattle.fz_run.specs.Rows.{bytes_of}
+use Rattle.posted_runs.specs.Runs.{AnswerSeen, arrival}
 use Rattle.posted_runs.specs.Answering.{begun, ended, answer_of, run_of_turns, answer_in, AllKeepFacts}
 use Rattle.posted_runs.specs.UninterruptedTurns.{answered_alone, steps_from, steps_of, HasSteps, HaveSteps, IsIdleRun, IsAnswerRun, IsTurnRun, AllTurnRuns}
 use Rattle.posted_runs.proofs.Looking.{AreAlike, alike_self}

@@ -23,7 +23,7 @@ use Rattle.codegen.specs.Turns.{IsAt, IsLook, TakesTurns}
 use Rattle.codegen.specs.Uninterrupted.{values_in, IsAnswerTo}
 use Rattle.codegen.specs.Widths.{width_of, answer}
 use Rattle.fz_run.specs.Instructions.{InstructionsAreSteps, PlainIsOneStep}
-use Rattle.posted_runs.specs.Runs.{bytes_of}
+use Rattle.fz_run.specs.Rows.{bytes_of}
 use Rattle.posted_runs.specs.UninterruptedTurns.{answered_alone, IsIdleRun, IsAnswerRun}
 use Rattle.posted_runs.proofs.Alone.{IsAlone, alone, same_alone}
 use Rattle.posted_runs.proofs.Looking.{AreAlike, idle_alike, same_look}

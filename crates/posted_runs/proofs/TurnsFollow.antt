@@ -19,7 +19,8 @@ use Rattle.codegen.specs.Turns.{IsAt}
 use Rattle.codegen.specs.Uninterrupted.{values_in}
 use Rattle.codegen.specs.Widths.{width_of, places}
 use Rattle.posted_runs.specs.Turns.{Turn, up_to, behind, waiting, taken_from}
-use Rattle.posted_runs.specs.Runs.{turn_form, AnswerSeen, RunSeen, bytes_of, no_turn, before_turns, answers_by, waits_by, then_turns, is_over, turns_from}
+use Rattle.fz_run.specs.Rows.{bytes_of}
+use Rattle.posted_runs.specs.Runs.{turn_form, AnswerSeen, RunSeen, no_turn, before_turns, answers_by, waits_by, then_turns, is_over, turns_from}
 use Rattle.posted_runs.specs.Answering.{begun, ended, answer_of, frames_in, resumed_in, run_of_turns}
 use Rattle.posted_runs.specs.UninterruptedTurns.{IsIdleRun, IsAnswerRun}
 use Rattle.posted_runs.specs.PostedTurns.{TurnEnds, plain_frame, part_taken}

@@ -23,7 +23,8 @@ use Rattle.codegen.specs.Mailboxes.{is_mail, is_postable}
 use Rattle.codegen.specs.Answers.{put}
 use Rattle.codegen.specs.Turns.{IsAt, IsLook, IsChoice}
 use Rattle.posted_runs.specs.Turns.{up_to, behind, waiting}
-use Rattle.posted_runs.specs.Runs.{TurnForm, turn_form, bytes_of}
+use Rattle.fz_run.specs.Rows.{bytes_of}
+use Rattle.posted_runs.specs.Runs.{TurnForm, turn_form}
 use Rattle.posted_runs.specs.Postings.{mailed, posted, last_of, IsBox, AreOfSize}
 use Rattle.posted_runs.specs.PostedTurns.{TurnEnds, plain_frame}
 use Rattle.posted_runs.proofs.LastOnes.{split}

@@ -15,7 +15,8 @@ use Rattle.codegen.specs.Firing.{AreInputBytes}
 use Rattle.codegen.specs.Mailboxes.{MailboxStepsAreFew}
 use Rattle.codegen.specs.Uninterrupted.{AreUninterrupted, AreAnswersOf}
 use Rattle.codegen.specs.Widths.{width_of, places}
-use Rattle.posted_runs.specs.Runs.{RunSeen, bytes_of, arrival, run_under_posts, last_boundary, most_turns}
+use Rattle.fz_run.specs.Rows.{bytes_of}
+use Rattle.posted_runs.specs.Runs.{RunSeen, arrival, run_under_posts, last_boundary, most_turns}
 use Rattle.posted_runs.specs.Turns.{samples_of}
 use Rattle.posted_runs.specs.Answering.{answer_in, run_of_turns, AnswersUnderAllPosts}
 use Rattle.posted_runs.specs.UninterruptedTurns.{steps_of, MailboxRunsTurns, TurnsHaveSteps}

@@ -18,7 +18,8 @@ use Rattle.codegen.specs.Uninterrupted.{Answer, values_in, AreUninterrupted, Are
 use Rattle.codegen.specs.Widths.{width_of}
 use Rattle.fz_run.specs.Facts.{FactsBeside}
 use Rattle.posted_runs.specs.Turns.{Turn, AreTurns, samples_of}
-use Rattle.posted_runs.specs.Runs.{AnswerSeen, RunSeen, no_turn, before_turns, bytes_of, arrival, run_under_posts}
+use Rattle.fz_run.specs.Rows.{bytes_of}
+use Rattle.posted_runs.specs.Runs.{AnswerSeen, RunSeen, no_turn, before_turns, arrival, run_under_posts}
 
 -- a turn that answers begins with its sample in the mailbox
 abbrev pub begun : Firmware → List (List ℕ) → Turn → State → State

@@ -3,7 +3,7 @@ use Rattle.std.specs.Prelude.{◌≡◌, ℕ, ◌≤◌, ◌==◌, if◌then◌e
 use Rattle.cpu12_parts.specs.State.{State}
 use Rattle.codegen.specs.declared.layout.Layout.{Layout}
 use Rattle.codegen.specs.Answers.{put}
-use Rattle.posted_runs.specs.Runs.{bytes_of}
+use Rattle.fz_run.specs.Rows.{bytes_of}
 
 -- a memory with sample w posted, or none
 abbrev pub mailed : Layout → List (List ℕ) → ℕ → List ℕ → List ℕ

@@ -1,6 +1,6 @@
 -- The run of the mailbox form under posts, turn by turn.
 use Rattle.std.specs.Prelude.{ℕ, zero, suc, ◌+◌, ◌-◌, ◌*◌, ◌==◌, ◌&&◌, nat_lt, min, Bool, true, false, if◌then◌else◌}
-use Rattle.std.specs.Prelude.{List, [], ◌∷◌, ◌++◌, map, slice_index, slice_index_or}
+use Rattle.std.specs.Prelude.{List, [], ◌∷◌, ◌++◌, map, slice_index}
 use Rattle.cpu12_isa.specs.declared.instr.Write.{Write}
 use Rattle.cpu12_isa.specs.Memory.{plus}
 use Rattle.cpu12_parts.specs.State.{State}
@@ -15,6 +15,7 @@ use Rattle.trace_io.specs.declared.sample.Sample.{Sample}
 use Rattle.codegen.specs.declared.firmware.Firmware.{Firmware}
 use Rattle.codegen.specs.declared.layout.Layout.{Layout}
 use Rattle.codegen.specs.Uninterrupted.{is_waiting, values_in}
+use Rattle.fz_run.specs.Rows.{bytes_of}
 use Rattle.posted_runs.specs.declared.run.Answer as declared
 use Rattle.posted_runs.specs.Turns.{up_to, behind, waiting}
 
@@ -22,10 +23,6 @@ use Rattle.posted_runs.specs.Turns.{up_to, behind, waiting}
 abbrev pub writes_from : ℕ → List ℕ → List Write
 writes_from at [] = []
 writes_from at (v ∷ vs) = record { at = at; value = v } ∷ writes_from (plus at 1) vs
-
--- the input bytes of sample k, counted from 1
-abbrev pub bytes_of : List (List ℕ) → ℕ → List ℕ
-bytes_of samples k = slice_index_or samples (k - 1) []
 
 -- what the handler of a post writes: of a sample its bytes to MAIL and 1 to POSTED, and then the post's own writes
 abbrev pub post_writes : Layout → List (List ℕ) → Post → List Write

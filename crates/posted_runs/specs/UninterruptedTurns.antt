@@ -19,7 +19,8 @@ use Rattle.codegen.specs.Uninterrupted.{AreUninterrupted, AreAnswersOf}
 use Rattle.codegen.specs.Widths.{width_of}
 use Rattle.fz_run.specs.Facts.{FactsBeside}
 use Rattle.posted_runs.specs.Turns.{Turn, AreTurns, samples_of}
-use Rattle.posted_runs.specs.Runs.{turn_form, bytes_of, arrival}
+use Rattle.fz_run.specs.Rows.{bytes_of}
+use Rattle.posted_runs.specs.Runs.{turn_form, arrival}
 use Rattle.posted_runs.specs.Answering.{ended, run_of_turns, answer_in, AllKeepFacts}
 
 -- a turn without posts that answers sample k, from where the code waits in s

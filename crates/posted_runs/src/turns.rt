@@ -5,7 +5,8 @@ ghost use Rattle.run_law.specs.Following.{asked};
 ghost use Rattle.interrupt_plan.specs.Posts.{IsGoodPost, AreGoodPosts};
 ghost use Rattle.codegen.specs.Uninterrupted.{values_in};
 ghost use Rattle.posted_runs.specs.Turns.{up_to, behind, waiting};
-ghost use Rattle.posted_runs.specs.Runs.{turn_form, bytes_of, answers_by, waits_by, input_bytes, answer_seen, frames_seen, turns_from, most_turns};
+ghost use Rattle.fz_run.specs.Rows.{bytes_of};
+ghost use Rattle.posted_runs.specs.Runs.{turn_form, answers_by, waits_by, input_bytes, answer_seen, frames_seen, turns_from, most_turns};
 ghost use Rattle.posted_runs.specs.Tallies.{with_frames, counted_at, with_rest};
 
 use crate::outputs::{copy_of, values_in};

@@ -20,9 +20,9 @@ use Rattle.interrupt_plan.specs.declared.Post.{Post}
 use Rattle.trace_io.specs.Traces.{Fields, SpellSamples, Spells as SpellsTrace}
 use Rattle.trace_io.specs.declared.sample.Sample.{Sample}
 use Rattle.fz_rows.specs.Laws.{FirstRowsAreOne}
-use Rattle.fz_run.specs.Rows.{input_bytes}
+use Rattle.fz_run.specs.Rows.{input_bytes, bytes_of}
 use Rattle.posted_runs.specs.Answering.{AnswersItsPosts, AnswersUnderPosts, answer_in, ended, run_of_turns}
-use Rattle.posted_runs.specs.Runs.{AnswerSeen, RunSeen, answer_seen, arrival, boundary_seen, bytes_of, frames_seen, run_under_posts}
+use Rattle.posted_runs.specs.Runs.{AnswerSeen, RunSeen, answer_seen, arrival, boundary_seen, frames_seen, run_under_posts}
 use Rattle.posted_runs.specs.Turns.{AreTurns, LastIsAnswered, Turn, behind, over, idle, answers, samples_of, up_to, waiting}
 use Rattle.posted_runs.specs.declared.run.Answer as declared
 use Rattle.certified_run.specs.Posted.{IsOneOf, PostedAnswersAreNear}

@@ -2,24 +2,23 @@
 use Rattle.std.proofs.Common.{◌≡◌, ℕ, suc, false, List, [], ◌∷◌, ◌++◌, take, refl, sym, ap, ◌∙◌}
 use Rattle.std.specs.Prelude.{map, Option, slice_index}
 use Rattle.cpu12_parts.specs.State.{State}
-use Rattle.run_law.specs.Forms.{RowSeen, row_of, rows_from, run_from}
-use Rattle.interrupt_plan.specs.declared.Request.{Request}
+use Rattle.run_law.specs.Forms.{Form, RowSeen, row_of, rows_from, run_from}
 use Rattle.codegen.specs.declared.firmware.Firmware.{Firmware}
 use Rattle.codegen.specs.declared.layout.Layout.{Layout}
 use Rattle.codegen.specs.Watched.{Change, Watched, changed}
 use Rattle.codegen.specs.WatchedCode.{fault_at}
 use Rattle.fz_run.specs.declared.sample.Tally.{Tally}
-use Rattle.fz_run.specs.Forms.{PlanForm, given, answers_in}
-use Rattle.fz_run.specs.Rest.{counted_at, shown_by}
+use Rattle.fz_run.specs.Forms.{given, answers_in}
+use Rattle.fz_run.specs.Rest.{counted_at, row_by}
 use Rattle.fz_run.specs.Rows.{frames_seen, shown}
 use Rattle.watched_runs.specs.Forms.{given_changed, watched_parts}
 use Rattle.watched_runs.specs.Rows.{FaultSeen, fault_seen}
 use Rattle.watched_runs.proofs.Answers.{take_answers, fault_behind}
 
 -- where what handlers told is not shown, the rows alone are
-pub shown_plainly : {S T : Type 0} (g : RowSeen S → T) (form : PlanForm S) (most : ℕ) (asks : ℕ → List Request) (k : ℕ)
+pub shown_plainly : {S A B T : Type 0} (g : RowSeen S → T) (form : Form S A B) (most : ℕ) (asks : ℕ → List A) (k : ℕ)
     → (xs : List S) (s : State)
-    → shown (λ (row : RowSeen S) (n : ℕ). g row) (rows_from form most asks k xs s)
+    → shown (λ (row : RowSeen S) (told : List B). g row) (rows_from form most asks k xs s)
     ≡ map g (rows_from form most asks k xs s).rows
 unfolding rows_from
 shown_plainly g form most asks k [] s = refl
@@ -38,7 +37,7 @@ given_is l x c bytes old mid by_bytes same_bytes same_change =
     ∙ ap (λ (d : Option Change). made d (given l x.bytes old)) same_change
 
 -- a row, by its parts
-row_with : Tally → List ℕ → List ℕ → RowSeen (List ℕ)
+row_with : Tally (Unit {0}) → List ℕ → List ℕ → RowSeen (List ℕ)
 row_with t bytes answers = record {
   sample = bytes;
   answers = answers;
@@ -49,7 +48,7 @@ row_with t bytes answers = record {
 }
 
 -- a row with FAULT is what is shown
-pub row_is : (f : Firmware) (x : Watched) (t : Tally) (end : State) (row : RowSeen (List ℕ)) (fault : ℕ)
+pub row_is : (f : Firmware) (x : Watched) (t : Tally (Unit {0})) (end : State) (row : RowSeen (List ℕ)) (fault : ℕ)
     → (bytes answers : List ℕ) → row ≡ record {
       sample = bytes;
       answers = answers;
@@ -59,7 +58,7 @@ pub row_is : (f : Firmware) (x : Watched) (t : Tally) (end : State) (row : RowSe
       frames = frames_seen t.frames.items;
     } → answers ≡ answers_in f end → fault ≡ slice_index end.mem fault_at → bytes ≡ x.bytes
     → ◌≡◌ {A = FaultSeen} (record { row = row; fault = fault })
-    (shown_by (λ (r : RowSeen Watched) (n : ℕ). fault_seen f.outputs r) (watched_parts f).answers (counted_at t end) x)
+    (fault_seen f.outputs (row_by (watched_parts f).answers x (counted_at (λ (u : Unit {0}). u) t end)))
 unfolding row_with
 row_is f x t end row fault bytes answers by_row by_answers by_fault same_bytes =
     let made : RowSeen (List ℕ) → ℕ → FaultSeen = λ r v. record { row = r; fault = v } in

@@ -4,31 +4,34 @@ use Rattle.cpu12_isa.specs.Regions.{is_free}
 use Rattle.cpu12_parts.specs.State.{State}
 use Rattle.cpu12_emul.specs.Image.{image_memory}
 use Rattle.cpu12_emul.specs.Take.{framed}
+use Rattle.run_law.specs.Forms.{Form}
+use Rattle.interrupt_plan.specs.declared.Request.{Request}
 use Rattle.codegen.specs.declared.firmware.Firmware.{Firmware}
 use Rattle.codegen.specs.declared.layout.Layout.{Layout}
 use Rattle.codegen.specs.Interruptible.{is_idle}
 use Rattle.codegen.specs.Watched.{Watched, changed, restored}
 use Rattle.codegen.specs.WatchedCode.{fault_at}
 use Rattle.fz_run.specs.Facts.{Facts, IsStackOfOneCall}
-use Rattle.fz_run.specs.Forms.{FormParts, PlanForm, given, answers_in, plan_form}
+use Rattle.fz_run.specs.Forms.{FormParts, given, answers_in, place_of, plan_form}
 
 -- a sample is given, and then the byte is changed
 abbrev pub given_changed : Layout → Watched → State → State
 given_changed l x s = record s { mem = changed x.change (given l x.bytes s).mem }
 
 -- At a sample's end, where the firmware waits, the answers are read and the byte at FAULT, and then the byte of the
--- image stands in its place again. A handler does its request's writes, in no step of the machine.
-abbrev pub watched_parts : Firmware → FormParts Watched
+-- image stands in its place again. A handler does its request's writes, in no step of the machine, and tells nothing.
+abbrev pub watched_parts : Firmware → FormParts Watched Request (Unit {0})
 watched_parts f = record {
   give = given_changed f.layout;
   leave = λ x s. restored (image_memory f.image.bytes) x.change s;
   ends = λ s. is_idle f.layout s;
   answers = λ s. answers_in f s ++ slice_index s.mem fault_at ∷ [];
+  place = place_of;
   handle = λ flags r. framed r.writes;
-  steps = λ flags r s. 0;
+  tells = λ flags r s. tt;
 }
 
-abbrev pub watched_form : ℕ → Firmware → PlanForm Watched
+abbrev pub watched_form : ℕ → Firmware → Form Watched Request (Unit {0})
 watched_form flags f = plan_form flags (watched_parts f)
 
 -- what each state without interrupts keeps, whatever the tables hold

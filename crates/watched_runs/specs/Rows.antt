@@ -33,24 +33,27 @@ fault_seen n r = record {
 }
 
 -- the run of a firmware over a list of samples, each given by its input bytes, under a plan and upsets
-abbrev pub upset_rows : Firmware → List (List ℕ) → List Request → List Upset → ℕ → Rows Watched Request ℕ
+abbrev pub upset_rows : Firmware → List (List ℕ) → List Request → List Upset → ℕ
+    → Rows Watched Request (Unit {0})
 upset_rows f samples plan upsets flags =
     rows_from (watched_form flags f) f.step_bound (λ k. requests_of k plan) 1 (with_upsets upsets samples)
     (first_state f flags)
 
 -- its rows
-abbrev pub faults_of : Firmware → Rows Watched Request ℕ → List FaultSeen
+abbrev pub faults_of : Firmware → Rows Watched Request (Unit {0}) → List FaultSeen
 faults_of f all = map (fault_seen f.outputs) all.rows
 
 -- a row of the code, as it is seen
 abbrev pub row_seen : declared.WatchedRow → FaultSeen
 row_seen r = record { row = rows.row_seen r.row; fault = r.fault }
 
--- a firmware with a trace and upsets: its rows do not tell of handlers' steps
-abbrev pub watched_harness : Firmware → List Sample → List Upset → Harness declared.WatchedRow Watched FaultSeen
+-- a firmware with a trace and upsets: its handlers tell nothing
+abbrev pub watched_harness : Firmware → List Sample → List Upset
+    → Harness Request (Unit {0}) declared.WatchedRow Watched (Unit {0}) FaultSeen
 watched_harness f samples upsets = record {
   samples = with_upsets upsets (map input_bytes samples);
   parts = watched_parts f;
-  shows = λ row steps. fault_seen f.outputs row;
+  told = λ u. u;
+  shows = λ row told. fault_seen f.outputs row;
   seen = row_seen;
 }

@@ -1,9 +1,11 @@
 //! A firmware with watched tables, as a form of runs.
-ghost use Rattle.std.specs.Prelude.{ℕ, ◌≡◌, ◌<◌, ◌≤◌, ◌+◌, List, Some, length, map, slice_get};
+ghost use Rattle.std.specs.Prelude.{ℕ, ◌≡◌, ◌<◌, ◌≤◌, ◌+◌, List, Some, length, map, slice_get, vec_len};
+ghost use Rattle.fz_run.specs.Rest.{counted_at, row_by};
 ghost use Rattle.fz_run.specs.Rows.{input_bytes};
 ghost use Rattle.codegen.specs.Watched as tables;
-ghost use Rattle.watched_runs.specs.Rows.{FaultSeen, watched_harness};
-ghost use Rattle.watched_runs.specs.Samples.{AscendThroughout};
+ghost use Rattle.watched_runs.specs.Forms.{watched_parts};
+ghost use Rattle.watched_runs.specs.Rows.{FaultSeen, fault_seen, row_seen, watched_harness};
+ghost use Rattle.watched_runs.specs.Samples.{AscendThroughout, with_upsets};
 
 use crate::upsets::{change, restore, upset_of};
 use codegen::Firmware;
@@ -59,8 +61,10 @@ fn number_of(samples: &[Sample], k: usize) -> usize
     k + 1
 }
 
-impl<'a> RunForm<WatchedRow> for WithUpsets<'a> {
+impl<'a> RunForm<Request, (), WatchedRow> for WithUpsets<'a> {
     ghost Given = { tables.Watched };
+
+    ghost Told = { Unit {0} };
 
     ghost Shown = { FaultSeen };
 
@@ -87,11 +91,21 @@ impl<'a> RunForm<WatchedRow> for WithUpsets<'a> {
         is_idle(&self.firmware.layout, m)
     }
 
-    fn take<M: Mem>(&self, m: &mut Machine<M>, request: &Request) -> (Frame, u16) {
-        (m.interrupt(request.writes.as_slice()), 0)
+    fn place(&self, request: &Request) -> (u32, u32) {
+        (request.sample, request.moment)
     }
 
-    fn row<M: Mem>(&self, m: &Machine<M>, k: usize, tally: Tally) -> WatchedRow {
+    fn take<M: Mem>(&self, m: &mut Machine<M>, request: &Request) -> (Frame, ()) {
+        (m.interrupt(request.writes.as_slice()), ())
+    }
+
+    fn row<M: Mem>(&self, m: &Machine<M>, k: usize, tally: Tally<()>) -> WatchedRow
+        requires sample { k < length (with_upsets self.now.upsets.now (map input_bytes self.now.samples.now)) }
+        requires few { vec_len tally.told ≤ 10000 }
+        ensures { (x : tables.Watched) → slice_get (with_upsets self.now.upsets.now (map input_bytes self.now.samples.now)) k ≡ Some x
+            → row_seen result ≡ fault_seen self.now.firmware.now.outputs
+            (row_by (watched_parts self.now.firmware.now).answers x (counted_at (λ u. u) tally m.now.state)) }
+    {
         let answers = answers(self.firmware, m);
         WatchedRow {
             row: row_of(bytes_of(self.samples, k), answers, tally),

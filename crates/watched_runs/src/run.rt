@@ -12,6 +12,7 @@ use crate::upsets::ascending;
 use codegen::Firmware;
 use cpu12_isa::pages::PageMem;
 use fz_list::Memory;
+use fz_run::laws::plans_are_in_order;
 use fz_run::{Start, run_form};
 use interrupt_plan::{Plan, Upsets};
 use std::alloc::Global;
@@ -43,6 +44,7 @@ pub fn run_upsets(
         upsets.now (map row_seen rows.items)) }
 {
     answers_under_all_upsets();
+    plans_are_in_order();
     let upsets = ascending(upsets);
     let form = WithUpsets {
         firmware,
@@ -54,6 +56,6 @@ pub fn run_upsets(
         wait: firmware.layout.wait,
         most: firmware.step_bound,
     };
-    let (rows, _memory): (Vec<WatchedRow>, PageMem) = run_form(alloc, &form, &start, plan, flags)?;
+    let (rows, _memory): (Vec<WatchedRow>, PageMem) = run_form(alloc, &form, &start, plan.as_slice(), flags)?;
     Ok(rows)
 }

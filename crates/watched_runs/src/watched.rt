@@ -21,7 +21,7 @@ impl SoundForm for WatchedTables {
 
     ghost Request = { plan.Request };
 
-    ghost Told = { ℕ };
+    ghost Told = { Unit {0} };
 
     ghost form = { λ x. watched_form x.flags x.firmware };
 

@@ -5,7 +5,6 @@ use Rattle.cpu12_emul.specs.Step.{next_of}
 use Rattle.run_law.specs.Forms.{one_if}
 use Rattle.fz_run.specs.declared.boundary.Stand.{Stand}
 use Rattle.fz_run.specs.declared.sample.Tally.{Tally}
-use Rattle.fz_run.specs.Forms.{plan_form}
 use Rattle.fz_run.specs.Sessions.{at_end, by_step}
 use Rattle.fz_run.proofs.Comings.{Takes, over_here, spent_here, taken_here}
 use Rattle.fz_run.proofs.boundary.come.Goals as goal
@@ -13,22 +12,23 @@ use Rattle.fz_run.proofs.boundary.come.Goals as goal
 pub returns-then-ends-clause-coming : goal.returns-then-ends-clause-coming
 returns-then-ends-clause-coming g c =
     let a = c.args in
-    over_here (plan_form a.m.now.flags (g.F.RunForm.harness a.form.now).parts) a.requests.now a.st.now a.m.now.state (sym c.ends.ensures ∙ c.if-ends.true)
+    over_here a.m.now.flags (g.F.RunForm.harness a.form.now) a.requests.now a.st.now a.m.now.state (sym c.ends.ensures ∙ c.if-ends.true)
 
 pub returns-then-st-eq0-clause-coming : goal.returns-then-st-eq0-clause-coming
 returns-then-st-eq0-clause-coming g c =
     let a = c.args in
-    spent_here (plan_form a.m.now.flags (g.F.RunForm.harness a.form.now).parts) a.requests.now a.st.now a.m.now.state c.if-st-eq0.true (sym c.ends.ensures ∙ c.if-ends.false ∙ sym c.requires.on.1)
+    spent_here a.m.now.flags (g.F.RunForm.harness a.form.now) a.requests.now a.st.now a.m.now.state c.if-st-eq0.true (sym c.ends.ensures ∙ c.if-ends.false ∙ sym c.requires.on.1)
 
 pub returns-clause-coming : goal.returns-clause-coming
 returns-clause-coming g c =
     let a = c.args in
     let st = a.st.now in
-    let form = plan_form a.m.now.flags (g.F.RunForm.harness a.form.now).parts in
+    let h = g.F.RunForm.harness a.form.now in
+    let flags = a.m.now.flags in
     let n = c.take_due.new in
     let inside : n.t.inside ≡ st.tally.inside = ap (λ k. k.inside) c.take_due.ensures.rest in
-    let t2 : Tally = record n.t { resumed = n.t.resumed + c.one_if.result } in
-    let st2 : Stand = record { tally = t2; left = st.left - 1; over = st.over } in
+    let t2 : Tally g.U = record n.t { resumed = n.t.resumed + c.one_if.result } in
+    let st2 : Stand g.U = record { tally = t2; left = st.left - 1; over = st.over } in
     let taken : Bool = c.less-taken.result in
     let one : c.one_if.result ≡ one_if (st.tally.inside && taken) = c.one_if.ensures.one ∙ ap one_if (c.both.ensures ∙ ap (λ (b : Bool). b && taken) inside) in
     let resumed : n.t.resumed ≡ st.tally.resumed = ap (λ k. k.resumed) c.take_due.ensures.rest in
@@ -42,5 +42,5 @@ returns-clause-coming g c =
       taken_is = c.less-taken.ensures ∙ ap₂ nat_lt c.count-before.ensures c.count.ensures;
     } in
     let s2 : State = n.m.state in
-    ap (λ (b : Bool). if b then at_end t2 s2 else by_step form a.requests.now st2 s2 (next_of a.m.now.flags s2)) c.requires.on.0
-    ∙ taken_here form a.requests.now st st2 a.m.now.state s2 taken (sym c.ends.ensures ∙ c.if-ends.false) k c.take_due.ensures.takes
+    ap (λ (b : Bool). if b then at_end h.told t2 s2 else by_step flags h a.requests.now st2 s2 (next_of flags s2)) c.requires.on.0
+    ∙ taken_here flags h a.requests.now st st2 a.m.now.state s2 taken (sym c.ends.ensures ∙ c.if-ends.false) k c.take_due.ensures.takes

@@ -4,7 +4,8 @@ use Rattle.fz_run.proofs.runs.count_of.Given as goal
 
 -- those before are of the sample
 abbrev pub invariant-loop-request : goal.invariant-loop-request
-invariant-loop-request l = record {
-  all : l.request-index + length (requests_first l.k (drop l.request-index l.requests)) ≡ length (requests_first l.k l.requests);
+invariant-loop-request g l = record {
+  all : l.request-index + length (requests_first (g.F.RunForm.harness l.form).parts.place l.k (drop l.request-index l.requests))
+      ≡ length (requests_first (g.F.RunForm.harness l.form).parts.place l.k l.requests);
   count : l.count ≡ l.request-index;
 }

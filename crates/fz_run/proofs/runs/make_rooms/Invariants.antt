@@ -4,12 +4,12 @@ use Rattle.fz_run.proofs.runs.make_rooms.Given as goal
 
 -- there is a room for each of the first samples, and the rest of the plan is that of the others
 abbrev pub invariant-loop-next : goal.invariant-loop-next
-invariant-loop-next l = record {
-  rooms : HaveRoom 1 l.next l.plan l.rooms.items;
-  rest : drop l.first l.plan ≡ requests_after 1 l.next l.plan;
+invariant-loop-next g l = record {
+  rooms : HaveRoom (g.F.RunForm.harness l.form).parts.place 1 l.next l.plan l.rooms.items;
+  rest : drop l.first l.plan ≡ requests_after (g.F.RunForm.harness l.form).parts.place 1 l.next l.plan;
   first : l.first ≤ length l.plan;
   next : l.next ≤ l.samples;
 }
 
 abbrev pub decreases-loop-next : goal.decreases-loop-next
-decreases-loop-next l = l.samples - l.next
+decreases-loop-next g l = l.samples - l.next

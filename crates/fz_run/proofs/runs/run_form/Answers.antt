@@ -1,6 +1,5 @@
-use Rattle.std.proofs.Common.{◌∙◌, ℕ, List, ap}
+use Rattle.std.proofs.Common.{◌∙◌, ℕ, ap, arith}
 use Rattle.cpu12_parts.specs.State.{State}
-use Rattle.interrupt_plan.specs.declared.Request.{Request}
 use Rattle.fz_run.specs.Outlooks.{Ahead, outlook_at}
 use Rattle.fz_run.proofs.runs.run_form.Goals as goal
 
@@ -11,7 +10,6 @@ returns-clause-rows g c =
     let r = c.in_ok-machine in
     c.into_rows-rows.ensures.rows
     ∙ c.drive.ensures.rows
-    ∙ ap (λ (l : List Request). (outlook_at r.machine.flags h l r.progress r.machine.state).rows) c.as_slice.ensures
     ∙ ap (λ (k : ℕ). (outlook_at k h a.plan.now r.progress r.machine.state).rows) r.ensures.flags
     ∙ ap (λ (x : Ahead g.F.RunForm.Shown). x.rows) r.ensures.first
 
@@ -22,6 +20,12 @@ returns-clause-memory g c =
     let r = c.in_ok-machine in
     c.into_mem.ensures
     ∙ ap (λ (s : State). s.mem) (c.into_rows-rows.ensures.state ∙ c.drive.ensures.state)
-    ∙ ap (λ (l : List Request). (outlook_at r.machine.flags h l r.progress r.machine.state).state.mem) c.as_slice.ensures
     ∙ ap (λ (k : ℕ). (outlook_at k h a.plan.now r.progress r.machine.state).state.mem) r.ensures.flags
     ∙ ap (λ (x : Ahead g.F.RunForm.Shown). x.state.mem) r.ensures.first
+
+pub into_rows-rows-requires-clause-few : goal.into_rows-rows-requires-clause-few
+into_rows-rows-requires-clause-few g c =
+    let w = c.drive.ensures.way in
+    let stand = w.stand in
+    let few = stand.room.few in
+    omega (arith, few)

@@ -1,6 +1,6 @@
-use Rattle.std.proofs.Common.{◌≡◌, ◌∙◌, ℕ, false, drop, ap, sym, subst}
+use Rattle.std.proofs.Common.{◌≡◌, ◌∙◌, ℕ, false, drop, map, ap, sym, subst}
 use Rattle.fz_run.specs.Rows.{frames_seen}
-use Rattle.fz_run.specs.Forms.{moment_of, plan_form}
+use Rattle.fz_run.specs.Forms.{moment_in, plan_form}
 use Rattle.fz_run.specs.Rest.{is_due}
 use Rattle.fz_run.proofs.Takings.{takes_end}
 use Rattle.fz_run.proofs.sample.take_due.Goals as goal
@@ -9,10 +9,12 @@ pub returns-clause-takes : goal.returns-clause-takes
 returns-clause-takes g c =
     let l = c.loop-m in
     let a = c.args in
+    let h = g.F.RunForm.harness a.form.now in
+    let moment = moment_in h.parts.place in
     let left = drop l.t.next a.requests.now in
     let same : l.t.moment ≡ a.t.now.moment = ap (λ t. t.moment) l.invariant.rest in
-    let off : is_due moment_of a.t.now.moment left l.m.state ≡ false =
-    subst (λ (k : ℕ). is_due moment_of k left l.m.state ≡ false) same (sym c.is_due.ensures ∙ c.loop-m-test.false) in
+    let off : is_due moment a.t.now.moment left l.m.state ≡ false =
+    subst (λ (k : ℕ). is_due moment k left l.m.state ≡ false) same (sym c.is_due.ensures ∙ c.loop-m-test.false) in
     l.invariant.takes
-    ∙ takes_end (plan_form a.m.now.flags (g.F.RunForm.harness a.form.now).parts) a.t.now.moment left l.m.state
-    (frames_seen l.t.frames.items) l.t.handler off
+    ∙ takes_end (plan_form a.m.now.flags h.parts) a.t.now.moment left l.m.state
+    (frames_seen l.t.frames.items) (map h.told l.t.told.items) off

@@ -1,8 +1,7 @@
-use Rattle.std.proofs.Common.{◌≡◌, ◌+◌, ◌++◌, ◌∷◌, [], ℕ, ap, ◌∙◌}
-use Rattle.std.specs.Prelude.{if◌then◌else◌, is_ok}
+use Rattle.std.proofs.Common.{◌≡◌, ◌≤◌, ◌<◌, ◌+◌, ◌-◌, ◌++◌, ◌∷◌, [], ℕ, length, ap, ◌∙◌, arith}
+use Rattle.std.specs.Prelude.{if◌then◌else◌, is_ok, vec_len, vec_capacity}
 use Rattle.cpu12_parts.specs.Cuts.{suspended, wav}
-use Rattle.interrupt_plan.specs.declared.Request.{Request}
-use Rattle.fz_run.specs.Forms.{moment_of, plan_form}
+use Rattle.fz_run.specs.Forms.{moment_in, plan_form}
 use Rattle.fz_run.proofs.Takings.{one_taken, due_within}
 use Rattle.fz_run.proofs.sample.take_next.Goals as goal
 
@@ -10,14 +9,18 @@ pub returns-clause-takes : goal.returns-clause-takes
 returns-clause-takes g c =
     let t = c.args.t.now in
     let m = c.args.m.now in
-    let parts = (g.F.RunForm.harness c.args.form.now).parts in
+    let h = g.F.RunForm.harness c.args.form.now in
+    let parts = h.parts in
     let frame = c.take-frame.result.0 in
-    let items : c.push.new.self.items ≡ t.frames.items ++ (t.moment, frame) ∷ [] =
-    c.push.ensures.items ∙ ap (λ r. if is_ok r then t.frames.items ++ (t.moment, frame) ∷ [] else t.frames.items) c.unwrap.ensures in
-    let state = c.take-frame.ensures.state ∙ ap (λ (q : Request). parts.handle m.flags q (suspended wav m.state)) c.index-requests-t.is in
-    let steps = c.from.ensures ∙ c.take-frame.ensures.steps
-    ∙ ap (λ (q : Request). parts.steps m.flags q (suspended wav m.state)) c.index-requests-t.is in
-    one_taken (plan_form m.flags parts) t.moment c.args.requests.now t.next c.index-requests-t.result m.state
-    c.take-frame.new.m.state t.frames.items c.push.new.self.items frame t.handler (t.handler + c.from.result)
-    (due_within moment_of t.moment c.args.requests.now t.next m.state c.requires.due) c.requires.due state
-    c.take-frame.ensures.frame items (ap (λ (n : ℕ). t.handler + n) steps)
+    let one = c.take-frame.result.1 in
+    let items : c.push-t_frames.new.self.items ≡ t.frames.items ++ (t.moment, frame) ∷ [] =
+    c.push-t_frames.ensures.items
+    ∙ ap (λ r. if is_ok r then t.frames.items ++ (t.moment, frame) ∷ [] else t.frames.items) c.unwrap-push.ensures in
+    let told : c.push-t_told.new.self.items ≡ t.told.items ++ one ∷ [] =
+    c.push-t_told.ensures.items ∙ ap (λ r. if is_ok r then t.told.items ++ one ∷ [] else t.told.items) c.unwrap.ensures in
+    let state = c.take-frame.ensures.state ∙ ap (λ (q : g.A). parts.handle m.flags q (suspended wav m.state)) c.index-requests-t.is in
+    let tells = c.take-frame.ensures.told ∙ ap (λ (q : g.A). parts.tells m.flags q (suspended wav m.state)) c.index-requests-t.is in
+    one_taken (plan_form m.flags parts) h.told t.moment c.args.requests.now t.next c.index-requests-t.result m.state
+    c.take-frame.new.m.state t.frames.items c.push-t_frames.new.self.items frame t.told.items c.push-t_told.new.self.items one
+    (due_within (moment_in parts.place) t.moment c.args.requests.now t.next m.state c.requires.due) c.requires.due state
+    c.take-frame.ensures.frame items tells told

@@ -1,14 +1,20 @@
-use Rattle.std.proofs.Common.{◌∙◌, ℕ, List, map, ap}
+use Rattle.std.proofs.Common.{◌≡◌, ◌∙◌, ℕ, List, map, ap, ap₂, sym, subst}
 use Rattle.cpu12_parts.specs.State.{State}
 use Rattle.run_law.specs.Forms.{RowSeen, Rows}
 use Rattle.interrupt_plan.specs.declared.Request.{Request}
-use Rattle.fz_run.specs.Forms.{with_writes}
+use Rattle.fz_run.specs.Forms.{place_of, with_writes}
 use Rattle.fz_run.specs.Rows.{input_bytes, first_state, firmware_rows, writes_harness}
 use Rattle.fz_run.specs.Positions.{positions}
-use Rattle.fz_run.specs.Outlooks.{from_here, outlook_at}
+use Rattle.fz_run.specs.Slices.{IsInOrder}
+use Rattle.fz_run.specs.Outlooks.{from_here, outlook_at, shown_run}
 use Rattle.fz_run.proofs.Outlooks.{made}
+use Rattle.fz_run.proofs.PlanSlices.{plans_are_in_order}
 use Rattle.fz_run.proofs.RowSteps.{shown_plain}
 use Rattle.fz_run.proofs.session.Session.new.Goals as goal
+
+pub begun-requires-clause-order : goal.begun-requires-clause-order
+begun-requires-clause-order g c =
+    subst (IsInOrder place_of) (sym c.as_slice.ensures) (plans_are_in_order c.args.plan.now c.requires.plan)
 
 pub returns : goal.returns
 returns g c =
@@ -17,9 +23,11 @@ returns g c =
     let h = writes_harness f a.samples.now in
     let inputs : List (List ℕ) = map input_bytes a.samples.now in
     let first : State = first_state f a.flags in
-    let all : Rows (List ℕ) Request ℕ = firmware_rows f inputs a.plan.now a.flags in
     let r = c.in_ok-machine in
-    ap (λ (k : ℕ). from_here (outlook_at k h a.plan.now r.progress r.machine.state)) r.ensures.flags
+    let same : c.as_slice.result.now ≡ a.plan.now = c.as_slice.ensures in
+    let rows : List Request → Rows (List ℕ) Request (Unit {0}) = λ l. firmware_rows f inputs l a.flags in
+    ap₂ (λ (k : ℕ) (l : List Request). from_here (outlook_at k h l r.progress r.machine.state)) r.ensures.flags (sym same)
     ∙ r.ensures.first
-    ∙ ap (λ (rows : List (RowSeen (List ℕ))). made (positions first all) rows all.state)
-    (shown_plain (with_writes a.flags f) f.step_bound a.plan.now 1 inputs first)
+    ∙ ap (λ (l : List Request). shown_run h.shows first (rows l)) same
+    ∙ ap (λ (shown : List (RowSeen (List ℕ))). made (positions first (rows a.plan.now)) shown (rows a.plan.now).state)
+    (shown_plain (with_writes a.flags f) place_of f.step_bound a.plan.now 1 inputs first)

@@ -1,12 +1,12 @@
 use Rattle.std.proofs.Common.{ℕ, ◌<◌, subst}
 use Rattle.watched_runs.proofs.Samples.{bytes_there, count_given}
 use Rattle.watched_runs.proofs.Shown.{row_is}
-use Rattle.watched_runs.proofs.form.WithUpsetsRunFormWatchedRow.row.Goals as goal
+use Rattle.watched_runs.proofs.form.WithUpsetsRunFormRequestUnitWatchedRow.row.Goals as goal
 
 pub bytes_of-requires : goal.bytes_of-requires
 bytes_of-requires g c =
     let a = c.args in
-    subst (λ (n : ℕ). a.k < n) (count_given a.self.now.upsets.now a.self.now.samples.now) c.requires
+    subst (λ (n : ℕ). a.k < n) (count_given a.self.now.upsets.now a.self.now.samples.now) c.requires.sample
 
 pub returns : goal.returns
 returns g c = λ x is.

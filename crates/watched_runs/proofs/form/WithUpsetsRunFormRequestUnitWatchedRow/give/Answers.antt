@@ -2,7 +2,7 @@ use Rattle.std.proofs.Common.{◌∙◌, ℕ, ◌<◌, ap, sym, subst}
 use Rattle.watched_runs.specs.Samples.{change_of}
 use Rattle.watched_runs.proofs.Samples.{bytes_there, change_there, count_given}
 use Rattle.watched_runs.proofs.Shown.{given_is}
-use Rattle.watched_runs.proofs.form.WithUpsetsRunFormWatchedRow.give.Goals as goal
+use Rattle.watched_runs.proofs.form.WithUpsetsRunFormRequestUnitWatchedRow.give.Goals as goal
 
 pub bytes_of-requires : goal.bytes_of-requires
 bytes_of-requires g c =
