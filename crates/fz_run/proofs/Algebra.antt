@@ -1,13 +1,15 @@
 -- What holds before each step of a run without interrupts, its steps one after another, where SP stands, when requests
--- are taken where I is 0 throughout, and where a run begins beside open bytes.
-use Rattle.std.proofs.Common.{◌≡◌, ℕ, zero, suc, ◌-◌, ◌+◌, ◌≤◌, ◌⊎◌, inl, inr, true, Bool, nat_le, nat_lt, List, refl, ap, ◌∙◌, subst, arith}
-use Rattle.std.specs.Prelude.{◌&&◌}
+-- are taken where I is 0 throughout, where a run begins beside open bytes, and what holds of all that was told.
+use Rattle.std.proofs.Common.{◌≡◌, ℕ, zero, suc, ◌-◌, ◌+◌, ◌≤◌, ◌⊎◌, inl, inr, true, Bool, nat_le, nat_lt, List, [], ◌∷◌, refl, ap, ◌∙◌, subst, arith}
+use Rattle.std.specs.Prelude.{◌&&◌, All}
 use Rattle.std.proofs.lemmas.Bool.{or_parts}
+use Rattle.std.proofs.lemmas.List.Elements.{All-cons}
 use Rattle.cpu12_parts.specs.State.{State}
 use Rattle.cpu12_emul.specs.Simulation.{Same}
 use Rattle.cpu12_emul.specs.Take.{may_interrupt}
 use Rattle.codegen.specs.declared.firmware.Firmware.{Firmware}
 use Rattle.run_law.specs.Uninterrupted.{stepped, uninterrupted, counted, first_open, taken_at}
+use Rattle.run_law.specs.Following.{onto, all_onto}
 use Rattle.run_law.specs.Soundness.{Before}
 use Rattle.fz_run.specs.Answering.{FirstAlike}
 use Rattle.fz_run.specs.Facts.{IsStackOfOneCall}
@@ -72,3 +74,19 @@ first_same open_to f flags mem w h = record {
         (or_parts (open_to at) (nat_le 0x1FE0 at && nat_lt at (first_state f flags).regs.sp) shown).0;
   });
 }
+
+-- what holds of all that was told holds of each sample's
+onto_all : {C : Type 0} (P : C → Type 0) (xs done : List C) → All P (onto xs done) → All P xs × All P done
+onto_all P [] done h = (λ k x lt. absurd (omega arith), h)
+onto_all P (x ∷ xs) done h =
+    let rest = onto_all P xs (x ∷ done) h in
+    let here = rest.1 in
+    (All-cons P x xs (here 0 x (omega arith)) rest.0, λ k y lt. here (suc k) y (omega arith))
+
+pub all_onto_all : {C : Type 0} (P : C → Type 0) (xss : List (List C)) (done : List C) → All P (all_onto xss done)
+    → All (All P) xss × All P done
+all_onto_all P [] done h = (λ k x lt. absurd (omega arith), h)
+all_onto_all P (xs ∷ xss) done h =
+    let rest = all_onto_all P xss (onto xs done) h in
+    let here = onto_all P xs done rest.1 in
+    (All-cons (All P) xs xss here.0 rest.0, here.1)

@@ -25,7 +25,7 @@ use Rattle.fz_run.specs.Facts.{FactsBeside}
 use Rattle.fz_run.specs.Following.{RunsFollowBeside}
 use Rattle.fz_run.specs.Given.{RequestsAreGood}
 use Rattle.fz_run.specs.Answering.{FirmwareRunsBeside, FirstAlike, FirstStatesAlike}
-use Rattle.fz_run.proofs.Algebra.{first_same}
+use Rattle.fz_run.proofs.Algebra.{first_same, all_onto_all}
 use Rattle.handled_runs.specs.Open.{is_open_to_code}
 use Rattle.handled_runs.specs.Joint.{joint_memory}
 use Rattle.handled_runs.specs.declared.rows.HandledRow as declared
@@ -73,23 +73,6 @@ expected flags f most asks k (n ∷ ns) (x ∷ xs) s few =
     ∙ ap (λ (rows : List (RowSeen (List ℕ))). expected_row (with_writes flags f) (asks k) n x (given f.layout x s) ∷ rows)
     (expected flags f most asks (suc k) ns xs (uninterrupted flags n (given f.layout x s)) few.1)
 
--- what is short of all that was told is short of each sample
-onto_short : (most : ℕ) (xs done : List (Request × ℕ)) → AreShort most (onto xs done) → AreShort most xs × AreShort most done
-onto_short most [] done h = (λ k x lt. absurd (omega arith), h)
-onto_short most (x ∷ xs) done h =
-    let rest = onto_short most xs (x ∷ done) h in
-    (short x xs (let one = rest.1 in one 0 x (omega arith)) rest.0, λ k y lt. (let later = rest.1 in later (suc k) y (omega arith)))
-  where
-    short : (x : Request × ℕ) (xs : List (Request × ℕ)) → x.1 ≤ most → AreShort most xs → AreShort most (x ∷ xs)
-    short x xs l h = All-cons (λ (t : Request × ℕ). t.1 ≤ most) x xs l h
-
-all_short : (most : ℕ) (xss : List (List (Request × ℕ))) (done : List (Request × ℕ)) → AreShort most (all_onto xss done) → All (AreShort most) xss × AreShort most done
-all_short most [] done h = (λ k x lt. absurd (omega arith), h)
-all_short most (xs ∷ xss) done h =
-    let rest = all_short most xss (onto xs done) h in
-    let here = onto_short most xs done rest.1 in
-    (All-cons (AreShort most) xs xss here.0 rest.0, here.1)
-
 -- the laws of lower crates, and the law on runs
 pub record Laws : Type 0 where
   pub code : CodeLaws
@@ -124,7 +107,7 @@ handled_answers laws b f handler most flags samples plan hf good is v limits h a
     record {
       arrived = code.arrived;
       rows_are = code.rows_are ∙ expected flags f most asks 1 ns samples s few ∙ sym listed.rows_are;
-      short = (all_short most (handled_rows f handler most samples plan flags).told [] own.short).0;
+      short = (all_onto_all (λ (t : Request × ℕ). t.1 ≤ most) (handled_rows f handler most samples plan flags).told [] own.short).0;
     }
 
 -- the rows as they are shown

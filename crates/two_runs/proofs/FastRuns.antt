@@ -13,8 +13,9 @@ use Rattle.codegen.specs.Bounds.{step_bound}
 use Rattle.codegen.specs.Uninterrupted.{AreAnswersOf}
 use Rattle.two_level.specs.declared.two.Two.{Two}
 use Rattle.two_level.specs.Images.{fast_most}
+use Rattle.fz_run.specs.Rows.{bytes_of, shown_rows}
 use Rattle.two_runs.specs.Runs.{FastSeen}
-use Rattle.two_runs.specs.Rows.{bytes_of, shown_rows}
+use Rattle.two_runs.specs.Rows.{with_fast}
 use Rattle.two_runs.specs.Answering.{runs_told, fast_runs, answer_of_fast, IsTold, AreTold}
 use Rattle.two_runs.specs.Levels.{outputs_told, outputs_after, IsAnswerTold, AreAnswersTold}
 
@@ -23,7 +24,7 @@ abbrev pub runs_in : List (List (Level × Option FastSeen)) → List FastSeen
 runs_in tss = flat_map (λ ts. runs_told (map (λ t. t.1) ts)) tss
 
 runs_shown : (rows : List (RowSeen (List ℕ))) (tss : List (List (Level × Option FastSeen))) → length rows ≡ length tss
-    → fast_runs (shown_rows rows tss) ≡ runs_in tss
+    → fast_runs (shown_rows with_fast rows tss) ≡ runs_in tss
 runs_shown [] [] e = refl
 runs_shown [] (ts ∷ tss) e = absurd (omega arith)
 runs_shown (row ∷ rows) [] e = absurd (omega arith)
@@ -38,7 +39,7 @@ one_telling f most asks k [] s = refl
 one_telling f most asks k (x ∷ rest) s = ap suc (one_telling f most asks (suc k) rest _)
 
 pub runs_are : (f : Form (List ℕ) Level (Option FastSeen)) (most : ℕ) (asks : ℕ → List Level) (k : ℕ) (samples : List (List ℕ)) (s : State)
-    → (let all = rows_from f most asks k samples s in fast_runs (shown_rows all.rows all.told) ≡ runs_in all.told)
+    → (let all = rows_from f most asks k samples s in fast_runs (shown_rows with_fast all.rows all.told) ≡ runs_in all.told)
 runs_are f most asks k samples s =
     let all = rows_from f most asks k samples s in
     runs_shown all.rows all.told (one_telling f most asks k samples s)
@@ -72,22 +73,6 @@ all_answers b two samples [] done told = (tt, told)
 all_answers b two samples (ts ∷ tss) done told =
     let r = all_answers b two samples tss (onto ts done) told in
     onto_answers b two samples ts done (runs_in tss) r.1 r.0
-
--- what holds of all that was told holds of each
-onto_all : {C : Type 0} (P : C → Type 0) (xs done : List C) → All P (onto xs done) → All P xs × All P done
-onto_all P [] done h = (λ k x lt. absurd (omega arith), h)
-onto_all P (x ∷ xs) done h =
-    let rest = onto_all P xs (x ∷ done) h in
-    let here = rest.1 in
-    (All-cons P x xs (here 0 x (omega arith)) rest.0, λ k y lt. here (suc k) y (omega arith))
-
-pub all_onto_all : {C : Type 0} (P : C → Type 0) (xss : List (List C)) (done : List C) → All P (all_onto xss done)
-    → All (All P) xss × All P done
-all_onto_all P [] done h = (λ k x lt. absurd (omega arith), h)
-all_onto_all P (xs ∷ xss) done h =
-    let rest = all_onto_all P xss (onto xs done) h in
-    let here = onto_all P xs done rest.1 in
-    (All-cons (All P) xs xss here.0 rest.0, here.1)
 
 -- their steps are within the bound
 abbrev Few : ℕ → List FastSeen → Type 0

@@ -20,14 +20,14 @@ use Rattle.fz_run.specs.Facts.{FactsBeside, FactsAlone}
 use Rattle.fz_run.specs.Following.{rows_of_samples}
 use Rattle.fz_run.specs.Given.{RequestsAreGood}
 use Rattle.fz_run.specs.Answering.{AnswerBlock, AnswersUnder, AnswersUnderPlans, RunsBeside, FirmwareRunsBeside, FirstAlike, FirstStatesAlike}
-use Rattle.fz_run.proofs.Algebra.{first_same}
+use Rattle.fz_run.proofs.Algebra.{first_same, all_onto_all}
 use Rattle.two_runs.specs.Runs.{FastSeen}
 use Rattle.two_runs.specs.Inside.{AreOnStack}
 use Rattle.two_runs.specs.Rows.{levels_of, level_form, first_two, two_rows}
 use Rattle.two_runs.specs.Answering.{plan_of, fast_runs_of, IsTold, AreTold, taken_by, AnswersUnderLevels}
 use Rattle.two_runs.specs.Levels.{Levels, fitted_form, FastStands}
 use Rattle.two_runs.proofs.Arriving.{first_stands}
-use Rattle.two_runs.proofs.FastRuns.{Answer, runs_in, runs_are, all_answers, all_onto_all, all_few}
+use Rattle.two_runs.proofs.FastRuns.{Answer, runs_in, runs_are, all_answers, all_few}
 use Rattle.two_runs.proofs.Fitting.{AreFitted, all_fitted, rows_fitted}
 use Rattle.two_runs.proofs.LevelPlans.{plan_good, levels_are_good}
 use Rattle.two_runs.proofs.LevelRows.{SlowFacts, complete, same_numbers, same_rows, same_taken, on_stack}

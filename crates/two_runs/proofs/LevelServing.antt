@@ -34,11 +34,12 @@ use Rattle.two_level.specs.Images.{fast_most, IsTwoOf}
 use Rattle.two_level.specs.Layouts.{is_fast_ram, is_open_to_fast}
 use Rattle.fz_run.specs.Facts.{AreNoneOrRunning, IsStackOfOneCall, FactsBeside}
 use Rattle.fz_run.specs.OpenBytes.{StepsLeaveOpen, GivenLeavesOpen}
+use Rattle.fz_run.specs.Rows.{bytes_of}
 use Rattle.two_runs.specs.Runs.{Outer, FastSeen, entered, fast_run, seen_of, served, told, served_by, told_by}
 use Rattle.two_runs.specs.Steps.{is_open_inside}
 use Rattle.two_runs.specs.Inside.{FastRunsFollow}
 use Rattle.two_runs.specs.Outer.{HasFastCode, CanEnter, IsQuietRun, OuterIsQuiet, IsServable, OuterIsServable, AreSlow, OuterServes}
-use Rattle.two_runs.specs.Rows.{bytes_of, sample_of, outer_of}
+use Rattle.two_runs.specs.Rows.{sample_of, outer_of}
 use Rattle.two_runs.specs.Answering.{IsTold}
 use Rattle.two_runs.specs.Levels.{outputs_after, FastStands}
 use Rattle.two_runs.proofs.Bytes.{BytesLaws, begins_fits, take_bytes}

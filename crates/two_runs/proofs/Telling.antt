@@ -17,10 +17,10 @@ use Rattle.codegen.specs.Uninterrupted.{IsAnswerOf}
 use Rattle.two_level.specs.declared.two.Two.{Two}
 use Rattle.two_level.specs.Images.{fast_most}
 use Rattle.two_level.specs.Layouts.{fast_layout}
+use Rattle.fz_run.specs.Rows.{bytes_of}
 use Rattle.two_runs.specs.Runs.{entered, fast_run, seen_of}
 use Rattle.two_runs.specs.Steps.{IsFastRun}
 use Rattle.two_runs.specs.Inside.{FollowsInside}
-use Rattle.two_runs.specs.Rows.{bytes_of}
 use Rattle.two_runs.specs.Answering.{IsReadOff, answer_of_fast}
 
 -- bytes one after the other

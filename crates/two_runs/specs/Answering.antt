@@ -15,12 +15,12 @@ use Rattle.codegen.specs.Firing.{AreInputBytes}
 use Rattle.codegen.specs.Uninterrupted.{Answer, AreAnswersOf}
 use Rattle.two_level.specs.declared.two.Two.{Two}
 use Rattle.two_level.specs.Images.{fast_most, IsTwoOf}
-use Rattle.fz_run.specs.Rows.{firmware_rows}
+use Rattle.fz_run.specs.Rows.{bytes_of, firmware_rows}
 use Rattle.fz_run.specs.Answering.{AnswerBlock}
 use Rattle.two_runs.specs.Runs.{entered, FastSeen}
 use Rattle.two_runs.specs.Steps.{IsFastRun}
 use Rattle.two_runs.specs.Inside.{AreOnStack}
-use Rattle.two_runs.specs.Rows.{bytes_of, levels_of, two_rows, TwoSeen, two_seen}
+use Rattle.two_runs.specs.Rows.{levels_of, two_rows, TwoSeen, two_seen}
 
 -- The slow run's plan without fast runs: requests at the levels' places that write nothing.
 abbrev pub request_of : Level → Request

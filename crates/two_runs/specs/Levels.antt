@@ -18,9 +18,10 @@ use Rattle.two_level.specs.Images.{fast_most}
 use Rattle.two_level.specs.Layouts.{fast_layout, is_open_to_fast}
 use Rattle.fz_run.specs.Forms.{given}
 use Rattle.fz_run.specs.Facts.{FactsBeside}
+use Rattle.fz_run.specs.Rows.{bytes_of}
 use Rattle.two_runs.specs.Runs.{FastSeen}
 use Rattle.two_runs.specs.Outer.{HasFastCode}
-use Rattle.two_runs.specs.Rows.{bytes_of, level_form}
+use Rattle.two_runs.specs.Rows.{level_form}
 use Rattle.two_runs.specs.Answering.{answer_of_fast, AreTold}
 
 -- eight bytes of a sample at the most

@@ -1,20 +1,13 @@
 -- The rows of a slow firmware over a list of samples, with fast runs inside its interrupts.
-use Rattle.std.specs.Prelude.{ℕ, zero, suc, ◌-◌, ◌==◌, Option, None, List, [], ◌∷◌, map, filter, slice_get, slice_index_or}
-use Rattle.run_law.specs.Forms.{Form, RowSeen, Rows, rows_from}
+use Rattle.std.specs.Prelude.{ℕ, zero, suc, Option, None, List, slice_get}
 use Rattle.cpu12_parts.specs.State.{State}
-use Rattle.codegen.specs.Interruptible.{is_idle}
+use Rattle.run_law.specs.Forms.{Form, RowSeen, Rows, rows_from}
 use Rattle.interrupt_plan.specs.declared.levels.Level.{Level}
 use Rattle.two_level.specs.declared.two.Two.{Two}
 use Rattle.two_level.specs.Images.{fast_most}
-use Rattle.fz_run.specs.Forms.{given, answers_in}
-use Rattle.fz_run.specs.Rows.{arrived_at}
+use Rattle.fz_run.specs.Forms.{FormParts, plan_form, stand_alone}
+use Rattle.fz_run.specs.Rows.{of_sample, arrived_at, shown}
 use Rattle.two_runs.specs.Runs.{Outer, FastSeen, served, told}
-
-abbrev pub bytes_of : List (List ℕ) → ℕ → List ℕ
-bytes_of samples k = slice_index_or samples (k - 1) []
-
-abbrev pub of_sample : {A : Type 0} → (A → ℕ × ℕ) → ℕ → List A → List A
-of_sample place k plan = filter (λ r. (let at = place r in at.0 == k)) plan
 
 -- the bytes of a fast sample, counted from 1, and none for 0
 abbrev pub sample_of : List (List ℕ) → ℕ → Option (List ℕ)
@@ -28,17 +21,15 @@ outer_of fast l = record { moment = l.moment; number = l.fast; sample = sample_o
 abbrev pub place_of_level : Level → ℕ × ℕ
 place_of_level l = (l.sample, l.moment)
 
+-- The parts of the form: the slow firmware as it stands alone, whose interrupts serve outer requests.
+abbrev pub level_parts : Two → List (List ℕ) → FormParts (List ℕ) Level (Option FastSeen)
+level_parts two fast =
+    stand_alone two.slow place_of_level
+    (λ flags l v. served flags two.fast.outputs (fast_most two.fast.step_bound) (outer_of fast l) v)
+    (λ flags l v. told flags two.fast.outputs (fast_most two.fast.step_bound) (outer_of fast l) v)
+
 abbrev pub level_form : ℕ → Two → List (List ℕ) → Form (List ℕ) Level (Option FastSeen)
-level_form flags two fast = record {
-  flags = flags;
-  give = given two.slow.layout;
-  leave = λ x s. s;
-  ends = λ m s. is_idle two.slow.layout s;
-  answers = answers_in two.slow;
-  moment = λ l. l.moment;
-  handle = λ l v. served flags two.fast.outputs (fast_most two.fast.step_bound) (outer_of fast l) v;
-  tells = λ l v. told flags two.fast.outputs (fast_most two.fast.step_bound) (outer_of fast l) v;
-}
+level_form flags two fast = plan_form flags (level_parts two fast)
 
 abbrev pub levels_of : ℕ → List Level → List Level
 levels_of k levels = of_sample place_of_level k levels
@@ -60,11 +51,5 @@ pub record TwoSeen : Type 0 where
 abbrev pub with_fast : RowSeen (List ℕ) → List (Option FastSeen) → TwoSeen
 with_fast row fast = record { row = row; fast = fast }
 
-abbrev pub shown_rows : List (RowSeen (List ℕ)) → List (List (Level × Option FastSeen)) → List TwoSeen
-shown_rows [] tss = []
-shown_rows (row ∷ rows) [] = []
-shown_rows (row ∷ rows) (ts ∷ tss) = with_fast row (map (λ t. t.1) ts) ∷ shown_rows rows tss
-
 abbrev pub two_seen : Two → List (List ℕ) → List (List ℕ) → List Level → ℕ → List TwoSeen
-two_seen two slow fast levels flags =
-    (let all = two_rows two slow fast levels flags in shown_rows all.rows all.told)
+two_seen two slow fast levels flags = shown with_fast (two_rows two slow fast levels flags)
