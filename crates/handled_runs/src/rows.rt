@@ -59,7 +59,13 @@ fn joint_rows(
         wait: firmware.layout.wait,
         most: firmware.step_bound,
     };
-    let (rows, _memory): (Vec<HandledRow>, PageMem) = run_form(alloc, &form, &start, plan.as_slice(), flags)?;
+    let (rows, _memory): (Vec<HandledRow>, PageMem) = run_form(
+        alloc,
+        &form,
+        &start,
+        plan.as_slice(),
+        flags,
+    )?;
     Ok(rows)
 }
 

@@ -72,7 +72,7 @@ unfolding takes
 same_takes f give m [] s = refl
 same_takes {S} {A} {B} f give m (q ∷ qs) s =
     ap (λ (t : Taking A B). if may_interrupt s && nat_le (f.moment q) m then put_take (m, frame_of s) (told f q s) t
-        else record { state = s; frames = []; told = []; left = q ∷ qs }) (same_takes f give m qs (taken f q s))
+    else record { state = s; frames = []; told = []; left = q ∷ qs }) (same_takes f give m qs (taken f q s))
 
 same_run : {S A B : Type 0} (f : Form S A B) (give : S → State → State) (n m : ℕ) (inside : Bool) (qs : List A) (s : State)
     → run_from (with_give f give) n m inside qs s ≡ run_from f n m inside qs s
@@ -80,9 +80,9 @@ unfolding run_from
 same_run f give zero m inside qs s = refl
 same_run {S} {A} {B} f give (suc n) m inside qs s =
     ap (λ (b : Taking A B). if f.ends m s then ended true qs s else then_rest inside b
-        (λ i t. run_from (with_give f give) n (suc m) i b.left t) (next_of f.flags b.state)) (same_takes f give m qs s)
+    (λ i t. run_from (with_give f give) n (suc m) i b.left t) (next_of f.flags b.state)) (same_takes f give m qs s)
     ∙ ap (λ (rest : Bool → State → Ran A B). if f.ends m s then ended true qs s
-        else then_rest inside (takes f m qs s) rest (next_of f.flags (takes f m qs s).state))
+    else then_rest inside (takes f m qs s) rest (next_of f.flags (takes f m qs s).state))
     (λ k. λ i. λ t. same_run f give n (suc m) i (takes f m qs s).left t k)
 
 -- So the rows over such samples are the form's.
@@ -95,7 +95,7 @@ rows_fitted {A} {B} f most asks k (x ∷ rest) s h =
     let g = with_give f (λ x. f.give (fitted x)) in
     let r = run_from f most 0 false (asks k) (f.give x s) in
     ap (λ (y : List ℕ). let q = run_from g most 0 false (asks k) (f.give y s) in
-        put_row (row_of g x q) q (rows_from g most asks (suc k) rest (f.leave x q.state))) h.0
+    put_row (row_of g x q) q (rows_from g most asks (suc k) rest (f.leave x q.state))) h.0
     ∙ ap (λ (q : Ran A B). put_row (row_of f x q) q (rows_from g most asks (suc k) rest (f.leave x q.state)))
     (same_run f (λ x. f.give (fitted x)) most 0 false (asks k) (f.give x s))
     ∙ ap (λ (rows : Rows (List ℕ) A B). put_row (row_of f x r) r rows) (rows_fitted f most asks (suc k) rest (f.leave x r.state) h.1)

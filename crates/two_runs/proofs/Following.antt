@@ -42,8 +42,7 @@ sound laws image flags outputs sp hf few agree quiet = record {
   answers = λ w s l. outputs_same outputs fast_layout.outputs s.regs.sp w.mem s.mem (omega arith) l.mem;
   ends = λ m w s l. ap (λ (r : Regs). nat_lt sp r.sp) l.regs;
   quiet = λ done a v s good p may begins own.
-      (let shown = p.shown in
-      (
+      (let shown = p.shown in (
         quiet is_open_inside [] v s apart tt shown.room begins,
         take_bytes laws.bytes_stay v (begins_fits is_open_inside v s shown.room begins) own,
       ));

@@ -116,7 +116,7 @@ answers_under_levels laws two flags slow_samples samples levels hf good slow fas
         (λ k. levels_of k levels) 1 runs.ns slow_samples first all
     followed =
         subst (AllFollow is_open_to_fast (fitted_form flags two samples) (FastStands fast two flags samples) []
-            (λ k. levels_of k levels) 1 runs.ns slow_samples first)
+        (λ k. levels_of k levels) 1 runs.ns slow_samples first)
         (rows_fitted (level_form flags two samples) two.slow.step_bound (λ k. levels_of k levels) 1 slow_samples (first_two two flags) fitted_all)
         (laws.runs_follow setting (λ k. levels_of k levels) (levels_are_good laws.requests_are_good (length samples) levels good) [] 1
         two.slow.step_bound runs.ns slow_samples (first_two two flags) first runs.within

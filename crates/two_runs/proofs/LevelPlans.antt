@@ -114,7 +114,7 @@ frames_each : {A B : Type 0} (flags : ℕ) (moment : B → ℕ) (g : A → B) (s
 frames_each flags moment g s before [] = refl
 frames_each flags moment g s before (x ∷ xs) =
     ap (λ (fs : List (ℕ × FrameSeen)).
-        (moment (g x), expected_frame (is_new before (moment (g x))) (uninterrupted flags (moment (g x)) s)) ∷ fs)
+    (moment (g x), expected_frame (is_new before (moment (g x))) (uninterrupted flags (moment (g x)) s)) ∷ fs)
     (frames_each flags moment g s (Some (moment (g x))) xs)
 
 pub frames_of_each : {A B : Type 0} (flags : ℕ) (moment : B → ℕ) (g : A → B) (s : State) (xs : List A) (n : ℕ)

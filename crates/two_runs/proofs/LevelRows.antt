@@ -158,7 +158,7 @@ same_taken flags two fast levels k (n ∷ ns) (x ∷ rest) s few h =
     let holds = (let one = h.0 in one.holds) in
     let ls = levels_of k levels in
     ap (λ (v : State). taken_before (taken_at flags (λ (l : Level). l.moment) n v) n ls
-        ∷ expected_taken form (λ j. levels_of j levels) (suc k) ns rest (uninterrupted flags n v))
+    ∷ expected_taken form (λ j. levels_of j levels) (suc k) ns rest (uninterrupted flags n v))
     (given_is two x s few.0)
     ∙ ap₂ (λ (ts : List Level) (tss : List (List Level)). ts ∷ tss)
     (ap (λ (moment : Level → ℕ). taken_before moment n ls) (moments_are flags two n u holds))

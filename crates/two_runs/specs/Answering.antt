@@ -1,5 +1,6 @@
 -- What runs at two levels answer.
-use Rattle.std.specs.Prelude.{◌≡◌, ℕ, zero, suc, ◌^◌, ◌<◌, ◌≤◌, max, true, Option, None, Some, List, [], ◌∷◌, length, map, All, filter_map, flat_map}
+use Rattle.std.specs.Prelude.{◌≡◌, ℕ, suc, ◌^◌, ◌<◌, ◌≤◌, max, true, Option, None, Some}
+use Rattle.std.specs.Prelude.{List, [], ◌∷◌, length, map, All, filter_map, flat_map}
 use Rattle.fuzzy_meaning.specs.declared.block.Block.{Block}
 use Rattle.fuzzy_meaning.specs.Blocks.{IsValid}
 use Rattle.rule_layout.specs.Layouts.{IsWithinLimits}
@@ -75,10 +76,11 @@ taken_by k levels [] = []
 taken_by k levels (n ∷ ns) = taken_before (λ l. l.moment) n (levels_of k levels) ∷ taken_by (suc k) levels ns
 
 -- A run at two levels. It comes to the end of each slow sample, without a trap. Its slow rows are those of the slow
--- firmware alone under a plan at the same places that writes nothing: so are their answers, which are the slow block's,
--- counts and frames. The levels that are taken are those before the end of their sample. Each fast run answers its sample as the fast block
--- over bytes, after the fast run before it, by at most so many instructions and steps, and what is told of it is read
--- off its run without inner requests. No frame of either level stands below the stack's start.
+-- firmware alone under a plan at the same places that writes nothing: so are their answers, which are the slow
+-- block's, counts and frames. The levels that are taken are those before the end of their sample. Each fast run answers
+-- its sample as the fast block over bytes, after the fast run before it, by at most so many instructions and steps, and
+-- what is told of it is read off its run without inner requests. No frame of either level stands below the stack's
+-- start.
 pub record AnswersAtTwoLevels (slow fast : Block) (two : Two) (flags : ℕ) (slow_samples fast_samples : List (List ℕ))
     (levels : List Level) : Type 0 where
   pub arrived : (two_rows two slow_samples fast_samples levels flags).arrived ≡ true

@@ -8,8 +8,8 @@ ghost use Rattle.two_runs.specs.Outer.{OuterEnters, OuterIsServable, OuterIsQuie
 use crate::inside::InsideForm;
 use crate::levels::LevelForm;
 use cpu12_emul::laws::{
-    holds_image, plain_is_step, rev_is_step, revw_is_step, step_fits, step_keeps, sums_are_step, takes_quietly,
-    wav_is_step,
+    holds_image, plain_is_step, rev_is_step, revw_is_step, step_fits, step_keeps, sums_are_step,
+    takes_quietly, wav_is_step,
 };
 use cpu12_isa::laws::{bytes_stay, decoded_has_opcode, frame_comes_back, writes_stay};
 use cpu12_parts::laws::{

@@ -56,6 +56,12 @@ pub fn run_upsets(
         wait: firmware.layout.wait,
         most: firmware.step_bound,
     };
-    let (rows, _memory): (Vec<WatchedRow>, PageMem) = run_form(alloc, &form, &start, plan.as_slice(), flags)?;
+    let (rows, _memory): (Vec<WatchedRow>, PageMem) = run_form(
+        alloc,
+        &form,
+        &start,
+        plan.as_slice(),
+        flags,
+    )?;
     Ok(rows)
 }
