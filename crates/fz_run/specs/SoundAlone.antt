@@ -48,7 +48,8 @@ below a b c l m = omega arith
 pub low_ports : (open_to : ℕ → Bool) → OpensFree open_to → (f : Firmware) → IsLow f → LeavesPorts open_to f
 low_ports open_to opens f low = record {
   ready = opens.low f.layout.ready low.ready;
-  outputs = λ at from to. opens.low at (below at (f.layout.outputs + answer_size f.wide * f.outputs) free_start to low.outputs);
+  outputs = λ at from to.
+      opens.low at (below at (f.layout.outputs + answer_size f.wide * f.outputs) free_start to low.outputs);
 }
 
 pub all_open : (open_to : ℕ → Bool) → OpensFree open_to → (ws : List Write) → All (λ (w : Write). is_free w.at ≡ true) ws → AreOpen open_to ws
