@@ -1,9 +1,12 @@
 -- What holds before each step of a run without interrupts, its steps one after another, where SP stands, when requests
--- are taken where I is 0 throughout, where a run begins beside open bytes, and what holds of all that was told.
-use Rattle.std.proofs.Common.{◌≡◌, ℕ, zero, suc, ◌-◌, ◌+◌, ◌≤◌, ◌⊎◌, inl, inr, true, Bool, nat_le, nat_lt, List, [], ◌∷◌, refl, ap, ◌∙◌, subst, arith}
+-- are taken where I is 0 throughout, where a run begins beside open bytes, what holds of all that was told, and where
+-- placed bytes stand.
+use Rattle.std.proofs.Common.{◌≡◌, ℕ, zero, suc, ◌-◌, ◌+◌, ◌<◌, ◌≤◌, ◌⊎◌, inl, inr, true, Bool, nat_le, nat_lt, List, [], ◌∷◌, length, refl, ap, ◌∙◌, subst, arith}
 use Rattle.std.specs.Prelude.{◌&&◌, All}
 use Rattle.std.proofs.lemmas.Bool.{or_parts}
 use Rattle.std.proofs.lemmas.List.Elements.{All-cons}
+use Rattle.cpu12_isa.specs.Agreement.{IsWritten}
+use Rattle.cpu12_isa.specs.Memory.{plus, placed}
 use Rattle.cpu12_parts.specs.State.{State}
 use Rattle.cpu12_emul.specs.Simulation.{Same}
 use Rattle.cpu12_emul.specs.Take.{may_interrupt}
@@ -90,3 +93,14 @@ all_onto_all P (xs ∷ xss) done h =
     let rest = all_onto_all P xss (onto xs done) h in
     let here = onto_all P xs done rest.1 in
     (All-cons (All P) xs xss here.0 rest.0, here.1)
+
+-- where placed bytes stand
+pub placed_in : (vs : List ℕ) (p at : ℕ) → p + length vs ≤ 0x10000 → IsWritten (placed p vs) at
+    → (p ≤ at) × (at < p + length vs)
+placed_in [] p at l w = absurd w
+placed_in (v ∷ vs) p at l (inl e) = (omega arith, omega arith)
+placed_in (v ∷ []) p at l (inr w) = absurd w
+placed_in (v ∷ (u ∷ vs)) p at l (inr w) =
+    let next : plus p 1 + length (u ∷ vs) ≤ 0x10000 = omega arith in
+    let r = placed_in (u ∷ vs) (plus p 1) at next w in
+    (omega (arith, r.0), omega (arith, r.1))

@@ -20,6 +20,7 @@ use Rattle.run_law.specs.Uninterrupted.{stepped, state_by}
 use Rattle.codegen.specs.declared.layout.Layout.{Layout}
 use Rattle.fz_run.specs.Facts.{Facts, IsStackOfOneCall}
 use Rattle.fz_run.specs.OpenBytes.{AreOpenAlike, StepsLeaveOpen, GivenLeavesOpen}
+use Rattle.fz_run.proofs.Algebra.{placed_in}
 
 -- the laws of lower crates
 pub record OpenLaws : Type 0 where
@@ -36,16 +37,6 @@ both b t f = cc
 kept : WritesStay → (open_to : ℕ → Bool) (ws : List (ℕ × ℕ)) (m : List ℕ)
     → ((at : ℕ) → IsWritten ws at → open_to at ≡ true → ⊥) → AreOpenAlike open_to m (write_all ws m)
 kept stay open_to ws m apart at is = (stay ws m).1 at (λ w. apart at w is)
-
-placed_in : (vs : List ℕ) (p at : ℕ) → p + length vs ≤ 0x10000 → IsWritten (placed p vs) at
-    → (p ≤ at) × (at < p + length vs)
-placed_in [] p at l w = absurd w
-placed_in (v ∷ vs) p at l (inl e) = (omega arith, omega arith)
-placed_in (v ∷ []) p at l (inr w) = absurd w
-placed_in (v ∷ (u ∷ vs)) p at l (inr w) =
-    let next : plus p 1 + length (u ∷ vs) ≤ 0x10000 = omega arith in
-    let r = placed_in (u ∷ vs) (plus p 1) at next w in
-    (omega (arith, r.0), omega (arith, r.1))
 
 written_in : (a b : List (ℕ × ℕ)) (at : ℕ) → IsWritten (a ++ b) at → IsWritten a at ⊎ IsWritten b at
 written_in [] b at w = inr w

@@ -91,21 +91,14 @@ room_of : (x : Given) (done : List (Level × Option FastSeen)) (v s : State) →
 room_of x done v s h = let p = h.facts in let facts = p.facts in let shown = facts.shown in shown.room
 
 -- SP leaves room for a frame inside a frame
-sp_low : (r : Regs) (t : Temps) → IsStackOfOneCall r.sp → 0x1FF8 ≤ (below_sums r t).sp
-sp_low r Free (inl e) = omega arith
-sp_low r Free (inr e) = omega arith
-sp_low r OnStack (inl e) = omega arith
-sp_low r OnStack (inr e) = omega arith
-sp_low r (Running p w) (inl e) = omega arith
-sp_low r (Running p w) (inr e) = omega arith
-
-sp_high : (r : Regs) (t : Temps) → IsStackOfOneCall r.sp → (below_sums r t).sp ≤ 0x2000
-sp_high r Free (inl e) = omega arith
-sp_high r Free (inr e) = omega arith
-sp_high r OnStack (inl e) = omega arith
-sp_high r OnStack (inr e) = omega arith
-sp_high r (Running p w) (inl e) = omega arith
-sp_high r (Running p w) (inr e) = omega arith
+sp_within : (r : Regs) (t : Temps) → IsStackOfOneCall r.sp
+    → (0x1FF8 ≤ (below_sums r t).sp) × ((below_sums r t).sp ≤ 0x2000)
+sp_within r Free (inl e) = (omega arith, omega arith)
+sp_within r Free (inr e) = (omega arith, omega arith)
+sp_within r OnStack (inl e) = (omega arith, omega arith)
+sp_within r OnStack (inr e) = (omega arith, omega arith)
+sp_within r (Running p w) (inl e) = (omega arith, omega arith)
+sp_within r (Running p w) (inr e) = (omega arith, omega arith)
 
 can_enter : (x : Given) (done : List (Level × Option FastSeen)) (v s : State) → Serves x done v s
     → CanEnter x.fast (image_memory x.two.image.bytes) (outputs_after x.fast x.samples done) v
@@ -113,14 +106,14 @@ can_enter x done v s h =
     let begins = h.begins in
     let own = h.stands in
     let room = room_of x done v s h in
-    let stack = (let p = h.facts in p.stack) in
+    let sp = (let p = h.facts in sp_within s.regs s.temps p.stack) in
     record {
       off = begins.temps;
       size = begins.mem.size ∙ room.size;
       bytes = own.bytes;
       fits = begins_fits is_open_to_fast v s room begins;
-      low = subst (λ (r : Regs). 0x1FF8 ≤ r.sp) (sym begins.regs) (sp_low s.regs s.temps stack);
-      high = subst (λ (r : Regs). r.sp ≤ 0x2000) (sym begins.regs) (sp_high s.regs s.temps stack);
+      low = subst (λ (r : Regs). 0x1FF8 ≤ r.sp) (sym begins.regs) sp.0;
+      high = subst (λ (r : Regs). r.sp ≤ 0x2000) (sym begins.regs) sp.1;
       code = own.code;
       outputs = own.outputs;
     }
