@@ -13,11 +13,11 @@ use Rattle.run_law.specs.Uninterrupted.{stepped, uninterrupted, first_open, take
 use Rattle.run_law.specs.Soundness.{Before, Sound, WritesAreQuiet, AllGood, Ascend}
 use Rattle.run_law.specs.Following.{RunFollows, Completes, Follows}
 use Rattle.two_level.specs.Layouts.{fast_layout}
+use Rattle.fz_run.proofs.Algebra.{before_weaker, before_at}
 use Rattle.two_runs.specs.Runs.{fast_form, fast_run}
 use Rattle.two_runs.specs.Steps.{is_open_inside, IsFastState, IsOpenState}
 use Rattle.two_runs.specs.Inside.{AnyMoment, HoldsBytes, Inside, FollowsInside, FastRunsFollow, AreOnStack}
 use Rattle.two_runs.proofs.Frames.{HasFrameRoom, frames_fit}
-use Rattle.two_runs.proofs.Stretches.{before_weaker, before_at}
 use Rattle.two_runs.proofs.Bytes.{BytesLaws, step_bytes, push_bytes, begins_fits, take_bytes}
 
 -- the outputs are shown
