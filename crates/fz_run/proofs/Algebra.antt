@@ -1,7 +1,7 @@
 -- What holds before each step of a run without interrupts, its steps one after another, where SP stands, when requests
--- are taken where I is 0 throughout, where a run begins beside open bytes, what holds of all that was told, and where
--- placed bytes stand.
-use Rattle.std.proofs.Common.{◌≡◌, ℕ, zero, suc, ◌-◌, ◌+◌, ◌<◌, ◌≤◌, ◌⊎◌, inl, inr, true, Bool, nat_le, nat_lt, List, [], ◌∷◌, length, refl, ap, ◌∙◌, subst, arith}
+-- are taken where I is 0 throughout, where a run begins beside open bytes, what holds of all that was told, where placed
+-- bytes stand, and parts of what is shown.
+use Rattle.std.proofs.Common.{◌≡◌, ℕ, zero, suc, ◌-◌, ◌+◌, ◌<◌, ◌≤◌, ◌⊎◌, inl, inr, true, Bool, nat_le, nat_lt, List, [], ◌∷◌, map, length, refl, ap, ◌∙◌, subst, arith}
 use Rattle.std.specs.Prelude.{◌&&◌, All}
 use Rattle.std.proofs.lemmas.Bool.{or_parts}
 use Rattle.std.proofs.lemmas.List.Elements.{All-cons}
@@ -11,12 +11,13 @@ use Rattle.cpu12_parts.specs.State.{State}
 use Rattle.cpu12_emul.specs.Simulation.{Same}
 use Rattle.cpu12_emul.specs.Take.{may_interrupt}
 use Rattle.codegen.specs.declared.firmware.Firmware.{Firmware}
+use Rattle.run_law.specs.Forms.{RowSeen}
 use Rattle.run_law.specs.Uninterrupted.{stepped, uninterrupted, counted, first_open, taken_at}
 use Rattle.run_law.specs.Following.{onto, all_onto}
 use Rattle.run_law.specs.Soundness.{Before}
 use Rattle.fz_run.specs.Answering.{FirstAlike}
 use Rattle.fz_run.specs.Facts.{IsStackOfOneCall}
-use Rattle.fz_run.specs.Rows.{first_state}
+use Rattle.fz_run.specs.Rows.{first_state, shown_rows, tellings}
 
 pub before_at : (P : State → Type 0) (flags n m : ℕ) (s : State) → Before P flags n s → suc m ≤ n
     → P (uninterrupted flags m s)
@@ -104,3 +105,11 @@ placed_in (v ∷ (u ∷ vs)) p at l (inr w) =
     let next : plus p 1 + length (u ∷ vs) ≤ 0x10000 = omega arith in
     let r = placed_in (u ∷ vs) (plus p 1) at next w in
     (omega (arith, r.0), omega (arith, r.1))
+
+-- a part of what is shown of each row
+pub map-shown_rows : {S A B T C : Type 0} (part : T → C) (shows : RowSeen S → List B → T) (rows : List (RowSeen S)) (tss : List (List (A × B)))
+    → map part (shown_rows shows rows tss) ≡ shown_rows (λ row told. part (shows row told)) rows tss
+map-shown_rows part shows [] tss = refl
+map-shown_rows part shows (row ∷ rows) [] = refl
+map-shown_rows {C = C} part shows (row ∷ rows) (ts ∷ tss) =
+    ap (λ (cs : List C). part (shows row (tellings ts)) ∷ cs) (map-shown_rows part shows rows tss)

@@ -1,5 +1,5 @@
 -- What is ahead of a run, by its next position.
-use Rattle.std.proofs.Common.{◌≡◌, ◌≤◌, ◌<◌, ℕ, zero, suc, ◌+◌, ◌-◌, ◌*◌, Bool, true, false, Result, Ok, Err, List, [], ◌∷◌, ◌++◌, length, drop, refl, ap, ap₂, sym, ◌∙◌, subst, vec_len, vec_capacity, arith, append_assoc, append-nil}
+use Rattle.std.proofs.Common.{◌≡◌, ◌≤◌, ◌<◌, ℕ, zero, suc, ◌+◌, ◌-◌, ◌*◌, Bool, true, false, Result, Ok, Err, List, [], ◌∷◌, ◌++◌, length, take, drop, refl, ap, ap₂, sym, ◌∙◌, subst, vec_len, vec_capacity, arith, append_assoc, append-nil}
 use Rattle.std.specs.Prelude.{if◌then◌else◌, Option, Some, slice_get, map}
 use Rattle.cpu12_parts.specs.State.{State}
 use Rattle.cpu12_emul.specs.declared.ends.Frame.{Frame}
@@ -11,10 +11,11 @@ use Rattle.fz_run.specs.declared.sample.Room.{Room}
 use Rattle.fz_run.specs.Forms.{plan_form, Harness}
 use Rattle.fz_run.specs.Rest.{Brief, brief, after, rest_at, counted_at, shown_by}
 use Rattle.fz_run.specs.Rows.{frames_seen, tellings, shown}
-use Rattle.fz_run.specs.Slices.{Follow, requests_first, HasRoom}
+use Rattle.fz_run.specs.Slices.{Follow, requests_first, HasRoom, HaveRoom}
 use Rattle.fz_run.specs.Positions.{Position, numbered, all_numbered, positions_or, positions}
-use Rattle.fz_run.specs.Sessions.{Coming, before_takes, after_takes, after_state, at_end, by_step, HasRoomLeft, IsSteady}
+use Rattle.fz_run.specs.Sessions.{Coming, before_takes, after_takes, after_state, at_end, by_step, IsSteady}
 use Rattle.fz_run.specs.Outlooks.{Ahead, Outlook, from_here, at_position, shown_run, ahead, sample_at, with_row, left_by, outlook}
+use Rattle.fz_run.proofs.PlanSlices.{room_first, slice_first, count_there, few_there}
 use Rattle.fz_run.proofs.Onward.{from_nothing}
 use Rattle.fz_run.proofs.RowSteps.{rows_under, one_row, no_row}
 
@@ -148,7 +149,13 @@ pub sample_before : {S : Type 0} (n : ℕ) (samples : List S) → 0 < n → samp
 sample_before zero samples h = absurd (omega (arith, h))
 sample_before (suc n) samples h = let e : n ≡ suc n - 1 = omega arith in ap (λ (k : ℕ). slice_get samples k) e
 
--- there is room for what a sample's requests push and tell, before its first boundary
+-- there is room for what so many more requests push and tell, and these are few
+pub record HasRoomLeft {U : Type 0} (left : ℕ) (t : Tally U) : Type 0 where
+  pub frames : vec_len t.frames + left ≤ vec_capacity t.frames
+  pub told : vec_len t.told + left ≤ vec_capacity t.told
+  pub few : vec_len t.told + left ≤ 10000
+
+-- so it is before a sample's first boundary
 pub given_room : {A U : Type 0} (qs first : List A) (room : Room U) (t : Tally U) → t ≡ fresh room → HasRoom first room → qs ≡ first → length qs ≤ 10000
     → HasRoomLeft (length qs - t.next) t
 given_room {U = U} qs first room t et h eq few =
@@ -164,6 +171,18 @@ given_room {U = U} qs first room t et h eq few =
       told = omega (arith, told.0, none_told, wide_told, same);
       few = omega (arith, told.0, none_told, few);
     })
+
+-- the room of the next sample, of which there are n requests
+pub next_room : {A U : Type 0} (place : A → ℕ × ℕ) (plan : List A) (k behind n left : ℕ) (room : Room U) (rooms all : List (Room U)) (t : Tally U)
+    → n ≡ length (requests_first place k (take (length plan - behind) (drop behind plan))) → all ≡ room ∷ rooms
+    → HaveRoom place k left (drop behind plan) all → 0 < left → t ≡ fresh room → length plan ≤ 10000
+    → HasRoomLeft (length (take (behind + n - behind) (drop behind plan)) - t.next) t
+next_room {A = A} {U = U} place plan k behind n left room rooms all t count items have more et few =
+    let rest : List A = drop behind plan in
+    let here : n ≡ length (requests_first place k rest) = count_there place k behind n plan count in
+    let first = room_first place k left rest room rooms more (subst (λ (l : List (Room U)). HaveRoom place k left rest l) items have) in
+    given_room (take (behind + n - behind) rest) (requests_first place k rest) room t et first.0 (slice_first place k behind n rest here)
+    (few_there plan behind (behind + n - behind) few)
 
 -- the first position of a run, behind the one before its samples
 pub first_goes : {S A B T : Type 0} (shows : RowSeen S → List B → T) (first : State) (o n : Outlook T) (p q : Position) (all : Rows S A B)
@@ -195,8 +214,11 @@ steady_before {A = A} {U = U} room st et ef eu =
     let instrs : t.instrs ≡ 0 = ap (λ (u : Tally U). u.instrs) et in
     let resumed : t.resumed ≡ 0 = ap (λ (u : Tally U). u.resumed) et in
     let none : List A = [] in
+    let left = given_room none none room t et (record { no_frames = ef; none_told = eu; frames = omega arith; told = omega arith }) refl (omega arith) in
     record {
-      room = given_room none none room t et (record { no_frames = ef; none_told = eu; frames = omega arith; told = omega arith }) refl (omega arith);
+      room = left.frames;
+      told = left.told;
+      few = left.few;
       instrs = omega (arith, moment, instrs);
       resumed = omega (arith, moment, resumed);
       on = λ e. absurd (let no : true ≡ false = e in cc);

@@ -47,39 +47,23 @@ one_row {S = S} {A = A} {B = B} g place most plan k x rest s r h e =
     with_ran : Ran A B → Rows S A B
     with_ran t = put_row (row_of g x t) t (rows_under g place most plan (suc k) rest (g.leave x t.state))
 
--- rows that do not show what was told are the rows
-pub shown_plain : {S A B : Type 0} (g : Form S A B) (place : A → ℕ × ℕ) (most : ℕ) (plan : List A) (k : ℕ) (samples : List S) (s : State)
-    → shown (λ (row : RowSeen S) (told : List B). row) (rows_under g place most plan k samples s) ≡ (rows_under g place most plan k samples s).rows
+-- each row shown alone, and what was told alone
+shown_rows_are : {S A B : Type 0} (g : Form S A B) (most : ℕ) (asks : ℕ → List A) (k : ℕ) (samples : List S) (s : State)
+    → shown (λ (row : RowSeen S) (told : List B). row) (rows_from g most asks k samples s) ≡ (rows_from g most asks k samples s).rows
 unfolding rows_from
-shown_plain g place most plan k [] s = refl
-shown_plain {S = S} {A = A} {B = B} g place most plan k (x ∷ rest) s =
-    let r : Ran A B = run_from g most 0 false (of_sample place k plan) (g.give x s) in
-    ap (λ (rows : List (RowSeen S)). row_of g x r ∷ rows) (shown_plain g place most plan (suc k) rest (g.leave x r.state))
+shown_rows_are g most asks k [] s = refl
+shown_rows_are {S = S} {A = A} {B = B} g most asks k (x ∷ rest) s =
+    let r : Ran A B = run_from g most 0 false (asks k) (g.give x s) in
+    ap (λ (rows : List (RowSeen S)). row_of g x r ∷ rows) (shown_rows_are g most asks (suc k) rest (g.leave x r.state))
 
--- what is shown has the rows, and what was told
-shown_rows_are : {S A B T : Type 0} (g : Form S A B) (place : A → ℕ × ℕ) (shows : RowSeen S → List B → T) (row_in : T → RowSeen S)
-    → ((row : RowSeen S) (told : List B) → row_in (shows row told) ≡ row) → (most : ℕ) (plan : List A) (k : ℕ) (samples : List S) (s : State)
-    → map row_in (shown shows (rows_under g place most plan k samples s)) ≡ (rows_under g place most plan k samples s).rows
+shown_told_are : {S A B : Type 0} (g : Form S A B) (most : ℕ) (asks : ℕ → List A) (k : ℕ) (samples : List S) (s : State)
+    → shown (λ (row : RowSeen S) (told : List B). told) (rows_from g most asks k samples s) ≡ map tellings (rows_from g most asks k samples s).told
 unfolding rows_from
-shown_rows_are g place shows row_in h most plan k [] s = refl
-shown_rows_are {S = S} {A = A} {B = B} g place shows row_in h most plan k (x ∷ rest) s =
-    let r : Ran A B = run_from g most 0 false (of_sample place k plan) (g.give x s) in
-    ap₂ (λ (row : RowSeen S) (rows : List (RowSeen S)). row ∷ rows) (h (row_of g x r) (tellings r.told))
-    (shown_rows_are g place shows row_in h most plan (suc k) rest (g.leave x r.state))
+shown_told_are g most asks k [] s = refl
+shown_told_are {A = A} {B = B} g most asks k (x ∷ rest) s =
+    let r : Ran A B = run_from g most 0 false (asks k) (g.give x s) in
+    ap (λ (told : List (List B)). tellings r.told ∷ told) (shown_told_are g most asks (suc k) rest (g.leave x r.state))
 
-shown_told_are : {S A B T C : Type 0} (g : Form S A B) (place : A → ℕ × ℕ) (shows : RowSeen S → List B → T) (told_in : T → C) (kept : List B → C)
-    → ((row : RowSeen S) (told : List B) → told_in (shows row told) ≡ kept told) → (most : ℕ) (plan : List A) (k : ℕ) (samples : List S) (s : State)
-    → map told_in (shown shows (rows_under g place most plan k samples s))
-    ≡ map (λ (ts : List (A × B)). kept (tellings ts)) (rows_under g place most plan k samples s).told
-unfolding rows_from
-shown_told_are g place shows told_in kept h most plan k [] s = refl
-shown_told_are {A = A} {B = B} {C = C} g place shows told_in kept h most plan k (x ∷ rest) s =
-    let r : Ran A B = run_from g most 0 false (of_sample place k plan) (g.give x s) in
-    ap₂ (λ (c : C) (cs : List C). c ∷ cs) (h (row_of g x r) (tellings r.told))
-    (shown_told_are g place shows told_in kept h most plan (suc k) rest (g.leave x r.state))
-
-pub rows_are_shown : {A U R S B T : Type 0} → RowsAreShown A U R S B T
-rows_are_shown C h flags most plan s row_in told_in kept b = record {
-  rows = shown_rows_are (plan_form flags h.parts) h.parts.place h.shows row_in b.row most plan 1 h.samples s;
-  told = shown_told_are (plan_form flags h.parts) h.parts.place h.shows told_in kept b.told most plan 1 h.samples s;
-}
+pub rows_are_shown : {S A B : Type 0} → RowsAreShown S A B
+rows_are_shown g most asks k samples s =
+    record { rows = shown_rows_are g most asks k samples s; told = shown_told_are g most asks k samples s }

@@ -47,16 +47,12 @@ abbrev pub after_takes : {A U R S B T : Type 0} → ℕ → Harness A U R S B T 
 after_takes flags h qs st s =
     if st.over then at_end h.told st.tally s else by_step flags h qs st s (next_of flags s)
 
--- There is room for what the requests that are left push and tell, and with these no more was told than a plan has
--- requests.
-pub record HasRoomLeft {U : Type 0} (left : ℕ) (t : Tally U) : Type 0 where
-  pub frames : vec_len t.frames + left ≤ vec_capacity t.frames
-  pub told : vec_len t.told + left ≤ vec_capacity t.told
-  pub few : vec_len t.told + left ≤ 10000
-
--- A stand that may go on: there is room for the requests that are left, and no count is too large.
+-- A stand that may go on: there is room for what the requests that are left push and tell, with these no more is told
+-- than a plan has requests, and no count is too large.
 pub record IsSteady {A U : Type 0} (requests : List A) (st : Stand U) : Type 0 where
-  pub room : HasRoomLeft (length requests - st.tally.next) st.tally
+  pub room : vec_len st.tally.frames + (length requests - st.tally.next) ≤ vec_capacity st.tally.frames
+  pub told : vec_len st.tally.told + (length requests - st.tally.next) ≤ vec_capacity st.tally.told
+  pub few : vec_len st.tally.told + (length requests - st.tally.next) ≤ 10000
   pub instrs : st.tally.instrs ≤ st.tally.moment
   pub resumed : st.tally.resumed ≤ st.tally.moment + 1
   pub on : st.over ≡ false → (st.tally.arrived ≡ false) × (st.tally.moment + st.left + 1 < 2 ^ 32)

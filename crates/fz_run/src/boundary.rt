@@ -1,11 +1,11 @@
 // A boundary of a sample: what is taken there, and the step after it. What is done at each is inlined into the loop
 // over all of them, what is seldom done is not.
-ghost use Rattle.std.specs.Prelude.{ℕ, ◌≡◌, ◌≤◌, ◌<◌, ◌+◌, ◌-◌, ◌^◌, true, false, Ok, Err, length};
+ghost use Rattle.std.specs.Prelude.{ℕ, ◌≡◌, ◌≤◌, ◌<◌, ◌+◌, ◌-◌};
+ghost use Rattle.std.specs.Prelude.{◌^◌, true, false, Ok, Err, length, vec_len, vec_capacity};
 ghost use Rattle.cpu12_emul.specs.declared.ends.Stepped.{Stepped as Kind};
 ghost use Rattle.cpu12_emul.specs.Step.{next_of};
 ghost use Rattle.run_law.specs.Forms.{is_part};
-ghost use Rattle.fz_run.specs.Sessions.{before_takes, after_takes, after_state, at_end, stepped_tally};
-ghost use Rattle.fz_run.specs.Sessions.{HasRoomLeft, IsSteady};
+ghost use Rattle.fz_run.specs.Sessions.{before_takes, after_takes, after_state, at_end, stepped_tally, IsSteady};
 
 use crate::form::RunForm;
 use crate::sample::{Tally, both, count, is_part, less, one_if, take_due};
@@ -33,13 +33,21 @@ pub(crate) fn come<M: Mem, A, U, R, F: RunForm<A, U, R>>(
     st: &mut Stand<U>,
 )
     requires on { (st.old.over ≡ false) × (st.old.tally.arrived ≡ false) }
-    requires room { HasRoomLeft (length requests.now - st.old.tally.next) st.old.tally }
+    requires room { vec_len st.old.tally.frames + (length requests.now - st.old.tally.next)
+        ≤ vec_capacity st.old.tally.frames }
+    requires told { vec_len st.old.tally.told + (length requests.now - st.old.tally.next)
+        ≤ vec_capacity st.old.tally.told }
+    requires few { vec_len st.old.tally.told + (length requests.now - st.old.tally.next) ≤ 10000 }
     requires counts { (st.old.tally.instrs ≤ st.old.tally.moment) × (st.old.tally.resumed ≤ st.old.tally.moment) }
     requires sum { st.old.tally.moment + st.old.left < 2 ^ 32 }
     ensures coming { after_takes m.old.flags (F.harness form.now) requests.now st.new m.new.state
         ≡ before_takes m.old.flags (F.harness form.now) requests.now st.old m.old.state }
     ensures moment { st.new.tally.moment ≡ st.old.tally.moment }
-    ensures room { HasRoomLeft (length requests.now - st.new.tally.next) st.new.tally }
+    ensures room { vec_len st.new.tally.frames + (length requests.now - st.new.tally.next)
+        ≤ vec_capacity st.new.tally.frames }
+    ensures told { vec_len st.new.tally.told + (length requests.now - st.new.tally.next)
+        ≤ vec_capacity st.new.tally.told }
+    ensures few { vec_len st.new.tally.told + (length requests.now - st.new.tally.next) ≤ 10000 }
     ensures counts { (st.new.tally.instrs ≤ st.new.tally.moment) × (st.new.tally.resumed ≤ st.new.tally.moment + 1) }
     ensures on { st.new.over ≡ false → (st.new.tally.arrived ≡ false)
         × (st.new.tally.moment + st.new.left + 1 < 2 ^ 32) }

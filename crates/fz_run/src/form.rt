@@ -1,11 +1,11 @@
 //! Forms of firmware: what a run is given, and what serves its requests.
-ghost use Rattle.std.specs.Prelude.{ℕ, ◌≡◌, ◌<◌, ◌≤◌, Some, List, length, map, vec_len, slice_get, IsTrue};
+ghost use Rattle.std.specs.Prelude.{ℕ, ◌≡◌, ◌<◌, ◌≤◌, Some, List, length, vec_len, slice_get, IsTrue};
 ghost use Rattle.cpu12_parts.specs.Cuts.{suspended, wav};
 ghost use Rattle.cpu12_emul.specs.Take.{may_interrupt, frame_seen, frame_of};
 ghost use Rattle.run_law.specs.Forms.{RowSeen};
-ghost use Rattle.fz_run.specs.Forms.{answers_in, Harness};
-ghost use Rattle.fz_run.specs.Rest.{counted_at, row_by, shown_by};
-ghost use Rattle.fz_run.specs.Rows.{input_bytes, row_seen, writes_harness};
+ghost use Rattle.fz_run.specs.Forms.{Harness};
+ghost use Rattle.fz_run.specs.Rest.{counted_at, shown_by};
+ghost use Rattle.fz_run.specs.Rows.{writes_harness};
 
 use crate::ports::{answers, give, is_idle};
 use crate::rows::{Row, row_of};
@@ -122,10 +122,14 @@ impl<'a> RunForm<Request, (), Row> for WithWrites<'a> {
     }
 
     fn row<M: Mem>(&self, m: &Machine<M>, k: usize, tally: Tally<()>) -> Row
-        requires sample { k < length self.now.samples.now }
+        requires sample { k < length (writes_harness self.now.firmware.now self.now.samples.now).samples }
         requires few { vec_len tally.told ≤ 10000 }
-        ensures { (x : List ℕ) → slice_get (map input_bytes self.now.samples.now) k ≡ Some x
-            → row_seen result ≡ row_by (answers_in self.now.firmware.now) x (counted_at (λ u. u) tally m.now.state) }
+        ensures { (x : List ℕ)
+            → slice_get (writes_harness self.now.firmware.now self.now.samples.now).samples k ≡ Some x
+            → (writes_harness self.now.firmware.now self.now.samples.now).seen result
+            ≡ shown_by (writes_harness self.now.firmware.now self.now.samples.now).shows
+            (writes_harness self.now.firmware.now self.now.samples.now).parts.answers
+            (counted_at (writes_harness self.now.firmware.now self.now.samples.now).told tally m.now.state) x }
     {
         let bytes = self.samples[k].bytes.as_slice();
         row_of(bytes, answers(self.firmware, m), tally)

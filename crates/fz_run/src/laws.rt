@@ -115,10 +115,9 @@ pub fn plans_are_in_order()
     ensures { PlansAreInOrder }
 {}
 
-/// Where what a form shows of a row and of what its handlers told has the row, and what is kept of the
-/// latter, what is shown of its runs has the rows, and what is kept of all that was told.
+/// What is shown of the runs of a form has a row for each sample, and what was told of its requests.
 pub fn rows_are_shown<A, U, R, F: RunForm<A, U, R>>()
-    ensures { RowsAreShown A U R F.Given F.Told F.Shown }
+    ensures { RowsAreShown F.Given A F.Told }
 {}
 
 /// The firmware of a block answers all samples without interrupts, each within its bound of steps, and

@@ -113,7 +113,8 @@ fn give_next<M: Mem, A, U: Drop, R, F: RunForm<A, U, R>>(
     requires way { IsUnderWay (F.harness form.now) plan.now p.old }
     requires left { p.old.number < length (F.harness form.now).samples }
     ensures outlook { from_here (outlook_at m.old.flags (F.harness form.now) plan.now p.new m.new.state)
-        ≡ ahead m.old.flags (F.harness form.now) p.old.most (p.old.number + 1) (drop p.old.behind plan.now) (drop p.old.number (F.harness form.now).samples)
+        ≡ ahead m.old.flags (F.harness form.now) p.old.most (p.old.number + 1) (drop p.old.behind plan.now)
+        (drop p.old.number (F.harness form.now).samples)
         (rows_here (F.harness form.now) p.old m.old.state) (state_here (F.harness form.now) p.old m.old.state) }
     ensures way { IsUnderWay (F.harness form.now) plan.now p.new }
     ensures flags { m.new.flags ≡ m.old.flags }
@@ -173,7 +174,8 @@ pub(crate) fn before_samples<A, U, R, F: RunForm<A, U, R>>(
     rows: Vec<R>,
 ) -> Progress<U, R>
     requires order { IsInOrder (F.harness form.now).parts.place plan.now }
-    requires rooms { HaveRoom (F.harness form.now).parts.place 1 (length (F.harness form.now).samples) plan.now rooms.items }
+    requires rooms { HaveRoom (F.harness form.now).parts.place 1 (length (F.harness form.now).samples) plan.now
+        rooms.items }
     requires none { rows.items ≡ [] }
     requires room { length (F.harness form.now).samples ≤ vec_capacity rows }
     ensures outlook { (flags : ℕ) (s : State) → outlook_at flags (F.harness form.now) plan.now result s

@@ -1,10 +1,10 @@
 // What is taken at a boundary, and what is counted.
-ghost use Rattle.std.specs.Prelude.{◌≡◌, ◌≤◌, ◌+◌, ◌-◌, ◌&&◌, true, length, map, drop, nat_lt};
+ghost use Rattle.std.specs.Prelude.{◌≡◌, ◌≤◌, ◌<◌, ◌+◌, ◌-◌, ◌&&◌};
+ghost use Rattle.std.specs.Prelude.{true, length, map, vec_len, vec_capacity, drop, nat_lt};
 ghost use Rattle.run_law.specs.Forms.{takes, is_part, one_if};
 ghost use Rattle.fz_run.specs.Forms.{moment_in, plan_form};
 ghost use Rattle.fz_run.specs.Rows.{frames_seen};
 ghost use Rattle.fz_run.specs.Rest.{is_due, with_before};
-ghost use Rattle.fz_run.specs.Sessions.{HasRoomLeft};
 
 use crate::form::RunForm;
 use cpu12_emul::ends::{Frame, Stepped};
@@ -108,7 +108,8 @@ fn take_next<M: Mem, A, U, R, F: RunForm<A, U, R>>(
 )
     requires due { is_due (moment_in (F.harness form.now).parts.place) t.old.moment
         (drop t.old.next requests.now) m.old.state ≡ true }
-    requires room { HasRoomLeft (length requests.now - t.old.next) t.old }
+    requires room { vec_len t.old.frames < vec_capacity t.old.frames }
+    requires told { vec_len t.old.told < vec_capacity t.old.told }
     ensures takes { with_before (frames_seen t.old.frames.items) (map (F.harness form.now).told t.old.told.items)
         (takes (plan_form m.old.flags (F.harness form.now).parts) t.old.moment
         (drop t.old.next requests.now) m.old.state)
@@ -116,7 +117,10 @@ fn take_next<M: Mem, A, U, R, F: RunForm<A, U, R>>(
         (takes (plan_form m.old.flags (F.harness form.now).parts) t.old.moment
         (drop t.new.next requests.now) m.new.state) }
     ensures next { t.new.next ≡ t.old.next + 1 }
-    ensures room { HasRoomLeft (length requests.now - t.new.next) t.new }
+    ensures len { vec_len t.new.frames ≡ vec_len t.old.frames + 1 }
+    ensures capacity { vec_capacity t.old.frames ≤ vec_capacity t.new.frames }
+    ensures told_len { vec_len t.new.told ≡ vec_len t.old.told + 1 }
+    ensures told_capacity { vec_capacity t.old.told ≤ vec_capacity t.new.told }
     ensures rest { t.new ≡ record t.old { next = t.new.next; frames = t.new.frames; told = t.new.told } }
     ensures flags { m.new.flags ≡ m.old.flags }
 {
@@ -134,7 +138,9 @@ pub(crate) fn take_due<M: Mem, A, U, R, F: RunForm<A, U, R>>(
     requests: &[A],
     t: &mut Tally<U>,
 )
-    requires room { HasRoomLeft (length requests.now - t.old.next) t.old }
+    requires room { vec_len t.old.frames + (length requests.now - t.old.next) ≤ vec_capacity t.old.frames }
+    requires told { vec_len t.old.told + (length requests.now - t.old.next) ≤ vec_capacity t.old.told }
+    requires few { vec_len t.old.told + (length requests.now - t.old.next) ≤ 10000 }
     ensures takes { with_before (frames_seen t.old.frames.items) (map (F.harness form.now).told t.old.told.items)
         (takes (plan_form m.old.flags (F.harness form.now).parts) t.old.moment
         (drop t.old.next requests.now) m.old.state)
@@ -144,7 +150,9 @@ pub(crate) fn take_due<M: Mem, A, U, R, F: RunForm<A, U, R>>(
           told = map (F.harness form.now).told t.new.told.items;
           left = drop t.new.next requests.now;
         } }
-    ensures room { HasRoomLeft (length requests.now - t.new.next) t.new }
+    ensures room { vec_len t.new.frames + (length requests.now - t.new.next) ≤ vec_capacity t.new.frames }
+    ensures told { vec_len t.new.told + (length requests.now - t.new.next) ≤ vec_capacity t.new.told }
+    ensures few { vec_len t.new.told + (length requests.now - t.new.next) ≤ 10000 }
     ensures rest { t.new ≡ record t.old { next = t.new.next; frames = t.new.frames; told = t.new.told } }
     ensures flags { m.new.flags ≡ m.old.flags }
 {

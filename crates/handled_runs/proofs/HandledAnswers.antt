@@ -1,8 +1,9 @@
 -- The rows of a run whose interrupts run code.
 use Rattle.std.proofs.Common.{◌≡◌, ℕ, suc, ◌+◌, ◌≤◌, ◌<◌, ◌^◌, List, [], ◌∷◌, length, refl, ap, sym, ◌∙◌, subst, arith}
-use Rattle.std.specs.Prelude.{All, take, map}
+use Rattle.std.specs.Prelude.{All, take, map, sum}
 use Rattle.std.proofs.lemmas.List.{take_all}
 use Rattle.std.proofs.lemmas.List.Elements.{All-cons}
+use Rattle.std.proofs.lemmas.Simd.{map-map}
 use Rattle.fuzzy_meaning.specs.declared.block.Block.{Block}
 use Rattle.cpu12_isa.specs.Regions.{is_hidden}
 use Rattle.cpu12_isa.proofs.Algebra.{agree_self}
@@ -18,18 +19,17 @@ use Rattle.codegen.specs.declared.layout.Layout.{Layout}
 use Rattle.codegen.specs.declared.firmware.Firmware.{Firmware}
 use Rattle.codegen.specs.Answers.{LeavesLayout}
 use Rattle.codegen.specs.Firing.{AreInputBytes}
-use Rattle.fz_run.specs.Forms.{given, with_writes, Harness}
+use Rattle.fz_run.specs.Forms.{given, with_writes}
 use Rattle.fz_run.specs.Showing.{RowsAreShown}
-use Rattle.fz_run.specs.Rows.{requests_of, first_state}
+use Rattle.fz_run.specs.Rows.{requests_of, first_state, tellings}
 use Rattle.fz_run.specs.Facts.{FactsBeside}
 use Rattle.fz_run.specs.Following.{RunsFollowBeside}
 use Rattle.fz_run.specs.Given.{RequestsAreGood}
 use Rattle.fz_run.specs.Answering.{FirmwareRunsBeside, FirstAlike, FirstStatesAlike}
-use Rattle.fz_run.proofs.Algebra.{first_same, all_onto_all}
+use Rattle.fz_run.proofs.Algebra.{map-shown_rows, first_same, all_onto_all}
 use Rattle.handled_runs.specs.Open.{is_open_to_code}
 use Rattle.handled_runs.specs.Joint.{joint_memory}
-use Rattle.handled_runs.specs.declared.rows.HandledRow as declared
-use Rattle.handled_runs.specs.Forms.{code_parts, with_code, first_handled, handled_rows, HandledSeen, with_steps, row_seen, handled_seen}
+use Rattle.handled_runs.specs.Forms.{with_code, first_handled, handled_rows, HandledSeen, with_steps, handled_seen}
 use Rattle.handled_runs.specs.Answering.{AreShort, HandledAnswers, HandlesItsBlock}
 use Rattle.handled_runs.specs.SoundHandled.{CodeLaws, Handled, HandlerStands, opens_free}
 use Rattle.handled_runs.proofs.Beginnings.{code_leaves, joint_agrees, joint_has, first_stands}
@@ -111,15 +111,21 @@ handled_answers laws b f handler most flags samples plan hf good is v limits h a
     }
 
 -- the rows as they are shown
-pub handles_block : HandledAnswers → RowsAreShown Request ℕ declared.HandledRow (List ℕ) ℕ HandledSeen → (f : Firmware) (handler : List (ℕ × ℕ)) (most flags : ℕ) (samples : List (List ℕ)) (plan : List Request) (rows : List HandledSeen)
+pub handles_block : HandledAnswers → RowsAreShown (List ℕ) Request ℕ → (f : Firmware) (handler : List (ℕ × ℕ)) (most flags : ℕ) (samples : List (List ℕ)) (plan : List Request) (rows : List HandledSeen)
     → flags < 2 ^ 8 → IsGood plan → IsHandler handler most → rows ≡ handled_seen f handler most samples plan flags → HandlesItsBlock f handler most flags samples plan rows
 handles_block law shows f handler most flags samples plan rows hf good is same b v limits h all =
-    let harness : Harness Request ℕ declared.HandledRow (List ℕ) ℕ HandledSeen =
-    record { samples = samples; parts = code_parts f most; told = λ steps. steps; shows = with_steps; seen = row_seen } in
-    let parts = shows ℕ harness flags f.step_bound plan (first_handled f handler flags) (λ r. r.row) (λ r. r.handler) sum (record { row = λ row steps. refl; told = λ row steps. refl }) in
-    let run = law b f handler most flags samples plan hf good is v limits h all in
+    let run = handled_rows f handler most samples plan flags in
+    let are = shows (with_code flags f most) f.step_bound (λ k. requests_of k plan) 1 samples (first_handled f handler flags) in
+    let under = law b f handler most flags samples plan hf good is v limits h all in
     record {
-      listed = ap (λ (rs : List HandledSeen). map (λ (r : HandledSeen). r.row) rs) same ∙ parts.rows ∙ run.rows_are;
-      run = run;
-      steps = ap (λ (rs : List HandledSeen). map (λ (r : HandledSeen). r.handler) rs) same ∙ parts.told;
+      listed = ap (λ (rs : List HandledSeen). map (λ (r : HandledSeen). r.row) rs) same
+          ∙ map-shown_rows (λ (r : HandledSeen). r.row) with_steps run.rows run.told
+          ∙ are.rows
+          ∙ under.rows_are;
+      run = under;
+      steps = ap (λ (rs : List HandledSeen). map (λ (r : HandledSeen). r.handler) rs) same
+          ∙ map-shown_rows (λ (r : HandledSeen). r.handler) with_steps run.rows run.told
+          ∙ sym (map-shown_rows (λ (steps : List ℕ). sum steps) (λ (row : RowSeen (List ℕ)) (steps : List ℕ). steps) run.rows run.told)
+          ∙ ap (λ (steps : List (List ℕ)). map (λ (s : List ℕ). sum s) steps) are.told
+          ∙ map-map (λ (s : List ℕ). sum s) (λ (ts : List (Request × ℕ)). tellings ts) run.told;
     }

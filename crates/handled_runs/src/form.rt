@@ -1,9 +1,7 @@
 // A firmware whose interrupts run code, as a form of runs.
-ghost use Rattle.std.specs.Prelude.{ℕ, ◌≡◌, ◌≤◌, ◌<◌, List, Some, length, map, slice_get, sum, vec_len};
-ghost use Rattle.fz_run.specs.Forms.{answers_in};
+ghost use Rattle.std.specs.Prelude.{ℕ, ◌≡◌, ◌≤◌, ◌<◌, List, Some, length, slice_get, sum, vec_len};
 ghost use Rattle.fz_run.specs.Rest.{counted_at, shown_by};
-ghost use Rattle.fz_run.specs.Rows.{input_bytes};
-ghost use Rattle.handled_runs.specs.Forms.{HandledSeen, code_harness, row_seen, with_steps};
+ghost use Rattle.handled_runs.specs.Forms.{HandledSeen, code_harness};
 
 use crate::back::until_rti;
 use crate::rows::HandledRow;
@@ -71,11 +69,14 @@ impl<'a> RunForm<Request, u16, HandledRow> for WithCode<'a> {
     }
 
     fn row<M: Mem>(&self, m: &Machine<M>, k: usize, tally: Tally<u16>) -> HandledRow
-        requires sample { k < length self.now.samples.now }
+        requires sample { k < length (code_harness self.now.firmware.now self.now.most self.now.samples.now).samples }
         requires few { vec_len tally.told ≤ 10000 }
-        ensures { (x : List ℕ) → slice_get (map input_bytes self.now.samples.now) k ≡ Some x
-            → row_seen result
-            ≡ shown_by with_steps (answers_in self.now.firmware.now) (counted_at (λ steps. steps) tally m.now.state) x }
+        ensures { (x : List ℕ)
+            → slice_get (code_harness self.now.firmware.now self.now.most self.now.samples.now).samples k ≡ Some x
+            → (code_harness self.now.firmware.now self.now.most self.now.samples.now).seen result
+            ≡ shown_by (code_harness self.now.firmware.now self.now.most self.now.samples.now).shows
+            (code_harness self.now.firmware.now self.now.most self.now.samples.now).parts.answers
+            (counted_at (code_harness self.now.firmware.now self.now.most self.now.samples.now).told tally m.now.state) x }
     {
         let handler = steps_in(tally.told.as_slice());
         let bytes = self.samples[k].bytes.as_slice();

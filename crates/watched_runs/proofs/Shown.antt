@@ -9,7 +9,7 @@ use Rattle.codegen.specs.Watched.{Change, Watched, changed}
 use Rattle.codegen.specs.WatchedCode.{fault_at}
 use Rattle.fz_run.specs.declared.sample.Tally.{Tally}
 use Rattle.fz_run.specs.Forms.{given, answers_in}
-use Rattle.fz_run.specs.Rest.{counted_at, row_by}
+use Rattle.fz_run.specs.Rest.{counted_at, shown_by}
 use Rattle.fz_run.specs.Rows.{frames_seen, shown}
 use Rattle.watched_runs.specs.Forms.{given_changed, watched_parts}
 use Rattle.watched_runs.specs.Rows.{FaultSeen, fault_seen}
@@ -58,7 +58,7 @@ pub row_is : (f : Firmware) (x : Watched) (t : Tally (Unit {0})) (end : State) (
       frames = frames_seen t.frames.items;
     } → answers ≡ answers_in f end → fault ≡ slice_index end.mem fault_at → bytes ≡ x.bytes
     → ◌≡◌ {A = FaultSeen} (record { row = row; fault = fault })
-    (fault_seen f.outputs (row_by (watched_parts f).answers x (counted_at (λ (u : Unit {0}). u) t end)))
+    (shown_by (λ (r : RowSeen Watched) (told : List (Unit {0})). fault_seen f.outputs r) (watched_parts f).answers (counted_at (λ (u : Unit {0}). u) t end) x)
 unfolding row_with
 row_is f x t end row fault bytes answers by_row by_answers by_fault same_bytes =
     let made : RowSeen (List ℕ) → ℕ → FaultSeen = λ r v. record { row = r; fault = v } in

@@ -1,11 +1,10 @@
 //! A firmware with watched tables, as a form of runs.
 ghost use Rattle.std.specs.Prelude.{ℕ, ◌≡◌, ◌<◌, ◌≤◌, ◌+◌, List, Some, length, map, slice_get, vec_len};
-ghost use Rattle.fz_run.specs.Rest.{counted_at, row_by};
+ghost use Rattle.fz_run.specs.Rest.{counted_at, shown_by};
 ghost use Rattle.fz_run.specs.Rows.{input_bytes};
 ghost use Rattle.codegen.specs.Watched as tables;
-ghost use Rattle.watched_runs.specs.Forms.{watched_parts};
-ghost use Rattle.watched_runs.specs.Rows.{FaultSeen, fault_seen, row_seen, watched_harness};
-ghost use Rattle.watched_runs.specs.Samples.{AscendThroughout, with_upsets};
+ghost use Rattle.watched_runs.specs.Rows.{FaultSeen, watched_harness};
+ghost use Rattle.watched_runs.specs.Samples.{AscendThroughout};
 
 use crate::upsets::{change, restore, upset_of};
 use codegen::Firmware;
@@ -100,11 +99,14 @@ impl<'a> RunForm<Request, (), WatchedRow> for WithUpsets<'a> {
     }
 
     fn row<M: Mem>(&self, m: &Machine<M>, k: usize, tally: Tally<()>) -> WatchedRow
-        requires sample { k < length (with_upsets self.now.upsets.now (map input_bytes self.now.samples.now)) }
+        requires sample { k < length (watched_harness self.now.firmware.now self.now.samples.now self.now.upsets.now).samples }
         requires few { vec_len tally.told ≤ 10000 }
-        ensures { (x : tables.Watched) → slice_get (with_upsets self.now.upsets.now (map input_bytes self.now.samples.now)) k ≡ Some x
-            → row_seen result ≡ fault_seen self.now.firmware.now.outputs
-            (row_by (watched_parts self.now.firmware.now).answers x (counted_at (λ u. u) tally m.now.state)) }
+        ensures { (x : tables.Watched)
+            → slice_get (watched_harness self.now.firmware.now self.now.samples.now self.now.upsets.now).samples k ≡ Some x
+            → (watched_harness self.now.firmware.now self.now.samples.now self.now.upsets.now).seen result
+            ≡ shown_by (watched_harness self.now.firmware.now self.now.samples.now self.now.upsets.now).shows
+            (watched_harness self.now.firmware.now self.now.samples.now self.now.upsets.now).parts.answers
+            (counted_at (watched_harness self.now.firmware.now self.now.samples.now self.now.upsets.now).told tally m.now.state) x }
     {
         let answers = answers(self.firmware, m);
         WatchedRow {

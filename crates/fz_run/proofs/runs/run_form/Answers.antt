@@ -27,5 +27,5 @@ pub into_rows-rows-requires-clause-few : goal.into_rows-rows-requires-clause-few
 into_rows-rows-requires-clause-few g c =
     let w = c.drive.ensures.way in
     let stand = w.stand in
-    let few = stand.room.few in
+    let few = stand.few in
     omega (arith, few)

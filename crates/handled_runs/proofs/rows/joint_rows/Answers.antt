@@ -1,7 +1,13 @@
-use Rattle.std.proofs.Common.{arith}
+use Rattle.std.proofs.Common.{arith, sym, subst}
+use Rattle.fz_run.specs.Forms.{place_of}
+use Rattle.fz_run.specs.Slices.{IsInOrder}
 use Rattle.handled_runs.proofs.rows.joint_rows.Goals as goal
 
 pub overflow_cast-form : goal.overflow_cast-form
 overflow_cast-form c =
     let short = c.handlers_are_short.ensures c.args.image.now.bytes c.args.handler.now.instrs c.requires.handler in
     record { fits = omega arith }
+
+pub run_form-requires : goal.run_form-requires
+run_form-requires c =
+    subst (IsInOrder place_of) (sym c.as_slice.ensures) (c.plans_are_in_order.ensures c.args.plan.now c.requires.plan)

@@ -1,6 +1,11 @@
-use Rattle.std.proofs.Common.{◌∙◌, List, map, ap, sym, subst}
+use Rattle.std.proofs.Common.{◌∙◌, ℕ, List, map, ap, sym, subst}
+use Rattle.run_law.specs.Forms.{RowSeen, rows_from}
+use Rattle.interrupt_plan.specs.declared.Request.{Request}
 use Rattle.interrupt_plan.specs.declared.upsets.Upset.{Upset}
-use Rattle.fz_run.specs.Rows.{requests_of, first_state, input_bytes}
+use Rattle.codegen.specs.Watched.{Watched}
+use Rattle.fz_run.specs.Forms.{place_of}
+use Rattle.fz_run.specs.Slices.{IsInOrder}
+use Rattle.fz_run.specs.Rows.{requests_of, first_state, input_bytes, shown}
 use Rattle.watched_runs.specs.Samples.{with_upsets}
 use Rattle.watched_runs.specs.Forms.{watched_form}
 use Rattle.watched_runs.specs.Rows.{FaultSeen, fault_seen, upset_rows, faults_of}
@@ -8,15 +13,22 @@ use Rattle.watched_runs.specs.Answering.{AnswersItsSamples}
 use Rattle.watched_runs.proofs.Shown.{shown_plainly}
 use Rattle.watched_runs.proofs.run.run_upsets.Goals as goal
 
+pub run_form-requires : goal.run_form-requires
+run_form-requires c =
+    subst (IsInOrder place_of) (sym c.as_slice.ensures) (c.plans_are_in_order.ensures c.args.plan.now c.requires.plan)
+
 pub returns-clause-rows : goal.returns-clause-rows
 returns-clause-rows c =
     let a = c.args in
     let f = a.firmware.now in
     let inputs = map input_bytes a.samples.now in
     let plan = a.plan.now in
+    let given = with_upsets c.ascending-upsets.result.now inputs in
     c.in_ok-rows.ensures.rows
+    ∙ ap (λ (l : List Request). shown (λ (row : RowSeen Watched) (told : List (Unit {0})). fault_seen f.outputs row)
+    (rows_from (watched_form a.flags f) f.step_bound (λ k. requests_of k l) 1 given (first_state f a.flags))) c.as_slice.ensures
     ∙ shown_plainly (fault_seen f.outputs) (watched_form a.flags f) f.step_bound (λ k. requests_of k plan) 1
-    (with_upsets c.ascending-upsets.result.now inputs) (first_state f a.flags)
+    given (first_state f a.flags)
     ∙ ap (λ (us : List Upset). faults_of f (upset_rows f inputs plan us a.flags)) c.ascending-upsets.ensures.same
 
 pub returns-clause-answers : goal.returns-clause-answers

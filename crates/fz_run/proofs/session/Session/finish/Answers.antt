@@ -1,4 +1,4 @@
-use Rattle.std.proofs.Common.{◌∙◌, ℕ, List, ap}
+use Rattle.std.proofs.Common.{◌∙◌, ℕ, List, ap, arith}
 use Rattle.cpu12_parts.specs.State.{State}
 use Rattle.run_law.specs.Forms.{RowSeen}
 use Rattle.interrupt_plan.specs.declared.Request.{Request}
@@ -23,3 +23,10 @@ returns-clause-memory g c =
     ∙ ap (λ (s : State). s.mem) (c.into_rows-rows.ensures.state ∙ c.drive.ensures.state)
     ∙ ap (λ (l : List Request). (outlook_at i.machine.flags h l i.progress i.machine.state).state.mem) c.as_slice.ensures
     ∙ ap (λ (o : Outlook (RowSeen (List ℕ))). o.state.mem) c.self.view_is
+
+pub into_rows-rows-requires-clause-few : goal.into_rows-rows-requires-clause-few
+into_rows-rows-requires-clause-few g c =
+    let w = c.drive.ensures.way in
+    let stand = w.stand in
+    let few = stand.few in
+    omega (arith, few)

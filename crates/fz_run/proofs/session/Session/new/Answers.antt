@@ -3,17 +3,17 @@ use Rattle.cpu12_parts.specs.State.{State}
 use Rattle.run_law.specs.Forms.{RowSeen, Rows}
 use Rattle.interrupt_plan.specs.declared.Request.{Request}
 use Rattle.fz_run.specs.Forms.{place_of, with_writes}
-use Rattle.fz_run.specs.Rows.{input_bytes, first_state, firmware_rows, writes_harness}
+use Rattle.fz_run.specs.Rows.{requests_of, input_bytes, first_state, firmware_rows, writes_harness}
 use Rattle.fz_run.specs.Positions.{positions}
 use Rattle.fz_run.specs.Slices.{IsInOrder}
 use Rattle.fz_run.specs.Outlooks.{from_here, outlook_at, shown_run}
 use Rattle.fz_run.proofs.Outlooks.{made}
 use Rattle.fz_run.proofs.PlanSlices.{plans_are_in_order}
-use Rattle.fz_run.proofs.RowSteps.{shown_plain}
+use Rattle.fz_run.proofs.RowSteps.{rows_are_shown}
 use Rattle.fz_run.proofs.session.Session.new.Goals as goal
 
-pub begun-requires-clause-order : goal.begun-requires-clause-order
-begun-requires-clause-order g c =
+pub begun-requires : goal.begun-requires
+begun-requires g c =
     subst (IsInOrder place_of) (sym c.as_slice.ensures) (plans_are_in_order c.args.plan.now c.requires.plan)
 
 pub returns : goal.returns
@@ -30,4 +30,4 @@ returns g c =
     ∙ r.ensures.first
     ∙ ap (λ (l : List Request). shown_run h.shows first (rows l)) same
     ∙ ap (λ (shown : List (RowSeen (List ℕ))). made (positions first (rows a.plan.now)) shown (rows a.plan.now).state)
-    (shown_plain (with_writes a.flags f) place_of f.step_bound a.plan.now 1 inputs first)
+    (let are = rows_are_shown (with_writes a.flags f) f.step_bound (λ k. requests_of k a.plan.now) 1 inputs first in are.rows)
