@@ -1,12 +1,11 @@
 -- Each sample of the fast of two blocks has a run from where its code can be entered.
-use Rattle.std.proofs.Common.{◌≡◌, ℕ, suc, ◌≤◌, List, length, ap, ◌∙◌, sym, subst, arith}
+use Rattle.std.proofs.Common.{◌≡◌, suc, ◌≤◌, ap, ◌∙◌, sym, subst, arith}
 use Rattle.fuzzy_meaning.specs.declared.block.Block.{Block}
 use Rattle.codegen.specs.declared.firmware.Firmware.{Firmware}
 use Rattle.codegen.specs.declared.width.Width.TheVariants.{Byte}
 use Rattle.codegen.specs.Bounds.{step_bound}
 use Rattle.codegen.specs.Widths.{width_of}
 use Rattle.cpu12_emul.specs.Image.{image_memory}
-use Rattle.cpu12_parts.specs.State.{State}
 use Rattle.two_level.specs.Images.{fast_most, IsAlone}
 use Rattle.two_runs.specs.Runs.{entered}
 use Rattle.two_runs.specs.Steps.{IsFastRun, FastRunsExist}

@@ -82,7 +82,7 @@ IsServable b image flags most before v None = Unit {0}
 IsServable b image flags most before v (Some bytes) =
     AreInputBytes b bytes × RunsFast b image flags most before v bytes
 
--- So is each sample of the fast of two blocks from where its code can be entered, within its bound.
+-- So is each sample of the fast one of two blocks, from where its code can be entered, within its bound.
 abbrev pub OuterIsServable : Type 0
 OuterIsServable =
     (slow fast : Block) (two : Two) (flags : ℕ) (bytes : List ℕ) (before : ℕ → ℕ) (v : State) → IsValid slow

@@ -100,6 +100,5 @@ abbrev pub FastRunsExist : Type 0
 FastRunsExist =
     (slow fast : Block) (two : Two) (flags : ℕ) (bytes : List ℕ) (before : ℕ → ℕ) (s : State) → IsValid slow
     → IsWithinLimits slow → IsValid fast → IsWithinLimits fast → IsTwoOf slow fast two
-    → flags < 2 ^ 8 → AreInputBytes fast bytes
-    → IsEntered fast (image_memory two.image.bytes) bytes before s
+    → flags < 2 ^ 8 → AreInputBytes fast bytes → IsEntered fast (image_memory two.image.bytes) bytes before s
     → (t : State) × IsFastRun fast (image_memory two.image.bytes) flags bytes before s t

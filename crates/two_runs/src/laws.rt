@@ -81,7 +81,7 @@ pub fn outer_enters()
     bytes_stay();
 }
 
-/// There is a state over memory as the image of two blocks makes it from which it enters the fast code.
+/// There is a state over memory as the image of two blocks makes it from which an interrupt enters the fast code.
 pub fn fast_is_entered()
     ensures { FastIsEntered }
 {
@@ -90,7 +90,7 @@ pub fn fast_is_entered()
     outer_enters();
 }
 
-/// There each sample of the fast of two blocks has a run, within its bound.
+/// Where the fast code of two blocks can be entered, each of its samples has a run, within its bound.
 pub fn outer_is_servable()
     ensures { OuterIsServable }
 {
@@ -98,8 +98,8 @@ pub fn outer_is_servable()
     fast_runs_exist();
 }
 
-/// It leaves the registers, no sums that run, and memory but for the fast block's RAM, where its answers
-/// stand, and the stack below SP.
+/// An outer interrupt leaves the registers, no sums that run, and memory but for the fast block's RAM, where
+/// its answers stand, and the stack below SP.
 pub fn outer_is_quiet()
     ensures { OuterIsQuiet }
 {

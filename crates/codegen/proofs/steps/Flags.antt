@@ -1,5 +1,5 @@
 -- The flags that the code rests on: I, X, V, Z and C.
-use Rattle.std.proofs.Common.{◌≡◌, ℕ, zero, suc, ◌<◌, Bool, true, false, ◌&&◌, ◌||◌, bit_and, bit_or, refl, ap, ap₂, ◌∙◌, arith}
+use Rattle.std.proofs.Common.{◌≡◌, ℕ, zero, suc, ◌-◌, ◌<◌, Bool, true, false, ◌&&◌, ◌||◌, bit_and, bit_or, refl, ap, ap₂, ◌∙◌, arith}
 use Rattle.cpu12_isa.specs.declared.instr.Ccr.{Ccr}
 use Rattle.cpu12_isa.specs.Flags.{has, put, opened}
 use Rattle.cpu12_isa.proofs.Algebra.{bit, bit_or_is, bit_and_is}
@@ -36,25 +36,25 @@ masked_put c (suc (suc (suc (suc k)))) b h = absurd (omega arith)
 pub masked_tested : (c : Ccr) (n z : Bool) → interrupt_masks (put (put (put c 3 n) 2 z) 1 false) ≡ interrupt_masks c
 masked_tested c n z = masked_put (put (put c 3 n) 2 z) 1 false (omega arith) ∙ masked_put (put c 3 n) 2 z (omega arith) ∙ masked_put c 3 n (omega arith)
 
+-- so do the flags of a mask that has neither, taken from FLAGS
+masked_opened : (c : Ccr) (mask flags : ℕ) → bit mask 4 ≡ false → bit mask 6 ≡ false → bit (255 - mask) 4 ≡ true
+    → bit (255 - mask) 6 ≡ true → interrupt_masks (opened c mask flags) ≡ interrupt_masks c
+masked_opened c mask flags i x j y =
+    masked_or (bit_and c.0 (255 - mask)) (bit_and flags mask) (bit_and_is flags mask 4 ∙ ap (λ (b : Bool). b && bit flags 4) i)
+    (bit_and_is flags mask 6 ∙ ap (λ (b : Bool). b && bit flags 6) x)
+    ∙ masked_and c.0 (255 - mask) j y
+
 pub masked_open : (c : Ccr) (flags : ℕ) → interrupt_masks (opened c 47 flags) ≡ interrupt_masks c
-masked_open c flags =
-    masked_or (bit_and c.0 208) (bit_and flags 47) (bit_and_is flags 47 4) (bit_and_is flags 47 6)
-    ∙ masked_and c.0 208 refl refl
+masked_open c flags = masked_opened c 47 flags refl refl refl refl
 
 pub masked_open_hnzc : (c : Ccr) (flags : ℕ) → interrupt_masks (opened c 45 flags) ≡ interrupt_masks c
-masked_open_hnzc c flags =
-    masked_or (bit_and c.0 210) (bit_and flags 45) (bit_and_is flags 45 4) (bit_and_is flags 45 6)
-    ∙ masked_and c.0 210 refl refl
+masked_open_hnzc c flags = masked_opened c 45 flags refl refl refl refl
 
 pub masked_open_hnz : (c : Ccr) (flags : ℕ) → interrupt_masks (opened c 44 flags) ≡ interrupt_masks c
-masked_open_hnz c flags =
-    masked_or (bit_and c.0 211) (bit_and flags 44) (bit_and_is flags 44 4) (bit_and_is flags 44 6)
-    ∙ masked_and c.0 211 refl refl
+masked_open_hnz c flags = masked_opened c 44 flags refl refl refl refl
 
 pub masked_open_hnvc : (c : Ccr) (flags : ℕ) → interrupt_masks (opened c 43 flags) ≡ interrupt_masks c
-masked_open_hnvc c flags =
-    masked_or (bit_and c.0 212) (bit_and flags 43) (bit_and_is flags 43 4) (bit_and_is flags 43 6)
-    ∙ masked_and c.0 212 refl refl
+masked_open_hnvc c flags = masked_opened c 43 flags refl refl refl refl
 
 -- what was put
 pub zero_put : (c : Ccr) (b : Bool) → has (put c 2 b) 2 ≡ b
