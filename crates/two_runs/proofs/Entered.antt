@@ -43,9 +43,8 @@ pub fast_is_entered : HoldsImage → TwoStandBeside → OuterEnters → FastIsEn
 unfolding beginning
 fast_is_entered holds stands enters slow fast two bytes vs ls vf lf is input =
     let stand = (stands slow fast two vs ls vf lf is).0 in
-    let image = image_memory two.image.bytes in (
-      beginning image,
-      refl,
-      enters fast image bytes (λ o. 0) (beginning image) vf.few_inputs (omega (arith, vf.few_outputs)) input
-          (can_begin holds fast two stand),
-    )
+    let image = image_memory two.image.bytes in
+    let there =
+    enters fast image bytes (λ o. 0) (beginning image) vf.few_inputs (omega (arith, vf.few_outputs)) input
+    (can_begin holds fast two stand) in
+    (beginning image, (refl, there))
