@@ -27,8 +27,8 @@ returns-clause-coming g c =
     let flags = a.m.now.flags in
     let n = c.take_due.new in
     let inside : n.t.inside ≡ st.tally.inside = ap (λ k. k.inside) c.take_due.ensures.rest in
-    let t2 : Tally g.row.U = record n.t { resumed = n.t.resumed + c.one_if.result } in
-    let st2 : Stand g.row.U = record { tally = t2; left = st.left - 1; over = st.over } in
+    let t2 : Tally g.row.U.Denot = record n.t { resumed = n.t.resumed + c.one_if.result } in
+    let st2 : Stand g.row.U.Denot = record { tally = t2; left = st.left - 1; over = st.over } in
     let taken : Bool = c.less-taken.result in
     let one : c.one_if.result ≡ one_if (st.tally.inside && taken) = c.one_if.ensures.one ∙ ap one_if (c.both.ensures ∙ ap (λ (b : Bool). b && taken) inside) in
     let resumed : n.t.resumed ≡ st.tally.resumed = ap (λ k. k.resumed) c.take_due.ensures.rest in

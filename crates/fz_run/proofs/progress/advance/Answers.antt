@@ -14,7 +14,7 @@ returns-then-pass-clause-goes g c =
     let p = a.p.now in
     let h = g.F.RunForm.harness a.form.now in
     let flags = a.m.now.flags in
-    let qs : List g.row.A = requests_at a.plan.now p in
+    let qs : List g.row.A.Denot = requests_at a.plan.now p in
     let s = a.m.now.state in
     let n = c.pass.new in
     λ e. outlook_goes flags h p.most p.number p.stand.tally.moment n.st.tally.moment (sample_at p.number h.samples)
@@ -28,7 +28,7 @@ returns-then-p-count-clause-ends g c =
     let p = a.p.now in
     let h = g.F.RunForm.harness a.form.now in
     let flags = a.m.now.flags in
-    let qs : List g.row.A = requests_at a.plan.now p in
+    let qs : List g.row.A.Denot = requests_at a.plan.now p in
     let s = a.m.now.state in
     let all = c.if-p-count.true in
     let count = c.count.ensures in
@@ -42,7 +42,7 @@ returns-clause-goes g c =
     let p = a.p.now in
     let h = g.F.RunForm.harness a.form.now in
     let flags = a.m.now.flags in
-    let qs : List g.row.A = requests_at a.plan.now p in
+    let qs : List g.row.A.Denot = requests_at a.plan.now p in
     let s = a.m.now.state in
     let here : Position = record { sample = p.number; moment = p.stand.tally.moment; state = s } in
     let rest = drop p.behind a.plan.now in
@@ -51,7 +51,7 @@ returns-clause-goes g c =
     let same = c.pass.ensures.same c.if-pass.false in
     λ e. outlook_ends flags h p.most p.number p.stand.tally.moment (sample_at p.number h.samples) s p.stand.tally
     (after_takes flags h qs p.stand s) rest left (map h.seen p.rows.items) (c.pass.ensures.ends c.if-pass.false)
-    ∙ ap₂ (λ (st : Stand g.row.U) (m : Whole). at_position here (ahead m.flags h p.most (p.number + 1) rest left
+    ∙ ap₂ (λ (st : Stand g.row.U.Denot) (m : Whole). at_position here (ahead m.flags h p.most (p.number + 1) rest left
     (rows_here h (record p { stand = st }) m.state) (state_here h (record p { stand = st }) m.state))) (sym same.0) (sym same.1)
     ∙ ap (λ x. at_position here x) (sym c.give_next.ensures.outlook)
     ∙ ap (λ (k : ℕ). at_position here (from_here (outlook_at k h a.plan.now n.p n.m.state))) c.pass.ensures.flags

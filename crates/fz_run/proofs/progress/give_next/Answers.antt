@@ -62,7 +62,7 @@ returns-clause-outlook g c =
     let given : State = c.give.new.m.state in
     let t : State = c.come.new.m.state in
     let count : n ≡ length (requests_first place k rest) = count_there place k p.behind n plan c.count_of.ensures in
-    let qs : List g.row.A = take (p.behind + n - p.behind) rest in
+    let qs : List g.row.A.Denot = take (p.behind + n - p.behind) rest in
     let more = c.requires.left in
     let y = is_there h.samples p.number more in
     let rows = map h.seen c.end_sample.new.rows.items in
@@ -70,7 +70,7 @@ returns-clause-outlook g c =
     let tally = ap (λ s. s.tally) c.replace-stand.ensures.after ∙ c.fresh_stand.ensures.tally in
     let left = ap (λ s. s.left) c.replace-stand.ensures.after ∙ c.fresh_stand.ensures.left in
     let rooms : HaveRoom place k (length h.samples - p.number) rest (c.in-Some.room ∷ c.pop_front.new.self.items) =
-    subst (λ (rooms : List (Room g.row.U)). HaveRoom place k (length h.samples - p.number) rest rooms) c.in-Some.ensures.items c.requires.way.rooms in
+    subst (λ (rooms : List (Room g.row.U.Denot)). HaveRoom place k (length h.samples - p.number) rest rooms) c.in-Some.ensures.items c.requires.way.rooms in
     let first = room_first place k (length h.samples - p.number) rest c.in-Some.room c.pop_front.new.self.items (omega (arith, more)) rooms in
     let empty : HasRoom (requests_first place k rest) c.in-Some.room = first.0 in
     let same : c.give.new.m.flags ≡ flags = c.give.ensures.flags ∙ c.end_sample.ensures.flags in
@@ -80,10 +80,10 @@ returns-clause-outlook g c =
     ∙ ap (λ (k : ℕ). before_takes k h qs st given) same
     ∙ fresh_coming flags h p.most qs c.in-Some.room st given tally left empty.no_frames empty.none_told
     ∙ ap (λ (u : State). coming_of (run_from form p.most 0 false qs u)) (c.give.ensures.state y.sample y.at) in
-    let moment : c.come.new.st.tally.moment ≡ 0 = c.come.ensures.moment ∙ ap (λ (t : Tally g.row.U). t.moment) tally in
+    let moment : c.come.new.st.tally.moment ≡ 0 = c.come.ensures.moment ∙ ap (λ (t : Tally g.row.U.Denot). t.moment) tally in
     let rows_are : rows ≡ rows_here h p s =
     c.end_sample.ensures.rows
-    ∙ ap (λ (t : Tally g.row.U). with_row (map h.seen p.rows.items) (shown_by h.shows h.parts.answers (counted_at h.told t s)) (sample_at p.number h.samples)) (ap (λ s. s.tally) c.replace-stand.ensures.value) in
+    ∙ ap (λ (t : Tally g.row.U.Denot). with_row (map h.seen p.rows.items) (shown_by h.shows h.parts.answers (counted_at h.told t s)) (sample_at p.number h.samples)) (ap (λ s. s.tally) c.replace-stand.ensures.value) in
     let past_is : past ≡ state_here h p s = c.end_sample.ensures.state in
     let further = rest_further place k p.behind n plan count in
     given_ahead flags h p.most p.number c.come.new.st.tally.moment rest (drop (p.behind + n) plan) qs (sample_at k h.samples) y.sample (drop k h.samples) rows past t (after_takes flags h qs c.come.new.st t) c.requires.way.follow
@@ -106,7 +106,7 @@ returns-clause-way g c =
     let count : n ≡ length (requests_first place k rest) = count_there place k p.behind n plan c.count_of.ensures in
     let more = c.requires.left in
     let rooms : HaveRoom place k (length samples - p.number) rest (c.in-Some.room ∷ c.pop_front.new.self.items) =
-    subst (λ (rooms : List (Room g.row.U)). HaveRoom place k (length samples - p.number) rest rooms) c.in-Some.ensures.items w.rooms in
+    subst (λ (rooms : List (Room g.row.U.Denot)). HaveRoom place k (length samples - p.number) rest rooms) c.in-Some.ensures.items w.rooms in
     let left = room_first place k (length samples - p.number) rest c.in-Some.room c.pop_front.new.self.items (omega (arith, more)) rooms in
     let fewer : length samples - p.number - 1 ≡ length samples - k = omega arith in
     let further = rest_further place k p.behind n plan count in
@@ -115,8 +115,8 @@ returns-clause-way g c =
       number = omega (arith, more);
       first = omega arith;
       behind = (let few = first_few place k rest in let len = length-drop p.behind plan in let inv = w.behind in omega (arith, few, len, inv, count));
-      follow = subst (λ (l : List g.row.A). Follow place (k + 1) l) (sym further) (later_follow place k rest w.follow);
-      rooms = subst (λ (l : List g.row.A). HaveRoom place (k + 1) (length samples - k) l c.pop_front.new.self.items) (sym further)
+      follow = subst (λ (l : List g.row.A.Denot). Follow place (k + 1) l) (sym further) (later_follow place k rest w.follow);
+      rooms = subst (λ (l : List g.row.A.Denot). HaveRoom place (k + 1) (length samples - k) l c.pop_front.new.self.items) (sym further)
           (subst (λ (j : ℕ). HaveRoom place (k + 1) j (drop (length (requests_first place k rest)) rest) c.pop_front.new.self.items) fewer left.1);
       rows = (let len = c.end_sample.ensures.len in omega (arith, len));
       room = (let cap = c.end_sample.ensures.room in let inv = w.room in omega (arith, cap, inv));

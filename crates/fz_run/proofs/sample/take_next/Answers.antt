@@ -18,8 +18,8 @@ returns-clause-takes g c =
     ∙ ap (λ r. if is_ok r then t.frames.items ++ (t.moment, frame) ∷ [] else t.frames.items) c.unwrap.ensures in
     let told : c.push-2.new.self.items ≡ t.told.items ++ one ∷ [] =
     c.push-2.ensures.items ∙ ap (λ r. if is_ok r then t.told.items ++ one ∷ [] else t.told.items) c.unwrap-2.ensures in
-    let state = c.take-frame.ensures.state ∙ ap (λ (q : g.row.A). parts.handle m.flags q (suspended wav m.state)) c.index-requests-t.is in
-    let tells = c.take-frame.ensures.told ∙ ap (λ (q : g.row.A). parts.tells m.flags q (suspended wav m.state)) c.index-requests-t.is in
+    let state = c.take-frame.ensures.state ∙ ap (λ (q : g.row.A.Denot). parts.handle m.flags q (suspended wav m.state)) c.index-requests-t.is in
+    let tells = c.take-frame.ensures.told ∙ ap (λ (q : g.row.A.Denot). parts.tells m.flags q (suspended wav m.state)) c.index-requests-t.is in
     one_taken (plan_form m.flags parts) h.told t.moment c.args.requests.now t.next c.index-requests-t.result m.state
     c.take-frame.new.m.state t.frames.items c.push.new.self.items frame t.told.items c.push-2.new.self.items one
     (due_within (moment_in parts.place) t.moment c.args.requests.now t.next m.state c.requires.due) c.requires.due state

@@ -15,7 +15,7 @@ use Rattle.watched_runs.proofs.run.run_upsets.Goals as goal
 
 pub run_form-requires : goal.run_form-requires
 run_form-requires c =
-    subst (IsInOrder place_of) (sym c.as_slice.ensures) (c.plans_are_in_order.ensures c.args.plan.now c.requires.plan)
+    record { order = subst (IsInOrder place_of) (sym c.as_slice.ensures) (c.plans_are_in_order.ensures c.args.plan.now c.requires.plan) }
 
 pub returns-clause-rows : goal.returns-clause-rows
 returns-clause-rows c =

@@ -14,7 +14,7 @@ use Rattle.fz_run.proofs.session.Session.new.Goals as goal
 
 pub begun-requires : goal.begun-requires
 begun-requires g c =
-    subst (IsInOrder place_of) (sym c.as_slice.ensures) (plans_are_in_order c.args.plan.now c.requires.plan)
+    record { order = subst (IsInOrder place_of) (sym c.as_slice.ensures) (plans_are_in_order c.args.plan.now c.requires.plan) }
 
 pub returns : goal.returns
 returns g c =
