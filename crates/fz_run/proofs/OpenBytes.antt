@@ -1,5 +1,5 @@
 -- Samples, steps and the push of the sums leave the open bytes.
-use Rattle.std.proofs.Common.{◌≡◌, ℕ, ◌+◌, ◌<◌, ◌≤◌, ◌⊎◌, inl, inr, Bool, true, false, Ok, Result, List, [], ◌∷◌, ◌++◌, length, get_or, refl, ap, sym, ◌∙◌, subst, arith, nat_lt, nat_le}
+use Rattle.std.proofs.Common.{◌≡◌, ℕ, ◌+◌, ◌≤◌, ◌⊎◌, inl, inr, Bool, true, false, Ok, Result, List, [], ◌∷◌, ◌++◌, get_or, refl, ap, sym, ◌∙◌, subst, arith, nat_lt, nat_le}
 use Rattle.std.specs.Prelude.{min, ◌&&◌}
 use Rattle.std.proofs.lemmas.Bool.{or_parts}
 use Rattle.cpu12_isa.specs.declared.instr.Regs.{Regs}
@@ -17,7 +17,6 @@ use Rattle.cpu12_parts.specs.Laws.{IsOff, addresses}
 use Rattle.cpu12_emul.specs.Step.{Left, Next, step_act, applied, next_of}
 use Rattle.cpu12_emul.specs.Simulation.{Simulates, AreSumsReady, HasRoom, IsShownStep, StepAgrees, WavrGoesOn}
 use Rattle.run_law.specs.Uninterrupted.{stepped, state_by}
-use Rattle.codegen.specs.declared.layout.Layout.{Layout}
 use Rattle.fz_run.specs.Facts.{Facts, IsStackOfOneCall}
 use Rattle.fz_run.specs.OpenBytes.{AreOpenAlike, StepsLeaveOpen, GivenLeavesOpen}
 use Rattle.fz_run.proofs.Algebra.{placed_in}

@@ -2,7 +2,6 @@
 use Rattle.std.proofs.Common.{◌≡◌, ℕ, suc, ◌+◌, ◌≤◌, ◌<◌, ◌^◌, List, [], ◌∷◌, length, refl, ap, sym, ◌∙◌, subst, arith}
 use Rattle.std.specs.Prelude.{All, take, map, sum}
 use Rattle.std.proofs.lemmas.List.{take_all}
-use Rattle.std.proofs.lemmas.List.Elements.{All-cons}
 use Rattle.std.proofs.lemmas.Simd.{map-map}
 use Rattle.fuzzy_meaning.specs.declared.block.Block.{Block}
 use Rattle.cpu12_isa.specs.Regions.{is_hidden}
@@ -11,7 +10,7 @@ use Rattle.cpu12_parts.specs.State.{State}
 use Rattle.cpu12_emul.specs.Image.{HoldsImage}
 use Rattle.run_law.specs.Forms.{RowSeen}
 use Rattle.run_law.specs.Uninterrupted.{uninterrupted}
-use Rattle.run_law.specs.Following.{Completes, AllComplete, onto, all_onto, RunsFollow, expected_row, expected_rows}
+use Rattle.run_law.specs.Following.{Completes, AllComplete, RunsFollow, expected_row, expected_rows}
 use Rattle.handler_check.specs.Images.{IsHandler}
 use Rattle.interrupt_plan.specs.declared.Request.{Request}
 use Rattle.interrupt_plan.specs.Plans.{IsGoodRequest, IsGood}
@@ -30,7 +29,7 @@ use Rattle.fz_run.proofs.Algebra.{map-shown_rows, first_same, all_onto_all}
 use Rattle.handled_runs.specs.Open.{is_open_to_code}
 use Rattle.handled_runs.specs.Joint.{joint_memory}
 use Rattle.handled_runs.specs.Forms.{with_code, first_handled, handled_rows, HandledSeen, with_steps, handled_seen}
-use Rattle.handled_runs.specs.Answering.{AreShort, HandledAnswers, HandlesItsBlock}
+use Rattle.handled_runs.specs.Answering.{HandledAnswers, HandlesItsBlock}
 use Rattle.handled_runs.specs.SoundHandled.{CodeLaws, Handled, HandlerStands, opens_free}
 use Rattle.handled_runs.proofs.Beginnings.{code_leaves, joint_agrees, joint_has, first_stands}
 

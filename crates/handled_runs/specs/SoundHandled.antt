@@ -1,37 +1,31 @@
 -- A firmware whose interrupts run an accepted handler is a sound form. The proof stands here, where an impl can cite
 -- it.
-use Rattle.std.proofs.Common.{◌≡◌, ℕ, zero, suc, ◌+◌, ◌<◌, ◌≤◌, ◌⊎◌, inl, inr, Bool, true, false, Ok, Result, Some, List, [], ◌∷◌, ◌++◌, length, get_or, refl, ap, sym, ◌∙◌, subst, arith, nat_lt, nat_le}
-use Rattle.std.specs.Prelude.{All, min, take, ◌&&◌, ◌||◌}
+use Rattle.std.proofs.Common.{◌≡◌, ℕ, zero, suc, ◌+◌, ◌<◌, ◌≤◌, ◌⊎◌, inl, inr, Bool, true, false, Some, List, [], ◌∷◌, length, get_or, refl, ap, sym, ◌∙◌, subst, arith, nat_lt, nat_le}
+use Rattle.std.specs.Prelude.{All, take, ◌&&◌, ◌||◌}
 use Rattle.std.specs.Option.{is_some}
 use Rattle.std.proofs.lemmas.Bool.{or_parts, cases_lt}
 use Rattle.std.proofs.lemmas.Bool.Decides.{nat_tests}
 use Rattle.std.proofs.lemmas.List.Elements.{All-cons}
 use Rattle.cpu12_isa.specs.declared.instr.Regs.{Regs}
 use Rattle.cpu12_isa.specs.declared.instr.Write.{Write}
-use Rattle.cpu12_isa.specs.Act.{outcome, write_all}
-use Rattle.cpu12_isa.specs.Agreement.{Agree, AllShown, IsWritten, WritesAgree, WritesStay}
-use Rattle.cpu12_isa.specs.Memory.{plus, placed, word_of}
+use Rattle.cpu12_isa.specs.Agreement.{Agree, WritesAgree}
+use Rattle.cpu12_isa.specs.Memory.{word_of}
 use Rattle.cpu12_isa.specs.Regions.{is_free, is_hidden, LeavesStack}
 use Rattle.cpu12_asm.specs.Bytes.{byte_at}
 use Rattle.cpu12_parts.specs.declared.temps.Temps.{Temps}
 use Rattle.cpu12_parts.specs.declared.temps.Temps.TheVariants.{Free, Running, OnStack}
 use Rattle.cpu12_parts.specs.State.{State}
-use Rattle.cpu12_parts.specs.Sums.{sum_bytes}
 use Rattle.cpu12_parts.specs.Cuts.{suspended, wav}
-use Rattle.cpu12_parts.specs.Inside.{PushesRunning, PushesNone}
-use Rattle.cpu12_parts.specs.Laws.{IsOff, addresses}
-use Rattle.cpu12_emul.specs.Step.{Left, Next, step_act, applied, next_of}
-use Rattle.cpu12_emul.specs.Simulation.{AreOpen, Simulates, AreSumsReady, HasRoom, IsShownStep, StepAgrees, WavrGoesOn}
-use Rattle.run_law.specs.Uninterrupted.{stepped, state_by}
+use Rattle.cpu12_emul.specs.Simulation.{AreOpen}
+use Rattle.run_law.specs.Uninterrupted.{stepped}
 use Rattle.run_law.specs.Soundness.{below_sums, Begins, Quiet, Sound, WritesAreQuiet}
 use Rattle.handler_check.specs.Images.{IsWhole, IsHandler}
 use Rattle.handler_check.specs.Running.{HasImage, CanEnter, IsQuietCode, HandlersAreQuiet}
 use Rattle.interrupt_plan.specs.declared.Request.{Request}
 use Rattle.interrupt_plan.specs.Plans.{IsGoodRequest}
 use Rattle.codegen.specs.declared.firmware.Firmware.{Firmware}
-use Rattle.codegen.specs.declared.layout.Layout.{Layout}
 use Rattle.fz_run.specs.Forms.{given}
-use Rattle.fz_run.specs.Facts.{Facts, IsStackOfOneCall, FactsBeside}
+use Rattle.fz_run.specs.Facts.{IsStackOfOneCall, FactsBeside}
 use Rattle.fz_run.specs.Following.{IsLow, OpensFree}
 use Rattle.fz_run.specs.OpenBytes.{AreOpenAlike, StepsLeaveOpen, GivenLeavesOpen}
 use Rattle.fz_run.specs.SoundAlone.{low_ports, given_alike, answered_alike, ended_alike}

@@ -1,19 +1,17 @@
 -- The state in which the slow firmware waits for its first sample has the fast code beside it.
-use Rattle.std.proofs.Common.{◌≡◌, ◌==◌, ℕ, zero, suc, ◌+◌, ◌*◌, ◌^◌, ◌<◌, ◌≤◌, Bool, true, false, if◌then◌else◌, Ok, Err, List, [], length, refl, arith}
-use Rattle.std.specs.Prelude.{Result, slice_index}
+use Rattle.std.proofs.Common.{◌≡◌, ◌==◌, ℕ, zero, suc, ◌^◌, ◌<◌, ◌≤◌, Bool, true, false, if◌then◌else◌, Ok, Err, List, [], length, refl, arith}
+use Rattle.std.specs.Prelude.{Result}
 use Rattle.fuzzy_meaning.specs.declared.block.Block.{Block}
 use Rattle.cpu12_isa.specs.Fits.{AreBytes}
-use Rattle.cpu12_isa.specs.Memory.{word_of}
 use Rattle.cpu12_parts.specs.State.{State}
 use Rattle.cpu12_parts.specs.Fits.{FitsState}
 use Rattle.cpu12_emul.specs.Fits.{StepFits}
 use Rattle.cpu12_emul.specs.Image.{image_memory}
 use Rattle.cpu12_emul.specs.Step.{Next, next_of, reset_with}
-use Rattle.codegen.specs.declared.firmware.Firmware.{Firmware}
 use Rattle.fz_run.specs.Rows.{then_arrival, arrival}
 use Rattle.fz_run.specs.Answering.{FirstAlike}
 use Rattle.two_level.specs.declared.two.Two.{Two}
-use Rattle.two_level.specs.Layouts.{fast_layout, is_open_to_fast}
+use Rattle.two_level.specs.Layouts.{is_open_to_fast}
 use Rattle.two_level.specs.Standing.{StandsBeside}
 use Rattle.two_runs.specs.Rows.{first_two}
 use Rattle.two_runs.specs.Levels.{FastStands}

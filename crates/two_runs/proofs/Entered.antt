@@ -1,5 +1,5 @@
 -- A state from which the fast code is entered.
-use Rattle.std.proofs.Common.{ℕ, ◌<◌, ◌≤◌, List, length, refl, inl, arith}
+use Rattle.std.proofs.Common.{ℕ, List, refl, inl, arith}
 use Rattle.fuzzy_meaning.specs.declared.block.Block.{Block}
 use Rattle.cpu12_parts.specs.declared.temps.Temps.TheVariants.{Free}
 use Rattle.cpu12_parts.specs.State.{State}

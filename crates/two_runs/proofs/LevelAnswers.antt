@@ -3,15 +3,14 @@ use Rattle.std.proofs.Common.{◌≡◌, ℕ, ◌≤◌, Bool, List, [], map, le
 use Rattle.std.specs.Prelude.{All, Option}
 use Rattle.cpu12_parts.specs.State.{State}
 use Rattle.cpu12_emul.specs.Image.{image_memory}
-use Rattle.run_law.specs.Forms.{RowSeen, Rows, rows_from}
+use Rattle.run_law.specs.Forms.{RowSeen, Rows}
 use Rattle.run_law.specs.Following.{all_onto, AllFollow, RunsFollow}
 use Rattle.interrupt_plan.specs.declared.levels.Level.{Level}
-use Rattle.interrupt_plan.specs.Levels.{IsGoodLevel, AreGoodLevels}
+use Rattle.interrupt_plan.specs.Levels.{IsGoodLevel}
 use Rattle.codegen.specs.declared.width.Width.TheVariants.{Byte}
 use Rattle.codegen.specs.Widths.{width_of}
 use Rattle.codegen.specs.Bounds.{step_bound}
 use Rattle.codegen.specs.Firmwares.{IsFirmwareOf}
-use Rattle.two_level.specs.declared.two.Two.{Two}
 use Rattle.two_level.specs.Images.{fast_most}
 use Rattle.two_level.specs.Layouts.{is_open_to_fast}
 use Rattle.two_level.specs.Standing.{StandsBeside, TwoStandBeside}

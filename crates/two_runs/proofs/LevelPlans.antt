@@ -1,8 +1,7 @@
 -- Good levels are good requests that write nothing, and each sample's are in order.
-use Rattle.std.proofs.Common.{◌≡◌, ℕ, zero, suc, ◌<◌, ◌≤◌, ◌==◌, nat_lt, Bool, true, false, cond, if◌then◌else◌, not, List, [], ◌∷◌, map, length, refl, ap, ap₂, sym, ◌∙◌, subst, arith}
+use Rattle.std.proofs.Common.{◌≡◌, ℕ, zero, suc, ◌==◌, nat_lt, Bool, true, false, cond, if◌then◌else◌, List, [], ◌∷◌, map, length, refl, ap, ap₂, ◌∙◌, subst, arith}
 use Rattle.std.specs.Prelude.{◌&&◌, ◌||◌, ◌+◌, All, filter, Option, None, Some}
 use Rattle.std.proofs.lemmas.List.Elements.{All-cons}
-use Rattle.cpu12_isa.specs.declared.instr.Write.{Write}
 use Rattle.cpu12_parts.specs.State.{State}
 use Rattle.cpu12_emul.specs.Take.{FrameSeen}
 use Rattle.run_law.specs.Forms.{one_if}

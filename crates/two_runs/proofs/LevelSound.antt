@@ -1,5 +1,5 @@
 -- A slow firmware whose interrupts serve levels is a sound form.
-use Rattle.std.proofs.Common.{◌≡◌, ℕ, ◌+◌, ◌*◌, ◌<◌, ◌≤◌, Bool, false, Option, List, length, ap, sym, ◌∙◌, subst, inl, inr, arith}
+use Rattle.std.proofs.Common.{◌≡◌, ℕ, ◌+◌, ◌*◌, ◌<◌, ◌≤◌, Bool, false, Option, List, length, ap, sym, ◌∙◌, subst, inl, arith}
 use Rattle.cpu12_isa.specs.Agreement.{WritesAgree}
 use Rattle.cpu12_isa.specs.Fits.{AreBytes}
 use Rattle.cpu12_parts.specs.State.{State}
@@ -10,7 +10,6 @@ use Rattle.run_law.specs.Soundness.{Sound, WritesAreQuiet}
 use Rattle.interrupt_plan.specs.declared.levels.Level.{Level}
 use Rattle.interrupt_plan.specs.Levels.{IsGoodLevel}
 use Rattle.codegen.specs.declared.layout.Layout.{Layout}
-use Rattle.codegen.specs.Evaluation.{Reads, Writes}
 use Rattle.codegen.specs.Answers.{LeavesLayout}
 use Rattle.codegen.specs.Layouts.{main_layout}
 use Rattle.two_level.specs.Layouts.{is_open_to_fast}

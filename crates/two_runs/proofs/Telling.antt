@@ -1,21 +1,18 @@
 -- What is told of a fast run is read off its run without inner requests, and answers its sample.
-use Rattle.std.proofs.Common.{◌≡◌, ℕ, zero, suc, ◌+◌, ◌-◌, ◌*◌, ◌^◌, ◌<◌, ◌≤◌, max, List, [], ◌∷◌, length, refl, ap, sym, ◌∙◌, subst, arith}
+use Rattle.std.proofs.Common.{◌≡◌, ℕ, zero, suc, ◌+◌, ◌-◌, ◌*◌, ◌<◌, ◌≤◌, max, List, length, refl, ap, sym, ◌∙◌, arith}
 use Rattle.std.specs.Prelude.{slice_index}
 use Rattle.fuzzy_meaning.specs.declared.block.Block.{Block}
 use Rattle.cpu12_isa.specs.Memory.{plus, from, bytes_at}
 use Rattle.cpu12_parts.specs.State.{State}
 use Rattle.cpu12_emul.specs.Image.{image_memory}
-use Rattle.cpu12_emul.specs.Take.{FrameSeen}
 use Rattle.run_law.specs.Forms.{Ran}
 use Rattle.run_law.specs.Uninterrupted.{counted, taken_at, resumed_of, frames_of}
 use Rattle.interrupt_plan.specs.declared.levels.Level.{Level}
 use Rattle.codegen.specs.declared.width.Width.TheVariants.{Byte}
 use Rattle.codegen.specs.Widths.{answer}
-use Rattle.codegen.specs.Bounds.{instruction_bound}
 use Rattle.codegen.specs.Evaluation.{HasAnswers}
 use Rattle.codegen.specs.Uninterrupted.{IsAnswerOf}
 use Rattle.two_level.specs.declared.two.Two.{Two}
-use Rattle.two_level.specs.Images.{fast_most}
 use Rattle.two_level.specs.Layouts.{fast_layout}
 use Rattle.fz_run.specs.Rows.{bytes_of}
 use Rattle.two_runs.specs.Runs.{entered, fast_run, seen_of}

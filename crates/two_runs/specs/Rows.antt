@@ -3,11 +3,11 @@ use Rattle.std.specs.Prelude.{ℕ, zero, suc, Option, None, List, slice_get}
 use Rattle.cpu12_parts.specs.State.{State}
 use Rattle.run_law.specs.Forms.{Form, RowSeen, Rows, rows_from}
 use Rattle.interrupt_plan.specs.declared.levels.Level.{Level}
-use Rattle.two_level.specs.declared.two.Two.{Two}
-use Rattle.two_level.specs.Images.{fast_most}
 use Rattle.fz_run.specs.Forms.{FormParts, plan_form, stand_alone}
 use Rattle.fz_run.specs.Rows.{of_sample, arrived_at, shown}
-use Rattle.two_runs.specs.Runs.{Outer, FastSeen, served, told}
+use Rattle.two_level.specs.declared.two.Two.{Two}
+use Rattle.two_level.specs.Images.{fast_most}
+use Rattle.two_runs.specs.Runs.{FastSeen, Outer, served, told}
 
 -- the bytes of a fast sample, counted from 1, and none for 0
 abbrev pub sample_of : List (List ℕ) → ℕ → Option (List ℕ)
