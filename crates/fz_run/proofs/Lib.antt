@@ -19,3 +19,4 @@ pub mod UsedLaws
 pub mod Comings
 pub mod Outlooks
 pub mod AtOnce
+pub mod OpenBytes

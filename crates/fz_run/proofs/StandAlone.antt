@@ -1,12 +1,10 @@
 -- A firmware that stands alone is sound under requests that list writes, and so its runs follow those without interrupts.
-use Rattle.std.proofs.Common.{◌≡◌, ℕ, zero, suc, ◌-◌, ◌+◌, ◌≤◌, true, not, List, [], ◌∷◌, refl, ap, ap₂, ◌∙◌, arith, inl, inr, ◌⊎◌}
+use Rattle.std.proofs.Common.{◌≡◌, ℕ, suc, not, List, [], ◌∷◌, refl, ap, ap₂, ◌∙◌}
 use Rattle.cpu12_isa.specs.Regions.{is_free, is_hidden}
 use Rattle.cpu12_isa.proofs.Algebra.{agree_self}
 use Rattle.cpu12_parts.specs.State.{State}
-use Rattle.cpu12_emul.specs.Take.{may_interrupt}
 use Rattle.run_law.specs.Forms.{RowSeen}
-use Rattle.run_law.specs.Uninterrupted.{uninterrupted, counted, first_open, taken_at, resumed_of, frames_of}
-use Rattle.run_law.specs.Soundness.{Before}
+use Rattle.run_law.specs.Uninterrupted.{uninterrupted, counted, resumed_of, frames_of}
 use Rattle.run_law.specs.Following.{AllComplete, expected_rows}
 use Rattle.interrupt_plan.specs.declared.Request.{Request}
 use Rattle.codegen.specs.declared.firmware.Firmware.{Firmware}
@@ -16,23 +14,7 @@ use Rattle.fz_run.specs.Facts.{FactsAlone}
 use Rattle.fz_run.specs.SoundAlone.{free_opens}
 use Rattle.fz_run.specs.Following.{rows_of_samples, RunsFollowAlone, RunsFollowBeside}
 use Rattle.fz_run.specs.Given.{RequestsAreGood}
-use Rattle.fz_run.proofs.Algebra.{before_at}
-
--- where I is 0 throughout a request is taken at its moment
-at_once : (flags : ℕ) (s : State) (k m : ℕ) → ((j : ℕ) → suc j ≤ m + k → may_interrupt (uninterrupted flags j s) ≡ true) → first_open flags s k m ≡ m
-at_once flags s zero m h = refl
-at_once flags s (suc k) m h = let e = h m (omega arith) in rw e refl
-
-taken_is : (flags : ℕ) (f : Firmware) (n : ℕ) (s : State) → Before (FactsAlone flags f) flags n s
-    → taken_at flags (λ (r : Request). r.moment) n s ≡ (λ r. r.moment)
-taken_is flags f n s b = λ i. λ r. at r (within r.moment) i
-  where
-    within : (a : ℕ) → (n - a ≡ 0) ⊎ (n - a + a ≡ n)
-    within a = grind arith
-
-    at : (r : Request) → (n - r.moment ≡ 0) ⊎ (n - r.moment + r.moment ≡ n) → taken_at flags (λ (r : Request). r.moment) n s r ≡ r.moment
-    at r (inl e) = ap (λ (k : ℕ). first_open flags s k r.moment) e
-    at r (inr e) = at_once flags s (n - r.moment) r.moment (λ j l. ap not (let p = before_at (FactsAlone flags f) flags n j s b (omega arith) in let facts = p.facts in facts.unmasked))
+use Rattle.fz_run.proofs.Algebra.{before_at, taken_is}
 
 same_rows : (flags : ℕ) (f : Firmware) (plan : List Request) (k : ℕ) (ns : List ℕ) (samples : List (List ℕ)) (s : State)
     → AllComplete (FactsAlone flags f) (with_writes flags f) ns samples s
@@ -41,7 +23,8 @@ same_rows flags f plan k [] samples s h = refl
 same_rows flags f plan k (n ∷ ns) [] s h = refl
 same_rows flags f plan k (n ∷ ns) (bytes ∷ rest) s h =
     let u : State = given f.layout bytes s in
-    let at = taken_is flags f n u (let z = h.0 in z.holds) in
+    let holds = (let z = h.0 in z.holds) in
+    let at = taken_is flags (λ (r : Request). r.moment) n u (λ j l. ap not (let p = before_at (FactsAlone flags f) flags n j u holds l in let facts = p.facts in facts.unmasked)) in
     ap₂ (λ (x : RowSeen (List ℕ)) (xs : List (RowSeen (List ℕ))). x ∷ xs) (ap (λ (moment : Request → ℕ). by moment) at) (same_rows flags f plan (suc k) ns rest (uninterrupted flags n u) h.1)
   where
     by : (Request → ℕ) → RowSeen (List ℕ)

@@ -13,3 +13,4 @@ pub mod Showing
 pub mod Arrival
 pub mod Instructions
 pub mod Given
+pub mod OpenBytes

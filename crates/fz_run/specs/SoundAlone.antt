@@ -29,36 +29,56 @@ leaves_stack at h =
 pub free_opens : OpensFree is_free
 free_opens = record { apart = leaves_stack; free = λ at h. h; low = λ at h. grind (arith, nat_tests) }
 
--- below what is free a byte is shown
-pub low_shown : (open_to : ℕ → Bool) → OpensFree open_to → (sp at : ℕ) → at < free_start → is_hidden open_to sp at ≡ false
-low_shown open_to opens sp at h =
-    let a : open_to at ≡ false = opens.low at h in
+-- what is not open is shown below what is free
+pub low_shown : (open_to : ℕ → Bool) (sp at : ℕ) → open_to at ≡ false → at < free_start
+    → is_hidden open_to sp at ≡ false
+low_shown open_to sp at a h =
     let b : (nat_le stack_start at && nat_lt at sp) ≡ false = grind (arith, nat_tests) in
     rw (a, b)
+
+-- the bytes that are read from outside are not open
+pub record LeavesPorts (open_to : ℕ → Bool) (f : Firmware) : Type 0 where
+  pub ready : open_to f.layout.ready ≡ false
+  pub outputs : (at : ℕ) → f.layout.outputs ≤ at → at < f.layout.outputs + answer_size f.wide * f.outputs
+      → open_to at ≡ false
+
+below : (a b c : ℕ) → a < b → b ≤ c → a < c
+below a b c l m = omega arith
+
+pub low_ports : (open_to : ℕ → Bool) → OpensFree open_to → (f : Firmware) → IsLow f → LeavesPorts open_to f
+low_ports open_to opens f low = record {
+  ready = opens.low f.layout.ready low.ready;
+  outputs = λ at from to.
+      opens.low at (below at (f.layout.outputs + answer_size f.wide * f.outputs) free_start to low.outputs);
+}
 
 pub all_open : (open_to : ℕ → Bool) → OpensFree open_to → (ws : List Write) → All (λ (w : Write). is_free w.at ≡ true) ws → AreOpen open_to ws
 all_open open_to opens [] g = tt
 all_open open_to opens (w ∷ ws) g = (opens.free w.at (g 0 w (omega arith)), all_open open_to opens ws (λ k x l. g (suc k) x (omega arith)))
 
--- answers that stand below what is free are the same
-same_answer : (open_to : ℕ → Bool) → OpensFree open_to → (wide : Bool) (at sp : ℕ) (m n : List ℕ) → at + answer_size wide ≤ free_start
-    → Agree (is_hidden open_to sp) m n → answer_at wide at m ≡ answer_at wide at n
-same_answer open_to opens false at sp m n l a = a.bytes at (low_shown open_to opens sp at (omega arith))
-same_answer open_to opens true at sp m n l a =
-    let high = a.bytes at (low_shown open_to opens sp at (omega arith)) in
-    ap₂ word_of high (a.bytes (plus at 1) (low_shown open_to opens sp (plus at 1) (omega arith)))
+-- answers that stand in shown bytes are the same
+same_answer : (hidden : ℕ → Bool) (wide : Bool) (at : ℕ) (m n : List ℕ) → at + answer_size wide ≤ free_start
+    → ((j : ℕ) → at ≤ j → j < at + answer_size wide → hidden j ≡ false) → Agree hidden m n
+    → answer_at wide at m ≡ answer_at wide at n
+same_answer hidden false at m n l h a = a.bytes at (h at (omega arith) (omega arith))
+same_answer hidden true at m n l h a =
+    let high = a.bytes at (h at (omega arith) (omega arith)) in
+    ap₂ word_of high (a.bytes (plus at 1) (h (plus at 1) (omega arith) (omega arith)))
 
-same_answers : (open_to : ℕ → Bool) → OpensFree open_to → (wide : Bool) (k at sp : ℕ) (m n : List ℕ) → at + answer_size wide * k ≤ free_start
-    → Agree (is_hidden open_to sp) m n → answers_at wide k at m ≡ answers_at wide k at n
-same_answers open_to opens wide zero at sp m n l a = refl
-same_answers open_to opens false (suc k) at sp m n l a =
-    let next : plus at 1 + 1 * k ≤ free_start = omega arith in
-    ap₂ (λ (x : ℕ) (xs : List ℕ). x ∷ xs) (same_answer open_to opens false at sp m n (omega arith) a)
-    (same_answers open_to opens false k (plus at 1) sp m n next a)
-same_answers open_to opens true (suc k) at sp m n l a =
-    let next : plus at 2 + 2 * k ≤ free_start = omega arith in
-    ap₂ (λ (x : ℕ) (xs : List ℕ). x ∷ xs) (same_answer open_to opens true at sp m n (omega arith) a)
-    (same_answers open_to opens true k (plus at 2) sp m n next a)
+same_answers : (hidden : ℕ → Bool) (wide : Bool) (k at : ℕ) (m n : List ℕ) → at + answer_size wide * k ≤ free_start
+    → ((j : ℕ) → at ≤ j → j < at + answer_size wide * k → hidden j ≡ false) → Agree hidden m n
+    → answers_at wide k at m ≡ answers_at wide k at n
+same_answers hidden wide zero at m n l h a = refl
+same_answers hidden false (suc k) at m n l h a =
+    let next : plus at 1 ≡ at + 1 = omega arith in
+    ap₂ (λ (x : ℕ) (xs : List ℕ). x ∷ xs)
+    (same_answer hidden false at m n (omega arith) (λ j from to. h j from (omega arith)) a)
+    (same_answers hidden false k (plus at 1) m n (omega arith) (λ j from to. h j (omega arith) (omega arith)) a)
+same_answers hidden true (suc k) at m n l h a =
+    let next : plus at 2 ≡ at + 2 = omega arith in
+    ap₂ (λ (x : ℕ) (xs : List ℕ). x ∷ xs)
+    (same_answer hidden true at m n (omega arith) (λ j from to. h j from (omega arith)) a)
+    (same_answers hidden true k (plus at 2) m n (omega arith) (λ j from to. h j (omega arith) (omega arith)) a)
 
 -- samples are given, answers read and ends seen alike
 pub given_alike : WritesAgree → (open_to : ℕ → Bool) (f : Firmware) (x : List ℕ) (w s : State) → Same open_to w s
@@ -68,15 +88,17 @@ given_alike agree open_to f x w s l =
     let writes = placed f.layout.samples x ++ (f.layout.ready, 1) ∷ [] in
     record { regs = l.regs; temps = l.temps; mem = agree writes w.mem s.mem hidden hidden l.mem (λ at h. inl h) }
 
-pub answered_alike : (open_to : ℕ → Bool) → OpensFree open_to → (f : Firmware) → IsLow f → (w s : State) → Same open_to w s
-    → answers_in f w ≡ answers_in f s
-answered_alike open_to opens f low w s l =
-    same_answers open_to opens f.wide f.outputs f.layout.outputs s.regs.sp w.mem s.mem low.outputs l.mem
+pub answered_alike : (open_to : ℕ → Bool) (f : Firmware) → LeavesPorts open_to f → IsLow f → (w s : State)
+    → Same open_to w s → answers_in f w ≡ answers_in f s
+answered_alike open_to f ports low w s l =
+    same_answers (is_hidden open_to s.regs.sp) f.wide f.outputs f.layout.outputs w.mem s.mem low.outputs
+    (λ j from to. low_shown open_to s.regs.sp j (ports.outputs j from to)
+    (below j (f.layout.outputs + answer_size f.wide * f.outputs) free_start to low.outputs)) l.mem
 
-pub ended_alike : (open_to : ℕ → Bool) → OpensFree open_to → (f : Firmware) → IsLow f → (w s : State) → Same open_to w s
-    → is_idle f.layout w ≡ is_idle f.layout s
-ended_alike open_to opens f low w s l =
-    let ready = low_shown open_to opens s.regs.sp f.layout.ready low.ready in
+pub ended_alike : (open_to : ℕ → Bool) (f : Firmware) → LeavesPorts open_to f → IsLow f → (w s : State)
+    → Same open_to w s → is_idle f.layout w ≡ is_idle f.layout s
+ended_alike open_to f ports low w s l =
+    let ready = low_shown open_to s.regs.sp f.layout.ready ports.ready low.ready in
     let waits : ℕ → ℕ → Bool = λ p v. (p == f.layout.wait) && (v == 0) in
     ap₂ waits (ap (λ (r : Regs). r.pc) l.regs) (l.mem.bytes f.layout.ready ready)
 
@@ -87,8 +109,8 @@ sound open_to opens flags f low agree quiet = record {
   shown = λ s p. (let facts = p.facts in facts.shown);
   gives = λ x w s l. given_alike agree open_to f x w s l;
   leaves = λ x w s l. l;
-  answers = λ w s l. answered_alike open_to opens f low w s l;
-  ends = λ m w s l. ended_alike open_to opens f low w s l;
+  answers = λ w s l. answered_alike open_to f (low_ports open_to opens f low) low w s l;
+  ends = λ m w s l. ended_alike open_to f (low_ports open_to opens f low) low w s l;
   quiet = λ done a v s good p may begins own.
       (let facts = p.facts in
       let shown = facts.shown in

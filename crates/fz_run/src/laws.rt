@@ -4,6 +4,7 @@ ghost use Rattle.fz_run.specs.Arrival.{ArrivesPlainly};
 ghost use Rattle.fz_run.specs.Following.{RunsFollowAlone, RunsFollowBeside};
 ghost use Rattle.fz_run.specs.Given.{GivenIsPut, PlansAreInOrder, RequestsAreGood};
 ghost use Rattle.fz_run.specs.Instructions.{InstructionsAreSteps, PlainIsOneStep};
+ghost use Rattle.fz_run.specs.OpenBytes.{GivenLeavesOpen, StepsLeaveOpen};
 ghost use Rattle.fz_run.specs.Showing.{RowsAreShown};
 
 use crate::alone::StandAlone;
@@ -11,11 +12,13 @@ use crate::form::RunForm;
 use codegen::laws::{
     answered_are_uninterrupted, firmware_answers, firmware_answers_beside, firmware_arrives_alike,
 };
-use cpu12_emul::laws::{plain_is_step, rev_is_step, revw_is_step, sums_are_step, wav_is_step};
+use cpu12_emul::laws::{
+    plain_is_step, rev_is_step, revw_is_step, step_agrees, sums_are_step, wav_is_step, wavr_goes_on,
+};
 use cpu12_isa::laws::{bytes_stay, decoded_has_opcode, writes_stay};
 use cpu12_parts::laws::{
     rev_fits, rev_is_whole, rev_stays, rev_steady, revw_fits, revw_is_whole, revw_stays,
-    revw_steady, wav_fits, wav_is_whole, wav_stays, wav_steady,
+    revw_steady, wav_fits, wav_is_whole, wav_stays, wav_steady, wav_suspends,
 };
 use run_law::laws::runs_follow;
 
@@ -135,4 +138,21 @@ pub fn first_states_alike()
 {
     arrives_plainly();
     firmware_arrives_alike();
+}
+
+/// A step of a run under interrupts leaves what is open to handlers, and so does the push of the sums.
+pub fn steps_leave_open()
+    ensures { StepsLeaveOpen }
+{
+    step_agrees();
+    wavr_goes_on();
+    writes_stay();
+    wav_suspends();
+}
+
+/// A sample leaves what is open to handlers, where its bytes and READY are not open.
+pub fn given_leaves_open()
+    ensures { GivenLeavesOpen }
+{
+    writes_stay();
 }

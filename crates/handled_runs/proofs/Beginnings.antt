@@ -1,8 +1,7 @@
 -- Where a run begins whose interrupts run code.
 use Rattle.std.proofs.Common.{◌≡◌, ◌≢◌, ℕ, ◌+◌, ◌*◌, ◌^◌, ◌<◌, ◌≤◌, ◌⊎◌, inl, inr, Bool, true, false, cond, Option, Some, None, List, [], ◌++◌, get_or, refl, ap, ap₂, sym, ◌∙◌, subst, arith, nat_cmp}
-use Rattle.std.specs.Prelude.{◌&&◌, nat_le, nat_lt}
 use Rattle.std.specs.BTreeMap.{is_at}
-use Rattle.std.proofs.lemmas.Bool.{or_parts, cases_lt}
+use Rattle.std.proofs.lemmas.Bool.{cases_lt}
 use Rattle.std.proofs.lemmas.Bool.Decides.{nat_tests}
 use Rattle.std.proofs.lemmas.List.{get_or_past}
 use Rattle.cpu12_isa.specs.Agreement.{Agree}
@@ -10,14 +9,12 @@ use Rattle.cpu12_asm.specs.Bytes.{byte_at}
 use Rattle.cpu12_asm.proofs.Algebra.{or_else, byte_at-append}
 use Rattle.cpu12_parts.specs.State.{State}
 use Rattle.cpu12_emul.specs.Image.{byte_or_zero, image_memory, HoldsImage}
-use Rattle.cpu12_emul.specs.Simulation.{Same}
 use Rattle.handler_check.specs.Images.{IsWhole}
 use Rattle.handler_check.specs.Running.{HasImage}
 use Rattle.codegen.specs.declared.firmware.Firmware.{Firmware}
 use Rattle.codegen.specs.Layouts.{main_layout}
 use Rattle.codegen.specs.Evaluation.{Reads, Writes}
 use Rattle.codegen.specs.Answers.{LeavesLayout}
-use Rattle.fz_run.specs.Rows.{first_state}
 use Rattle.fz_run.specs.Answering.{FirstAlike}
 use Rattle.handled_runs.specs.Open.{is_open_to_code}
 use Rattle.handled_runs.specs.Joint.{joint_bytes, joint_memory}
@@ -111,14 +108,7 @@ joint_has holds firmware handler w =
           a.1 at (omega arith) ∙ ap byte_or_zero (behind_vector firmware handler at (λ z. omega arith) (λ z. omega arith) ∙ ap (λ (o : Option ℕ). or_else o (byte_at firmware at)) e));
     }
 
--- the first state is that of the firmware alone but for what is open, and the handler stands there
-pub first_same : (f : Firmware) (flags : ℕ) (mem : List ℕ) (w : State) → FirstAlike is_open_to_code f flags mem w → Same is_open_to_code w (first_state f flags)
-first_same f flags mem w h = record {
-  regs = h.regs;
-  temps = h.temps;
-  mem = (let a = h.bytes in record { size = a.size; bytes = λ at shown. a.bytes at (or_parts (is_open_to_code at) (nat_le 0x1FE0 at && nat_lt at (first_state f flags).regs.sp) shown).0 });
-}
-
+-- the handler stands in the first state
 pub first_stands : (f : Firmware) (flags : ℕ) (handler : List (ℕ × ℕ)) (most : ℕ) (mem : List ℕ) (w : State) → IsWhole handler → FirstAlike is_open_to_code f flags mem w
     → HasImage handler mem → HandlerStands handler most [] w
 first_stands f flags handler most mem w whole h has = record {

@@ -2,7 +2,6 @@
 use Rattle.std.proofs.Common.{◌≡◌, ℕ, suc, ◌+◌, ◌≤◌, ◌<◌, ◌^◌, List, [], ◌∷◌, length, refl, ap, sym, ◌∙◌, subst, arith}
 use Rattle.std.specs.Prelude.{All, take, map, sum}
 use Rattle.std.proofs.lemmas.List.{take_all}
-use Rattle.std.proofs.lemmas.List.Elements.{All-cons}
 use Rattle.std.proofs.lemmas.Simd.{map-map}
 use Rattle.fuzzy_meaning.specs.declared.block.Block.{Block}
 use Rattle.cpu12_isa.specs.Regions.{is_hidden}
@@ -11,7 +10,7 @@ use Rattle.cpu12_parts.specs.State.{State}
 use Rattle.cpu12_emul.specs.Image.{HoldsImage}
 use Rattle.run_law.specs.Forms.{RowSeen}
 use Rattle.run_law.specs.Uninterrupted.{uninterrupted}
-use Rattle.run_law.specs.Following.{Completes, AllComplete, onto, all_onto, RunsFollow, expected_row, expected_rows}
+use Rattle.run_law.specs.Following.{Completes, AllComplete, RunsFollow, expected_row, expected_rows}
 use Rattle.handler_check.specs.Images.{IsHandler}
 use Rattle.interrupt_plan.specs.declared.Request.{Request}
 use Rattle.interrupt_plan.specs.Plans.{IsGoodRequest, IsGood}
@@ -26,13 +25,13 @@ use Rattle.fz_run.specs.Facts.{FactsBeside}
 use Rattle.fz_run.specs.Following.{RunsFollowBeside}
 use Rattle.fz_run.specs.Given.{RequestsAreGood}
 use Rattle.fz_run.specs.Answering.{FirmwareRunsBeside, FirstAlike, FirstStatesAlike}
-use Rattle.fz_run.proofs.Algebra.{map-shown_rows}
+use Rattle.fz_run.proofs.Algebra.{map-shown_rows, first_same, all_onto_all}
 use Rattle.handled_runs.specs.Open.{is_open_to_code}
 use Rattle.handled_runs.specs.Joint.{joint_memory}
 use Rattle.handled_runs.specs.Forms.{with_code, first_handled, handled_rows, HandledSeen, with_steps, handled_seen}
-use Rattle.handled_runs.specs.Answering.{AreShort, HandledAnswers, HandlesItsBlock}
+use Rattle.handled_runs.specs.Answering.{HandledAnswers, HandlesItsBlock}
 use Rattle.handled_runs.specs.SoundHandled.{CodeLaws, Handled, HandlerStands, opens_free}
-use Rattle.handled_runs.proofs.Beginnings.{code_leaves, joint_agrees, joint_has, first_same, first_stands}
+use Rattle.handled_runs.proofs.Beginnings.{code_leaves, joint_agrees, joint_has, first_stands}
 
 -- samples of at most eight bytes
 abbrev AreFew : List (List ℕ) → Type 0
@@ -73,23 +72,6 @@ expected flags f most asks k (n ∷ ns) (x ∷ xs) s few =
     ∙ ap (λ (rows : List (RowSeen (List ℕ))). expected_row (with_writes flags f) (asks k) n x (given f.layout x s) ∷ rows)
     (expected flags f most asks (suc k) ns xs (uninterrupted flags n (given f.layout x s)) few.1)
 
--- what is short of all that was told is short of each sample
-onto_short : (most : ℕ) (xs done : List (Request × ℕ)) → AreShort most (onto xs done) → AreShort most xs × AreShort most done
-onto_short most [] done h = (λ k x lt. absurd (omega arith), h)
-onto_short most (x ∷ xs) done h =
-    let rest = onto_short most xs (x ∷ done) h in
-    (short x xs (let one = rest.1 in one 0 x (omega arith)) rest.0, λ k y lt. (let later = rest.1 in later (suc k) y (omega arith)))
-  where
-    short : (x : Request × ℕ) (xs : List (Request × ℕ)) → x.1 ≤ most → AreShort most xs → AreShort most (x ∷ xs)
-    short x xs l h = All-cons (λ (t : Request × ℕ). t.1 ≤ most) x xs l h
-
-all_short : (most : ℕ) (xss : List (List (Request × ℕ))) (done : List (Request × ℕ)) → AreShort most (all_onto xss done) → All (AreShort most) xss × AreShort most done
-all_short most [] done h = (λ k x lt. absurd (omega arith), h)
-all_short most (xs ∷ xss) done h =
-    let rest = all_short most xss (onto xs done) h in
-    let here = onto_short most xs done rest.1 in
-    (All-cons (AreShort most) xs xss here.0 rest.0, here.1)
-
 -- the laws of lower crates, and the law on runs
 pub record Laws : Type 0 where
   pub code : CodeLaws
@@ -117,14 +99,14 @@ handled_answers laws b f handler most flags samples plan hf good is v limits h a
     let asks : ℕ → List Request = λ k. requests_of k plan in
     let P = FactsBeside is_open_to_code flags f in
     let code = laws.runs_follow x asks (laws.requests_are_good plan good) [] 1 f.step_bound ns samples w s runs.within
-    (complete P flags f most ns samples s few runs.complete) (first_same f flags mem w alike) stands in
+    (complete P flags f most ns samples s few runs.complete) (first_same is_open_to_code f flags mem w alike) stands in
     let listed = laws.runs_follow_beside is_open_to_code flags f opens_free runs.low asks (laws.requests_are_good plan good) [] 1 f.step_bound ns samples s s runs.within
     runs.complete (record { regs = refl; temps = refl; mem = agree_self (is_hidden is_open_to_code s.regs.sp) s.mem }) tt in
     let own = code.own in
     record {
       arrived = code.arrived;
       rows_are = code.rows_are ∙ expected flags f most asks 1 ns samples s few ∙ sym listed.rows_are;
-      short = (all_short most (handled_rows f handler most samples plan flags).told [] own.short).0;
+      short = (all_onto_all (λ (t : Request × ℕ). t.1 ≤ most) (handled_rows f handler most samples plan flags).told [] own.short).0;
     }
 
 -- the rows as they are shown

@@ -1,50 +1,42 @@
 -- A firmware whose interrupts run an accepted handler is a sound form. The proof stands here, where an impl can cite
 -- it.
-use Rattle.std.proofs.Common.{◌≡◌, ℕ, zero, suc, ◌+◌, ◌<◌, ◌≤◌, ◌⊎◌, inl, inr, Bool, true, false, Ok, Result, Some, List, [], ◌∷◌, ◌++◌, length, get_or, refl, ap, sym, ◌∙◌, subst, arith, nat_lt, nat_le}
-use Rattle.std.specs.Prelude.{All, min, take, ◌&&◌, ◌||◌}
+use Rattle.std.proofs.Common.{◌≡◌, ℕ, zero, suc, ◌+◌, ◌<◌, ◌≤◌, ◌⊎◌, inl, inr, Bool, true, false, Some, List, [], ◌∷◌, length, get_or, refl, ap, sym, ◌∙◌, subst, arith, nat_lt, nat_le}
+use Rattle.std.specs.Prelude.{All, take, ◌&&◌, ◌||◌}
 use Rattle.std.specs.Option.{is_some}
 use Rattle.std.proofs.lemmas.Bool.{or_parts, cases_lt}
 use Rattle.std.proofs.lemmas.Bool.Decides.{nat_tests}
 use Rattle.std.proofs.lemmas.List.Elements.{All-cons}
 use Rattle.cpu12_isa.specs.declared.instr.Regs.{Regs}
 use Rattle.cpu12_isa.specs.declared.instr.Write.{Write}
-use Rattle.cpu12_isa.specs.Act.{outcome, write_all}
-use Rattle.cpu12_isa.specs.Agreement.{Agree, AllShown, IsWritten, WritesAgree, WritesStay}
-use Rattle.cpu12_isa.specs.Memory.{plus, placed, word_of}
+use Rattle.cpu12_isa.specs.Agreement.{Agree, WritesAgree}
+use Rattle.cpu12_isa.specs.Memory.{word_of}
 use Rattle.cpu12_isa.specs.Regions.{is_free, is_hidden, LeavesStack}
 use Rattle.cpu12_asm.specs.Bytes.{byte_at}
 use Rattle.cpu12_parts.specs.declared.temps.Temps.{Temps}
 use Rattle.cpu12_parts.specs.declared.temps.Temps.TheVariants.{Free, Running, OnStack}
 use Rattle.cpu12_parts.specs.State.{State}
-use Rattle.cpu12_parts.specs.Sums.{sum_bytes}
 use Rattle.cpu12_parts.specs.Cuts.{suspended, wav}
-use Rattle.cpu12_parts.specs.Inside.{PushesRunning, PushesNone}
-use Rattle.cpu12_parts.specs.Laws.{IsOff, addresses}
-use Rattle.cpu12_emul.specs.Step.{Left, Next, step_act, applied, next_of}
-use Rattle.cpu12_emul.specs.Simulation.{AreOpen, Simulates, AreSumsReady, HasRoom, IsShownStep, StepAgrees, WavrGoesOn}
-use Rattle.run_law.specs.Uninterrupted.{stepped, state_by}
+use Rattle.cpu12_emul.specs.Simulation.{AreOpen}
+use Rattle.run_law.specs.Uninterrupted.{stepped}
 use Rattle.run_law.specs.Soundness.{below_sums, Begins, Quiet, Sound, WritesAreQuiet}
 use Rattle.handler_check.specs.Images.{IsWhole, IsHandler}
 use Rattle.handler_check.specs.Running.{HasImage, CanEnter, IsQuietCode, HandlersAreQuiet}
 use Rattle.interrupt_plan.specs.declared.Request.{Request}
 use Rattle.interrupt_plan.specs.Plans.{IsGoodRequest}
 use Rattle.codegen.specs.declared.firmware.Firmware.{Firmware}
-use Rattle.codegen.specs.declared.layout.Layout.{Layout}
 use Rattle.fz_run.specs.Forms.{given}
-use Rattle.fz_run.specs.Facts.{Facts, IsStackOfOneCall, FactsBeside}
+use Rattle.fz_run.specs.Facts.{IsStackOfOneCall, FactsBeside}
 use Rattle.fz_run.specs.Following.{IsLow, OpensFree}
-use Rattle.fz_run.specs.SoundAlone.{given_alike, answered_alike, ended_alike}
+use Rattle.fz_run.specs.OpenBytes.{AreOpenAlike, StepsLeaveOpen, GivenLeavesOpen}
+use Rattle.fz_run.specs.SoundAlone.{low_ports, given_alike, answered_alike, ended_alike}
 use Rattle.handled_runs.specs.Open.{is_code, is_vector, is_open_to_code}
 use Rattle.handled_runs.specs.Forms.{served, with_code}
 use Rattle.handled_runs.specs.Answering.{AreShort}
 
 -- the laws of lower crates
 pub record CodeLaws : Type 0 where
-  pub step_agrees : StepAgrees
-  pub wavr_goes_on : WavrGoesOn
-  pub writes_stay : WritesStay
-  pub pushes_running : PushesRunning
-  pub pushes_none : PushesNone
+  pub steps_leave_open : StepsLeaveOpen
+  pub given_leaves_open : GivenLeavesOpen
   pub handlers_are_quiet : HandlersAreQuiet
 
 -- a firmware whose bytes stand low, and an accepted handler
@@ -119,24 +111,12 @@ image_stays image m n w keeps h = record {
 }
 
 stands : (image : List (ℕ × ℕ)) (most : ℕ) (done : List (Request × ℕ)) (w u : State) → IsWhole image
-    → Keeps w.mem u.mem
+    → AreOpenAlike is_open_to_code w.mem u.mem
     → HandlerStands image most done w → HandlerStands image most done u
-stands image most done w u whole keeps h = record { image = image_stays image w.mem u.mem whole keeps h.image; short = h.short }
-
--- writes that stand low keep them
-kept : WritesStay → (ws : List (ℕ × ℕ)) (m : List ℕ) → ((at : ℕ) → IsWritten ws at → at < 0x4000)
-    → Keeps m (write_all ws m)
-kept stay ws m low at from is = (stay ws m).1 at (λ w. (let l = low at w in omega arith))
-
-placed_low : (vs : List ℕ) (p at : ℕ) → p + length vs ≤ 0x4000 → IsWritten (placed p vs) at → at < 0x4000
-placed_low [] p at l w = absurd w
-placed_low (v ∷ vs) p at l (inl e) = omega arith
-placed_low (v ∷ vs) p at l (inr w) = placed_low vs (plus p 1) at (omega arith) w
-
-written_in : (a b : List (ℕ × ℕ)) (at : ℕ) → IsWritten (a ++ b) at → IsWritten a at ⊎ IsWritten b at
-written_in [] b at w = inr w
-written_in (x ∷ a) b at (inl e) = inl (inl e)
-written_in (x ∷ a) b at (inr w) = elim (written_in a b at w) [ inl h ↦ inl (inr h) | inr h ↦ inr h ]
+stands image most done w u whole alike h = record {
+  image = image_stays image w.mem u.mem whole (λ at from is. alike at is) h.image;
+  short = h.short;
+}
 
 take_few : (n : ℕ) (xs : List ℕ) → length (take n xs) ≤ n
 take_few zero [] = omega arith
@@ -144,91 +124,10 @@ take_few zero (x ∷ xs) = omega arith
 take_few (suc n) [] = omega arith
 take_few (suc n) (x ∷ xs) = let rest = take_few n xs in omega arith
 
-given_keeps : WritesStay → (l : Layout) (x : List ℕ) (w : State) → l.samples + 8 ≤ 0x1800 → l.ready < 0x1800
-    → Keeps w.mem (given l (take 8 x) w).mem
-given_keeps stay l x w samples ready = kept stay (placed l.samples (take 8 x) ++ (l.ready, 1) ∷ []) w.mem low
-  where
-    low : (at : ℕ) → IsWritten (placed l.samples (take 8 x) ++ (l.ready, 1) ∷ []) at → at < 0x4000
-    low at h = elim (written_in (placed l.samples (take 8 x)) ((l.ready, 1) ∷ []) at h) [
-      | inl w ↦ (let few = take_few 8 x in placed_low (take 8 x) l.samples at (omega arith) w)
-      | inr w ↦ elim w [ inl e ↦ omega arith | inr none ↦ absurd none ]
-    ]
-
 -- SP under interrupts
 sp_near : (sp : ℕ) → IsStackOfOneCall sp → (0x1FFE ≤ sp) × (sp ≤ 0x2000)
 sp_near sp (inl e) = (omega arith, omega arith)
 sp_near sp (inr e) = (omega arith, omega arith)
-
-sp_of : (w s : State) → IsStackOfOneCall s.regs.sp → Simulates is_open_to_code w s
-    → (0x1FF8 ≤ w.regs.sp) × (w.regs.sp ≤ 0x2000)
-sp_of w s k (inl l) =
-    let near = sp_near s.regs.sp k in
-    let e = ap (λ (r : Regs). r.sp) l.regs in
-    (omega (arith, near.0), omega (arith, near.1))
-sp_of w s k (inr l) =
-    let near = sp_near s.regs.sp k in
-    let e : w.regs.sp ≡ plus s.regs.sp 65530 = ap (λ (r : Regs). r.sp) l.regs in
-    (omega (arith, near.0, near.1), omega (arith, near.0, near.1))
-
--- the push of the sums
-pushes_keep : CodeLaws → (w : State) → 0x1FF8 ≤ w.regs.sp → w.regs.sp ≤ 0x2000 → Keeps w.mem (suspended wav w).mem
-pushes_keep laws w lo hi = cases w.temps refl
-  where
-    same : IsOff w.temps → Keeps w.mem (suspended wav w).mem
-    same off = subst (λ (v : State). Keeps w.mem v.mem) (sym (laws.pushes_none w off)) (λ at from is. refl)
-
-    cases : (t : Temps) → w.temps ≡ t → Keeps w.mem (suspended wav w).mem
-    cases Free e = same (inl e)
-    cases OnStack e = same (inr e)
-    cases (Running p q) e =
-        let sp : plus w.regs.sp 65530 + 6 ≤ 0x2000 = omega arith in
-        subst (λ (v : State). Keeps w.mem v.mem) (sym (laws.pushes_running w p q e))
-        (kept laws.writes_stay (placed (plus w.regs.sp 65530) (sum_bytes p q)) w.mem (λ at h. placed_low (sum_bytes p q) (plus w.regs.sp 65530) at (omega arith) h))
-
--- a step writes what it writes without interrupts
-step_left : CodeLaws → (flags : ℕ) (w s : State) → (k : IsShownStep is_open_to_code flags s)
-    → Simulates is_open_to_code w s
-    → outcome (step_act flags w.regs w.temps) w.mem ≡ Ok k.left
-step_left laws flags w s k (inl l) =
-    let both =
-    laws.step_agrees flags s.regs s.temps w.mem s.mem k.left (is_hidden is_open_to_code s.regs.sp)
-    (is_hidden is_open_to_code k.left.regs.sp) l.mem k.reads k.goes k.covers in
-    ap (λ (r : Regs). outcome (step_act flags r w.temps) w.mem) l.regs
-    ∙ ap (λ (u : Temps). outcome (step_act flags s.regs u) w.mem) l.temps ∙ both.0
-step_left laws flags w s k (inr l) =
-    let good : AreSumsReady is_open_to_code s (Running l.product l.weight) =
-    subst (λ (u : Temps). AreSumsReady is_open_to_code s u) l.running k.sums in
-    let room : HasRoom s = k.room in
-    let fits = room.fits in
-    let code : get_or w.mem s.regs.pc 0 ≡ 60 = l.mem.bytes s.regs.pc good.3 ∙ good.2 in
-    let both =
-    laws.step_agrees flags s.regs s.temps w.mem s.mem k.left (is_hidden is_open_to_code s.regs.sp)
-    (is_hidden is_open_to_code k.left.regs.sp) l.mem k.reads k.goes k.covers in
-    ap (λ (r : Regs). outcome (step_act flags r w.temps) w.mem) l.regs
-    ∙ laws.wavr_goes_on flags s.regs w.temps l.product l.weight w.mem l.temps fits.sp good.0 good.1 code l.sums
-    ∙ ap (λ (u : Temps). outcome (step_act flags s.regs u) w.mem) (sym l.running)
-    ∙ both.0
-
-shown_not : (hidden : ℕ → Bool) (ws : List (ℕ × ℕ)) (at : ℕ) → AllShown hidden (addresses ws) → IsWritten ws at
-    → hidden at ≡ false
-shown_not hidden [] at a w = absurd w
-shown_not hidden (x ∷ ws) at a (inl e) = ap hidden e ∙ a.0
-shown_not hidden (x ∷ ws) at a (inr w) = shown_not hidden ws at a.1 w
-
-open_not : (sp at : ℕ) → is_open_to_code at ≡ true → is_hidden is_open_to_code sp at ≡ false → ⊥
-open_not sp at is h = both (is_open_to_code at) is
-    (or_parts (is_open_to_code at) (nat_le 0x1FE0 at && nat_lt at sp) h).0
-
-steps_keep : CodeLaws → (flags : ℕ) (w s : State) → Facts is_open_to_code flags s → Simulates is_open_to_code w s
-    → Keeps w.mem (stepped flags w).mem
-steps_keep laws flags w s facts l at from is =
-    let k = facts.shown in
-    let e : next_of flags w ≡ applied (Ok k.left) w.mem =
-    ap (λ (o : Result Left ℕ). applied o w.mem) (step_left laws flags w s k l) in
-    let low = min s.regs.sp k.left.regs.sp in
-    ap (λ (o : Result Next ℕ). get_or (state_by w o).mem at 0) e
-    ∙ (laws.writes_stay k.left.writes w.mem).1 at
-    (λ h. open_not low at is (shown_not (is_hidden is_open_to_code low) k.left.writes at facts.writes h))
 
 -- an interrupt
 all_open : (ws : List Write) → All (λ (w : Write). is_free w.at ≡ true) ws → AreOpen is_free ws
@@ -290,21 +189,26 @@ sound x agree quiet =
     let whole = (let k = x.is_handler in k.whole) in
     let laws = x.laws in
     let ready = (let low = x.low in low.ready) in
+    let ports = low_ports is_open_to_code opens_free x.firmware x.low in
     record {
       apart = opens_free.apart;
       shown = λ s p. (let facts = p.facts in facts.shown);
       gives = λ bytes w s l. given_alike agree is_open_to_code x.firmware (take 8 bytes) w s l;
       leaves = λ bytes w s l. l;
-      answers = λ w s l. answered_alike is_open_to_code opens_free x.firmware x.low w s l;
-      ends = λ m w s l. ended_alike is_open_to_code opens_free x.firmware x.low w s l;
+      answers = λ w s l. answered_alike is_open_to_code x.firmware ports x.low w s l;
+      ends = λ m w s l. ended_alike is_open_to_code x.firmware ports x.low w s l;
       quiet = λ done a v s good p may begins own. serves x done a v s good p begins own;
       leaves_open = record {
         gives = λ done bytes w o. stands x.handler x.most done w (given x.firmware.layout (take 8 bytes) w) whole
-            (given_keeps laws.writes_stay x.firmware.layout bytes w x.samples ready) o;
+            (laws.given_leaves_open is_open_to_code x.firmware.layout (take 8 bytes) w (take_few 8 bytes)
+            (let end = x.samples in omega (arith, end)) (opens_free.low x.firmware.layout.ready ready)
+            (λ at from to. opens_free.low at (let end = x.samples in omega (arith, end, to)))) o;
         leaves = λ done bytes w o. o;
         pushes = λ done w s p l o.
-            (let sp = sp_of w s p.stack l in stands x.handler x.most done w (suspended wav w) whole (pushes_keep laws w sp.0 sp.1) o);
-        steps = λ done w s p l o. stands x.handler x.most done w (stepped x.flags w) whole
-            (steps_keep laws x.flags w s p.facts l) o;
+            (let left = laws.steps_leave_open is_open_to_code x.flags x.firmware w s opens_free.apart p l in
+            stands x.handler x.most done w (suspended wav w) whole left.pushes o);
+        steps = λ done w s p l o.
+            (let left = laws.steps_leave_open is_open_to_code x.flags x.firmware w s opens_free.apart p l in
+            stands x.handler x.most done w (stepped x.flags w) whole left.steps o);
       };
     }

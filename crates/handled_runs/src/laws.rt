@@ -2,11 +2,10 @@
 ghost use Rattle.handled_runs.specs.Answering.{HandledAnswers};
 
 use crate::handled::HandledForm;
-use cpu12_emul::laws::{holds_image, step_agrees, wavr_goes_on};
-use cpu12_isa::laws::writes_stay;
-use cpu12_parts::laws::wav_suspends;
+use cpu12_emul::laws::holds_image;
 use fz_run::laws::{
-    firmware_runs_beside, first_states_alike, requests_are_good, runs_follow_beside,
+    firmware_runs_beside, first_states_alike, given_leaves_open, requests_are_good,
+    runs_follow_beside, steps_leave_open,
 };
 use handler_check::laws::handlers_are_quiet;
 use run_law::laws::runs_follow;
@@ -17,10 +16,8 @@ use run_law::laws::runs_follow;
 pub fn handled_answers()
     ensures { HandledAnswers }
 {
-    step_agrees();
-    wavr_goes_on();
-    writes_stay();
-    wav_suspends();
+    steps_leave_open();
+    given_leaves_open();
     handlers_are_quiet();
     holds_image();
     firmware_runs_beside();

@@ -1,5 +1,5 @@
--- Under inner requests memory stays one of bytes.
-use Rattle.std.proofs.Common.{◌≡◌, ℕ, ◌^◌, ◌<◌, List, [], ◌∷◌, refl, ap, sym, subst, inl, inr, arith}
+-- Under interrupts memory stays one of bytes.
+use Rattle.std.proofs.Common.{◌≡◌, ℕ, ◌^◌, ◌<◌, Bool, List, [], ◌∷◌, refl, ap, sym, subst, inl, inr, arith}
 use Rattle.cpu12_isa.specs.declared.instr.Regs.{Regs}
 use Rattle.cpu12_isa.specs.Fits.{FitsRegs, FitsWrites, AreBytes, BytesStay}
 use Rattle.cpu12_isa.specs.Memory.{plus, placed}
@@ -12,12 +12,11 @@ use Rattle.cpu12_parts.specs.Cuts.{suspended, wav}
 use Rattle.cpu12_parts.specs.Fits.{FitsTemps, FitsState}
 use Rattle.cpu12_parts.specs.Inside.{PushesRunning, PushesNone}
 use Rattle.cpu12_emul.specs.Fits.{StepFits}
-use Rattle.cpu12_emul.specs.Simulation.{Simulates, AreSumsReady, HasRoom, StepKeeps}
+use Rattle.cpu12_emul.specs.Simulation.{Simulates, AreSumsReady, HasRoom, IsShownStep, StepKeeps}
 use Rattle.cpu12_emul.specs.Step.{Next}
 use Rattle.cpu12_emul.specs.Take.{framed}
 use Rattle.run_law.specs.Uninterrupted.{stepped, state_by}
 use Rattle.run_law.specs.Soundness.{below_sums, Begins}
-use Rattle.two_runs.specs.Steps.{is_open_inside, IsFastState}
 use Rattle.two_runs.proofs.Beginnings.{off_fits}
 
 -- the laws of lower crates
@@ -66,24 +65,22 @@ below_fits r Free f = f
 below_fits r OnStack f = f
 below_fits r (Running p w) f = fits_at r (plus r.sp 65530) f (omega arith)
 
-ready_fits : (s : State) (t : Temps) → AreSumsReady is_open_inside s t → FitsTemps t
-ready_fits s Free h = tt
-ready_fits s OnStack h = tt
-ready_fits s (Running p w) h = (h.0, h.1)
+ready_fits : (open_to : ℕ → Bool) (s : State) (t : Temps) → AreSumsReady open_to s t → FitsTemps t
+ready_fits open_to s Free h = tt
+ready_fits open_to s OnStack h = tt
+ready_fits open_to s (Running p w) h = (h.0, h.1)
 
--- a state that simulates one of the fast code fits
-simulating_fits : (image : List ℕ) (flags sp : ℕ) (w s : State) → IsFastState image flags sp s → Simulates is_open_inside w s
+-- a state that simulates one before a shown step fits
+simulating_fits : (open_to : ℕ → Bool) (flags : ℕ) (w s : State) → IsShownStep open_to flags s → Simulates open_to w s
     → AreBytes w.mem → FitsState w
-simulating_fits image flags sp w s p (inl l) bytes =
-    let shown = p.shown in
+simulating_fits open_to flags w s shown (inl l) bytes =
     let room : HasRoom s = shown.room in
     record {
       regs = subst FitsRegs (sym l.regs) room.fits;
-      temps = subst FitsTemps (sym l.temps) (ready_fits s s.temps shown.sums);
+      temps = subst FitsTemps (sym l.temps) (ready_fits open_to s s.temps shown.sums);
       mem = bytes;
     }
-simulating_fits image flags sp w s p (inr l) bytes =
-    let shown = p.shown in
+simulating_fits open_to flags w s shown (inr l) bytes =
     let room : HasRoom s = shown.room in
     record {
       regs = subst FitsRegs (sym l.regs) (fits_at s.regs (plus s.regs.sp 65530) room.fits (omega arith));
@@ -91,21 +88,22 @@ simulating_fits image flags sp w s p (inr l) bytes =
       mem = bytes;
     }
 
-pub step_bytes : BytesLaws → (image : List ℕ) (flags sp : ℕ) (w s : State) → flags < 2 ^ 8 → IsFastState image flags sp s
-    → Simulates is_open_inside w s → AreBytes w.mem → AreBytes (stepped flags w).mem
-step_bytes laws image flags sp w s hf p l bytes =
-    let x = laws.step_keeps is_open_inside flags w s l p.shown in
+pub step_bytes : BytesLaws → (open_to : ℕ → Bool) (flags : ℕ) (w s : State) → flags < 2 ^ 8 → IsShownStep open_to flags s
+    → Simulates open_to w s → AreBytes w.mem → AreBytes (stepped flags w).mem
+step_bytes laws open_to flags w s hf shown l bytes =
+    let x = laws.step_keeps open_to flags w s l shown in
     let next : Next = x.next in
-    let fits : FitsState next.state = laws.step_fits flags w next hf (simulating_fits image flags sp w s p l bytes) x.goes in
+    let fits : FitsState next.state =
+    laws.step_fits flags w next hf (simulating_fits open_to flags w s shown l bytes) x.goes in
     let there : stepped flags w ≡ next.state = ap (state_by w) x.goes in
     subst (λ (u : State). AreBytes u.mem) (sym there) fits.mem
 
-pub push_bytes : BytesLaws → (image : List ℕ) (flags sp : ℕ) (w s : State) → IsFastState image flags sp s
-    → Simulates is_open_inside w s → AreBytes w.mem → AreBytes (suspended wav w).mem
-push_bytes laws image flags sp w s p l bytes = cases w.temps refl
+pub push_bytes : BytesLaws → (open_to : ℕ → Bool) (flags : ℕ) (w s : State) → IsShownStep open_to flags s
+    → Simulates open_to w s → AreBytes w.mem → AreBytes (suspended wav w).mem
+push_bytes laws open_to flags w s shown l bytes = cases w.temps refl
   where
     fits : FitsState w
-    fits = simulating_fits image flags sp w s p l bytes
+    fits = simulating_fits open_to flags w s shown l bytes
 
     cases : (t : Temps) → w.temps ≡ t → AreBytes (suspended wav w).mem
     cases Free e = subst (λ (u : State). AreBytes u.mem) (sym (laws.pushes_none w (inl e))) bytes
@@ -116,11 +114,11 @@ push_bytes laws image flags sp w s p l bytes = cases w.temps refl
         (laws.bytes_stay (placed (plus w.regs.sp 65530) (sum_bytes q k)) w.mem
         (placed_fits (plus w.regs.sp 65530) (sum_bytes q k) (omega arith) (sums_fit q k sums.0 sums.1)) bytes)
 
-pub take_bytes : BytesLaws → (image : List ℕ) (flags sp : ℕ) (v s : State) → IsFastState image flags sp s
-    → Begins is_open_inside v s → AreBytes v.mem → AreBytes (framed [] v).mem
-take_bytes laws image flags sp v s p begins bytes =
-    let shown = p.shown in
-    let room : HasRoom s = shown.room in
-    let fits : FitsRegs v.regs = subst FitsRegs (sym begins.regs) (below_fits s.regs s.temps room.fits) in
-    laws.bytes_stay (placed (plus v.regs.sp 65527) (frame_bytes v.regs)) v.mem
+-- an interrupt begins with registers that fit
+pub begins_fits : (open_to : ℕ → Bool) (v s : State) → HasRoom s → Begins open_to v s → FitsRegs v.regs
+begins_fits open_to v s room begins = subst FitsRegs (sym begins.regs) (below_fits s.regs s.temps room.fits)
+
+pub take_bytes : BytesStay → (v : State) → FitsRegs v.regs → AreBytes v.mem → AreBytes (framed [] v).mem
+take_bytes stay v fits bytes =
+    stay (placed (plus v.regs.sp 65527) (frame_bytes v.regs)) v.mem
     (placed_fits (plus v.regs.sp 65527) (frame_bytes v.regs) (omega arith) (frame_fits v.regs fits)) bytes

@@ -5,22 +5,20 @@ use Rattle.cpu12_isa.specs.declared.instr.Regs.{Regs}
 use Rattle.cpu12_isa.specs.Agreement.{Agree, WritesAgree}
 use Rattle.cpu12_isa.specs.Memory.{plus, from, bytes_at}
 use Rattle.cpu12_isa.specs.Regions.{is_hidden, LeavesStack}
-use Rattle.std.specs.Prelude.{Option, None, Some}
-use Rattle.std.proofs.lemmas.Bool.{ltb-true}
-use Rattle.cpu12_parts.specs.declared.temps.Temps.{Temps}
-use Rattle.cpu12_parts.specs.declared.temps.Temps.TheVariants.{Free, Running, OnStack}
+use Rattle.std.specs.Prelude.{None}
 use Rattle.cpu12_parts.specs.State.{State}
 use Rattle.cpu12_emul.specs.Simulation.{Same}
-use Rattle.cpu12_emul.specs.Take.{may_interrupt, FrameSeen}
-use Rattle.run_law.specs.Uninterrupted.{stepped, uninterrupted, first_open, taken_at, taken_before, is_new, frame_on, frames_after}
+use Rattle.cpu12_emul.specs.Take.{may_interrupt}
+use Rattle.run_law.specs.Uninterrupted.{stepped, uninterrupted, first_open, taken_at}
 use Rattle.run_law.specs.Soundness.{Before, Sound, WritesAreQuiet, AllGood, Ascend}
 use Rattle.run_law.specs.Following.{RunFollows, Completes, Follows}
 use Rattle.two_level.specs.Layouts.{fast_layout}
+use Rattle.fz_run.proofs.Algebra.{before_weaker, before_at}
 use Rattle.two_runs.specs.Runs.{fast_form, fast_run}
 use Rattle.two_runs.specs.Steps.{is_open_inside, IsFastState, IsOpenState}
 use Rattle.two_runs.specs.Inside.{AnyMoment, HoldsBytes, Inside, FollowsInside, FastRunsFollow, AreOnStack}
-use Rattle.two_runs.proofs.Stretches.{before_weaker, before_at}
-use Rattle.two_runs.proofs.Bytes.{BytesLaws, step_bytes, push_bytes, take_bytes}
+use Rattle.two_runs.proofs.Frames.{HasFrameRoom, frames_fit}
+use Rattle.two_runs.proofs.Bytes.{BytesLaws, step_bytes, push_bytes, begins_fits, take_bytes}
 
 -- the outputs are shown
 outputs_same : (k at sp : ℕ) (m n : List ℕ) → at + k ≤ 0x1FE0 → Agree (is_hidden is_open_inside sp) m n
@@ -44,13 +42,15 @@ sound laws image flags outputs sp hf few agree quiet = record {
   answers = λ w s l. outputs_same outputs fast_layout.outputs s.regs.sp w.mem s.mem (omega arith) l.mem;
   ends = λ m w s l. ap (λ (r : Regs). nat_lt sp r.sp) l.regs;
   quiet = λ done a v s good p may begins own.
-      (let shown = p.shown in
-      (quiet is_open_inside [] v s apart tt shown.room begins, take_bytes laws image flags sp v s p begins own));
+      (let shown = p.shown in (
+        quiet is_open_inside [] v s apart tt shown.room begins,
+        take_bytes laws.bytes_stay v (begins_fits is_open_inside v s shown.room begins) own,
+      ));
   leaves_open = record {
     gives = λ done x w o. o;
     leaves = λ done x w o. o;
-    pushes = λ done w s p l o. push_bytes laws image flags sp w s p l o;
-    steps = λ done w s p l o. step_bytes laws image flags sp w s hf p l o;
+    pushes = λ done w s p l o. push_bytes laws is_open_inside flags w s p.shown l o;
+    steps = λ done w s p l o. step_bytes laws is_open_inside flags w s hf p.shown l o;
   };
 }
   where
@@ -92,30 +92,6 @@ ascend_at flags n s moments (q ∷ qs) m from l h =
       omega (arith, e, h.0),
       ascend_at flags n s moments qs q (taken_at flags (λ k. k) n s q) (omega (arith, e)) h.1,
     )
-
--- frames stand on the stack
-frame_fits : (first : Bool) (s : State) (t : Temps) → 0x1FEF ≤ s.regs.sp → s.regs.sp ≤ 0x2000
-    → (let frame : FrameSeen = frame_on first s t in 0x1FE0 ≤ frame.sp)
-frame_fits first s Free lo hi = omega arith
-frame_fits first s OnStack lo hi = omega arith
-frame_fits first s (Running p w) lo hi = omega arith
-
-frames_fit : (image : List ℕ) (flags sp n : ℕ) (s : State) (moment : ℕ → ℕ)
-    → ((j : ℕ) → j < n → IsFastState image flags sp (uninterrupted flags j s)) → (qs : List ℕ) (before : Option ℕ)
-    → AreOnStack (frames_after flags moment s before (taken_before moment n qs))
-frames_fit image flags sp n s moment holds [] before = tt
-frames_fit image flags sp n s moment holds (q ∷ qs) before =
-    by (nat_lt (moment q) n) refl (λ b. frames_fit image flags sp n s moment holds qs b)
-  where
-    by : (x : Bool) → nat_lt (moment q) n ≡ x
-        → ((b : Option ℕ) → AreOnStack (frames_after flags moment s b (taken_before moment n qs)))
-        → AreOnStack (frames_after flags moment s before (if x then q ∷ taken_before moment n qs else taken_before moment n qs))
-    by true e rest =
-        (let u = uninterrupted flags (moment q) s in
-        let p : IsFastState image flags sp u = holds (moment q) (ltb-true (moment q) n e) in
-        let r = p.room in
-        (frame_fits (is_new before (moment q)) u u.temps (omega (arith, p.stack, r.0)) (omega (arith, p.stack, r.1)), rest (Some (moment q))))
-    by false e rest = rest before
 
 all_good : (qs : List ℕ) → AllGood AnyMoment qs
 all_good [] = tt
@@ -174,13 +150,17 @@ fast_runs_follow laws law b image flags most bytes before inner s t hf few fits 
         law inside [] 0 (suc r.further) (suc r.further) most inner s s le (all_good inner)
         (ascend_at flags (suc r.further) s moments inner 0 0 (omega arith) ascend) (same_self s) fits completes
 
-    at : (j : ℕ) → j < suc r.further → IsFastState image flags s.regs.sp (uninterrupted flags j s)
-    at j l = before_at (IsFastState image flags s.regs.sp) flags (suc r.further) j s holds l
+    room : (j : ℕ) → j < suc r.further → HasFrameRoom (uninterrupted flags j s)
+    room j l =
+        (let p : IsFastState image flags s.regs.sp (uninterrupted flags j s) =
+        before_at (IsFastState image flags s.regs.sp) flags (suc r.further) j s holds l in
+        let fast = p.room in
+        (omega (arith, p.stack, fast.0), omega (arith, p.stack, fast.1)))
 
     by : FollowsInside flags (length b.outputs) most inner (suc r.further) s
     by = record {
       follows = followed;
       stack = subst AreOnStack (sym followed.frames)
-          (frames_fit image flags s.regs.sp (suc r.further) s (taken_at flags (λ k. k) (suc r.further) s) at inner None);
+          (frames_fit flags (suc r.further) s (taken_at flags (λ k. k) (suc r.further) s) room inner None);
       moments = moments;
     }

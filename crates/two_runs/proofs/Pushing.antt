@@ -10,16 +10,7 @@ use Rattle.cpu12_isa.specs.Registers.{frame_bytes}
 use Rattle.cpu12_parts.specs.State.{State}
 use Rattle.codegen.specs.Evaluation.{HasBytes}
 use Rattle.two_level.specs.Layouts.{fast_layout}
-
--- where placed bytes stand
-pub placed_in : (vs : List ℕ) (p at : ℕ) → p + length vs ≤ 0x10000 → IsWritten (placed p vs) at → (p ≤ at) × (at < p + length vs)
-placed_in [] p at l w = absurd w
-placed_in (v ∷ vs) p at l (inl e) = (omega arith, omega arith)
-placed_in (v ∷ []) p at l (inr w) = absurd w
-placed_in (v ∷ (u ∷ vs)) p at l (inr w) =
-    let next : plus p 1 + length (u ∷ vs) ≤ 0x10000 = omega arith in
-    let r = placed_in (u ∷ vs) (plus p 1) at next w in
-    (omega (arith, r.0), omega (arith, r.1))
+use Rattle.fz_run.proofs.Algebra.{placed_in}
 
 -- memory in which the frame is pushed, and that in which the sample's bytes are written too
 abbrev pub framed_mem : State → List ℕ

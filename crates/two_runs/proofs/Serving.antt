@@ -13,7 +13,7 @@ use Rattle.two_runs.specs.Runs.{entered, fast_run, served_by}
 use Rattle.two_runs.specs.Outer.{OuterIsQuiet, IsQuietRun, RunsFast, IsServable, AreSlow, OuterServes}
 
 -- what is open to the fast block is not the stack
-open_apart : LeavesStack is_open_to_fast
+pub open_apart : LeavesStack is_open_to_fast
 open_apart at h = elim (cases_lt at 0x1FE0) [
   | inl below ↦ inl below
   | inr from ↦ elim (cases_lt at 0x2000) [

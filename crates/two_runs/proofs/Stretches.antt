@@ -1,5 +1,5 @@
 -- Stretches of steps, put together.
-use Rattle.std.proofs.Common.{◌≡◌, ℕ, zero, suc, ◌+◌, ◌≤◌, not, Bool, false, Result, Ok, refl, ap, ap₂, sym, ◌∙◌, subst, arith}
+use Rattle.std.proofs.Common.{◌≡◌, ℕ, suc, ◌+◌, not, Bool, false, Result, Ok, refl, ap, ap₂, sym, ◌∙◌, subst, arith}
 use Rattle.cpu12_parts.specs.State.{State}
 use Rattle.cpu12_emul.specs.declared.ends.Stepped.{Stepped}
 use Rattle.cpu12_emul.specs.declared.ends.Stepped.TheVariants.{Part}
@@ -7,38 +7,7 @@ use Rattle.cpu12_emul.specs.Step.{Next, next_of}
 use Rattle.run_law.specs.Forms.{is_part, one_if}
 use Rattle.run_law.specs.Uninterrupted.{stepped, kind_at, state_by, kind_by, uninterrupted, counted}
 use Rattle.run_law.specs.Soundness.{Before}
-
-uninterrupted_add : (flags m n : ℕ) (s : State) → uninterrupted flags (m + n) s ≡ uninterrupted flags n (uninterrupted flags m s)
-uninterrupted_add flags zero n s = let e : 0 + n ≡ n = omega arith in ap (λ (k : ℕ). uninterrupted flags k s) e
-uninterrupted_add flags (suc m) n s =
-    let e : suc m + n ≡ suc (m + n) = omega arith in
-    ap (λ (k : ℕ). uninterrupted flags k s) e ∙ uninterrupted_add flags m n (stepped flags s)
-
-counted_add : (flags m n : ℕ) (s : State) → counted flags (m + n) s ≡ counted flags m s + counted flags n (uninterrupted flags m s)
-counted_add flags zero n s = let e : 0 + n ≡ n = omega arith in ap (λ (k : ℕ). counted flags k s) e ∙ omega arith
-counted_add flags (suc m) n s =
-    let e : suc m + n ≡ suc (m + n) = omega arith in
-    let r = counted_add flags m n (stepped flags s) in
-    ap (λ (k : ℕ). counted flags k s) e ∙ omega (arith, r)
-
-before_add : (P : State → Type 0) (flags m n : ℕ) (s : State) → Before P flags m s
-    → Before P flags n (uninterrupted flags m s) → Before P flags (m + n) s
-before_add P flags zero n s a b = let e : n ≡ 0 + n = omega arith in subst (λ (k : ℕ). Before P flags k s) e b
-before_add P flags (suc m) n s a b =
-    let e : suc (m + n) ≡ suc m + n = omega arith in
-    subst (λ (k : ℕ). Before P flags k s) e (a.0, before_add P flags m n (stepped flags s) a.1 b)
-
--- facts of each state, and weaker ones
-pub before_weaker : (P Q : State → Type 0) (flags : ℕ) → ((s : State) → P s → Q s) → (n : ℕ) (s : State) → Before P flags n s
-    → Before Q flags n s
-before_weaker P Q flags h zero s b = tt
-before_weaker P Q flags h (suc n) s b = (h s b.0, before_weaker P Q flags h n (stepped flags s) b.1)
-
-pub before_at : (P : State → Type 0) (flags n m : ℕ) (s : State) → Before P flags n s → suc m ≤ n
-    → P (uninterrupted flags m s)
-before_at P flags zero m s b l = absurd (omega arith)
-before_at P flags (suc n) zero s b l = b.0
-before_at P flags (suc n) (suc m) s b l = before_at P flags n m (stepped flags s) b.1 (omega arith)
+use Rattle.fz_run.proofs.Algebra.{uninterrupted_add, counted_add, before_add}
 
 -- So many steps lead from s to t, of which so many count, and P holds at each state before t.
 pub record Stretch (P : State → Type 0) (flags n count : ℕ) (s t : State) : Type 0 where

@@ -1,19 +1,27 @@
 // Laws of runs at two levels.
 ghost use Rattle.two_runs.specs.Steps.{FastRunsExist, FastStepsReturn};
+ghost use Rattle.two_runs.specs.Answering.{AnswersUnderLevels};
+ghost use Rattle.two_runs.specs.Entered.{FastIsEntered};
 ghost use Rattle.two_runs.specs.Inside.{FastRunsFollow};
 ghost use Rattle.two_runs.specs.Order.{LevelsAreInOrder};
 ghost use Rattle.two_runs.specs.Outer.{OuterEnters, OuterIsServable, OuterIsQuiet, OuterServes};
 
 use crate::inside::InsideForm;
+use crate::levels::LevelForm;
 use cpu12_emul::laws::{
-    plain_is_step, rev_is_step, revw_is_step, step_fits, step_keeps, sums_are_step, wav_is_step,
+    holds_image, plain_is_step, rev_is_step, revw_is_step, step_fits, step_keeps, sums_are_step,
+    takes_quietly, wav_is_step,
 };
 use cpu12_isa::laws::{bytes_stay, decoded_has_opcode, frame_comes_back, writes_stay};
 use cpu12_parts::laws::{
     rev_fits, rev_is_whole, rev_stays, rev_steady, revw_fits, revw_is_whole, revw_stays,
     revw_steady, wav_fits, wav_is_whole, wav_stays, wav_steady, wav_suspends,
 };
-use run_law::laws::{run_follows, writes_are_quiet};
+use fz_run::laws::{
+    answers_under_plans, firmware_runs_beside, first_states_alike, given_leaves_open,
+    requests_are_good, steps_leave_open,
+};
+use run_law::laws::{run_follows, runs_follow, writes_are_quiet};
 use two_level::{fast_answers_entered, two_stand_beside};
 
 /// The whole instructions with which the fast code answers, and its return, are steps from the state
@@ -74,6 +82,15 @@ pub fn outer_enters()
     bytes_stay();
 }
 
+/// There is a state over memory as the image of two blocks makes it from which an interrupt enters the fast code.
+pub fn fast_is_entered()
+    ensures { FastIsEntered }
+{
+    holds_image();
+    two_stand_beside();
+    outer_enters();
+}
+
 /// Where the fast code of two blocks can be entered, each of its samples has a run, within its bound.
 pub fn outer_is_servable()
     ensures { OuterIsServable }
@@ -105,3 +122,29 @@ pub fn outer_serves()
 pub fn levels_are_in_order()
     ensures { LevelsAreInOrder }
 {}
+
+/// Under all good levels a run at two levels comes to the end of each slow sample, with the rows of the slow
+/// firmware alone under a plan at the same places that writes nothing. Each fast run answers its sample as
+/// the fast block, after the fast run before it, within the fast block's bounds, and what is told of it is
+/// read off its run without inner requests.
+pub fn answers_under_levels()
+    ensures { AnswersUnderLevels }
+{
+    bytes_stay();
+    step_fits();
+    step_keeps();
+    wav_suspends();
+    takes_quietly();
+    steps_leave_open();
+    given_leaves_open();
+    fast_runs_follow();
+    outer_is_quiet();
+    outer_is_servable();
+    outer_serves();
+    two_stand_beside();
+    firmware_runs_beside();
+    first_states_alike();
+    answers_under_plans();
+    requests_are_good();
+    runs_follow::<LevelForm>();
+}

@@ -46,7 +46,7 @@ sound flags f low agree quiet =
           same_changed agree x.change (given f.layout x.bytes w) (given f.layout x.bytes s) same);
       leaves = λ x w s l. same_restored agree (image_memory f.image.bytes) x.change w s l;
       answers = λ w s l.
-          (let shown = low_shown is_free free_opens s.regs.sp fault_at (omega arith) in
+          (let shown = low_shown is_free s.regs.sp fault_at (free_opens.low fault_at (omega arith)) (omega arith) in
           ap₂ (λ (xs : List ℕ) (v : ℕ). xs ++ v ∷ []) (beside.answers w s l) (l.mem.bytes fault_at shown));
       ends = beside.ends;
       quiet = λ done a v s good p may begins own.

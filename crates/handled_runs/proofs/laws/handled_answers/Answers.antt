@@ -4,11 +4,8 @@ use Rattle.handled_runs.proofs.laws.handled_answers.Goals as goal
 pub returns : goal.returns
 returns c = handled_answers (record {
   code = record {
-    step_agrees = c.step_agrees.ensures;
-    wavr_goes_on = c.wavr_goes_on.ensures;
-    writes_stay = c.writes_stay.ensures;
-    pushes_running = c.wav_suspends.ensures.running;
-    pushes_none = c.wav_suspends.ensures.none;
+    steps_leave_open = c.steps_leave_open.ensures;
+    given_leaves_open = c.given_leaves_open.ensures;
     handlers_are_quiet = c.handlers_are_quiet.ensures;
   };
   holds_image = c.holds_image.ensures;

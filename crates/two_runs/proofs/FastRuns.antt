@@ -1,0 +1,102 @@
+-- The fast runs that levels told of.
+use Rattle.std.proofs.Common.{◌≡◌, ℕ, suc, ◌≤◌, List, [], ◌∷◌, ◌++◌, map, length, refl, ap, sym, subst, arith}
+use Rattle.std.specs.Prelude.{All, Option, None, Some, flat_map}
+use Rattle.std.specs.List.{cons_option}
+use Rattle.std.proofs.lemmas.List.Elements.{All-cons}
+use Rattle.fuzzy_meaning.specs.declared.block.Block.{Block}
+use Rattle.cpu12_parts.specs.State.{State}
+use Rattle.run_law.specs.Forms.{Form, RowSeen, rows_from}
+use Rattle.run_law.specs.Following.{onto, all_onto}
+use Rattle.interrupt_plan.specs.declared.levels.Level.{Level}
+use Rattle.codegen.specs.declared.width.Width.TheVariants.{Byte}
+use Rattle.codegen.specs.Bounds.{step_bound}
+use Rattle.codegen.specs.Uninterrupted.{AreAnswersOf}
+use Rattle.two_level.specs.declared.two.Two.{Two}
+use Rattle.two_level.specs.Images.{fast_most}
+use Rattle.fz_run.specs.Rows.{bytes_of, shown_rows}
+use Rattle.two_runs.specs.Runs.{FastSeen}
+use Rattle.two_runs.specs.Rows.{with_fast}
+use Rattle.two_runs.specs.Answering.{runs_told, fast_runs, answer_of_fast, IsTold, AreTold}
+use Rattle.two_runs.specs.Levels.{outputs_told, outputs_after, IsAnswerTold, AreAnswersTold}
+
+-- those of all samples
+abbrev pub runs_in : List (List (Level × Option FastSeen)) → List FastSeen
+runs_in tss = flat_map (λ ts. runs_told (map (λ t. t.1) ts)) tss
+
+runs_shown : (rows : List (RowSeen (List ℕ))) (tss : List (List (Level × Option FastSeen))) → length rows ≡ length tss
+    → fast_runs (shown_rows with_fast rows tss) ≡ runs_in tss
+runs_shown [] [] e = refl
+runs_shown [] (ts ∷ tss) e = absurd (omega arith)
+runs_shown (row ∷ rows) [] e = absurd (omega arith)
+runs_shown (row ∷ rows) (ts ∷ tss) e =
+    ap (λ (fs : List FastSeen). runs_told (map (λ (t : Level × Option FastSeen). t.1) ts) ++ fs) (runs_shown rows tss (omega arith))
+
+-- each row has what was told
+one_telling : {S A B : Type 0} (f : Form S A B) (most : ℕ) (asks : ℕ → List A) (k : ℕ) (samples : List S) (s : State)
+    → length (rows_from f most asks k samples s).rows ≡ length (rows_from f most asks k samples s).told
+unfolding rows_from
+one_telling f most asks k [] s = refl
+one_telling f most asks k (x ∷ rest) s = ap suc (one_telling f most asks (suc k) rest _)
+
+pub runs_are : (f : Form (List ℕ) Level (Option FastSeen)) (most : ℕ) (asks : ℕ → List Level) (k : ℕ) (samples : List (List ℕ)) (s : State)
+    → (let all = rows_from f most asks k samples s in fast_runs (shown_rows with_fast all.rows all.told) ≡ runs_in all.told)
+runs_are f most asks k samples s =
+    let all = rows_from f most asks k samples s in
+    runs_shown all.rows all.told (one_telling f most asks k samples s)
+
+-- they answer their samples, one after the other
+abbrev pub Answer : Block → Two → List (List ℕ) → (ℕ → ℕ) → List FastSeen → Type 0
+Answer b two samples before fs =
+    AreAnswersOf Byte b (fast_most two.fast.instr_bound) before (map (λ f. bytes_of samples f.number) fs) (map answer_of_fast fs)
+
+one_more : (b : Block) (two : Two) (samples : List (List ℕ)) (before : ℕ → ℕ) (t : Option FastSeen) (gs fs : List FastSeen)
+    → IsAnswerTold b two samples before t → Answer b two samples (outputs_told b samples before t) (gs ++ fs)
+    → Answer b two samples before (cons_option t gs ++ fs)
+one_more b two samples before None gs fs told rest = rest
+one_more b two samples before (Some f) gs fs told rest = (told, rest)
+
+onto_answers : (b : Block) (two : Two) (samples : List (List ℕ)) (ts done : List (Level × Option FastSeen)) (fs : List FastSeen)
+    → AreAnswersTold b two samples (onto ts done) → Answer b two samples (outputs_after b samples (onto ts done)) fs
+    → Answer b two samples (outputs_after b samples done) (runs_told (map (λ t. t.1) ts) ++ fs) × AreAnswersTold b two samples done
+onto_answers b two samples [] done fs told rest = (rest, told)
+onto_answers b two samples (t ∷ ts) done fs told rest =
+    let r = onto_answers b two samples ts (t ∷ done) fs told rest in
+    let here = r.1 in (
+      one_more b two samples (outputs_after b samples done) t.1 (runs_told (map (λ (u : Level × Option FastSeen). u.1) ts)) fs here.0 r.0,
+      here.1,
+    )
+
+pub all_answers : (b : Block) (two : Two) (samples : List (List ℕ)) (tss : List (List (Level × Option FastSeen)))
+    (done : List (Level × Option FastSeen)) → AreAnswersTold b two samples (all_onto tss done)
+    → Answer b two samples (outputs_after b samples done) (runs_in tss) × AreAnswersTold b two samples done
+all_answers b two samples [] done told = (tt, told)
+all_answers b two samples (ts ∷ tss) done told =
+    let r = all_answers b two samples tss (onto ts done) told in
+    onto_answers b two samples ts done (runs_in tss) r.1 r.0
+
+-- their steps are within the bound
+abbrev Few : ℕ → List FastSeen → Type 0
+Few most fs = All (λ f. f.steps ≤ most) fs
+
+few_told : (b : Block) (two : Two) (flags : ℕ) (samples : List (List ℕ)) (ts : List (Level × Option FastSeen)) (fs : List FastSeen)
+    → AreTold b two flags samples ts → Few (fast_most (step_bound Byte b)) fs
+    → Few (fast_most (step_bound Byte b)) (runs_told (map (λ t. t.1) ts) ++ fs)
+few_told b two flags samples [] fs told rest = rest
+few_told b two flags samples (t ∷ ts) fs told rest =
+    by t.1 (told 0 t (omega arith)) (few_told b two flags samples ts fs (λ k d l. told (suc k) d (omega arith)) rest)
+  where
+    by : (o : Option FastSeen) → IsTold b two flags samples t.0 o
+        → Few (fast_most (step_bound Byte b)) (runs_told (map (λ (u : Level × Option FastSeen). u.1) ts) ++ fs)
+        → Few (fast_most (step_bound Byte b)) (cons_option o (runs_told (map (λ (u : Level × Option FastSeen). u.1) ts)) ++ fs)
+    by None h more = more
+    by (Some f) h more =
+        (let run = h.run in
+        All-cons (λ (g : FastSeen). g.steps ≤ fast_most (step_bound Byte b)) f (runs_told (map (λ (u : Level × Option FastSeen). u.1) ts) ++ fs)
+        (subst (λ (n : ℕ). n ≤ fast_most (step_bound Byte b)) (sym h.steps) run.steps) more)
+
+pub all_few : (b : Block) (two : Two) (flags : ℕ) (samples : List (List ℕ)) (tss : List (List (Level × Option FastSeen)))
+    → All (AreTold b two flags samples) tss → Few (fast_most (step_bound Byte b)) (runs_in tss)
+all_few b two flags samples [] told = λ k x lt. absurd (omega arith)
+all_few b two flags samples (ts ∷ tss) told =
+    few_told b two flags samples ts (runs_in tss) (told 0 ts (omega arith))
+    (all_few b two flags samples tss (λ k d l. told (suc k) d (omega arith)))

@@ -1,0 +1,156 @@
+-- Runs at two levels answer.
+use Rattle.std.proofs.Common.{◌≡◌, ℕ, ◌≤◌, Bool, List, [], map, length, ap, sym, ◌∙◌, subst}
+use Rattle.std.specs.Prelude.{All, Option}
+use Rattle.cpu12_parts.specs.State.{State}
+use Rattle.cpu12_emul.specs.Image.{image_memory}
+use Rattle.run_law.specs.Forms.{RowSeen, Rows}
+use Rattle.run_law.specs.Following.{all_onto, AllFollow, RunsFollow}
+use Rattle.interrupt_plan.specs.declared.levels.Level.{Level}
+use Rattle.interrupt_plan.specs.Levels.{IsGoodLevel}
+use Rattle.codegen.specs.declared.width.Width.TheVariants.{Byte}
+use Rattle.codegen.specs.Widths.{width_of}
+use Rattle.codegen.specs.Bounds.{step_bound}
+use Rattle.codegen.specs.Firmwares.{IsFirmwareOf}
+use Rattle.two_level.specs.Images.{fast_most}
+use Rattle.two_level.specs.Layouts.{is_open_to_fast}
+use Rattle.two_level.specs.Standing.{StandsBeside, TwoStandBeside}
+use Rattle.fz_run.specs.Rows.{first_state, firmware_rows}
+use Rattle.fz_run.specs.Facts.{FactsBeside, FactsAlone}
+use Rattle.fz_run.specs.Following.{rows_of_samples}
+use Rattle.fz_run.specs.Given.{RequestsAreGood}
+use Rattle.fz_run.specs.Answering.{AnswerBlock, AnswersUnder, AnswersUnderPlans, RunsBeside, FirmwareRunsBeside, FirstAlike, FirstStatesAlike}
+use Rattle.fz_run.proofs.Algebra.{first_same, all_onto_all}
+use Rattle.two_runs.specs.Runs.{FastSeen}
+use Rattle.two_runs.specs.Inside.{AreOnStack}
+use Rattle.two_runs.specs.Rows.{levels_of, level_form, first_two, two_rows}
+use Rattle.two_runs.specs.Answering.{plan_of, fast_runs_of, IsTold, AreTold, taken_by, AnswersUnderLevels}
+use Rattle.two_runs.specs.Levels.{Levels, fitted_form, FastStands}
+use Rattle.two_runs.proofs.Arriving.{first_stands}
+use Rattle.two_runs.proofs.FastRuns.{Answer, runs_in, runs_are, all_answers, all_few}
+use Rattle.two_runs.proofs.Fitting.{AreFitted, all_fitted, rows_fitted}
+use Rattle.two_runs.proofs.LevelPlans.{plan_good, levels_are_good}
+use Rattle.two_runs.proofs.LevelRows.{SlowFacts, complete, same_numbers, same_rows, same_taken, on_stack}
+use Rattle.two_runs.proofs.LevelServing.{LevelLaws, Given, few_outputs}
+use Rattle.two_runs.proofs.LevelSound.{level_sound}
+
+-- the laws of lower crates, and the law on runs
+pub record AnswerLaws : Type 0 where
+  pub levels : LevelLaws
+  pub two_stand_beside : TwoStandBeside
+  pub firmware_runs_beside : FirmwareRunsBeside
+  pub first_states_alike : FirstStatesAlike
+  pub answers_under_plans : AnswersUnderPlans
+  pub requests_are_good : RequestsAreGood
+  pub runs_follow : (x : Levels)
+      → RunsFollow is_open_to_fast (fitted_form x.flags x.two x.samples) (FactsBeside is_open_to_fast x.flags x.two.slow)
+      (IsGoodLevel (length x.samples)) (FastStands x.fast x.two x.flags x.samples)
+
+pub answers_under_levels : AnswerLaws → AnswersUnderLevels
+answers_under_levels laws two flags slow_samples samples levels hf good slow fast vs ls vf lf is slow_inputs inputs = record {
+  arrived = followed.arrived;
+  rows_are = rows_are;
+  slow_answers = subst (λ (rows : List (RowSeen (List ℕ))). AnswerBlock slow two.slow flags slow_samples rows) (sym rows_are) under.answers;
+  taken = followed.taken ∙ same_taken flags two samples levels 1 runs.ns slow_samples first fitted_all runs.complete
+      ∙ ap (λ (rows : List (RowSeen (List ℕ))). taken_by 1 levels (map (λ (r : RowSeen (List ℕ)). r.steps) rows)) (sym rows_of);
+  fast_answers = subst (λ (fs : List FastSeen). Answer fast two samples (λ o. 0) fs) (sym fast_are)
+      (all_answers fast two samples all.told [] own.answers).0;
+  fast_steps = subst (λ (fs : List FastSeen). All (λ (f : FastSeen). f.steps ≤ fast_most two.fast.step_bound) fs) (sym fast_are)
+      (subst (λ (n : ℕ). All (λ (f : FastSeen). f.steps ≤ fast_most n) (runs_in all.told)) (sym bound)
+      (all_few fast two flags samples all.told told));
+  told = told;
+  stack = subst (λ (rows : List (RowSeen (List ℕ))). All (λ (r : RowSeen (List ℕ)). AreOnStack r.frames) rows) (sym rows_of)
+      (on_stack flags two (plan_of levels) 1 runs.ns slow_samples first runs.complete);
+}
+  where
+    x : Given
+    x = record {
+      laws = laws.levels;
+      slow = slow;
+      fast = fast;
+      two = two;
+      flags = flags;
+      samples = samples;
+      flags_fit = hf;
+      slow_valid = vs;
+      slow_limits = ls;
+      fast_valid = vf;
+      fast_limits = lf;
+      is_two = is;
+      inputs = inputs;
+    }
+
+    firmware : IsFirmwareOf slow two.slow
+    firmware = (let alone = is.slow_alone in alone.firmware)
+
+    stand : StandsBeside fast two
+    stand = (laws.two_stand_beside slow fast two vs ls vf lf is).0
+
+    runs : RunsBeside is_open_to_fast two.slow flags slow_samples
+    runs = laws.firmware_runs_beside is_open_to_fast slow two.slow flags slow_samples hf stand.leaves vs ls firmware slow_inputs
+
+    first : State
+    first = first_state two.slow flags
+
+    alike : FirstAlike is_open_to_fast two.slow flags (image_memory two.image.bytes) (first_two two flags)
+    alike =
+        laws.first_states_alike is_open_to_fast slow two.slow flags (image_memory two.image.bytes) hf stand.leaves vs ls firmware
+        stand.alike
+
+    begins : FastStands fast two flags samples [] (first_two two flags)
+    begins =
+        (let level_laws = laws.levels in
+        let bytes = level_laws.bytes in
+        first_stands bytes.step_fits fast two flags samples hf (few_outputs x) stand alike)
+
+    setting : Levels
+    setting = record { two = two; fast = fast; flags = flags; samples = samples; sound = level_sound x stand.leaves runs.low }
+
+    fitted_all : AreFitted slow_samples
+    fitted_all = all_fitted slow slow_samples vs.few_inputs slow_inputs
+
+    all : Rows (List ℕ) Level (Option FastSeen)
+    all = two_rows two slow_samples samples levels flags
+
+    followed : AllFollow is_open_to_fast (fitted_form flags two samples) (FastStands fast two flags samples) []
+        (λ k. levels_of k levels) 1 runs.ns slow_samples first all
+    followed =
+        subst (AllFollow is_open_to_fast (fitted_form flags two samples) (FastStands fast two flags samples) []
+        (λ k. levels_of k levels) 1 runs.ns slow_samples first)
+        (rows_fitted (level_form flags two samples) two.slow.step_bound (λ k. levels_of k levels) 1 slow_samples (first_two two flags) fitted_all)
+        (laws.runs_follow setting (λ k. levels_of k levels) (levels_are_good laws.requests_are_good (length samples) levels good) [] 1
+        two.slow.step_bound runs.ns slow_samples (first_two two flags) first runs.within
+        (complete flags two samples runs.ns slow_samples first fitted_all runs.complete)
+        (first_same is_open_to_fast two.slow flags (image_memory two.image.bytes) (first_two two flags) alike) begins)
+
+    own : FastStands fast two flags samples (all_onto all.told []) all.state
+    own = followed.own
+
+    under : AnswersUnder slow two.slow flags slow_samples (plan_of levels) (firmware_rows two.slow slow_samples (plan_of levels) flags).rows
+    under =
+        laws.answers_under_plans two.slow flags slow_samples (plan_of levels) hf (plan_good (length samples) levels good) slow vs ls
+        firmware slow_inputs
+
+    rows_of : all.rows ≡ rows_of_samples flags two.slow (plan_of levels) 1 runs.ns slow_samples first
+    rows_of = followed.rows_are ∙ same_rows flags two samples levels 1 runs.ns slow_samples first fitted_all runs.complete
+
+    numbers : runs.ns ≡ under.ns
+    numbers =
+        same_numbers (SlowFacts flags two) (FactsAlone flags two.slow) flags two.slow runs.ns under.ns slow_samples first runs.complete
+        under.complete
+
+    rows_are : all.rows ≡ (firmware_rows two.slow slow_samples (plan_of levels) flags).rows
+    rows_are =
+        rows_of ∙ ap (λ (ns : List ℕ). rows_of_samples flags two.slow (plan_of levels) 1 ns slow_samples first) numbers
+        ∙ sym under.rows_are
+
+    fast_are : fast_runs_of two slow_samples samples levels flags ≡ runs_in all.told
+    fast_are = runs_are (level_form flags two samples) two.slow.step_bound (λ k. levels_of k levels) 1 slow_samples (first_two two flags)
+
+    told : All (AreTold fast two flags samples) all.told
+    told = (all_onto_all (λ (t : Level × Option FastSeen). IsTold fast two flags samples t.0 t.1) all.told [] own.told).0
+
+    bound : two.fast.step_bound ≡ step_bound Byte fast
+    bound =
+        (let alone = is.fast_alone in
+        let of_fast = alone.firmware in
+        of_fast.steps ∙ ap (λ (wide : Bool). step_bound (width_of wide) fast) alone.narrow)

@@ -1,0 +1,77 @@
+-- What is told of a fast run is read off its run without inner requests, and answers its sample.
+use Rattle.std.proofs.Common.{◌≡◌, ℕ, zero, suc, ◌+◌, ◌-◌, ◌*◌, ◌<◌, ◌≤◌, max, List, length, refl, ap, sym, ◌∙◌, arith}
+use Rattle.std.specs.Prelude.{slice_index}
+use Rattle.fuzzy_meaning.specs.declared.block.Block.{Block}
+use Rattle.cpu12_isa.specs.Memory.{plus, from, bytes_at}
+use Rattle.cpu12_parts.specs.State.{State}
+use Rattle.cpu12_emul.specs.Image.{image_memory}
+use Rattle.run_law.specs.Forms.{Ran}
+use Rattle.run_law.specs.Uninterrupted.{counted, taken_at, resumed_of, frames_of}
+use Rattle.interrupt_plan.specs.declared.levels.Level.{Level}
+use Rattle.codegen.specs.declared.width.Width.TheVariants.{Byte}
+use Rattle.codegen.specs.Widths.{answer}
+use Rattle.codegen.specs.Evaluation.{HasAnswers}
+use Rattle.codegen.specs.Uninterrupted.{IsAnswerOf}
+use Rattle.two_level.specs.declared.two.Two.{Two}
+use Rattle.two_level.specs.Layouts.{fast_layout}
+use Rattle.fz_run.specs.Rows.{bytes_of}
+use Rattle.two_runs.specs.Runs.{entered, fast_run, seen_of}
+use Rattle.two_runs.specs.Steps.{IsFastRun}
+use Rattle.two_runs.specs.Inside.{FollowsInside}
+use Rattle.two_runs.specs.Answering.{IsReadOff, answer_of_fast}
+
+-- bytes one after the other
+read_at : (n at k : ℕ) (m : List ℕ) → k < n → at + n ≤ 0xFFFF
+    → slice_index (bytes_at m (from at n)) k ≡ slice_index m (at + k)
+read_at zero at k m lt l = absurd (omega arith)
+read_at (suc n) at zero m lt l = let e : at ≡ at + 0 = omega arith in ap (slice_index m) e
+read_at (suc n) at (suc k) m lt l =
+    let e : plus at 1 + k ≡ at + suc k = omega arith in
+    read_at n (plus at 1) k m (omega arith) (omega arith) ∙ ap (slice_index m) e
+
+count_at : (n at : ℕ) (m : List ℕ) → length (bytes_at m (from at n)) ≡ n
+count_at zero at m = refl
+count_at (suc n) at m = let r = count_at n (plus at 1) m in omega (arith, r)
+
+-- the answers of a run at whose end these stand in memory
+pub answers_told : (b : Block) (most number : ℕ) (before : ℕ → ℕ) (bytes : List ℕ) (r : Ran ℕ (Unit {0}))
+    → length b.outputs ≤ 8 → r.instrs ≤ most
+    → HasAnswers fast_layout b Byte (λ o. answer Byte b o bytes (before o)) r.state.mem
+    → IsAnswerOf Byte b most before bytes (answer_of_fast (seen_of number (length b.outputs) r))
+answers_told b most number before bytes r few le h = record {
+  values = λ o from to. (let a = h o from to in
+      read_at (length b.outputs) fast_layout.outputs (o - 1) r.state.mem (omega arith) (omega arith)
+      ∙ ap (slice_index r.state.mem) (place o) ∙ a.0);
+  count = count_at (length b.outputs) fast_layout.outputs r.state.mem;
+  instructions = le;
+}
+  where
+    place : (o : ℕ) → fast_layout.outputs + (o - 1) ≡ fast_layout.outputs + 1 * (o - 1)
+    place o = omega arith
+
+-- what is read off the run without inner requests
+pub read_off : (b : Block) (two : Two) (flags most : ℕ) (fast : List (List ℕ)) (l : Level) (before : ℕ → ℕ) (v t : State)
+    → (r : IsFastRun b (image_memory two.image.bytes) flags (bytes_of fast l.fast) before (entered (bytes_of fast l.fast) v) t)
+    → FollowsInside flags (length b.outputs) most l.inner.items (suc r.further) (entered (bytes_of fast l.fast) v)
+    → IsReadOff b two flags fast l
+    (seen_of l.fast (length b.outputs) (fast_run flags (length b.outputs) most l.inner.items (entered (bytes_of fast l.fast) v)))
+read_off b two flags most fast l before v t r inside = let follows = inside.follows in record {
+  number = refl;
+  before = before;
+  found = v;
+  behind = t;
+  run = r;
+  steps = follows.steps;
+  instrs = follows.instrs ∙ ap (λ (n : ℕ). counted flags n s) (sym follows.steps);
+  resumed = follows.resumed ∙ ap (λ (moment : ℕ → ℕ). resumed_of flags moment s l.inner.items (suc r.further)) moments
+      ∙ ap (λ (n : ℕ). resumed_of flags (λ m. max 1 m) s l.inner.items n) (sym follows.steps);
+  frames = follows.frames ∙ ap (λ (moment : ℕ → ℕ). frames_of flags moment s l.inner.items (suc r.further)) moments
+      ∙ ap (λ (n : ℕ). frames_of flags (λ m. max 1 m) s l.inner.items n) (sym follows.steps);
+  stack = inside.stack;
+}
+  where
+    s : State
+    s = entered (bytes_of fast l.fast) v
+
+    moments : ◌≡◌ {A = ℕ → ℕ} (taken_at flags (λ k. k) (suc r.further) s) (λ m. max 1 m)
+    moments = λ i. λ q. inside.moments q i

@@ -1,0 +1,112 @@
+-- What runs at two levels answer.
+use Rattle.std.specs.Prelude.{◌≡◌, ℕ, suc, ◌^◌, ◌<◌, ◌≤◌, max, true, Option, None, Some}
+use Rattle.std.specs.Prelude.{List, [], ◌∷◌, length, map, All, filter_map, flat_map}
+use Rattle.fuzzy_meaning.specs.declared.block.Block.{Block}
+use Rattle.fuzzy_meaning.specs.Blocks.{IsValid}
+use Rattle.rule_layout.specs.Layouts.{IsWithinLimits}
+use Rattle.cpu12_parts.specs.State.{State}
+use Rattle.cpu12_emul.specs.Image.{image_memory}
+use Rattle.run_law.specs.Uninterrupted.{counted, taken_before, resumed_of, frames_of}
+use Rattle.run_law.specs.Following.{asked}
+use Rattle.interrupt_plan.specs.declared.Request.{Request}
+use Rattle.interrupt_plan.specs.declared.levels.Level.{Level}
+use Rattle.interrupt_plan.specs.Levels.{AreGoodLevels}
+use Rattle.codegen.specs.declared.width.Width.TheVariants.{Byte}
+use Rattle.codegen.specs.Firing.{AreInputBytes}
+use Rattle.codegen.specs.Uninterrupted.{Answer, AreAnswersOf}
+use Rattle.two_level.specs.declared.two.Two.{Two}
+use Rattle.two_level.specs.Images.{fast_most, IsTwoOf}
+use Rattle.fz_run.specs.Rows.{bytes_of, firmware_rows}
+use Rattle.fz_run.specs.Answering.{AnswerBlock}
+use Rattle.two_runs.specs.Runs.{entered, FastSeen}
+use Rattle.two_runs.specs.Steps.{IsFastRun}
+use Rattle.two_runs.specs.Inside.{AreOnStack}
+use Rattle.two_runs.specs.Rows.{levels_of, two_rows, TwoSeen, two_seen}
+
+-- The slow run's plan without fast runs: requests at the levels' places that write nothing.
+abbrev pub request_of : Level → Request
+request_of l = record { sample = l.sample; moment = l.moment; writes = [] }
+
+abbrev pub plan_of : List Level → List Request
+plan_of levels = map request_of levels
+
+-- the fast runs that were told of, in their order
+abbrev pub runs_told : List (Option FastSeen) → List FastSeen
+runs_told ts = filter_map (λ t. t) ts
+
+abbrev pub fast_runs : List TwoSeen → List FastSeen
+fast_runs rows = flat_map (λ r. runs_told r.fast) rows
+
+-- those of the run
+abbrev pub fast_runs_of : Two → List (List ℕ) → List (List ℕ) → List Level → ℕ → List FastSeen
+fast_runs_of two slow fast levels flags = fast_runs (two_seen two slow fast levels flags)
+
+abbrev pub answer_of_fast : FastSeen → Answer
+answer_of_fast f = record { values = f.answers; instructions = f.instrs }
+
+-- What a level told of its fast run is read off the run without inner requests from where the fast code was entered,
+-- in a state in which no slow sums run: the number of its sample; its steps and instructions; and its resumed count
+-- and frames, where an inner moment 0 counts as 1. No frame stands below the stack's start.
+pub record IsReadOff (b : Block) (two : Two) (flags : ℕ) (fast : List (List ℕ)) (l : Level) (f : FastSeen)
+    : Type 0 where
+  pub number : f.number ≡ l.fast
+  pub before : ℕ → ℕ
+  pub found : State
+  pub behind : State
+  pub run : IsFastRun b (image_memory two.image.bytes) flags (bytes_of fast l.fast) before
+      (entered (bytes_of fast l.fast) found) behind
+  pub steps : f.steps ≡ suc run.further
+  pub instrs : f.instrs ≡ counted flags f.steps (entered (bytes_of fast l.fast) found)
+  pub resumed : f.resumed
+      ≡ resumed_of flags (λ m. max 1 m) (entered (bytes_of fast l.fast) found) l.inner.items f.steps
+  pub frames : f.frames ≡ frames_of flags (λ m. max 1 m) (entered (bytes_of fast l.fast) found) l.inner.items f.steps
+  pub stack : AreOnStack f.frames
+
+-- What a level told: nothing where it has no fast sample, and else of its fast run.
+abbrev pub IsTold : Block → Two → ℕ → List (List ℕ) → Level → Option FastSeen → Type 0
+IsTold b two flags fast l None = l.fast ≡ 0
+IsTold b two flags fast l (Some f) = IsReadOff b two flags fast l f
+
+abbrev pub AreTold : Block → Two → ℕ → List (List ℕ) → List (Level × Option FastSeen) → Type 0
+AreTold b two flags fast ts = All (λ t. IsTold b two flags fast t.0 t.1) ts
+
+-- the levels that are taken, sample by sample from number k on, where the samples take so many steps
+abbrev pub taken_by : ℕ → List Level → List ℕ → List (List Level)
+taken_by k levels [] = []
+taken_by k levels (n ∷ ns) = taken_before (λ l. l.moment) n (levels_of k levels) ∷ taken_by (suc k) levels ns
+
+-- A run at two levels. It comes to the end of each slow sample, without a trap. Its slow rows are those of the slow
+-- firmware alone under a plan at the same places that writes nothing: so are their answers, which are the slow
+-- block's, counts and frames. The levels that are taken are those before the end of their sample. Each fast run answers
+-- its sample as the fast block over bytes, after the fast run before it, by at most so many instructions and steps, and
+-- what is told of it is read off its run without inner requests. No frame of either level stands below the stack's
+-- start.
+pub record AnswersAtTwoLevels (slow fast : Block) (two : Two) (flags : ℕ) (slow_samples fast_samples : List (List ℕ))
+    (levels : List Level) : Type 0 where
+  pub arrived : (two_rows two slow_samples fast_samples levels flags).arrived ≡ true
+  pub rows_are : (two_rows two slow_samples fast_samples levels flags).rows
+      ≡ (firmware_rows two.slow slow_samples (plan_of levels) flags).rows
+  pub slow_answers : AnswerBlock slow two.slow flags slow_samples
+      (two_rows two slow_samples fast_samples levels flags).rows
+  pub taken : map (λ ts. asked ts) (two_rows two slow_samples fast_samples levels flags).told
+      ≡ taken_by 1 levels (map (λ r. r.steps) (two_rows two slow_samples fast_samples levels flags).rows)
+  pub fast_answers : AreAnswersOf Byte fast (fast_most two.fast.instr_bound) (λ o. 0)
+      (map (λ f. bytes_of fast_samples f.number) (fast_runs_of two slow_samples fast_samples levels flags))
+      (map answer_of_fast (fast_runs_of two slow_samples fast_samples levels flags))
+  pub fast_steps : All (λ f. f.steps ≤ fast_most two.fast.step_bound)
+      (fast_runs_of two slow_samples fast_samples levels flags)
+  pub told : All (AreTold fast two flags fast_samples) (two_rows two slow_samples fast_samples levels flags).told
+  pub stack : All (λ r. AreOnStack r.frames) (two_rows two slow_samples fast_samples levels flags).rows
+
+-- So does each run over samples of two valid blocks, where the image is that of both.
+abbrev pub AnswersItsBlocks : Two → ℕ → List (List ℕ) → List (List ℕ) → List Level → Type 0
+AnswersItsBlocks two flags slow_samples fast_samples levels =
+    (slow fast : Block) → IsValid slow → IsWithinLimits slow → IsValid fast → IsWithinLimits fast
+    → IsTwoOf slow fast two → All (AreInputBytes slow) slow_samples → All (AreInputBytes fast) fast_samples
+    → AnswersAtTwoLevels slow fast two flags slow_samples fast_samples levels
+
+-- Under all good levels they do.
+abbrev pub AnswersUnderLevels : Type 0
+AnswersUnderLevels =
+    (two : Two) (flags : ℕ) (slow fast : List (List ℕ)) (levels : List Level) → flags < 2 ^ 8
+    → AreGoodLevels (length fast) levels → AnswersItsBlocks two flags slow fast levels

@@ -1,0 +1,21 @@
+-- The fast code is entered.
+use Rattle.std.specs.Prelude.{◌≡◌, ℕ, List}
+use Rattle.fuzzy_meaning.specs.declared.block.Block.{Block}
+use Rattle.fuzzy_meaning.specs.Blocks.{IsValid}
+use Rattle.rule_layout.specs.Layouts.{IsWithinLimits}
+use Rattle.cpu12_parts.specs.State.{State}
+use Rattle.cpu12_emul.specs.Image.{image_memory}
+use Rattle.codegen.specs.Firing.{AreInputBytes}
+use Rattle.two_level.specs.declared.two.Two.{Two}
+use Rattle.two_level.specs.Images.{IsTwoOf}
+use Rattle.two_level.specs.Running.{IsEntered}
+use Rattle.two_runs.specs.Runs.{entered}
+
+-- There is a state over memory as the image makes it from which an interrupt enters the fast code, with any sample and
+-- with all outputs 0.
+abbrev pub FastIsEntered : Type 0
+FastIsEntered =
+    (slow fast : Block) (two : Two) (bytes : List ℕ) → IsValid slow → IsWithinLimits slow → IsValid fast
+    → IsWithinLimits fast → IsTwoOf slow fast two → AreInputBytes fast bytes
+    → (v : State) × ((v.mem ≡ image_memory two.image.bytes)
+    × IsEntered fast (image_memory two.image.bytes) bytes (λ o. 0) (entered bytes v))
