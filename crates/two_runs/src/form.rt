@@ -54,6 +54,11 @@ impl<'a> RunForm<Level, Option<FastRow>, TwoRow> for WithLevels<'a> {
         is_idle(&self.two.slow.layout, m)
     }
 
+    #[inline(always)]
+    fn plain_steps<M: Mem>(&self, _m: &mut Machine<M>, _most: u32) -> u32 {
+        0
+    }
+
     fn place(&self, level: &Level) -> (u32, u32) {
         (level.sample, level.moment)
     }

@@ -3,10 +3,11 @@ ghost use Rattle.std.specs.Prelude.{◌≡◌, ◌≤◌, map, length, IfOk};
 ghost use Rattle.interrupt_plan.specs.Levels.{AreGoodLevels};
 ghost use Rattle.fz_run.specs.Rows.{input_bytes};
 ghost use Rattle.two_runs.specs.Rows.{two_seen};
+ghost use Rattle.two_runs.specs.Answering.{AnswersItsBlocks};
 ghost use Rattle.two_runs.specs.Harness.{row_seen};
 
 use crate::form::WithLevels;
-use crate::laws::levels_are_in_order;
+use crate::laws::{answers_under_levels, levels_are_in_order};
 use crate::serve::FastRow;
 use cpu12_isa::pages::PageMem;
 use fz_list::Memory;
@@ -42,7 +43,10 @@ pub fn run_two(
     requires levels { AreGoodLevels (length fast.now) levels.now }
     ensures rows { IfOk result (λ rows. map row_seen rows.items
         ≡ two_seen two.now (map input_bytes slow.now) (map input_bytes fast.now) levels.now flags) }
+    ensures answers { IfOk result (λ rows. AnswersItsBlocks two.now flags (map input_bytes slow.now)
+        (map input_bytes fast.now) levels.now) }
 {
+    answers_under_levels();
     levels_are_in_order();
     let form = WithLevels { two, slow, fast };
     let start = Start {
