@@ -6,19 +6,19 @@ use Rattle.std.proofs.lemmas.List.Concat.{length-flat_map}
 use Rattle.std.specs.Prelude.{Some, slice_get, false, flat_map}
 use Rattle.std.specs.List.{AllZip}
 use Rattle.fuzzy_meaning.specs.Conditions.{condition_of, is, all, also, end}
-use Rattle.fuzzy_meaning.specs.SameBlocks.{IsSameBlock, IsSameRule}
+use Rattle.fuzzy_meaning.specs.SameBlocks.{IsSameRule}
 use Rattle.fuzzy_meaning.specs.declared.block.Block.{Block}
 use Rattle.fuzzy_meaning.specs.declared.block.Rule.{Rule}
 use Rattle.rule_layout.specs.declared.flat.Conjunction.{Conjunction}
 use Rattle.rule_layout.specs.declared.flat.Form.{Form}
 use Rattle.rule_layout.specs.declared.flat.Form.TheVariants.{Rev, Revw}
 use Rattle.rule_layout.specs.declared.flat.Slot.{Slot}
-use Rattle.rule_layout.specs.Layouts.{IsWithinLimits, conjunction_count, conjunctions_of, element_width, form_of, list_size}
+use Rattle.rule_layout.specs.Layouts.{conjunction_count, conjunctions_of, element_width, form_of, list_size}
 use Rattle.rule_layout.specs.Layouts.{conjunction_of, rule_conjunctions, rule_spread}
 use Rattle.rule_layout.specs.Lists.{marked}
 use Rattle.rule_layout.specs.Slots.{conclusion_number, slots_of}
 use Rattle.rule_layout.specs.Spreading.{literal, spread_of}
-use Rattle.workload.specs.Blocks.{IsDrawnBlock, IsDrawnRule}
+use Rattle.workload.specs.Blocks.{IsDrawnRule}
 use Rattle.workload.specs.Laws.{DrawnBlocksAreOne, DrawnBlocksAreWithinLimits}
 
 -- ---- one block for a shift

@@ -2,7 +2,6 @@
 use Rattle.std.specs.Prelude.{◌≡◌, ℕ, ◌+◌, ◌*◌, List, [], ◌∷◌, length, Some, slice_get, pos}
 use Rattle.fuzzy_meaning.specs.declared.block.Block.{Block}
 use Rattle.fcl_check.specs.Texts.{SpellsBlock}
-use Rattle.cpu12_isa.specs.declared.instr.Write.{Write}
 use Rattle.cpu12_isa.specs.Regions.{free_start}
 use Rattle.interrupt_plan.specs.PlanTexts.{Spells as SpellsPlan}
 use Rattle.interrupt_plan.specs.declared.Request.{Request}

@@ -1,5 +1,5 @@
 -- Values that are found for the items of a list, one for each.
-use Rattle.std.proofs.Common.{◌≡◌, true, false, List, [], ◌∷◌, Option, Some, None, refl}
+use Rattle.std.proofs.Common.{◌≡◌, true, false, List, [], ◌∷◌, Some, None, refl}
 use Rattle.std.specs.Prelude.{IsSome, if◌then◌else◌}
 use Rattle.std.specs.List.{AllByRecursion, AllZip, cons_option, filter_map}
 use Rattle.std.specs.Option.{option_or}

@@ -1,7 +1,6 @@
 -- The scale changes no number of a text.
-use Rattle.std.proofs.Common.{◌≡◌, length, get_or, arith}
+use Rattle.std.proofs.Common.{◌≡◌, get_or, arith}
 use Rattle.std.specs.Prelude.{ℤ, pos, neg_ℤ, ◌≤ℤ◌}
-use Rattle.std.specs.Int.{int_min, int_max}
 use Rattle.std.proofs.lemmas.Int.{ints, clamps}
 use Rattle.fcl_syntax.specs.Annotations.{tokens_of}
 use Rattle.fcl_syntax.specs.Grammar.{block_text}

@@ -12,39 +12,24 @@ halve-requires c =
       tree = tree_for c.in-Ok.task.block.now c.args.block.now c.in-Ok-new.tree c.len.result e.block c.in-Ok-new.ensures.errors c.len.ensures c.in-Ok-new.ensures.leaves;
     }
 
-pub returns-in-Ok-halve-clause-halved : goal.returns-in-Ok-halve-clause-halved
-returns-in-Ok-halve-clause-halved c =
+pub returns-in-Ok-halve : goal.returns-in-Ok-halve
+returns-in-Ok-halve c =
     let b = c.args.block.now in
     let old = c.in-Ok-new.tree in
     let new = c.halve.new.tree in
     let e = c.in-Ok.ensures in
+    let nodes = c.in-Ok-new.ensures.nodes in
+    let errors = c.in-Ok-new.ensures.errors ∙ ap (λ n. replicate n 0) c.len.ensures in
+    let leaves = c.in-Ok-new.ensures.leaves in
     let grows = grows_for c.in-Ok.task.block.now b c.in-Ok.task.parts c.args.parts c.in-Ok.task.target c.args.target c.whole_box.result.0.items old new
     e.block e.parts e.target c.whole_box.ensures c.in-Ok-halve.ensures.grows in
-    is_halving b c.args.parts c.args.target old new c.into_cert.result c.requires.block c.in-Ok-new.ensures.nodes
-    (c.in-Ok-new.ensures.errors ∙ ap
-    (λ n. replicate n 0) c.len.ensures) c.in-Ok-new.ensures.leaves grows c.into_cert.ensures.claims c.into_cert.ensures.nodes
-
-pub returns-in-Ok-halve-clause-within : goal.returns-in-Ok-halve-clause-within
-returns-in-Ok-halve-clause-within c =
-    let b = c.args.block.now in
-    let old = c.in-Ok-new.tree in
-    let new = c.halve.new.tree in
-    let e = c.in-Ok.ensures in
-    let grows = grows_for c.in-Ok.task.block.now b c.in-Ok.task.parts c.args.parts c.in-Ok.task.target c.args.target c.whole_box.result.0.items old new
-    e.block e.parts e.target c.whole_box.ensures c.in-Ok-halve.ensures.grows in
-    claims_within b c.args.parts c.args.target old new c.into_cert.result c.requires.block c.in-Ok-new.ensures.nodes
-    (c.in-Ok-new.ensures.errors ∙ ap
-    (λ n. replicate n 0) c.len.ensures) c.in-Ok-new.ensures.leaves grows c.into_cert.ensures.claims c.into_cert.ensures.nodes
-
-pub returns-in-Ok-halve-clause-cert : goal.returns-in-Ok-halve-clause-cert
-returns-in-Ok-halve-clause-cert c =
-    let b = c.args.block.now in
-    let old = c.in-Ok-new.tree in
-    let new = c.halve.new.tree in
-    let e = c.in-Ok.ensures in
-    let grows = grows_for c.in-Ok.task.block.now b c.in-Ok.task.parts c.args.parts c.in-Ok.task.target c.args.target c.whole_box.result.0.items old new
-    e.block e.parts e.target c.whole_box.ensures c.in-Ok-halve.ensures.grows in
-    is_cert b c.args.parts c.args.target old new c.into_cert.result c.requires.block c.in-Ok-new.ensures.nodes
-    (c.in-Ok-new.ensures.errors ∙ ap
-    (λ n. replicate n 0) c.len.ensures) c.in-Ok-new.ensures.leaves grows c.into_cert.ensures.claims c.into_cert.ensures.nodes
-    c.open_boxes_go_on.ensures c.requires.target
+    let claims = c.into_cert.ensures.claims in
+    let made = c.into_cert.ensures.nodes in
+    record {
+      halved = is_halving b c.args.parts c.args.target old new c.into_cert.result c.requires.block nodes errors leaves grows claims made;
+      within = claims_within b c.args.parts c.args.target old new c.into_cert.result c.requires.block nodes errors leaves grows claims made;
+      cert = is_cert b c.args.parts c.args.target old new c.into_cert.result c.requires.block nodes errors leaves grows claims made
+          c.open_boxes_go_on.ensures c.requires.target;
+      stops = tt;
+      out_of_reach = tt;
+    }

@@ -1,4 +1,4 @@
-use Rattle.std.proofs.Common.{◌≤◌, ◌+◌, ◌*◌, length}
+use Rattle.std.proofs.Common.{◌≤◌, ◌*◌, length}
 use Rattle.workload.proofs.texts.plan_of.Given as goal
 
 abbrev pub invariant-loop-k : goal.invariant-loop-k

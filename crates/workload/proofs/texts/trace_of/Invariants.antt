@@ -1,4 +1,4 @@
-use Rattle.std.proofs.Common.{◌≤◌, ◌+◌, ◌*◌, length}
+use Rattle.std.proofs.Common.{◌≤◌, ◌*◌, length}
 use Rattle.workload.proofs.texts.trace_of.Given as goal
 
 abbrev pub invariant-loop-row : goal.invariant-loop-row

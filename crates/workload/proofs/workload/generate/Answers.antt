@@ -5,7 +5,7 @@ use Rattle.interrupt_plan.specs.declared.Request.{Request}
 use Rattle.trace_io.specs.Traces.{Spells as SpellsTrace}
 use Rattle.trace_io.specs.declared.sample.Sample.{Sample}
 use Rattle.workload.specs.Blocks.{IsDrawnBlock}
-use Rattle.workload.specs.Draws.{draw, state_after}
+use Rattle.workload.specs.Draws.{state_after}
 use Rattle.workload.specs.Workloads.{AreDrawnRequests, AreDrawnSamples}
 use Rattle.workload.proofs.DrawLemmas.{state_after_none}
 use Rattle.workload.proofs.workload.generate.Goals as goal

@@ -1,4 +1,4 @@
-use Rattle.std.proofs.Common.{◌≡◌, ◌+◌, ap₂, ℕ}
+use Rattle.std.proofs.Common.{◌≡◌, ◌+◌}
 use Rattle.workload.specs.Draws.{state_after}
 use Rattle.workload.proofs.DrawLemmas.{draw_at, state_after_one, state_after_two, state_after_three}
 use Rattle.workload.proofs.draws.Draws.request.Goals as goal
