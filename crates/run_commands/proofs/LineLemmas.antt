@@ -13,7 +13,8 @@ use Rattle.run_law.specs.Forms.{RowSeen}
 use Rattle.build_commands.specs.Lines.{counted, error_line, line}
 use Rattle.build_commands.proofs.Algebra.{counted-map, flat-map, text_of-snoc}
 use Rattle.run_commands.specs.Generate.{answers_of, frames_of, generate_lines, resumed_of}
-use Rattle.run_commands.specs.Run.{answered, begun_lines, frame_line, numbers, report_of, row_lines, run_lines}
+use Rattle.run_commands.specs.Run.{answered, answers_told, begun_lines, frame_line, numbers, report_of, row_lines}
+use Rattle.run_commands.specs.Run.{run_lines}
 
 pub numbers-snoc : (ns : List ℕ) (n : ℕ) → numbers (ns ++ n ∷ []) ≡ numbers ns ++ (codes " " ++ decimal n)
 numbers-snoc [] n = ap (λ (l : List ℕ). codes " " ++ l) (append-nil (decimal n))
@@ -35,15 +36,18 @@ number_more before now next ns i d lt so_far step =
 made_with : (t x more u : List ℕ) → u ≡ t ++ x → u ++ more ≡ t ++ (x ++ more)
 made_with t x more u e = ap (λ (l : List ℕ). l ++ more) e ∙ append_assoc t x more
 
-pub answered_written : (instrs : ℕ) (bytes answers t0 t1 t2 t3 t4 t5 : List ℕ)
-    → t1 ≡ t0 ++ codes " bytes" → t2 ≡ t1 ++ numbers bytes → t3 ≡ t2 ++ codes " answers" → t4 ≡ t3 ++ numbers answers
-    → t5 ≡ t4 ++ (codes " instructions " ++ decimal instrs) → t5 ≡ t0 ++ answered bytes answers instrs
-answered_written instrs bytes answers t0 t1 t2 t3 t4 t5 e1 e2 e3 e4 e5 =
-    let r3 = codes " instructions " ++ decimal instrs in
-    let r2 = numbers answers ++ r3 in
-    let r1 = codes " answers" ++ r2 in
-    e5 ∙ made_with t3 (numbers answers) r3 t4 e4 ∙ made_with t2 (codes " answers") r2 t3 e3
-    ∙ made_with t1 (numbers bytes) r1 t2 e2 ∙ made_with t0 (codes " bytes") (numbers bytes ++ r1) t1 e1
+-- answers behind a text, and a number at its end
+pub answers_written : (instrs : ℕ) (answers t0 t1 t2 t3 : List ℕ) → t1 ≡ t0 ++ codes " answers" → t2 ≡ t1 ++ numbers answers
+    → t3 ≡ t2 ++ (codes " instructions " ++ decimal instrs) → t3 ≡ t0 ++ answers_told answers instrs
+answers_written instrs answers t0 t1 t2 t3 e1 e2 e3 =
+    let r2 = codes " instructions " ++ decimal instrs in
+    e3 ∙ made_with t1 (numbers answers) r2 t2 e2 ∙ made_with t0 (codes " answers") (numbers answers ++ r2) t1 e1
+
+pub answered_written : (instrs : ℕ) (bytes answers t0 t1 t2 t3 : List ℕ) → t1 ≡ t0 ++ codes " bytes"
+    → t2 ≡ t1 ++ numbers bytes → t3 ≡ t2 ++ answers_told answers instrs → t3 ≡ t0 ++ answered bytes answers instrs
+answered_written instrs bytes answers t0 t1 t2 t3 e1 e2 e3 =
+    let r2 = answers_told answers instrs in
+    e3 ∙ made_with t1 (numbers bytes) r2 t2 e2 ∙ made_with t0 (codes " bytes") (numbers bytes ++ r2) t1 e1
 
 module _ (k instrs steps resumed frames : ℕ) (bytes answers rest : List ℕ) where
   abbrev pub sample_text : List ℕ

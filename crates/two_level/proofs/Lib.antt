@@ -2,3 +2,4 @@ mod Places
 mod Leaving
 mod Entering
 mod Standing
+mod Alike

@@ -12,5 +12,5 @@ mod items;
 pub mod laws;
 mod two;
 
-pub use laws::{fast_answers_entered, two_stand_beside};
+pub use laws::{fast_answers_entered, two_stand_beside, twos_are_one};
 pub use two::{Two, TwoFault, compile_two};
