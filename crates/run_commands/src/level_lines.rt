@@ -1,6 +1,8 @@
 //! The lines of a run at two levels.
-ghost use Rattle.std.specs.Prelude.{◌≡◌, ◌++◌, map, string_bytes, IfOk, OnOk, Some};
+ghost use Rattle.std.specs.Prelude.{◌≡◌, ◌++◌, map, string_bytes, IfOk, OnOk, Some, None};
+ghost use Rattle.std.specs.List.{slice_index_or};
 ghost use Rattle.fz_shelf.specs.Lines.{text_of};
+ghost use Rattle.fz_run.specs.Rows.{boundary_seen};
 ghost use Rattle.two_level.specs.Images.{fast_most};
 ghost use Rattle.two_runs.specs.Rows.{fast_seen, row_seen};
 ghost use Rattle.build_commands.specs.Lines.{counted};
@@ -108,19 +110,34 @@ fn push_outer(
     row: &TwoRow,
 ) -> Result<(), AllocError>
     ensures { OnOk result (text_of lines.new.items ≡ text_of lines.old.items
-        ++ counted (outer_lines k (row_seen row.now).fast) 1 (row_seen row.now).row.frames) }
+        ++ counted (λ n f. outer_lines k (row_seen row.now).fast n (boundary_seen f)) 1 row.now.row.frames) }
 {
-    for (at, frame) in row.row.frames.iter().enumerate() {
+    let frames = row.row.frames.as_slice();
+    for (at, frame) in frames.iter().enumerate() {
         lines.push(line_of_frame(alloc, k, frame)?)?;
-        if let Some(Some(fast)) = row.fast.get(at) {
-            push_fast(alloc, lines, fast)?;
-        }
+        push_fast(alloc, lines, row, at)?;
     }
     Ok(())
 }
 
+/// The fast run in the interrupt of this place, if there is one.
+fn push_fast(
+    alloc: Global,
+    lines: &mut Vec<String>,
+    row: &TwoRow,
+    at: usize,
+) -> Result<(), AllocError>
+    ensures { OnOk result (text_of lines.new.items
+        ≡ text_of lines.old.items ++ fast_lines (slice_index_or (row_seen row.now).fast at None)) }
+{
+    match row.fast.get(at) {
+        Some(Some(fast)) => push_run(alloc, lines, fast),
+        _ => Ok(()),
+    }
+}
+
 /// A fast run with its frames.
-fn push_fast(alloc: Global, lines: &mut Vec<String>, fast: &FastRow) -> Result<(), AllocError>
+fn push_run(alloc: Global, lines: &mut Vec<String>, fast: &FastRow) -> Result<(), AllocError>
     ensures { OnOk result (text_of lines.new.items
         ≡ text_of lines.old.items ++ fast_lines (Some (fast_seen fast.now))) }
 {
