@@ -1,8 +1,6 @@
 //! Runs of two blocks at two levels: fast runs inside the interrupts of a slow block.
 use fz_shelf::MemShelf;
-use program_calls::{
-    Difference, Left, NONE, USAGE, call, code_of, push_file, push_room, shelf_of,
-};
+use program_calls::{Difference, Left, NONE, USAGE, call, code_of, push_file, push_room, shelf_of};
 use std::alloc::Global;
 use std::test::Fail;
 use worked_texts::{

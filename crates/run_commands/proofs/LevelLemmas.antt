@@ -84,26 +84,26 @@ module _ {S A B : Type 0} (f : Form S A B) (P : B → Type 0) (each : (q : A) (s
       go true = All-cons Holds (told f q s) (takes f m qs (taken f q s)).told (each q _) (told_at m qs (taken f q s))
       go false = none Holds
 
+  told_behind : (inside : Bool) (b : Taking A B) (rest : Bool → State → Ran A B) → All Holds b.told
+      → ((i : Bool) (t : State) → All Holds (rest i t).told) → (r : Result Next ℕ)
+      → All Holds (then_rest inside b rest r).told
+  told_behind inside b rest here later (Ok next) =
+      All-append Holds b.told (rest (is_part next.kind) next.state).told here (later (is_part next.kind) next.state)
+  told_behind inside b rest here later (Err byte) = here
+
   told_in : (n m : ℕ) (inside : Bool) (qs : List A) (s : State) → All Holds (run_from f n m inside qs s).told
   unfolding run_from
   told_in zero m inside qs s = none Holds
   told_in (suc n) m inside qs s = go (f.ends m s)
     where
-      abbrev b : Taking A B
-      b = takes f m qs s
-
-      abbrev rest : Bool → State → Ran A B
-      rest i t = run_from f n (suc m) i b.left t
-
-      on : (r : Result Next ℕ) → All Holds (then_rest inside b rest r).told
-      on (Ok next) = All-append Holds b.told (rest (is_part next.kind) next.state).told (told_at m qs s)
-          (told_in n (suc m) (is_part next.kind) b.left next.state)
-      on (Err byte) = told_at m qs s
-
       go : (e : Bool)
-          → All Holds (if e then ended true qs s else then_rest inside b rest (next_of f.flags b.state)).told
+          → All Holds (if e then ended true qs s
+          else then_rest inside (takes f m qs s) (λ i t. run_from f n (suc m) i (takes f m qs s).left t)
+          (next_of f.flags (takes f m qs s).state)).told
       go true = none Holds
-      go false = on (next_of f.flags b.state)
+      go false =
+          told_behind inside (takes f m qs s) (λ i t. run_from f n (suc m) i (takes f m qs s).left t) (told_at m qs s)
+          (λ i t. told_in n (suc m) i (takes f m qs s).left t) (next_of f.flags (takes f m qs s).state)
 
   pub told_of_rows : (most : ℕ) (asks : ℕ → List A) (k : ℕ) (xs : List S) (s : State)
       → All (All Holds) (rows_from f most asks k xs s).told
@@ -181,6 +181,13 @@ map-twice {X} {Y} {Z} g f (x ∷ xs) = ap (λ (zs : List Z). g (f x) ∷ zs) (ma
 
 bound_alone : (b : Block) (f : Firmware) → IsAlone b f → f.instr_bound ≡ instruction_bound Byte b
 bound_alone b f is = is.firmware.instructions ∙ ap (λ (wide : Bool). instruction_bound (width_of wide) b) is.narrow
+
+-- a block's firmware has at most four outputs
+pub few_outputs : (text : List ℕ) (b : Block) (f : Firmware) → GivesBlock text b → IsAlone b f → f.outputs ≤ 4
+few_outputs text b f gives alone =
+    let count = alone.firmware.outputs in
+    let few = gives.spelled.valid.few_outputs in
+    omega (arith, count, few)
 
 module _ (near : AnswersAreWithinErrors) (posted : PostedAnswersAreNear) (plans : AnswersUnderPlans) (flags : ℕ)
     (byte : flags < 2 ^ 8) (files : LevelFiles) (slow fast : Block) (two : Two) (errors fast_errors : List ℕ)

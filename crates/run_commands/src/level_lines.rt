@@ -9,7 +9,9 @@ ghost use Rattle.build_commands.specs.Lines.{counted};
 ghost use Rattle.run_commands.specs.Lrun.{fast_error_line, fast_line, fast_lines, level_begun_lines, level_report};
 ghost use Rattle.run_commands.specs.Lrun.{level_row_lines, lrun_lines, outer_lines};
 
-use crate::run_lines::{line_of_frame, push_answers, push_count, push_labelled_frames, sample_text};
+use crate::run_lines::{
+    line_of_frame, push_answers, push_count, push_labelled_frames, sample_text,
+};
 use build_commands::lines::{labelled, line_of_error, push_errors};
 use std::alloc::{AllocError, Global};
 use std::fmt::Write;

@@ -139,7 +139,13 @@ impl Lrun {
         let Ok(rows) = ran else {
             return Err(Status::Memory);
         };
-        match lines(alloc, &accepted.errors.slow, &accepted.errors.fast, two, &rows) {
+        match lines(
+            alloc,
+            &accepted.errors.slow,
+            &accepted.errors.fast,
+            two,
+            &rows,
+        ) {
             Ok(lines) => Ok(Work { lines, file: None }),
             Err(_) => Err(Status::Memory),
         }

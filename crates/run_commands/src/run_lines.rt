@@ -107,7 +107,11 @@ pub(crate) fn push_frames(
 }
 
 /// The line of a frame of the k-th sample.
-pub(crate) fn line_of_frame(alloc: Global, k: usize, frame: &(u32, Frame)) -> Result<String, AllocError>
+pub(crate) fn line_of_frame(
+    alloc: Global,
+    k: usize,
+    frame: &(u32, Frame),
+) -> Result<String, AllocError>
     ensures { IfOk result (λ s. string_bytes s ≡ frame_line k (boundary_seen frame.now)) }
 {
     let mut text = String::from_str(alloc, "frame ")?;
@@ -142,11 +146,7 @@ fn labelled_frame(alloc: Global, label: &str, frame: &(u32, Frame)) -> Result<St
 }
 
 /// A frame behind its boundary, and the end of the line.
-fn push_frame(
-    alloc: Global,
-    text: &mut String,
-    frame: &(u32, Frame),
-) -> Result<(), AllocError>
+fn push_frame(alloc: Global, text: &mut String, frame: &(u32, Frame)) -> Result<(), AllocError>
     ensures { OnOk result (string_bytes text.new ≡ string_bytes text.old ++ frame_told (boundary_seen frame.now)) }
 {
     let boundary = frame.0;
