@@ -1,6 +1,6 @@
 -- The lines of a run at two levels.
-use Rattle.std.proofs.Common.{◌≡◌, ◌+◌, ◌-◌, ◌<◌, ◌≤◌, ◌∙◌, ℕ, List, [], ◌∷◌, ◌++◌, length, take, get_or, ap, ap₂, append_assoc, sym, arith}
-use Rattle.std.specs.Prelude.{codes, decimal, flat_map, map, Option, Some, None, option_map, slice_get, String, string_bytes}
+use Rattle.std.proofs.Common.{◌≡◌, ◌+◌, ◌-◌, ◌<◌, ◌∙◌, ℕ, List, [], ◌∷◌, ◌++◌, length, take, get_or, ap, ap₂, append_assoc, arith}
+use Rattle.std.specs.Prelude.{codes, decimal, flat_map, Option, None, String, string_bytes}
 use Rattle.std.specs.List.{slice_index_or}
 use Rattle.std.specs.declared.alloc.Global.{Global}
 use Rattle.cpu12_emul.specs.Take.{FrameSeen}
@@ -53,19 +53,19 @@ module _ (number instrs steps resumed : ℕ) (answers : List ℕ) where
       ∙ made_with t0 (decimal number) r1 t1 e1 ∙ ap (λ (l : List ℕ). l ++ (decimal number ++ r1)) e0
 
 -- a frame more, with the fast run in its interrupt
-pub outer_more : (before now next framed : List (String Global)) (last : String Global) (k at : ℕ)
+pub outer_more : (before next : List ℕ) (now framed : List (String Global)) (last : String Global) (k at : ℕ)
     (fast : List (Option FastSeen)) (frames : List (ℕ × Frame)) (f : ℕ × Frame) → at < length frames
-    → text_of now ≡ text_of before ++ counted (λ n g. outer_lines k fast n (boundary_seen g)) 1 (take at frames)
+    → text_of now ≡ before ++ counted (λ n g. outer_lines k fast n (boundary_seen g)) 1 (take at frames)
     → framed ≡ now ++ last ∷ [] → string_bytes last ≡ frame_line k (boundary_seen (get_or frames at f))
-    → text_of next ≡ text_of framed ++ fast_lines (slice_index_or fast at None)
-    → text_of next ≡ text_of before ++ counted (λ n g. outer_lines k fast n (boundary_seen g)) 1 (take (at + 1) frames)
-outer_more before now next framed last k at fast frames f inside so_far added is told_so =
+    → next ≡ text_of framed ++ fast_lines (slice_index_or fast at None)
+    → next ≡ before ++ counted (λ n g. outer_lines k fast n (boundary_seen g)) 1 (take (at + 1) frames)
+outer_more before next now framed last k at fast frames f inside so_far added is told_so =
     let lines_of = λ (n : ℕ) (g : ℕ × Frame). outer_lines k fast n (boundary_seen g) in
     let own = frame_line k (boundary_seen (get_or frames at f)) in
     let place : at ≡ at + 1 - 1 = omega arith in
-    let both = pushed now framed last own (fast_lines (slice_index_or fast at None)) (text_of next) added is told_so in
-    let here : text_of next ≡ text_of now ++ lines_of (at + 1) (get_or frames at f) =
+    let both = pushed now framed last own (fast_lines (slice_index_or fast at None)) next added is told_so in
+    let here : next ≡ text_of now ++ lines_of (at + 1) (get_or frames at f) =
     both ∙ ap (λ (n : ℕ). text_of now ++ (own ++ fast_lines (slice_index_or fast n None))) place in
-    text_more (text_of before) (counted lines_of 1 (take at frames)) (lines_of (at + 1) (get_or frames at f))
-    (counted lines_of 1 (take (at + 1) frames)) (text_of now) (text_of next) so_far here
+    text_more before (counted lines_of 1 (take at frames)) (lines_of (at + 1) (get_or frames at f))
+    (counted lines_of 1 (take (at + 1) frames)) (text_of now) next so_far here
     (counted_more lines_of frames at f inside)

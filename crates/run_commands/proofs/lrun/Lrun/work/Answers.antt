@@ -1,4 +1,4 @@
-use Rattle.std.proofs.Common.{ℕ, ◌<◌, ◌^◌, List, ap, ap₂, ◌∙◌, rules}
+use Rattle.std.proofs.Common.{ℕ, ◌<◌, ◌^◌, List, ap, ◌∙◌, rules}
 use Rattle.std.specs.Prelude.{None, map}
 use Rattle.two_level.specs.Images.{fast_most}
 use Rattle.two_runs.specs.Rows.{row_seen}
