@@ -1,8 +1,7 @@
 -- Records that give an image are not refused.
 use Rattle.std.proofs.Common.{ℕ, List, ◌∙◌, sym}
 use Rattle.cpu12_asm.specs.declared.image.Image.{Image}
-use Rattle.codegen.specs.Alike.{HaveOneImage}
-use Rattle.codegen.specs.declared.firmware.Firmware.{Firmware}
+use Rattle.two_level.specs.Alike.{AreOneImage}
 use Rattle.fz_status.specs.declared.status.ImageFault.{ImageFault}
 use Rattle.fz_status.specs.declared.status.ImageFault.TheVariants as fault
 use Rattle.srecord.specs.Laws.{ImagesAreOne, ImagesHaveNoFault}
@@ -15,11 +14,11 @@ records_apart good text image (fault.Records f) gives refuses = good text image 
 records_apart good text image (fault.Byte at got wanted) gives refuses = refuses
 records_apart good text image (fault.Start got wanted) gives refuses = refuses
 
--- records that give one firmware's image are not refused for that of another firmware, where the two have one image
-pub images_apart : ImagesAreOne → ImagesHaveNoFault → (records : List ℕ) (firmware others : Firmware) (f : ImageFault)
-    → HaveOneImage firmware others → GivesImage records firmware.image → RefusesImage records others.image f → ⊥
-images_apart one good records firmware others (fault.Records f) same is why = good records firmware.image f is why
-images_apart one good records firmware others (fault.Byte at got wanted) same is why =
-    why.2.differs ((one records why.0 firmware.image why.1 is).1 at ∙ same.0 at)
-images_apart one good records firmware others (fault.Start got wanted) same is why =
-    why.3 (why.4 ∙ (one records why.0 firmware.image why.1 is).0 ∙ same.1 ∙ sym why.5)
+-- records that give one image are not refused for another that is the same
+pub images_apart : ImagesAreOne → ImagesHaveNoFault → (records : List ℕ) (image other : Image) (f : ImageFault)
+    → AreOneImage image other → GivesImage records image → RefusesImage records other f → ⊥
+images_apart one good records image other (fault.Records f) same is why = good records image f is why
+images_apart one good records image other (fault.Byte at got wanted) same is why =
+    why.2.differs ((one records why.0 image why.1 is).1 at ∙ same.0 at)
+images_apart one good records image other (fault.Start got wanted) same is why =
+    why.3 (why.4 ∙ (one records why.0 image why.1 is).0 ∙ same.1 ∙ sym why.5)

@@ -3,16 +3,14 @@ use Rattle.std.specs.Prelude.{ℕ, List, [], ◌∷◌, ◌++◌, length, codes,
 use Rattle.fuzzy_meaning.specs.declared.block.Block.{Block}
 use Rattle.codegen.specs.Bounds.{instruction_bound}
 use Rattle.codegen.specs.declared.width.Width.TheVariants.{Byte}
-use Rattle.two_level.specs.Images.{IsTwoOf, fast_most}
+use Rattle.two_level.specs.Images.{fast_most}
 use Rattle.two_level.specs.declared.two.Two.{Two}
 use Rattle.build_commands.specs.Deeds.{Deed}
-use Rattle.build_commands.specs.Firmwares.{GivesBlock, RefusesText}
 use Rattle.build_commands.specs.Lines.{line}
+use Rattle.build_commands.specs.Twos.{GivesTwo, two_refusals}
 use Rattle.build_commands.specs.Written.{WritesImage}
-use Rattle.fz_status.specs.Refusals.{Refusals, Refuses}
-use Rattle.fz_status.specs.declared.status.FastFault.TheVariants as told
+use Rattle.fz_status.specs.Refusals.{Refuses}
 use Rattle.fz_status.specs.declared.status.Status.{Status}
-use Rattle.fz_status.specs.declared.status.Status.TheVariants as status
 
 -- SLOW and FAST
 abbrev pub lcompile_inputs : List ℕ
@@ -28,19 +26,11 @@ pub record LcompileGives (slow fast : List ℕ) (deed : Deed) : Type 0 where
   pub slow_block : Block
   pub fast_block : Block
   pub two : Two
-  pub slow_is : GivesBlock slow slow_block
-  pub fast_is : GivesBlock fast fast_block
-  pub gives : IsTwoOf slow_block fast_block two
+  pub gives : GivesTwo slow fast slow_block fast_block two
   pub writes : WritesImage two.image 4
       (lcompile_lines (instruction_bound Byte slow_block) (fast_most (instruction_bound Byte fast_block))
       (length two.image.bytes)) deed
 
--- why its files are refused: SLOW first
-abbrev pub lcompile_refusals : List ℕ → List ℕ → Refusals
-lcompile_refusals slow fast (status.Fcl f) = RefusesText slow f
-lcompile_refusals slow fast (status.Fast (told.Fcl f)) = ((block : Block) × GivesBlock slow block) × RefusesText fast f
-lcompile_refusals slow fast s = ⊥
-
 abbrev pub LcompileMakes : List ℕ → List ℕ → Result Deed Status → Type 0
 LcompileMakes slow fast (Ok deed) = LcompileGives slow fast deed
-LcompileMakes slow fast (Err s) = Refuses (lcompile_refusals slow fast) s
+LcompileMakes slow fast (Err s) = Refuses (two_refusals slow fast) s

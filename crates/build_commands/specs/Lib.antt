@@ -13,5 +13,6 @@ pub mod Lcompile
 pub mod Lines
 pub mod Mcompile
 pub mod Scompile
+pub mod Twos
 pub mod Words
 pub mod Written

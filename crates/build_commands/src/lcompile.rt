@@ -5,13 +5,14 @@ ghost use Rattle.two_level.specs.Images.{fast_most};
 ghost use Rattle.build_commands.specs.Deeds.{DeedHasNoFault, IsResultOf};
 ghost use Rattle.build_commands.specs.Lcompile.{LcompileMakes, lcompile_lines};
 
-use crate::firmware::{laid_out_block_of, spelled_texts_have_no_fault};
+use crate::firmware::spelled_texts_have_no_fault;
 use crate::lines::labelled;
+use crate::twos::two_of;
 use crate::work::Work;
 use crate::written::written_image;
 use fz_status::Status;
 use std::alloc::{AllocError, Global};
-use two_level::{Two, compile_two};
+use two_level::Two;
 
 /// The words SLOW and FAST.
 pub static INPUTS: [u32; 2] = [2, 3];
@@ -26,20 +27,12 @@ pub fn work(alloc: Global, slow: &[u8], fast: &[u8]) -> Result<Work, Status>
     requires fast { length fast.now ≤ 1048576 }
     ensures { IsResultOf (LcompileMakes slow.now fast.now) result }
 {
-    let slow_block = match laid_out_block_of(alloc, slow) {
-        Ok(block) => block,
+    let both = match two_of(alloc, slow, fast) {
+        Ok(both) => both,
         Err(status) => return Err(status),
     };
-    let fast_block = match laid_out_block_of(alloc, fast) {
-        Ok(block) => block,
-        Err(status) => return Err(status.of_fast()),
-    };
-    // Both can be laid out, so nothing but memory is wanted.
-    let Ok(two) = compile_two(alloc, &slow_block, &fast_block) else {
-        return Err(Status::Memory);
-    };
-    match lines(alloc, &two) {
-        Ok(lines) => written_image(alloc, &two.image, OUT, lines),
+    match lines(alloc, &both.two) {
+        Ok(lines) => written_image(alloc, &both.two.image, OUT, lines),
         Err(_) => Err(Status::Memory),
     }
 }

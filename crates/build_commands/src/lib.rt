@@ -23,6 +23,7 @@ pub mod lcompile;
 pub mod lines;
 pub mod mcompile;
 pub mod scompile;
+pub mod twos;
 pub mod words;
 pub mod work;
 mod written;

@@ -27,7 +27,8 @@ pub fn push_errors(alloc: Global, lines: &mut Vec<String>, errors: &[u32]) -> Re
     Ok(())
 }
 
-fn line_of_error(alloc: Global, output: usize, error: u32) -> Result<String, AllocError>
+/// The line of the error of an output, counted from 1.
+pub fn line_of_error(alloc: Global, output: usize, error: u32) -> Result<String, AllocError>
     ensures { IfOk result (λ s. string_bytes s ≡ error_line output error) }
 {
     let mut text = String::from_str(alloc, "error ")?;

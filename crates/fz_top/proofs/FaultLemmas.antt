@@ -24,6 +24,7 @@ faults_carry (command.Generate generate) contents s makes = makes.0
 faults_carry command.Hcheck contents s makes = makes.0
 faults_carry (command.Hrun hrun) contents s makes = makes.0
 faults_carry command.Lcompile contents s makes = makes.0
+faults_carry (command.Lrun lrun) contents s makes = makes.0
 faults_carry command.Mcompile contents s makes = makes.0
 faults_carry (command.Mrun mrun) contents s makes = makes.0
 faults_carry (command.Run run) contents s makes = makes.0

@@ -15,6 +15,7 @@ use Rattle.run_commands.specs.Generate.{GenerateMakes, generate_in, generate_inp
 use Rattle.build_commands.specs.Hcheck.{HcheckMakes, hcheck_inputs}
 use Rattle.run_commands.specs.Hrun.{HrunMakes, handled_files, hrun_in, hrun_inputs}
 use Rattle.build_commands.specs.Lcompile.{LcompileMakes, lcompile_inputs}
+use Rattle.run_commands.specs.Lrun.{LrunMakes, level_files, lrun_in, lrun_inputs}
 use Rattle.build_commands.specs.Mcompile.{McompileMakes}
 use Rattle.run_commands.specs.Mrun.{MrunMakes, mrun_in, mrun_inputs, posted_files}
 use Rattle.run_commands.specs.Run.{RunMakes, files_in, run_in, run_inputs}
@@ -24,7 +25,7 @@ use Rattle.fz_status.specs.Words.{Text}
 use Rattle.build_commands.specs.Contents.{content_at}
 use Rattle.fz_top.specs.declared.command.Command.{Command}
 use Rattle.fz_top.specs.declared.command.Command.TheVariants.{Asm, Certify, Check, Compile, Debug, Exec, Generate}
-use Rattle.fz_top.specs.declared.command.Command.TheVariants.{Hcheck, Hrun, Lcompile, Mcompile, Mrun, Run, Scompile, Srun}
+use Rattle.fz_top.specs.declared.command.Command.TheVariants.{Hcheck, Hrun, Lcompile, Lrun, Mcompile, Mrun, Run, Scompile, Srun}
 use Rattle.fz_top.specs.declared.command.Name.{Name}
 use Rattle.fz_top.specs.declared.command.Name.TheVariants as name
 use Rattle.fz_status.specs.declared.status.Status.{Status}
@@ -36,7 +37,8 @@ table = row (codes "asm") 2 name.Asm ∷ row (codes "certify") 3 name.Certify �
     ∷ row (codes "compile") 2 name.Compile ∷ row (codes "compile16") 2 name.Compile16
     ∷ row (codes "debug") 6 name.Debug ∷ row (codes "exec") 3 name.Exec ∷ row (codes "gen") 1 name.Generate
     ∷ row (codes "hcheck") 1 name.Hcheck ∷ row (codes "hrun") 6 name.Hrun
-    ∷ row (codes "lcompile") 3 name.Lcompile ∷ row (codes "mcompile") 2 name.Mcompile ∷ row (codes "mrun") 6 name.Mrun
+    ∷ row (codes "lcompile") 3 name.Lcompile ∷ row (codes "lrun") 9 name.Lrun
+    ∷ row (codes "mcompile") 2 name.Mcompile ∷ row (codes "mrun") 6 name.Mrun
     ∷ row (codes "run") 6 name.Run ∷ row (codes "run16") 6 name.Run16
     ∷ row (codes "scompile") 2 name.Scompile ∷ row (codes "srun") 7 name.Srun ∷ []
 
@@ -55,6 +57,7 @@ form_of name.Generate words = option_map Generate (generate_in words)
 form_of name.Hcheck words = Some Hcheck
 form_of name.Hrun words = option_map Hrun (hrun_in words)
 form_of name.Lcompile words = Some Lcompile
+form_of name.Lrun words = option_map Lrun (lrun_in words)
 form_of name.Mcompile words = Some Mcompile
 form_of name.Mrun words = option_map Mrun (mrun_in words)
 form_of name.Run words = option_map Run (run_in Byte words)
@@ -74,6 +77,7 @@ inputs_of (Generate generate) = generate_inputs
 inputs_of Hcheck = hcheck_inputs
 inputs_of (Hrun hrun) = hrun_inputs
 inputs_of Lcompile = lcompile_inputs
+inputs_of (Lrun lrun) = lrun_inputs
 inputs_of Mcompile = compile_inputs
 inputs_of (Mrun mrun) = mrun_inputs
 inputs_of (Run run) = run_inputs
@@ -92,6 +96,7 @@ Makes (Generate generate) contents r = GenerateMakes generate r
 Makes Hcheck contents r = HcheckMakes (content_at contents 0) r
 Makes (Hrun hrun) contents r = HrunMakes hrun (handled_files contents) r
 Makes Lcompile contents r = LcompileMakes (content_at contents 0) (content_at contents 1) r
+Makes (Lrun lrun) contents r = LrunMakes lrun (level_files contents) r
 Makes Mcompile contents r = McompileMakes (content_at contents 0) r
 Makes (Mrun mrun) contents r = MrunMakes mrun (posted_files contents) r
 Makes (Run run) contents r = RunMakes run (files_in contents) r

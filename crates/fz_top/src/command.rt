@@ -24,6 +24,7 @@ use fz_words::Refusal;
 use run_commands::debug::{self, DebugRun};
 use run_commands::generate::{self, Generate};
 use run_commands::hrun::{self, Hrun};
+use run_commands::lrun::{self, Lrun};
 use run_commands::mrun::{self, Mrun};
 use run_commands::run::{self, Run};
 use run_commands::srun::{self, Srun};
@@ -45,6 +46,7 @@ pub(crate) enum Name {
     Hcheck,
     Hrun,
     Lcompile,
+    Lrun,
     Mcompile,
     Mrun,
     Run,
@@ -54,7 +56,7 @@ pub(crate) enum Name {
 }
 
 /// The commands by their names on the command line, each with the number of words that follow.
-static COMMANDS: [(&str, usize, Name); 19] = [
+static COMMANDS: [(&str, usize, Name); 20] = [
     ("asm", 2, Name::Asm),
     ("certify", 3, Name::Certify),
     ("certify16", 3, Name::Certify16),
@@ -68,6 +70,7 @@ static COMMANDS: [(&str, usize, Name); 19] = [
     ("hcheck", 1, Name::Hcheck),
     ("hrun", 6, Name::Hrun),
     ("lcompile", 3, Name::Lcompile),
+    ("lrun", 9, Name::Lrun),
     ("mcompile", 2, Name::Mcompile),
     ("mrun", 6, Name::Mrun),
     ("run", 6, Name::Run),
@@ -99,6 +102,8 @@ pub enum Command {
     Hrun(Hrun),
     /// `lcompile SLOW FAST OUT`
     Lcompile,
+    /// `lrun SLOW FAST IMAGE SCERT FCERT STRACE FTRACE LEVELS FLAGS`
+    Lrun(Lrun),
     /// `mcompile FCL OUT`
     Mcompile,
     /// `mrun FCL IMAGE CERT TRACE POSTS FLAGS`
@@ -130,6 +135,7 @@ fn formed(name: Name, words: &[String]) -> Option<Command>
         Name::Hcheck => Some(Command::Hcheck),
         Name::Hrun => Hrun::of(words).map(Command::Hrun),
         Name::Lcompile => Some(Command::Lcompile),
+        Name::Lrun => Lrun::of(words).map(Command::Lrun),
         Name::Mcompile => Some(Command::Mcompile),
         Name::Mrun => Mrun::of(words).map(Command::Mrun),
         Name::Run => Run::of(Width::Byte, words).map(Command::Run),
@@ -156,6 +162,7 @@ impl Command {
             Command::Hcheck => hcheck::INPUTS.as_slice(),
             Command::Hrun(_) => hrun::INPUTS.as_slice(),
             Command::Lcompile => lcompile::INPUTS.as_slice(),
+            Command::Lrun(_) => lrun::INPUTS.as_slice(),
             Command::Mcompile => compile::INPUTS.as_slice(),
             Command::Mrun(_) => mrun::INPUTS.as_slice(),
             Command::Run(_) => run::INPUTS.as_slice(),
@@ -181,6 +188,7 @@ impl Command {
             Command::Hcheck => hcheck::work(alloc, content(contents, 0)),
             Command::Hrun(hrun) => hrun.work(alloc, contents),
             Command::Lcompile => lcompile::work(alloc, content(contents, 0), content(contents, 1)),
+            Command::Lrun(lrun) => lrun.work(alloc, contents),
             Command::Mcompile => mcompile::work(alloc, content(contents, 0)),
             Command::Mrun(mrun) => mrun.work(alloc, contents),
             Command::Run(run) => run.work(alloc, contents),

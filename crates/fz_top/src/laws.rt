@@ -13,6 +13,7 @@ use build_commands::scompile::watched_texts_have_no_fault;
 use run_commands::debug::debugged_runs_have_no_fault;
 use run_commands::generate::generated_runs_have_no_fault;
 use run_commands::hrun::handled_runs_have_no_fault;
+use run_commands::lrun::level_runs_have_no_fault;
 use run_commands::mrun::posted_runs_have_no_fault;
 use run_commands::run::certified_runs_have_no_fault;
 use run_commands::srun::watched_runs_have_no_fault;
@@ -31,6 +32,7 @@ pub(crate) fn deeds_have_no_fault()
     checked_handlers_have_no_fault();
     handled_runs_have_no_fault();
     two_texts_have_no_fault();
+    level_runs_have_no_fault();
     mailbox_texts_have_no_fault();
     posted_runs_have_no_fault();
     certified_runs_have_no_fault();

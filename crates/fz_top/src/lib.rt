@@ -26,5 +26,6 @@ pub use program::fuzz12;
 pub use run_commands::debug::DebugRun;
 pub use run_commands::generate::Generate;
 pub use run_commands::hrun::Hrun;
+pub use run_commands::lrun::Lrun;
 pub use run_commands::run::Run;
 pub use run_commands::srun::Srun;

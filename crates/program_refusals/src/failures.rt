@@ -7,18 +7,21 @@ use program_calls::{
 use std::alloc::Global;
 use std::test::Fail;
 use worked_texts::{
-    BLOCK, HALVES, MAILBOX_RECORDS, RECORDS, SOURCE, SOURCE_RECORDS, WATCHED_RECORDS, joined,
+    BLOCK, HALVES, MAILBOX_RECORDS, RECORDS, RECORDS_OF_BOTH, SOURCE, SOURCE_RECORDS,
+    WATCHED_RECORDS, joined,
 };
 
 // The files, but for OUT and the records of 16 bits.
-static FILES: [(&str, &[&str]); 13] = [
+static FILES: [(&str, &[&str]); 15] = [
     ("a.fcl", &[BLOCK]),
     ("a.s19", &[RECORDS]),
+    ("both.s19", &[RECORDS_OF_BOTH]),
     ("mailbox.s19", &[MAILBOX_RECORDS]),
     ("watched.s19", &[WATCHED_RECORDS]),
     ("a.cert", &["FZC 1\nclaim 19609\n", HALVES]),
     ("wide.cert", &["FZC 2\nclaim 15702\n", HALVES]),
     ("a.csv", &["64\n"]),
+    ("levels", &["1,26,1,24\n"]),
     ("posts", &["0,1\n"]),
     ("empty", &[]),
     ("script", &["step 1\nregs\n"]),
@@ -40,7 +43,7 @@ struct Accepted {
     start: &'static str,
 }
 
-static COMMANDS: [Accepted; 18] = [
+static COMMANDS: [Accepted; 19] = [
     Accepted {
         line: &["fuzz12", "asm", "small.asm", "out"],
         reads: &["small.asm"],
@@ -207,6 +210,27 @@ static COMMANDS: [Accepted; 18] = [
         writes: true,
         lines: &["instructions 28\n", "fast 24\n", "bytes 174\n"],
         start: "ins",
+    },
+    Accepted {
+        line: &[
+            "fuzz12", "lrun", "a.fcl", "a.fcl", "both.s19", "a.cert", "a.cert", "a.csv", "a.csv",
+            "levels", "00",
+        ],
+        reads: &[
+            "a.fcl", "a.fcl", "both.s19", "a.cert", "a.cert", "a.csv", "a.csv", "levels",
+        ],
+        writes: false,
+        lines: &[
+            "error 1 19609\n",
+            "fast error 1 19609\n",
+            "instructions 28\n",
+            "fast instructions 24\n",
+            "sample 1 bytes 64 answers 64 instructions 28 steps 36 resumed 1 frames 1\n",
+            "frame 1 26 C03C 1FEF 15\n",
+            "fast 1 answers 64 instructions 24 steps 32 resumed 1\n",
+            "inner 24 4028 1FE0 15\n",
+        ],
+        start: "err",
     },
     Accepted {
         line: &["fuzz12", "scompile", "a.fcl", "out"],

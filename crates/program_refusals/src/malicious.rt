@@ -2,7 +2,7 @@
 use program_calls::{Difference, Left, NONE, call, file_holds, push_file, push_room, shelf_of};
 use std::alloc::{AllocError, Global};
 use std::test::Fail;
-use worked_texts::{BACK, BLOCK, FRONT, HALVES, OPENED, RECORDS};
+use worked_texts::{BACK, BLOCK, FRONT, HALVES, OPENED, RECORDS, RECORDS_OF_BOTH};
 
 /// The parts of a long text, each with how often it stands there.
 type Parts = &'static [(&'static str, u32)];
@@ -329,6 +329,68 @@ static PLANS: [Given; 10] = [
     },
 ];
 
+/// The heater at both levels, over the same files.
+const LEVELS: Given = Given {
+    line: &[
+        "fuzz12", "lrun", "text", "text", "image", "cert", "cert", "trace", "trace", "plan", "00",
+    ],
+    image: &[(RECORDS_OF_BOTH, 1)],
+    ..RUN
+};
+
+const LEVEL_BOUNDS: &str =
+    "error 1 19609\nfast error 1 19609\ninstructions 28\nfast instructions 24\n";
+
+// As many fast runs as there may be, without interrupts and with the most.
+static LEVEL_ROWS: [Given; 4] = [
+    Given {
+        plan: &[("1,0,1\n", 10_000)],
+        left: Leaves::Lines(&[
+            (LEVEL_BOUNDS, 1),
+            (SAMPLE, 1),
+            ("10000\n", 1),
+            (
+                "frame 1 0 C008 1FF7 9\nfast 1 answers 64 instructions 24 steps 32 resumed 0\n",
+                10_000,
+            ),
+        ]),
+        ..LEVELS
+    },
+    Given {
+        plan: &[("1,0,1,0,0,0,0,0,0,0,0\n", 10_000)],
+        left: Leaves::Lines(&[
+            (LEVEL_BOUNDS, 1),
+            (SAMPLE, 1),
+            ("10000\n", 1),
+            (
+                "frame 1 0 C008 1FF7 9
+fast 1 answers 64 instructions 24 steps 32 resumed 0
+inner 1 4002 1FEE 9
+inner 1 4002 1FEE 9
+inner 1 4002 1FEE 9
+inner 1 4002 1FEE 9
+inner 1 4002 1FEE 9
+inner 1 4002 1FEE 9
+inner 1 4002 1FEE 9
+inner 1 4002 1FEE 9
+",
+                10_000,
+            ),
+        ]),
+        ..LEVELS
+    },
+    Given {
+        plan: &[("1,0,1\n", 10_000), ("x\n", 1)],
+        left: Leaves::Refused(7, "plan: too many rows\n"),
+        ..LEVELS
+    },
+    Given {
+        plan: &[("1,0,1\n", 9_999), ("1,0,2\n", 2)],
+        left: Leaves::Refused(7, "plan: row 10000: bad row\n"),
+        ..LEVELS
+    },
+];
+
 static SOURCES: [Given; 5] = [
     Given {
         text: &[(" ORG $FFFE\n FDB 0\n", 1)],
@@ -450,6 +512,12 @@ fn traces(rt: HostRuntime) -> Result<(), Fail> {
 #[test]
 fn plans(rt: HostRuntime) -> Result<(), Fail> {
     cases(rt.alloc(), PLANS.as_slice())?;
+    Ok(())
+}
+
+#[test]
+fn levels(rt: HostRuntime) -> Result<(), Fail> {
+    cases(rt.alloc(), LEVEL_ROWS.as_slice())?;
     Ok(())
 }
 

@@ -11,6 +11,8 @@ mod generate;
 mod hrun;
 #[cfg(test)]
 mod lcompile;
+#[cfg(test)]
+mod lrun;
 mod mrun;
 #[cfg(test)]
 mod reads;

@@ -13,7 +13,8 @@ use Rattle.run_law.specs.Forms.{RowSeen}
 use Rattle.build_commands.specs.Lines.{counted, error_line, line}
 use Rattle.build_commands.proofs.Algebra.{counted-map, flat-map, text_of-snoc}
 use Rattle.run_commands.specs.Generate.{answers_of, frames_of, generate_lines, resumed_of}
-use Rattle.run_commands.specs.Run.{answered, begun_lines, frame_line, numbers, report_of, row_lines, run_lines}
+use Rattle.run_commands.specs.Run.{answered, answers_told, begun_lines, frame_line, numbers, report_of, row_lines}
+use Rattle.run_commands.specs.Run.{run_lines}
 
 pub numbers-snoc : (ns : List ℕ) (n : ℕ) → numbers (ns ++ n ∷ []) ≡ numbers ns ++ (codes " " ++ decimal n)
 numbers-snoc [] n = ap (λ (l : List ℕ). codes " " ++ l) (append-nil (decimal n))
@@ -29,21 +30,36 @@ number_more before now next ns i d lt so_far step =
     ∙ append_assoc before (numbers (take i ns)) (codes " " ++ decimal (get_or ns i d))
     ∙ ap (λ (l : List ℕ). before ++ l) (sym (numbers-snoc (take i ns) (get_or ns i d)) ∙ ap numbers (sym more))
 
+-- a text so far, whose last line is told
+pub pushed : (before now : List (String Global)) (last : String Global) (last_text rest text : List ℕ)
+    → now ≡ before ++ last ∷ [] → string_bytes last ≡ last_text → text ≡ text_of now ++ rest
+    → text ≡ text_of before ++ (last_text ++ rest)
+pushed before now last last_text rest text added is so_far =
+    so_far
+    ∙ ap (λ (l : List ℕ). l ++ rest) (ap text_of added ∙ text_of-snoc before last ∙ ap (λ (l : List ℕ). text_of before ++ l) is)
+    ∙ append_assoc (text_of before) last_text rest
+
 -- ---- the lines of a run
 
 -- a text with what it was made of, and more behind it
-made_with : (t x more u : List ℕ) → u ≡ t ++ x → u ++ more ≡ t ++ (x ++ more)
+pub made_with : (t x more u : List ℕ) → u ≡ t ++ x → u ++ more ≡ t ++ (x ++ more)
 made_with t x more u e = ap (λ (l : List ℕ). l ++ more) e ∙ append_assoc t x more
 
-pub answered_written : (instrs : ℕ) (bytes answers t0 t1 t2 t3 t4 t5 : List ℕ)
-    → t1 ≡ t0 ++ codes " bytes" → t2 ≡ t1 ++ numbers bytes → t3 ≡ t2 ++ codes " answers" → t4 ≡ t3 ++ numbers answers
-    → t5 ≡ t4 ++ (codes " instructions " ++ decimal instrs) → t5 ≡ t0 ++ answered bytes answers instrs
-answered_written instrs bytes answers t0 t1 t2 t3 t4 t5 e1 e2 e3 e4 e5 =
-    let r3 = codes " instructions " ++ decimal instrs in
-    let r2 = numbers answers ++ r3 in
-    let r1 = codes " answers" ++ r2 in
-    e5 ∙ made_with t3 (numbers answers) r3 t4 e4 ∙ made_with t2 (codes " answers") r2 t3 e3
-    ∙ made_with t1 (numbers bytes) r1 t2 e2 ∙ made_with t0 (codes " bytes") (numbers bytes ++ r1) t1 e1
+pub made_next : (t x y more u : List ℕ) → u ≡ t ++ (x ++ y) → u ++ more ≡ t ++ (x ++ (y ++ more))
+made_next t x y more u e = made_with t (x ++ y) more u e ∙ ap (λ (l : List ℕ). t ++ l) (append_assoc x y more)
+
+-- answers behind a text, and a number at its end
+pub answers_written : (instrs : ℕ) (answers t0 t1 t2 t3 : List ℕ) → t1 ≡ t0 ++ codes " answers" → t2 ≡ t1 ++ numbers answers
+    → t3 ≡ t2 ++ (codes " instructions " ++ decimal instrs) → t3 ≡ t0 ++ answers_told answers instrs
+answers_written instrs answers t0 t1 t2 t3 e1 e2 e3 =
+    let r2 = codes " instructions " ++ decimal instrs in
+    e3 ∙ made_with t1 (numbers answers) r2 t2 e2 ∙ made_with t0 (codes " answers") (numbers answers ++ r2) t1 e1
+
+pub answered_written : (instrs : ℕ) (bytes answers t0 t1 t2 t3 : List ℕ) → t1 ≡ t0 ++ codes " bytes"
+    → t2 ≡ t1 ++ numbers bytes → t3 ≡ t2 ++ answers_told answers instrs → t3 ≡ t0 ++ answered bytes answers instrs
+answered_written instrs bytes answers t0 t1 t2 t3 e1 e2 e3 =
+    let r2 = answers_told answers instrs in
+    e3 ∙ made_with t1 (numbers bytes) r2 t2 e2 ∙ made_with t0 (codes " bytes") (numbers bytes ++ r2) t1 e1
 
 module _ (k instrs steps resumed frames : ℕ) (bytes answers rest : List ℕ) where
   abbrev pub sample_text : List ℕ
@@ -57,17 +73,14 @@ module _ (k instrs steps resumed frames : ℕ) (bytes answers rest : List ℕ) w
   sample_written t0 t1 t2 t3 t4 t5 e0 e1 e2 e3 e4 e5 =
       let t6 = t5 ++ rest in
       let r4 = codes " frames " ++ (decimal frames ++ rest) in
-      let s4 : t6 ≡ t4 ++ r4 = next t4 (codes " frames ") (decimal frames) rest t5 e5 in
+      let s4 : t6 ≡ t4 ++ r4 = made_next t4 (codes " frames ") (decimal frames) rest t5 e5 in
       let r3 = codes " resumed " ++ (decimal resumed ++ r4) in
-      let s3 : t6 ≡ t3 ++ r3 = s4 ∙ next t3 (codes " resumed ") (decimal resumed) r4 t4 e4 in
+      let s3 : t6 ≡ t3 ++ r3 = s4 ∙ made_next t3 (codes " resumed ") (decimal resumed) r4 t4 e4 in
       let r2 = codes " steps " ++ (decimal steps ++ r3) in
-      let s2 : t6 ≡ t2 ++ r2 = s3 ∙ next t2 (codes " steps ") (decimal steps) r3 t3 e3 in
+      let s2 : t6 ≡ t2 ++ r2 = s3 ∙ made_next t2 (codes " steps ") (decimal steps) r3 t3 e3 in
       let r1 = answered bytes answers instrs ++ r2 in
       let s1 : t6 ≡ t1 ++ r1 = s2 ∙ made_with t1 (answered bytes answers instrs) r2 t2 e2 in
       s1 ∙ made_with t0 (decimal k) r1 t1 e1 ∙ ap (λ (l : List ℕ). l ++ (decimal k ++ r1)) e0
-    where
-      next : (t x y more u : List ℕ) → u ≡ t ++ (x ++ y) → u ++ more ≡ t ++ (x ++ (y ++ more))
-      next t x y more u e = made_with t (x ++ y) more u e ∙ ap (λ (l : List ℕ). t ++ l) (append_assoc x y more)
 
 pub row_written : (before next now : List (String Global)) (line : String Global) (k : ℕ) (text : List ℕ)
     (frames : List (ℕ × Frame))
@@ -93,11 +106,10 @@ begun_written none errors bounded bound_line es bound start e0 e1 b =
 
 -- and each item behind them
 pub begun_items : {X Y : Type 0} (lines_of : ℕ → Y → List ℕ) (seen : X → Y) (begun items : List (String Global))
-    (es : List ℕ) (bound : ℕ) (xs : List X)
-    → text_of begun ≡ begun_lines es bound
-    → text_of items ≡ text_of begun ++ counted (λ k x. lines_of k (seen x)) 1 xs
-    → text_of items ≡ begun_lines es bound ++ counted lines_of 1 (map seen xs)
-begun_items lines_of seen begun items es bound xs begun_so items_so =
+    (start : List ℕ) (xs : List X)
+    → text_of begun ≡ start → text_of items ≡ text_of begun ++ counted (λ k x. lines_of k (seen x)) 1 xs
+    → text_of items ≡ start ++ counted lines_of 1 (map seen xs)
+begun_items lines_of seen begun items start xs begun_so items_so =
     items_so ∙ ap₂ (λ (x y : List ℕ). x ++ y) begun_so (sym (counted-map lines_of seen 1 xs))
 
 pub run_written : (begun rows lines : List (String Global)) (left_line : String Global) (es : List ℕ)
@@ -108,19 +120,10 @@ pub run_written : (begun rows lines : List (String Global)) (left_line : String 
     → text_of lines ≡ run_lines (report_of es bound (map row_seen rs)) left
 run_written begun rows lines left_line es bound left rs begun_so rows_so added is =
     ap text_of added ∙ text_of-snoc rows left_line
-    ∙ ap₂ (λ (x y : List ℕ). x ++ y) (begun_items row_lines row_seen begun rows es bound rs begun_so rows_so) is
+    ∙ ap₂ (λ (x y : List ℕ). x ++ y) (begun_items row_lines row_seen begun rows (begun_lines es bound) rs begun_so rows_so) is
     ∙ append_assoc (begun_lines es bound) (counted row_lines 1 (map row_seen rs)) (line (codes "left ") left)
 
 -- ---- the lines of a workload
-
--- a text so far, whose last line is told
-pushed : (before now : List (String Global)) (last : String Global) (last_text rest text : List ℕ)
-    → now ≡ before ++ last ∷ [] → string_bytes last ≡ last_text → text ≡ text_of now ++ rest
-    → text ≡ text_of before ++ (last_text ++ rest)
-pushed before now last last_text rest text added is so_far =
-    so_far
-    ∙ ap (λ (l : List ℕ). l ++ rest) (ap text_of added ∙ text_of-snoc before last ∙ ap (λ (l : List ℕ). text_of before ++ l) is)
-    ∙ append_assoc (text_of before) last_text rest
 
 pub generate_written : (number bound : ℕ) (es : List ℕ) (rows : List (RowSeen (List ℕ)))
     (l0 l1 l2 l3 l4 l5 l6 l7 : List (String Global)) (s1 s3 s4 s5 s6 s7 : String Global)

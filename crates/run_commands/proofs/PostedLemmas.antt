@@ -251,6 +251,6 @@ posted_written begun told taken lines final es bound resumed xs frames begun_so 
     let r = line (codes "resumed ") resumed in
     ap text_of added ∙ text_of-snoc taken final
     ∙ ap₂ (λ (x y : List ℕ). x ++ y)
-    (taken_so ∙ ap₂ (λ (x y : List ℕ). x ++ y) (begun_items answer_line answer_seen begun told es bound xs begun_so told_so)
+    (taken_so ∙ ap₂ (λ (x y : List ℕ). x ++ y) (begun_items answer_line answer_seen begun told b xs begun_so told_so)
     (sym (flat-map taken_line boundary_seen frames))) is
     ∙ append_assoc (b ++ c) d r ∙ append_assoc b c (d ++ r)

@@ -4,6 +4,8 @@ pub mod Debug
 pub mod Generate
 pub mod HandledRun
 pub mod Hrun
+pub mod LevelRun
+pub mod Lrun
 pub mod Mrun
 pub mod PostedRun
 pub mod Run

@@ -61,10 +61,13 @@ frame_told f = decimal f.0 ++ (codes " " ++ (address_digits f.1.pc ++ (codes " "
 abbrev pub frame_line : ℕ → ℕ × FrameSeen → List ℕ
 frame_line k f = codes "frame " ++ (decimal k ++ (codes " " ++ frame_told f))
 
--- input bytes, the answers to them, and the number of instructions that these took
+-- answers, and the number of instructions that these took
+abbrev pub answers_told : List ℕ → ℕ → List ℕ
+answers_told answers instrs = codes " answers" ++ (numbers answers ++ (codes " instructions " ++ decimal instrs))
+
+-- the same behind the input bytes
 abbrev pub answered : List ℕ → List ℕ → ℕ → List ℕ
-answered bytes answers instrs = codes " bytes" ++ (numbers bytes
-    ++ (codes " answers" ++ (numbers answers ++ (codes " instructions " ++ decimal instrs))))
+answered bytes answers instrs = codes " bytes" ++ (numbers bytes ++ answers_told answers instrs)
 
 -- the line of the k-th sample, and what stands behind the number of its frames
 abbrev pub sample_line_with : ℕ → RowSeen (List ℕ) → List ℕ → List ℕ

@@ -1,14 +1,12 @@
 //! The lines of a run under posts.
 ghost use Rattle.std.specs.Prelude.{◌≡◌, ◌++◌, map, string_bytes, IfOk, OnOk};
-ghost use Rattle.std.specs.List.{flat_map};
 ghost use Rattle.fz_shelf.specs.Lines.{text_of};
-ghost use Rattle.posted_runs.specs.Runs.{answer_seen, boundary_seen, frames_seen};
+ghost use Rattle.posted_runs.specs.Runs.{answer_seen, frames_seen};
 ghost use Rattle.build_commands.specs.Lines.{counted};
-ghost use Rattle.run_commands.specs.Mrun.{answer_line, mrun_lines, posted_report, taken_line};
+ghost use Rattle.run_commands.specs.Mrun.{answer_line, mrun_lines, posted_report};
 
-use crate::run_lines::{begun, push_answered, push_frame};
+use crate::run_lines::{begun, push_answered, push_labelled_frames};
 use build_commands::lines::labelled;
-use cpu12_emul::ends::Frame;
 use posted_runs::{Answer, PostRun};
 use std::alloc::{AllocError, Global};
 use std::fmt::Write;
@@ -25,7 +23,7 @@ pub(crate) fn lines(
 {
     let mut lines = begun(alloc, errors, bound)?;
     push_answers(alloc, &mut lines, &run.answers)?;
-    push_taken(alloc, &mut lines, &run.frames)?;
+    push_labelled_frames(alloc, &mut lines, "frame ", &run.frames)?;
     lines.push(labelled(alloc, "resumed ", u128::from(run.resumed))?)?;
     Ok(lines)
 }
@@ -60,29 +58,5 @@ fn line_of_answer(alloc: Global, k: usize, answer: &Answer) -> Result<String, Al
         answer.instrs,
     )?;
     text.push_str("\n")?;
-    Ok(text)
-}
-
-/// What each interrupt pushed.
-fn push_taken(
-    alloc: Global,
-    lines: &mut Vec<String>,
-    frames: &[(u32, Frame)],
-) -> Result<(), AllocError>
-    ensures { OnOk result (text_of lines.new.items ≡ text_of lines.old.items
-        ++ flat_map (λ f. taken_line (boundary_seen f)) frames.now) }
-{
-    for frame in frames {
-        lines.push(line_of_taken(alloc, frame)?)?;
-    }
-    Ok(())
-}
-
-/// The line of what an interrupt pushed, behind its boundary.
-fn line_of_taken(alloc: Global, frame: &(u32, Frame)) -> Result<String, AllocError>
-    ensures { IfOk result (λ s. string_bytes s ≡ taken_line (boundary_seen frame.now)) }
-{
-    let mut text = String::from_str(alloc, "frame ")?;
-    push_frame(alloc, &mut text, frame)?;
     Ok(text)
 }

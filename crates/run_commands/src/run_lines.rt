@@ -4,8 +4,9 @@ ghost use Rattle.std.specs.List.{flat_map};
 ghost use Rattle.fz_shelf.specs.Lines.{text_of};
 ghost use Rattle.fz_run.specs.Rows.{boundary_seen, frames_seen, row_seen};
 ghost use Rattle.build_commands.specs.Lines.{counted};
-ghost use Rattle.run_commands.specs.Run.{answered, begun_lines, frame_line, frame_told, labelled_row_lines, numbers};
-ghost use Rattle.run_commands.specs.Run.{report_of, row_lines, row_lines_with, run_lines, sample_line_with};
+ghost use Rattle.run_commands.specs.Run.{answered, answers_told, begun_lines, frame_line, frame_told};
+ghost use Rattle.run_commands.specs.Run.{labelled_row_lines, numbers, report_of, row_lines, row_lines_with};
+ghost use Rattle.run_commands.specs.Run.{run_lines, sample_line_with};
 
 use build_commands::lines::{labelled, push_address, push_errors};
 use cpu12_emul::ends::Frame;
@@ -106,7 +107,11 @@ pub(crate) fn push_frames(
 }
 
 /// The line of a frame of the k-th sample.
-fn line_of_frame(alloc: Global, k: usize, frame: &(u32, Frame)) -> Result<String, AllocError>
+pub(crate) fn line_of_frame(
+    alloc: Global,
+    k: usize,
+    frame: &(u32, Frame),
+) -> Result<String, AllocError>
     ensures { IfOk result (λ s. string_bytes s ≡ frame_line k (boundary_seen frame.now)) }
 {
     let mut text = String::from_str(alloc, "frame ")?;
@@ -115,12 +120,33 @@ fn line_of_frame(alloc: Global, k: usize, frame: &(u32, Frame)) -> Result<String
     Ok(text)
 }
 
-/// A frame behind its boundary, and the end of the line.
-pub(crate) fn push_frame(
+/// Frames that are told without a sample, behind a label.
+pub(crate) fn push_labelled_frames(
     alloc: Global,
-    text: &mut String,
-    frame: &(u32, Frame),
+    lines: &mut Vec<String>,
+    label: &str,
+    frames: &[(u32, Frame)],
 ) -> Result<(), AllocError>
+    ensures { OnOk result (text_of lines.new.items ≡ text_of lines.old.items
+        ++ flat_map (λ f. label.now ++ frame_told (boundary_seen f)) frames.now) }
+{
+    for frame in frames {
+        lines.push(labelled_frame(alloc, label, frame)?)?;
+    }
+    Ok(())
+}
+
+/// The line of a frame behind a label.
+fn labelled_frame(alloc: Global, label: &str, frame: &(u32, Frame)) -> Result<String, AllocError>
+    ensures { IfOk result (λ s. string_bytes s ≡ label.now ++ frame_told (boundary_seen frame.now)) }
+{
+    let mut text = String::from_str(alloc, label)?;
+    push_frame(alloc, &mut text, frame)?;
+    Ok(text)
+}
+
+/// A frame behind its boundary, and the end of the line.
+fn push_frame(alloc: Global, text: &mut String, frame: &(u32, Frame)) -> Result<(), AllocError>
     ensures { OnOk result (string_bytes text.new ≡ string_bytes text.old ++ frame_told (boundary_seen frame.now)) }
 {
     let boundary = frame.0;
@@ -143,6 +169,18 @@ pub(crate) fn push_answered(
 {
     text.push_str(" bytes")?;
     push_bytes(text, bytes)?;
+    push_answers(text, answers, instrs)?;
+    Ok(())
+}
+
+/// Answers, and the number of instructions that these took.
+pub(crate) fn push_answers(
+    text: &mut String,
+    answers: &[u16],
+    instrs: u32,
+) -> Result<(), AllocError>
+    ensures { OnOk result (string_bytes text.new ≡ string_bytes text.old ++ answers_told answers.now instrs) }
+{
     text.push_str(" answers")?;
     push_numbers(text, answers)?;
     push_count(text, " instructions ", instrs as usize)?;
@@ -188,7 +226,7 @@ pub(crate) fn sample_text(alloc: Global, k: usize, row: &Row) -> Result<String, 
 }
 
 /// A number behind a label.
-fn push_count(text: &mut String, label: &str, count: usize) -> Result<(), AllocError>
+pub(crate) fn push_count(text: &mut String, label: &str, count: usize) -> Result<(), AllocError>
     ensures { OnOk result (string_bytes text.new ≡ string_bytes text.old ++ (label.now ++ decimal count)) }
 {
     text.push_str(label)?;

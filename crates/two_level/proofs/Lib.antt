@@ -3,3 +3,4 @@ mod FastCode
 mod Leaving
 mod Entering
 mod Standing
+mod Alike

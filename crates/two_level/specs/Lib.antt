@@ -3,3 +3,4 @@ pub mod Images
 pub mod Faults
 pub mod Running
 pub mod Standing
+pub mod Alike

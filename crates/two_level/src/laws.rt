@@ -1,4 +1,5 @@
 //! Laws of two blocks at two levels.
+ghost use Rattle.two_level.specs.Alike.{TwosAreOne};
 ghost use Rattle.two_level.specs.Running.{FastAnswersEntered};
 ghost use Rattle.two_level.specs.Standing.{TwoStandBeside};
 
@@ -8,6 +9,7 @@ use codegen::laws::{
 use cpu12_emul::laws::holds_image;
 use cpu12_isa::decode::decodes_encoded;
 use cpu12_isa::laws::{stays_fit, writes_stay};
+use rule_layout::layouts_are_one;
 
 /// Wherever an interrupt enters the fast code it leads to its return with its block's answers, within its
 /// bounds, touches what is the fast block's alone, and leaves X.
@@ -31,4 +33,11 @@ pub fn two_stand_beside()
     holds_image();
     firmware_answers_beside();
     firmware_arrives_alike();
+}
+
+/// Blocks that are the same, wherever their conditions lie in memory, have one image at two levels.
+pub fn twos_are_one()
+    ensures { TwosAreOne }
+{
+    layouts_are_one();
 }

@@ -16,20 +16,18 @@ bound_alone b f is = is.firmware.instructions ∙ ap (λ (wide : Bool). instruct
 
 pub returns-in-Ok-lines : goal.returns-in-Ok-lines
 returns-in-Ok-lines c =
-    let slow = c.in-Ok.block in
-    let fast = c.in-Ok-laid_out_block_of.block in
-    let two = c.in-Ok-compile_two.two in
-    let gives = c.in-Ok-compile_two.ensures.two in
+    let both = c.in-Ok.both in
+    let two = both.two in
+    let gives = c.in-Ok.ensures.gives in
     let bytes = length two.image.bytes in
     written_makes (LcompileMakes c.args.slow.now c.args.fast.now) two.image 4 (text_of c.in-Ok-lines.lines.items)
     c.written_image.result c.written_image.ensures.writes c.written_image.ensures.memory (λ deed w. record {
-      slow_block = slow;
-      fast_block = fast;
+      slow_block = both.slow;
+      fast_block = both.fast;
       two = two;
-      slow_is = c.in-Ok.ensures.gives;
-      fast_is = c.in-Ok-laid_out_block_of.ensures.gives;
       gives = gives;
       writes = subst (λ (text : List ℕ). WritesImage two.image 4 text deed)
           (c.in-Ok-lines.ensures
-          ∙ ap₂ (λ (s f : ℕ). lcompile_lines s (fast_most f) bytes) (bound_alone slow two.slow gives.slow_alone) (bound_alone fast two.fast gives.fast_alone)) w;
+          ∙ ap₂ (λ (s f : ℕ). lcompile_lines s (fast_most f) bytes) (bound_alone both.slow two.slow gives.both.slow_alone)
+          (bound_alone both.fast two.fast gives.both.fast_alone)) w;
     })

@@ -1,6 +1,7 @@
 use Rattle.build_commands.specs.Contents.{content_at}
 use Rattle.run_commands.specs.Debug.{debug_files}
 use Rattle.run_commands.specs.Hrun.{handled_files}
+use Rattle.run_commands.specs.Lrun.{level_files}
 use Rattle.run_commands.specs.Mrun.{posted_files}
 use Rattle.run_commands.specs.Run.{files_in}
 use Rattle.run_commands.specs.Srun.{watched_files}
@@ -30,6 +31,8 @@ returns c (command.Hrun hrun) contents deed s makes fault =
     c.handled_runs_have_no_fault.ensures hrun (handled_files contents) deed s makes fault
 returns c command.Lcompile contents deed s makes fault =
     c.two_texts_have_no_fault.ensures (content_at contents 0) (content_at contents 1) deed s makes fault
+returns c (command.Lrun lrun) contents deed s makes fault =
+    c.level_runs_have_no_fault.ensures lrun (level_files contents) deed s makes fault
 returns c command.Mcompile contents deed s makes fault =
     c.mailbox_texts_have_no_fault.ensures (content_at contents 0) deed s makes fault
 returns c (command.Mrun mrun) contents deed s makes fault =
