@@ -1,5 +1,5 @@
 -- Plain instructions that are done at once.
-use Rattle.std.proofs.Common.{◌≡◌, ℕ, zero, suc, ◌+◌, ◌-◌, ◌<◌, ◌≤◌, Bool, true, false, ◌&&◌, nat_le, nat_lt, Ok, List, [], ◌∷◌, ◌++◌, length, length-append, length-drop, map, drop, refl, ap, ap₂, sym, ◌∙◌, subst, arith}
+use Rattle.std.proofs.Common.{◌≡◌, ℕ, zero, suc, ◌+◌, ◌-◌, ◌<◌, ◌≤◌, Bool, false, ◌&&◌, nat_le, Ok, List, [], ◌∷◌, ◌++◌, length, length-append, length-drop, map, drop, refl, ap, ap₂, sym, ◌∙◌, subst, arith}
 use Rattle.std.specs.Prelude.{◌==◌, if◌then◌else◌}
 use Rattle.std.proofs.lemmas.Bool.{and_right}
 use Rattle.std.proofs.lemmas.Bool.Decides.{nat_tests}
@@ -61,8 +61,10 @@ moved_more n st =
     let m : t.moment + 1 + n ≡ t.moment + suc n = omega arith in
     let k : t.instrs + 1 + n ≡ t.instrs + suc n = omega arith in
     let l : st.left - 1 - n ≡ st.left - suc n = omega arith in
+    let some : (suc n == 0) ≡ false = grind (arith, nat_tests) in
+    let i : ((n == 0) && false) ≡ ((suc n == 0) && t.inside) = and_right (n == 0) false refl ∙ sym (ap (λ (b : Bool). b && t.inside) some) in
     ap₂ (λ (m k : ℕ). made st m ((n == 0) && false) k (st.left - 1 - n)) m k
-    ∙ ap₂ (λ (i : Bool) (l : ℕ). made st (t.moment + suc n) i (t.instrs + suc n) l) (and_right (n == 0) false refl) l
+    ∙ ap₂ (λ (i : Bool) (l : ℕ). made st (t.moment + suc n) i (t.instrs + suc n) l) i l
 
 -- a plain instruction at whose end nothing comes
 one_plain : {A U R S B T : Type 0} (flags : ℕ) (h : Harness A U R S B T) (qs : List A) (st : Stand U) (s u : State)
@@ -114,7 +116,9 @@ steady_moved qs n st left steady =
     let instrs = steady.instrs in
     let resumed = steady.resumed in
     record {
-      room = record { frames = steady.room.frames; told = steady.room.told; few = steady.room.few };
+      room = steady.room;
+      told = steady.told;
+      few = steady.few;
       instrs = omega (arith, instrs);
       resumed = omega (arith, resumed);
       on = λ e. (let on = steady.on e in (on.0, (let sum = on.1 in omega (arith, left, sum))));

@@ -118,11 +118,6 @@ pub fn outer_serves()
     outer_is_quiet();
 }
 
-/// Good levels are requests in order.
-pub fn levels_are_in_order()
-    ensures { LevelsAreInOrder }
-{}
-
 /// Under all good levels a run at two levels comes to the end of each slow sample, with the rows of the slow
 /// firmware alone under a plan at the same places that writes nothing. Each fast run answers its sample as
 /// the fast block, after the fast run before it, within the fast block's bounds, and what is told of it is
@@ -148,3 +143,8 @@ pub fn answers_under_levels()
     requests_are_good();
     runs_follow::<LevelForm>();
 }
+
+/// Good levels are requests in order.
+pub fn levels_are_in_order()
+    ensures { LevelsAreInOrder }
+{}

@@ -2,8 +2,8 @@
 ghost use Rattle.std.specs.Prelude.{◌≡◌, ◌≤◌, map, length, IfOk};
 ghost use Rattle.interrupt_plan.specs.Levels.{AreGoodLevels};
 ghost use Rattle.fz_run.specs.Rows.{input_bytes};
-ghost use Rattle.two_runs.specs.Rows.{two_seen};
 ghost use Rattle.two_runs.specs.Answering.{AnswersItsBlocks};
+ghost use Rattle.two_runs.specs.Rows.{two_seen};
 ghost use Rattle.two_runs.specs.Harness.{row_seen};
 
 use crate::form::WithLevels;
@@ -29,7 +29,8 @@ pub struct TwoRow {
 /// Runs a slow firmware over a trace, where the interrupts of levels run the fast block over samples of its
 /// own, which inner interrupts interrupt in turn. Answers a row for each slow sample. Bits of `flags` give
 /// the flags that the CPU12 Reference Manual leaves undefined. All memory is taken before the first step,
-/// and want of it is the one error.
+/// and want of it is the one error. Where both are those of two blocks, the rows are as
+/// [`answers_under_levels`](crate::answers_under_levels) says.
 pub fn run_two(
     alloc: Global,
     two: &Two,

@@ -1,5 +1,8 @@
-use Rattle.std.proofs.Common.{List, length, sym, subst}
+use Rattle.std.proofs.Common.{ℕ, List, map, length, sym, subst}
+use Rattle.std.proofs.lemmas.List.{length-map}
 use Rattle.interrupt_plan.specs.declared.levels.Level.{Level}
+use Rattle.interrupt_plan.specs.Levels.{AreGoodLevels}
+use Rattle.fz_run.specs.Rows.{input_bytes}
 use Rattle.fz_run.specs.Slices.{IsInOrder}
 use Rattle.two_runs.specs.Rows.{place_of_level}
 use Rattle.two_runs.proofs.rows.run_two.Goals as goal
@@ -9,3 +12,11 @@ run_form-requires c = record {
   order = subst (λ (ls : List Level). IsInOrder place_of_level ls) (sym c.as_slice.ensures)
       (c.levels_are_in_order.ensures (length c.args.fast.now) c.args.levels.now c.requires.levels);
 }
+
+pub returns-clause-answers : goal.returns-clause-answers
+returns-clause-answers c =
+    let a = c.args in
+    let levels = a.levels.now in
+    let good : AreGoodLevels (length (map input_bytes a.fast.now)) levels =
+    subst (λ (n : ℕ). AreGoodLevels n levels) (sym (length-map a.fast.now input_bytes)) c.requires.levels in
+    c.answers_under_levels.ensures a.two.now a.flags (map input_bytes a.slow.now) (map input_bytes a.fast.now) levels c.ranges.flags.fits good
