@@ -31,7 +31,7 @@ use Rattle.two_runs.specs.Rows.{TwoSeen, first_two, level_form, levels_of, outer
 use Rattle.two_runs.specs.Runs.{FastSeen, told_by}
 use Rattle.certified_run.specs.Nearness.{AnswersAreWithinErrors}
 use Rattle.certified_run.specs.Posted.{IsOneOf, PostedAnswersAreNear}
-use Rattle.build_commands.specs.Firmwares.{GivesBlock, GivesFirmware}
+use Rattle.build_commands.specs.Firmwares.{GivesFirmware}
 use Rattle.run_commands.specs.CertifiedRun.{IsReportOf}
 use Rattle.run_commands.specs.LevelRun.{AcceptsLevels, LevelFiles, LevelReport, LevelRun, fast_numbers, slow_report}
 use Rattle.run_commands.specs.Lrun.{level_report}
@@ -76,13 +76,13 @@ module _ {S A B : Type 0} (f : Form S A B) (P : B → Type 0) (each : (q : A) (s
   told_at : (m : ℕ) (qs : List A) (s : State) → All Holds (takes f m qs s).told
   unfolding takes
   told_at m [] s = none Holds
-  told_at m (q ∷ qs) s = go (may_interrupt s && nat_le (f.moment q) m)
+  told_at m (q ∷ qs) s = go (may_interrupt s && nat_le (f.moment q) m) (told_at m qs (taken f q s))
     where
-      go : (b : Bool)
+      go : (b : Bool) → All Holds (takes f m qs (taken f q s)).told
           → All Holds (if b then put_take (m, frame_of s) (told f q s) (takes f m qs (taken f q s))
           else record { state = s; frames = []; told = []; left = q ∷ qs }).told
-      go true = All-cons Holds (told f q s) (takes f m qs (taken f q s)).told (each q _) (told_at m qs (taken f q s))
-      go false = none Holds
+      go true rest = All-cons Holds (told f q s) (takes f m qs (taken f q s)).told (each q _) rest
+      go false rest = none Holds
 
   told_behind : (inside : Bool) (b : Taking A B) (rest : Bool → State → Ran A B) → All Holds b.told
       → ((i : Bool) (t : State) → All Holds (rest i t).told) → (r : Result Next ℕ)
@@ -94,16 +94,18 @@ module _ {S A B : Type 0} (f : Form S A B) (P : B → Type 0) (each : (q : A) (s
   told_in : (n m : ℕ) (inside : Bool) (qs : List A) (s : State) → All Holds (run_from f n m inside qs s).told
   unfolding run_from
   told_in zero m inside qs s = none Holds
-  told_in (suc n) m inside qs s = go (f.ends m s)
+  told_in (suc n) m inside qs s =
+      go (f.ends m s) (λ i t. told_in n (suc m) i (takes f m qs s).left t)
     where
       go : (e : Bool)
+          → ((i : Bool) (t : State) → All Holds (run_from f n (suc m) i (takes f m qs s).left t).told)
           → All Holds (if e then ended true qs s
           else then_rest inside (takes f m qs s) (λ i t. run_from f n (suc m) i (takes f m qs s).left t)
           (next_of f.flags (takes f m qs s).state)).told
-      go true = none Holds
-      go false =
+      go true later = none Holds
+      go false later =
           told_behind inside (takes f m qs s) (λ i t. run_from f n (suc m) i (takes f m qs s).left t) (told_at m qs s)
-          (λ i t. told_in n (suc m) i (takes f m qs s).left t) (next_of f.flags (takes f m qs s).state)
+          later (next_of f.flags (takes f m qs s).state)
 
   pub told_of_rows : (most : ℕ) (asks : ℕ → List A) (k : ℕ) (xs : List S) (s : State)
       → All (All Holds) (rows_from f most asks k xs s).told
@@ -181,13 +183,6 @@ map-twice {X} {Y} {Z} g f (x ∷ xs) = ap (λ (zs : List Z). g (f x) ∷ zs) (ma
 
 bound_alone : (b : Block) (f : Firmware) → IsAlone b f → f.instr_bound ≡ instruction_bound Byte b
 bound_alone b f is = is.firmware.instructions ∙ ap (λ (wide : Bool). instruction_bound (width_of wide) b) is.narrow
-
--- a block's firmware has at most four outputs
-pub few_outputs : (text : List ℕ) (b : Block) (f : Firmware) → GivesBlock text b → IsAlone b f → f.outputs ≤ 4
-few_outputs text b f gives alone =
-    let count = alone.firmware.outputs in
-    let few = gives.spelled.valid.few_outputs in
-    omega (arith, count, few)
 
 module _ (near : AnswersAreWithinErrors) (posted : PostedAnswersAreNear) (plans : AnswersUnderPlans) (flags : ℕ)
     (byte : flags < 2 ^ 8) (files : LevelFiles) (slow fast : Block) (two : Two) (errors fast_errors : List ℕ)

@@ -187,6 +187,8 @@ fn traces_of(
     fast: &Block,
     contents: &[Vec<u8>],
 ) -> Result<Traces, Status>
+    requires slow { IsValid slow.now }
+    requires fast { IsValid fast.now }
     requires small { All (λ c. length c.items ≤ 1048576) contents.now }
     ensures samples { IfOk result (λ t. SpellTraces (level_files (bytes_of contents.now)) slow.now fast.now
         t.slow.items t.fast.items) }

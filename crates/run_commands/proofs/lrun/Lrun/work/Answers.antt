@@ -6,24 +6,11 @@ use Rattle.two_runs.specs.declared.two_rows.TwoRow.{TwoRow}
 use Rattle.build_commands.specs.Contents.{bytes_of}
 use Rattle.build_commands.specs.Deeds.{Deed}
 use Rattle.run_commands.specs.Lrun.{level_files, level_report, lrun_lines}
-use Rattle.run_commands.proofs.LevelLemmas.{few_outputs, levels_run}
+use Rattle.run_commands.proofs.LevelLemmas.{levels_run}
 use Rattle.run_commands.proofs.lrun.Lrun.work.Goals as goal
 
 abbrev only_text : List ℕ → Deed
 only_text t = record { text = t; file = None }
-
-pub run_two-requires-clause-slow_outputs : goal.run_two-requires-clause-slow_outputs
-run_two-requires-clause-slow_outputs c =
-    let given = c.in-Ok.ensures.accepted.compiled in
-    few_outputs _ _ _ given.slow_is given.both.slow_alone
-
-pub run_two-requires-clause-fast_outputs : goal.run_two-requires-clause-fast_outputs
-run_two-requires-clause-fast_outputs c =
-    let given = c.in-Ok.ensures.accepted.compiled in
-    few_outputs _ _ _ given.fast_is given.both.fast_alone
-
-pub run_two-requires-clause-levels : goal.run_two-requires-clause-levels
-run_two-requires-clause-levels c = rw c.deref-2.ensures.value c.in-Ok.ensures.accepted.good_levels.good
 
 pub returns-in-Ok-lines : goal.returns-in-Ok-lines
 returns-in-Ok-lines c =
