@@ -22,12 +22,11 @@ use Rattle.run_law.specs.Forms.{Form, Ran, RowSeen, Rows, Taking, before_rest, e
 use Rattle.run_law.specs.Forms.{rows_from, run_from, stuck, taken, takes, told, then_rest}
 use Rattle.trace_io.specs.declared.sample.Sample.{Sample}
 use Rattle.fz_run.specs.Answering.{AnswersItsBlock, AnswersUnderPlans}
-use Rattle.fz_run.specs.Rows.{firmware_rows, input_bytes}
-use Rattle.posted_runs.specs.Runs.{bytes_of}
+use Rattle.fz_run.specs.Rows.{bytes_of, firmware_rows, input_bytes, shown_rows}
 use Rattle.two_level.specs.Images.{IsAlone, fast_most}
 use Rattle.two_level.specs.declared.two.Two.{Two}
 use Rattle.two_runs.specs.Answering.{AnswersAtTwoLevels, AnswersItsBlocks, answer_of_fast, fast_runs, plan_of, request_of, runs_told}
-use Rattle.two_runs.specs.Rows.{TwoSeen, first_two, level_form, levels_of, outer_of, sample_of, shown_rows, two_rows, two_seen}
+use Rattle.two_runs.specs.Rows.{TwoSeen, first_two, level_form, levels_of, outer_of, sample_of, two_rows, two_seen, with_fast}
 use Rattle.two_runs.specs.Runs.{FastSeen, told_by}
 use Rattle.certified_run.specs.Nearness.{AnswersAreWithinErrors}
 use Rattle.certified_run.specs.Posted.{IsOneOf, PostedAnswersAreNear}
@@ -130,7 +129,7 @@ abbrev Told : Type 0
 Told = List (List (Level × Option FastSeen))
 
 rows_shown : (rows : List (RowSeen (List ℕ))) (tss : Told) → length rows ≡ length tss
-    → map (λ r. r.row) (shown_rows rows tss) ≡ rows
+    → map (λ r. r.row) (shown_rows with_fast rows tss) ≡ rows
 rows_shown [] tss same = refl
 rows_shown (row ∷ rows) [] same = absurd (omega (arith, same))
 rows_shown (row ∷ rows) (ts ∷ tss) same =
@@ -165,12 +164,12 @@ module _ (fast : ℕ) where
       (All-head TellsOf (l, Some f) ts each) (runs_of ts (All-tail TellsOf (l, Some f) ts each))
 
   numbers_of : (rows : List (RowSeen (List ℕ))) (tss : Told) → All (All TellsOf) tss
-      → All (IsOneOf fast) (fast_numbers (shown_rows rows tss))
+      → All (IsOneOf fast) (fast_numbers (shown_rows with_fast rows tss))
   numbers_of [] tss each = none (IsOneOf fast)
   numbers_of (row ∷ rows) [] each = none (IsOneOf fast)
   numbers_of (row ∷ rows) (ts ∷ tss) each =
       let runs = runs_told (map (λ (t : Level × Option FastSeen). t.1) ts) in
-      let later = fast_runs (shown_rows rows tss) in
+      let later = fast_runs (shown_rows with_fast rows tss) in
       subst (λ (ns : List ℕ). All (IsOneOf fast) ns) (sym (map-append (λ (f : FastSeen). f.number) runs later))
       (All-append (IsOneOf fast) (map (λ f. f.number) runs) (map (λ f. f.number) later)
       (runs_of ts (All-head (All TellsOf) ts tss each)) (numbers_of rows tss (All-tail (All TellsOf) ts tss each)))

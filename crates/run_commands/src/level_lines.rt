@@ -1,22 +1,22 @@
 //! The lines of a run at two levels.
-ghost use Rattle.std.specs.Prelude.{◌≡◌, ◌++◌, map, string_bytes, IfOk, OnOk, Some, None};
+ghost use Rattle.std.specs.Prelude.{◌≡◌, ◌++◌, flat_map, map, string_bytes, IfOk, OnOk, Some, None};
 ghost use Rattle.std.specs.List.{slice_index_or};
 ghost use Rattle.fz_shelf.specs.Lines.{text_of};
 ghost use Rattle.fz_run.specs.Rows.{boundary_seen};
 ghost use Rattle.two_level.specs.Images.{fast_most};
-ghost use Rattle.two_runs.specs.Rows.{fast_seen, row_seen};
+ghost use Rattle.two_runs.specs.Counts.{inner_seen};
+ghost use Rattle.two_runs.specs.Harness.{fast_seen, row_seen};
 ghost use Rattle.build_commands.specs.Lines.{counted};
-ghost use Rattle.run_commands.specs.Lrun.{fast_error_line, fast_line, fast_lines, level_begun_lines, level_report};
+ghost use Rattle.run_commands.specs.Lrun.{fast_error_line, fast_line, fast_lines, inner_line};
+ghost use Rattle.run_commands.specs.Lrun.{level_begun_lines, level_report};
 ghost use Rattle.run_commands.specs.Lrun.{level_row_lines, lrun_lines, outer_lines};
 
-use crate::run_lines::{
-    line_of_frame, push_answers, push_count, push_labelled_frames, sample_text,
-};
+use crate::run_lines::{labelled_frame, line_of_frame, push_answers, push_count, sample_text};
 use build_commands::lines::{labelled, line_of_error, push_errors};
 use std::alloc::{AllocError, Global};
 use std::fmt::Write;
 use two_level::Two;
-use two_runs::{FastRow, TwoRow};
+use two_runs::{FastRow, InnerFrame, TwoRow};
 
 /// The errors and the bounds of both blocks, and each slow sample with its frames and the fast runs in them.
 pub(crate) fn lines(
@@ -144,7 +144,22 @@ fn push_run(alloc: Global, lines: &mut Vec<String>, fast: &FastRow) -> Result<()
         ≡ text_of lines.old.items ++ fast_lines (Some (fast_seen fast.now))) }
 {
     lines.push(line_of_fast(alloc, fast)?)?;
-    push_labelled_frames(alloc, lines, "inner ", fast.frames.as_slice())?;
+    push_inner(alloc, lines, fast.frames.as_slice())?;
+    Ok(())
+}
+
+/// The frames of a fast run.
+fn push_inner(
+    alloc: Global,
+    lines: &mut Vec<String>,
+    frames: &[InnerFrame],
+) -> Result<(), AllocError>
+    ensures { OnOk result (text_of lines.new.items
+        ≡ text_of lines.old.items ++ flat_map (λ f. inner_line (inner_seen f)) frames.now) }
+{
+    for frame in frames {
+        lines.push(labelled_frame(alloc, "inner ", frame.boundary, &frame.frame)?)?;
+    }
     Ok(())
 }
 

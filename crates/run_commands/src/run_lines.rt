@@ -2,6 +2,7 @@
 ghost use Rattle.std.specs.Prelude.{ℕ, List, ◌≡◌, ◌++◌, decimal, map, string_bytes, IfOk, OnOk};
 ghost use Rattle.std.specs.List.{flat_map};
 ghost use Rattle.fz_shelf.specs.Lines.{text_of};
+ghost use Rattle.cpu12_emul.specs.Take.{frame_seen};
 ghost use Rattle.fz_run.specs.Rows.{boundary_seen, frames_seen, row_seen};
 ghost use Rattle.build_commands.specs.Lines.{counted};
 ghost use Rattle.run_commands.specs.Run.{answered, answers_told, begun_lines, frame_line, frame_told};
@@ -116,7 +117,7 @@ pub(crate) fn line_of_frame(
 {
     let mut text = String::from_str(alloc, "frame ")?;
     write!(&mut text, "{k} ")?;
-    push_frame(alloc, &mut text, frame)?;
+    push_frame(alloc, &mut text, frame.0, &frame.1)?;
     Ok(text)
 }
 
@@ -131,29 +132,39 @@ pub(crate) fn push_labelled_frames(
         ++ flat_map (λ f. label.now ++ frame_told (boundary_seen f)) frames.now) }
 {
     for frame in frames {
-        lines.push(labelled_frame(alloc, label, frame)?)?;
+        lines.push(labelled_frame(alloc, label, frame.0, &frame.1)?)?;
     }
     Ok(())
 }
 
 /// The line of a frame behind a label.
-fn labelled_frame(alloc: Global, label: &str, frame: &(u32, Frame)) -> Result<String, AllocError>
-    ensures { IfOk result (λ s. string_bytes s ≡ label.now ++ frame_told (boundary_seen frame.now)) }
+pub(crate) fn labelled_frame(
+    alloc: Global,
+    label: &str,
+    boundary: u32,
+    frame: &Frame,
+) -> Result<String, AllocError>
+    ensures { IfOk result (λ s. string_bytes s ≡ label.now ++ frame_told (boundary, frame_seen frame.now)) }
 {
     let mut text = String::from_str(alloc, label)?;
-    push_frame(alloc, &mut text, frame)?;
+    push_frame(alloc, &mut text, boundary, frame)?;
     Ok(text)
 }
 
 /// A frame behind its boundary, and the end of the line.
-fn push_frame(alloc: Global, text: &mut String, frame: &(u32, Frame)) -> Result<(), AllocError>
-    ensures { OnOk result (string_bytes text.new ≡ string_bytes text.old ++ frame_told (boundary_seen frame.now)) }
+fn push_frame(
+    alloc: Global,
+    text: &mut String,
+    boundary: u32,
+    frame: &Frame,
+) -> Result<(), AllocError>
+    ensures { OnOk result (string_bytes text.new
+        ≡ string_bytes text.old ++ frame_told (boundary, frame_seen frame.now)) }
 {
-    let boundary = frame.0;
-    let bytes = frame.1.bytes.len();
+    let bytes = frame.bytes.len();
     write!(text, "{boundary}")?;
-    push_address(alloc, text, " ", frame.1.pc)?;
-    push_address(alloc, text, " ", frame.1.sp)?;
+    push_address(alloc, text, " ", frame.pc)?;
+    push_address(alloc, text, " ", frame.sp)?;
     write!(text, " {bytes}\n")
 }
 

@@ -1,4 +1,4 @@
-use Rattle.two_runs.specs.Rows.{row_seen}
+use Rattle.two_runs.specs.Harness.{row_seen}
 use Rattle.run_commands.specs.Lrun.{level_row_lines}
 use Rattle.run_commands.proofs.LineLemmas.{begun_items}
 use Rattle.run_commands.proofs.level_lines.lines.Goals as goal

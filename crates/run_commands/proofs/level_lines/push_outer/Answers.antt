@@ -1,7 +1,7 @@
 use Rattle.std.proofs.Common.{◌∙◌, ℕ, ap}
 use Rattle.cpu12_emul.specs.declared.ends.Frame.{Frame}
 use Rattle.fz_run.specs.Rows.{boundary_seen}
-use Rattle.two_runs.specs.Rows.{row_seen}
+use Rattle.two_runs.specs.Harness.{row_seen}
 use Rattle.run_commands.specs.Run.{frame_line}
 use Rattle.run_commands.proofs.LevelLines.{outer_more}
 use Rattle.run_commands.proofs.level_lines.push_outer.Goals as goal

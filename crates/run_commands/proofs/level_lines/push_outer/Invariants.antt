@@ -1,7 +1,7 @@
 use Rattle.std.proofs.Common.{◌≡◌, ◌++◌, take}
 use Rattle.fz_shelf.specs.Lines.{text_of}
 use Rattle.fz_run.specs.Rows.{boundary_seen}
-use Rattle.two_runs.specs.Rows.{row_seen}
+use Rattle.two_runs.specs.Harness.{row_seen}
 use Rattle.build_commands.specs.Lines.{counted}
 use Rattle.run_commands.specs.Lrun.{outer_lines}
 use Rattle.run_commands.proofs.level_lines.push_outer.Given as goal

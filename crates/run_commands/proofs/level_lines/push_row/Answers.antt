@@ -1,7 +1,7 @@
 use Rattle.std.proofs.Common.{◌∙◌, ◌++◌, ℕ, List, ap, sym}
 use Rattle.fz_shelf.specs.Lines.{text_of}
 use Rattle.fz_run.specs.Rows.{boundary_seen}
-use Rattle.two_runs.specs.Rows.{row_seen}
+use Rattle.two_runs.specs.Harness.{row_seen}
 use Rattle.build_commands.proofs.Algebra.{counted-map}
 use Rattle.run_commands.specs.Lrun.{outer_lines}
 use Rattle.run_commands.proofs.LineLemmas.{pushed}

@@ -1,6 +1,6 @@
 use Rattle.std.proofs.Common.{◌≡◌, ◌++◌, take}
 use Rattle.fz_shelf.specs.Lines.{text_of}
-use Rattle.two_runs.specs.Rows.{row_seen}
+use Rattle.two_runs.specs.Harness.{row_seen}
 use Rattle.build_commands.specs.Lines.{counted}
 use Rattle.run_commands.specs.Lrun.{level_row_lines}
 use Rattle.run_commands.proofs.level_lines.push_rows.Given as goal

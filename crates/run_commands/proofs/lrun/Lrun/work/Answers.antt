@@ -1,8 +1,8 @@
 use Rattle.std.proofs.Common.{ℕ, ◌<◌, ◌^◌, List, ap, ◌∙◌, rules}
 use Rattle.std.specs.Prelude.{None, map}
 use Rattle.two_level.specs.Images.{fast_most}
-use Rattle.two_runs.specs.Rows.{row_seen}
-use Rattle.two_runs.specs.declared.two_rows.TwoRow.{TwoRow}
+use Rattle.two_runs.specs.Harness.{row_seen}
+use Rattle.two_runs.specs.declared.rows.TwoRow.{TwoRow}
 use Rattle.build_commands.specs.Contents.{bytes_of}
 use Rattle.build_commands.specs.Deeds.{Deed}
 use Rattle.run_commands.specs.Lrun.{level_files, level_report, lrun_lines}
