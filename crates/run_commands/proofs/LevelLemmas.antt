@@ -1,5 +1,5 @@
 -- What a run at two levels gives.
-use Rattle.std.proofs.Common.{◌≡◌, ◌<◌, ◌≤◌, ◌^◌, ◌∙◌, ℕ, Bool, true, false, zero, suc, List, [], ◌∷◌, ◌++◌, length, refl, ap, ap₂, sym, subst, arith}
+use Rattle.std.proofs.Common.{◌≡◌, ◌<◌, ◌^◌, ◌∙◌, ℕ, Bool, true, false, zero, suc, List, [], ◌∷◌, length, refl, ap, sym, subst, arith}
 use Rattle.std.specs.Prelude.{◌&&◌, All, if◌then◌else◌, map, nat_le, Option, Some, None, Result, Ok, Err, slice_get}
 use Rattle.std.proofs.lemmas.List.{length-map, map-append}
 use Rattle.std.proofs.lemmas.List.Elements.{All-append, All-cons, All-head, All-tail}
@@ -9,7 +9,6 @@ use Rattle.cpu12_parts.specs.State.{State}
 use Rattle.cpu12_emul.specs.Step.{Next, next_of}
 use Rattle.cpu12_emul.specs.Take.{frame_of, may_interrupt}
 use Rattle.codegen.specs.Bounds.{instruction_bound}
-use Rattle.codegen.specs.Firing.{AreInputBytes}
 use Rattle.codegen.specs.Uninterrupted.{AreAnswersOf}
 use Rattle.codegen.specs.Widths.{width_of}
 use Rattle.codegen.specs.declared.firmware.Firmware.{Firmware}
@@ -18,21 +17,20 @@ use Rattle.interrupt_plan.specs.Levels.{AreGoodLevels, IsGoodLevel, LevelNotAfte
 use Rattle.interrupt_plan.specs.Plans.{Ascend, Ascends, IsGood, IsGoodRequest}
 use Rattle.interrupt_plan.specs.declared.Request.{Request}
 use Rattle.interrupt_plan.specs.declared.levels.Level.{Level}
-use Rattle.run_law.specs.Forms.{Form, Ran, RowSeen, Rows, Taking, before_rest, ended, is_part, no_rows, put_row, put_take, row_of}
-use Rattle.run_law.specs.Forms.{rows_from, run_from, stuck, taken, takes, told, then_rest}
+use Rattle.run_law.specs.Forms.{Form, Ran, RowSeen, Taking, ended, is_part, put_take}
+use Rattle.run_law.specs.Forms.{rows_from, run_from, taken, takes, told, then_rest}
 use Rattle.trace_io.specs.declared.sample.Sample.{Sample}
 use Rattle.fz_run.specs.Answering.{AnswersItsBlock, AnswersUnderPlans}
 use Rattle.fz_run.specs.Rows.{bytes_of, firmware_rows, input_bytes, shown_rows}
 use Rattle.two_level.specs.Images.{IsAlone, fast_most}
 use Rattle.two_level.specs.declared.two.Two.{Two}
 use Rattle.two_runs.specs.Answering.{AnswersAtTwoLevels, AnswersItsBlocks, answer_of_fast, fast_runs, plan_of, request_of, runs_told}
-use Rattle.two_runs.specs.Rows.{TwoSeen, first_two, level_form, levels_of, outer_of, sample_of, two_rows, two_seen, with_fast}
+use Rattle.two_runs.specs.Rows.{TwoSeen, first_two, level_form, levels_of, sample_of, two_rows, two_seen, with_fast}
 use Rattle.two_runs.specs.Runs.{FastSeen, told_by}
 use Rattle.certified_run.specs.Nearness.{AnswersAreWithinErrors}
 use Rattle.certified_run.specs.Posted.{IsOneOf, PostedAnswersAreNear}
 use Rattle.build_commands.specs.Firmwares.{GivesFirmware}
-use Rattle.run_commands.specs.CertifiedRun.{IsReportOf}
-use Rattle.run_commands.specs.LevelRun.{AcceptsLevels, LevelFiles, LevelReport, LevelRun, fast_numbers, slow_report}
+use Rattle.run_commands.specs.LevelRun.{AcceptsLevels, LevelFiles, LevelRun, fast_numbers}
 use Rattle.run_commands.specs.Lrun.{level_report}
 use Rattle.run_commands.proofs.AnswerLemmas.{input_bytes_fit, instructions_within, none, reports}
 

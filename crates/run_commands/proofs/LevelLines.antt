@@ -1,9 +1,8 @@
 -- The lines of a run at two levels.
 use Rattle.std.proofs.Common.{◌≡◌, ◌+◌, ◌-◌, ◌<◌, ◌∙◌, ℕ, List, [], ◌∷◌, ◌++◌, length, take, get_or, ap, ap₂, append_assoc, arith}
-use Rattle.std.specs.Prelude.{codes, decimal, flat_map, Option, None, String, string_bytes}
+use Rattle.std.specs.Prelude.{codes, decimal, Option, None, String, string_bytes}
 use Rattle.std.specs.List.{slice_index_or}
 use Rattle.std.specs.declared.alloc.Global.{Global}
-use Rattle.cpu12_emul.specs.Take.{FrameSeen}
 use Rattle.cpu12_emul.specs.declared.ends.Frame.{Frame}
 use Rattle.fz_shelf.specs.Lines.{text_of}
 use Rattle.fz_status.specs.FaultLines.{newline}
@@ -11,7 +10,7 @@ use Rattle.fz_run.specs.Rows.{boundary_seen}
 use Rattle.two_runs.specs.Runs.{FastSeen}
 use Rattle.build_commands.specs.Lines.{counted, error_line, line}
 use Rattle.build_commands.proofs.Algebra.{counted_more, text_more, text_of-snoc}
-use Rattle.run_commands.specs.Lrun.{fast_error_line, fast_line, fast_lines, inner_line, level_begun_lines, outer_lines}
+use Rattle.run_commands.specs.Lrun.{fast_error_line, fast_lines, level_begun_lines, outer_lines}
 use Rattle.run_commands.specs.Run.{answers_told, frame_line}
 use Rattle.run_commands.proofs.LineLemmas.{made_next, made_with, pushed}
 

@@ -1,7 +1,6 @@
 -- What refuses the files of a run at two levels, and that nothing refuses accepted ones.
-use Rattle.std.proofs.Common.{ℕ, List, length, sym, subst}
+use Rattle.std.proofs.Common.{ℕ, List, length}
 use Rattle.fuzzy_meaning.specs.declared.block.Block.{Block}
-use Rattle.fuzzy_meaning.specs.declared.block.Input.{Input}
 use Rattle.codegen.specs.declared.width.Width.TheVariants.{Byte}
 use Rattle.srecord.specs.Texts.{GivesImage}
 use Rattle.trace_io.specs.Traces.{Spells as SpellsTrace}
@@ -10,7 +9,7 @@ use Rattle.two_level.specs.declared.two.Two.{Two}
 use Rattle.build_commands.specs.Certs.{AcceptsCert, cert_refusals}
 use Rattle.build_commands.specs.Images.{image_refusals}
 use Rattle.build_commands.specs.Twos.{GivesTwo, two_refusals}
-use Rattle.fz_status.specs.Refusals.{IsRefusal, Refusals, of_fast}
+use Rattle.fz_status.specs.Refusals.{IsRefusal, of_fast}
 use Rattle.fz_status.specs.declared.status.FastFault.TheVariants as told
 use Rattle.fz_status.specs.declared.status.Status.{Status}
 use Rattle.fz_status.specs.declared.status.Status.TheVariants as status

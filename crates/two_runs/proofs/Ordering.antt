@@ -1,7 +1,7 @@
 -- The samples of good levels do not fall.
-use Rattle.std.proofs.Common.{◌≡◌, ℕ, ◌≤◌, List, [], ◌∷◌, inl, inr, arith}
+use Rattle.std.proofs.Common.{ℕ, ◌≤◌, List, [], ◌∷◌, inl, inr, arith}
 use Rattle.interrupt_plan.specs.declared.levels.Level.{Level}
-use Rattle.interrupt_plan.specs.Levels.{LevelNotAfter, AreGoodLevels}
+use Rattle.interrupt_plan.specs.Levels.{LevelNotAfter}
 use Rattle.interrupt_plan.specs.Plans.{Ascend}
 use Rattle.fz_run.specs.Slices.{Follow}
 use Rattle.two_runs.specs.Rows.{place_of_level}

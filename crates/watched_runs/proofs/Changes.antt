@@ -1,5 +1,5 @@
 -- Good upsets change bytes of the tables, and what they change is put back.
-use Rattle.std.proofs.Common.{◌≡◌, ℕ, suc, ◌^◌, ◌<◌, ◌≤◌, ◌&&◌, Bool, true, false, List, [], ◌∷◌, sym, ap, ◌∙◌}
+use Rattle.std.proofs.Common.{◌≡◌, ℕ, suc, ◌<◌, ◌≤◌, ◌&&◌, Bool, true, false, List, [], ◌∷◌, sym, ap, ◌∙◌}
 use Rattle.std.proofs.Common.{nat_le, arith, inl, inr, ◌⊎◌}
 use Rattle.std.specs.Prelude.{◌≢◌, ◌==◌, if◌then◌else◌, All, Option, Some, None, slice_index, slice_set}
 use Rattle.std.proofs.lemmas.Bool.{and_parts}

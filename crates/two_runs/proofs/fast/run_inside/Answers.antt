@@ -1,7 +1,6 @@
-use Rattle.std.proofs.Common.{◌≡◌, ◌∙◌, ◌+◌, ◌≤◌, ◌<◌, ℕ, List, true, false, length, refl, ap, sym, subst, arith}
+use Rattle.std.proofs.Common.{◌≡◌, ◌∙◌, ◌≤◌, ◌<◌, ℕ, true, false, length, refl, ap, sym, subst, arith}
 use Rattle.arrayvec.specs.ArrayVec.{ArrayVec, array_vec_len}
 use Rattle.cpu12_isa.specs.declared.instr.Regs.{Regs}
-use Rattle.cpu12_parts.specs.State.{State}
 use Rattle.run_law.specs.Forms.{one_if}
 use Rattle.two_runs.specs.declared.counts.InnerFrame.{InnerFrame}
 use Rattle.two_runs.specs.Runs.{fast_form}

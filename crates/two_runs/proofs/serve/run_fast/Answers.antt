@@ -1,4 +1,4 @@
-use Rattle.std.proofs.Common.{◌≡◌, ◌∙◌, ap}
+use Rattle.std.proofs.Common.{ap}
 use Rattle.std.specs.Prelude.{Some}
 use Rattle.cpu12_parts.specs.Cuts.{suspended, wav}
 use Rattle.two_level.specs.Images.{fast_most}

@@ -1,4 +1,4 @@
-use Rattle.std.proofs.Common.{◌≡◌, ◌∙◌, ◌+◌, not, Bool, refl, ap, sym}
+use Rattle.std.proofs.Common.{◌∙◌, ◌+◌, not, Bool, refl, ap, sym}
 use Rattle.cpu12_emul.specs.Step.{Next, Whole}
 use Rattle.run_law.specs.Forms.{one_if}
 use Rattle.two_runs.specs.declared.counts.Counts.{Counts}

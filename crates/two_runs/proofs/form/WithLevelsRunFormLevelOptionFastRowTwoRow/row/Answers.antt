@@ -1,4 +1,4 @@
-use Rattle.std.proofs.Common.{◌≡◌, ◌∙◌, List, ap, sym}
+use Rattle.std.proofs.Common.{◌≡◌, ◌∙◌, sym}
 use Rattle.fz_run.specs.Rows.{input_bytes}
 use Rattle.two_runs.proofs.SampleBytes.{got}
 use Rattle.two_runs.proofs.form.WithLevelsRunFormLevelOptionFastRowTwoRow.row.Goals as goal
