@@ -28,8 +28,8 @@ Took told bytes = option_map (λ t. t.bytes) told ≡ Some bytes
 -- a call with this status left this, as out and err tell
 pub record Leaves (number : ℕ) (out err : Option Taken) (left : Left) : Type 0 where
   pub code : number ≡ code_left left
-  pub out : Took out (out_left left)
-  pub err : Took err (err_left left)
+  pub output : Took out (out_left left)
+  pub complaint : Took err (err_left left)
 
 -- the first difference, on err, on out or in the status, or memory was wanted
 abbrev pub Differs : ℕ → Option Taken → Option Taken → Left → Difference → Type 0
