@@ -40,8 +40,8 @@ pub record Called (words : List Text) (old new : Told) (out err : Option Taken) 
   pub answer : Status
   pub code : number ≡ code_of answer
   pub faults : ℕ
-  pub runs : Runs words (world old.files old.counts old.asked nothing_taken 0) (world new.files new.counts new.asked out faults)
-      answer
+  pub runs : Runs words (world old.files old.counts old.asked nothing_taken 0)
+      (world new.files new.counts new.asked out faults) answer
   pub quiet : answer ≡ status.Ok → err ≡ nothing_taken
   pub err_faults : ℕ
   pub line : (answer ≡ status.Ok → ⊥) → Complains (error_line_of words answer) nothing_taken err 0 err_faults

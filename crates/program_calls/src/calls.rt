@@ -59,11 +59,12 @@ fn status_of(
 
 /// The number of the status of a call with these words, whose puts do not fail.
 pub fn code_of(alloc: Global, line: &[&str], shelf: &mut MemShelf) -> Result<u8, Difference>
-    ensures { IfOk result (AnswersCode (words_in line.now)
+    ensures code { IfOk result (AnswersCode (words_in line.now)
         (told (⟦<MemShelf as Shelf>⟧.files shelf.old) (⟦<MemShelf as Shelf>⟧.counts shelf.old)
         (⟦<MemShelf as Shelf>⟧.asked shelf.old))
         (told (⟦<MemShelf as Shelf>⟧.files shelf.new) (⟦<MemShelf as Shelf>⟧.counts shelf.new)
         (⟦<MemShelf as Shelf>⟧.asked shelf.new))) }
+    ensures memory { IfErr result (λ d. d ≡ Difference.Memory) }
 {
     let words = words_of(alloc, line)?;
     let mut out = sink_of(alloc, NONE.puts, NONE.most)?;

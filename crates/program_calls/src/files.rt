@@ -99,6 +99,7 @@ pub fn shelf_of(alloc: Global, files: Vec<MemFile>, faults: &Faults) -> Result<M
     ensures numbers { IfOk result (λ s. (reads_of s ≡ 0) × (writes_of s ≡ 0)) }
     ensures failing_reads { IfOk result (λ s. failing_reads_of s ≡ faults.now.reads.now) }
     ensures failing_writes { IfOk result (λ s. failing_writes_of s ≡ faults.now.writes.now) }
+    ensures memory { IfErr result (λ d. d ≡ Difference.Memory) }
 {
     let reads = numbers(alloc, faults.reads)?;
     let writes = numbers(alloc, faults.writes)?;
