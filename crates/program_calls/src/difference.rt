@@ -1,4 +1,7 @@
 //! How what came of a call differs from what was wanted.
+ghost use Rattle.std.specs.Prelude.{◌≡◌};
+ghost use Rattle.program_calls.specs.declared.difference.Difference.TheVariants.{Memory as want};
+
 use fz_list::Memory;
 use std::alloc::AllocError;
 
@@ -20,12 +23,16 @@ pub enum Difference {
 }
 
 impl From<AllocError> for Difference {
+    ghost from_gives = { λ _ d. d ≡ want };
+
     fn from(_: AllocError) -> Difference {
         Difference::Memory
     }
 }
 
 impl From<Memory> for Difference {
+    ghost from_gives = { λ _ d. d ≡ want };
+
     fn from(_: Memory) -> Difference {
         Difference::Memory
     }

@@ -1,4 +1,6 @@
 //! What a call leaves.
+ghost use Rattle.std.specs.Prelude.{◌≡◌};
+ghost use Rattle.program_calls.specs.Lefts.{code_left, err_left, out_left};
 
 /// What a call leaves on out and on err, with its status.
 #[derive(Clone, Copy)]
@@ -18,7 +20,9 @@ pub const USAGE: Left<'static> = Left::Refused(
 );
 
 impl Left<'_> {
-    pub(crate) fn code(&self) -> u8 {
+    pub(crate) fn code(&self) -> u8
+        ensures { result ≡ code_left self.now }
+    {
         match self {
             Left::Lines(_) => 0,
             Left::Refused(code, _) => *code,
@@ -26,7 +30,9 @@ impl Left<'_> {
         }
     }
 
-    pub(crate) fn out(&self) -> &str {
+    pub(crate) fn out(&self) -> &str
+        ensures { result.now ≡ out_left self.now }
+    {
         match self {
             Left::Lines(lines) => lines,
             Left::Refused(_, _) => "",
@@ -34,7 +40,9 @@ impl Left<'_> {
         }
     }
 
-    pub(crate) fn err(&self) -> &str {
+    pub(crate) fn err(&self) -> &str
+        ensures { result.now ≡ err_left self.now }
+    {
         match self {
             Left::Lines(_) => "",
             Left::Refused(_, line) => line,

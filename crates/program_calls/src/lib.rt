@@ -3,11 +3,13 @@
 //!
 //! What compares here answers `Ok` where there is what is wanted, and else a [`Difference`], so that a
 //! test goes through its rows by `?`. Each call answers [`Difference::Memory`], or an `AllocError`, where
-//! memory for the files or the comparison is not found. No clause says what is compared: the tests of
-//! program_files see that a difference of each kind is told.
+//! memory for the files or the comparison is not found. The contract, in short: `Ok` comes only where the
+//! program, called with these words over this shelf, left on out and on err exactly what is wanted, with
+//! that status; and a difference only where there is one.
 #![tactic(auto)]
 
 mod calls;
+mod comparison;
 mod difference;
 mod files;
 mod left;

@@ -6,6 +6,8 @@
 #[cfg(test)]
 mod debug;
 #[cfg(test)]
+mod five_files;
+#[cfg(test)]
 mod generate;
 #[cfg(test)]
 mod hrun;
@@ -13,6 +15,7 @@ mod hrun;
 mod lcompile;
 #[cfg(test)]
 mod lrun;
+#[cfg(test)]
 mod mrun;
 #[cfg(test)]
 mod reads;

@@ -1,37 +1,26 @@
 //! Runs of the mailbox form, to which interrupts post samples.
-use program_calls::{Difference, Left, NONE, USAGE, call, push_file, shelf_of};
-use std::alloc::Global;
+use super::five_files::{FiveFiles, refuse_flags, run_each};
+use program_calls::Left;
 use std::test::Fail;
 use worked_texts::{BLOCK, HALVES, MAILBOX_RECORDS, RECORDS};
 
-/// What `mrun` is given, and what it leaves.
-#[derive(Clone, Copy)]
-struct Posted {
-    fcl: &'static str,
-    image: &'static str,
-    cert: &'static [&'static str],
-    trace: &'static str,
-    posts: &'static str,
-    left: Left<'static>,
-}
-
 /// The heater's run with no post.
-const HEATER: Posted = Posted {
+const HEATER: FiveFiles = FiveFiles {
     fcl: BLOCK,
-    image: MAILBOX_RECORDS,
+    records: MAILBOX_RECORDS,
     cert: &["FZC 1\nclaim 19609\n", HALVES],
     trace: "64\n0\n",
-    posts: "",
+    requests: "",
     left: Left::Lines("error 1 19609\ninstructions 31\nresumed 0\n"),
 };
 
 // A turn that answers takes the 36 steps of `run`, without CLR READY, and with ORCC, a copy, CLR POSTED and ANDCC: 39.
 // I is 1 from its boundary 3 to 6; REV begins at boundary 18, and WAV at 29.
-static RUNS: [Posted; 18] = [
+static RUNS: [FiveFiles; 18] = [
     HEATER,
     // The second comes while the first is copied.
-    Posted {
-        posts: "0,1\n3,2\n",
+    FiveFiles {
+        requests: "0,1\n3,2\n",
         left: Left::Lines(
             "error 1 19609
 instructions 31
@@ -45,8 +34,8 @@ resumed 0
         ..HEATER
     },
     // It comes before the copy, in place of the first.
-    Posted {
-        posts: "0,1\n2,2\n",
+    FiveFiles {
+        requests: "0,1\n2,2\n",
         left: Left::Lines(
             "error 1 19609
 instructions 31
@@ -59,8 +48,8 @@ resumed 0
         ..HEATER
     },
     // Idle turns, and a post of no sample.
-    Posted {
-        posts: "3,1,1800,FF\n5,0\n",
+    FiveFiles {
+        requests: "3,1,1800,FF\n5,0\n",
         left: Left::Lines(
             "error 1 19609
 instructions 31
@@ -73,8 +62,8 @@ resumed 0
         ..HEATER
     },
     // Inside REV, and inside WAV, which pushes its sums too.
-    Posted {
-        posts: "0,1\n21,0\n30,2\n",
+    FiveFiles {
+        requests: "0,1\n21,0\n30,2\n",
         left: Left::Lines(
             "error 1 19609
 instructions 31
@@ -89,8 +78,8 @@ resumed 2
         ..HEATER
     },
     // A sample again, behind idle turns up to boundary 999999.
-    Posted {
-        posts: "0,1\n1000000,1\n",
+    FiveFiles {
+        requests: "0,1\n1000000,1\n",
         left: Left::Lines(
             "error 1 19609
 instructions 31
@@ -103,103 +92,84 @@ resumed 0
         ),
         ..HEATER
     },
-    Posted {
+    FiveFiles {
         trace: "",
-        posts: "0,0\n",
+        requests: "0,0\n",
         left: Left::Lines("error 1 19609\ninstructions 31\nframe 0 C008 1FF7 9\nresumed 0\n"),
         ..HEATER
     },
     // the first of two faults is told
-    Posted {
+    FiveFiles {
         fcl: "",
-        image: "",
+        records: "",
         left: Left::Refused(4, "fcl: at 0: expected\n"),
         ..HEATER
     },
-    Posted {
-        image: "",
+    FiveFiles {
+        records: "",
         cert: &[],
         left: Left::Refused(5, "image: no end\n"),
         ..HEATER
     },
     // the image of `compile`
-    Posted {
-        image: RECORDS,
+    FiveFiles {
+        records: RECORDS,
         left: Left::Refused(5, "image: C005: 00, compile gives 28\n"),
         ..HEATER
     },
-    Posted {
+    FiveFiles {
         cert: &["FZC 1\nclaim 19608\n", HALVES],
         trace: "256.0001",
         left: Left::Refused(6, "cert: output 1 claims 19608, computed 19609\n"),
         ..HEATER
     },
-    Posted {
+    FiveFiles {
         trace: "256.0001",
-        posts: "x",
+        requests: "x",
         left: Left::Refused(7, "trace: row 1: input 1 out of range\n"),
         ..HEATER
     },
-    Posted {
-        posts: "3,1\n0,2\n",
+    FiveFiles {
+        requests: "3,1\n0,2\n",
         left: Left::Refused(7, "plan: row 2: not ascending\n"),
         ..HEATER
     },
-    Posted {
-        posts: "0,2\n0,3\n",
+    FiveFiles {
+        requests: "0,2\n0,3\n",
         left: Left::Refused(7, "plan: row 2: bad row\n"),
         ..HEATER
     },
-    Posted {
+    FiveFiles {
         trace: "",
-        posts: "0,1\n",
+        requests: "0,1\n",
         left: Left::Refused(7, "plan: row 1: bad row\n"),
         ..HEATER
     },
-    Posted {
-        posts: "1000001,1\n",
+    FiveFiles {
+        requests: "1000001,1\n",
         left: Left::Refused(7, "plan: row 1: bad row\n"),
         ..HEATER
     },
-    Posted {
-        posts: "0,1,1028,00\n",
+    FiveFiles {
+        requests: "0,1,1028,00\n",
         left: Left::Refused(7, "plan: row 1: not free 1028\n"),
         ..HEATER
     },
-    Posted {
-        posts: "0\n",
+    FiveFiles {
+        requests: "0\n",
         left: Left::Refused(7, "plan: row 1: bad row\n"),
         ..HEATER
     },
 ];
 
-fn run(alloc: Global, posted: &Posted) -> Result<(), Difference> {
-    let mut files = Vec::new(alloc);
-    push_file(alloc, &mut files, "n.fcl", &[posted.fcl])?;
-    push_file(alloc, &mut files, "n.s19", &[posted.image])?;
-    push_file(alloc, &mut files, "n.cert", posted.cert)?;
-    push_file(alloc, &mut files, "n.csv", &[posted.trace])?;
-    push_file(alloc, &mut files, "n.posts", &[posted.posts])?;
-    let mut shelf = shelf_of(alloc, files, &NONE)?;
-    let line = [
-        "fuzz12", "mrun", "n.fcl", "n.s19", "n.cert", "n.csv", "n.posts", "00",
-    ];
-    call(alloc, &line, &mut shelf, &NONE, &posted.left)
-}
-
 #[test]
 fn posted_runs(rt: HostRuntime) -> Result<(), Fail> {
-    for posted in RUNS.iter() {
-        run(rt.alloc(), posted)?;
-    }
+    run_each(rt.alloc(), "mrun", &RUNS)?;
     Ok(())
 }
 
 #[test]
 fn flags_of_a_posted_run(rt: HostRuntime) -> Result<(), Fail> {
-    let alloc = rt.alloc();
-    let mut shelf = shelf_of(alloc, Vec::new(alloc), &NONE)?;
-    let line = ["fuzz12", "mrun", "a", "b", "c", "d", "e", "0G"];
-    call(alloc, &line, &mut shelf, &NONE, &USAGE)?;
+    refuse_flags(rt.alloc(), "mrun")?;
     Ok(())
 }

@@ -3,10 +3,15 @@
 //! The images were worked out from the instruction table of the CPU12 Reference Manual.
 #![tactic(auto)]
 
+ghost use Rattle.std.specs.Prelude.{◌≡◌, string_bytes, IfOk};
+ghost use Rattle.worked_texts.specs.Parts.{text_of_parts};
+
 use std::alloc::{AllocError, Global};
 
 /// The parts of a text as one.
-pub fn joined(alloc: Global, parts: &[&str]) -> Result<String, AllocError> {
+pub fn joined(alloc: Global, parts: &[&str]) -> Result<String, AllocError>
+    ensures { IfOk result (λ text. string_bytes text ≡ text_of_parts parts.now) }
+{
     let mut text = String::new(alloc);
     for part in parts {
         text.push_str(part)?;

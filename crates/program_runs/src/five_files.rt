@@ -1,0 +1,45 @@
+//! Commands over five files and flags.
+use program_calls::{Difference, Left, NONE, USAGE, call, push_file, shelf_of};
+use std::alloc::Global;
+
+/// What a command over five files is given with the flags 00, and what it leaves.
+#[derive(Clone, Copy)]
+pub(crate) struct FiveFiles {
+    pub(crate) fcl: &'static str,
+    /// IMAGE or HANDLER.
+    pub(crate) records: &'static str,
+    pub(crate) cert: &'static [&'static str],
+    pub(crate) trace: &'static str,
+    /// PLAN or POSTS.
+    pub(crate) requests: &'static str,
+    pub(crate) left: Left<'static>,
+}
+
+fn run(alloc: Global, command: &str, given: &FiveFiles) -> Result<(), Difference> {
+    let mut files = Vec::new(alloc);
+    push_file(alloc, &mut files, "n.fcl", &[given.fcl])?;
+    push_file(alloc, &mut files, "n.s19", &[given.records])?;
+    push_file(alloc, &mut files, "n.cert", given.cert)?;
+    push_file(alloc, &mut files, "n.csv", &[given.trace])?;
+    push_file(alloc, &mut files, "n.plan", &[given.requests])?;
+    let mut shelf = shelf_of(alloc, files, &NONE)?;
+    let line = [
+        "fuzz12", command, "n.fcl", "n.s19", "n.cert", "n.csv", "n.plan", "00",
+    ];
+    call(alloc, &line, &mut shelf, &NONE, &given.left)
+}
+
+/// Whether the command leaves what each row says.
+pub(crate) fn run_each(alloc: Global, command: &str, rows: &[FiveFiles]) -> Result<(), Difference> {
+    for given in rows {
+        run(alloc, command, given)?;
+    }
+    Ok(())
+}
+
+/// Whether the command refuses flags that are no byte.
+pub(crate) fn refuse_flags(alloc: Global, command: &str) -> Result<(), Difference> {
+    let mut shelf = shelf_of(alloc, Vec::new(alloc), &NONE)?;
+    let line = ["fuzz12", command, "a", "b", "c", "d", "e", "0G"];
+    call(alloc, &line, &mut shelf, &NONE, &USAGE)
+}
