@@ -341,7 +341,7 @@ const LEVELS: Given = Given {
 const LEVEL_BOUNDS: &str =
     "error 1 19609\nfast error 1 19609\ninstructions 28\nfast instructions 24\n";
 
-// As many fast runs as there may be, without interrupts and with the most.
+// As many fast runs as there may be; and as many as out has room for, each with the most interrupts.
 static LEVEL_ROWS: [Given; 4] = [
     Given {
         plan: &[("1,0,1\n", 10_000)],
@@ -357,11 +357,11 @@ static LEVEL_ROWS: [Given; 4] = [
         ..LEVELS
     },
     Given {
-        plan: &[("1,0,1,0,0,0,0,0,0,0,0\n", 10_000)],
+        plan: &[("1,0,1,0,0,0,0,0,0,0,0\n", 4_000)],
         left: Leaves::Lines(&[
             (LEVEL_BOUNDS, 1),
             (SAMPLE, 1),
-            ("10000\n", 1),
+            ("4000\n", 1),
             (
                 "frame 1 0 C008 1FF7 9
 fast 1 answers 64 instructions 24 steps 32 resumed 0
@@ -374,7 +374,7 @@ inner 1 4002 1FEE 9
 inner 1 4002 1FEE 9
 inner 1 4002 1FEE 9
 ",
-                10_000,
+                4_000,
             ),
         ]),
         ..LEVELS
