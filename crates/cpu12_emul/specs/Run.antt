@@ -4,7 +4,8 @@ use Rattle.cpu12_isa.specs.Memory.{plus}
 use Rattle.cpu12_parts.specs.State.{State}
 use Rattle.cpu12_emul.specs.declared.ends.RunEnd.{RunEnd}
 use Rattle.cpu12_emul.specs.declared.ends.RunEnd.TheVariants.{Arrived, Trap, Budget}
-use Rattle.cpu12_emul.specs.declared.ends.Stepped.TheVariants.{Plain}
+use Rattle.cpu12_emul.specs.declared.ends.Stepped.{Stepped}
+use Rattle.cpu12_emul.specs.declared.ends.Stepped.TheVariants.{Plain, Part}
 use Rattle.cpu12_emul.specs.Step.{Next, next_of}
 
 -- PC is at 20 FE
@@ -30,8 +31,16 @@ abbrev pub RunsEndOnce : Type 0
 RunsEndOnce =
     (flags n : ℕ) (s t u : State) (e f : RunEnd) → EndsRun flags n s e t → EndsRun flags n s f u → (e ≡ f) × (t ≡ u)
 
--- n plain instructions lead from s to t, and P holds wherever one leads
+-- n steps of a kind lead from s to t, and P holds wherever one leads
+abbrev pub StepsOf : Stepped → (State → Type 0) → ℕ → ℕ → State → State → Type 0
+StepsOf kind P flags zero s t = s ≡ t
+StepsOf kind P flags (suc n) s t =
+    (u : State) × ((next_of flags s ≡ Ok (record { state = u; kind = kind })) × P u × StepsOf kind P flags n u t)
+
+-- n plain instructions
 abbrev pub PlainlyTo : (State → Type 0) → ℕ → ℕ → State → State → Type 0
-PlainlyTo P flags zero s t = s ≡ t
-PlainlyTo P flags (suc n) s t =
-    (u : State) × ((next_of flags s ≡ Ok (record { state = u; kind = Plain })) × P u × PlainlyTo P flags n u t)
+PlainlyTo = StepsOf Plain
+
+-- n parts of instructions that go on
+abbrev pub PartsTo : (State → Type 0) → ℕ → ℕ → State → State → Type 0
+PartsTo = StepsOf Part

@@ -14,4 +14,5 @@ pub mod interrupt;
 pub mod laws;
 pub mod load;
 pub mod machine;
+mod ruling;
 pub mod run;
