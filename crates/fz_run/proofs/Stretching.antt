@@ -3,9 +3,9 @@ use Rattle.std.proofs.Common.{◌≡◌, ℕ, suc, ◌+◌, not, Result, Ok, Lis
 use Rattle.cpu12_parts.specs.State.{State}
 use Rattle.cpu12_emul.specs.declared.ends.Stepped.{Stepped}
 use Rattle.cpu12_emul.specs.declared.ends.Stepped.TheVariants.{Plain, Part, LastPart}
-use Rattle.cpu12_emul.specs.Step.{Next, next_of}
+use Rattle.cpu12_emul.specs.Step.{Next, next_of, is_part}
 use Rattle.cpu12_parts.specs.Executions.{Execution, all_steps}
-use Rattle.run_law.specs.Forms.{is_part, one_if}
+use Rattle.run_law.specs.Forms.{one_if}
 use Rattle.run_law.specs.Uninterrupted.{stepped, kind_at, state_by, kind_by, uninterrupted, counted}
 use Rattle.run_law.specs.Soundness.{Before}
 use Rattle.fz_run.specs.Instructions.{AreSteps}

@@ -7,7 +7,8 @@ use Rattle.cpu12_parts.specs.State.{State}
 use Rattle.cpu12_emul.specs.Image.{image_memory}
 use Rattle.cpu12_emul.specs.Take.{FrameSeen}
 use Rattle.cpu12_emul.specs.Simulation.{Same}
-use Rattle.run_law.specs.Forms.{Ran, takes, is_empty, is_part, one_if, run_from}
+use Rattle.cpu12_emul.specs.Step.{is_part}
+use Rattle.run_law.specs.Forms.{Ran, takes, is_empty, one_if, run_from}
 use Rattle.run_law.specs.Following.{asked}
 use Rattle.run_law.specs.Soundness.{AllGood}
 use Rattle.run_law.specs.Uninterrupted.{uninterrupted, counted, is_inside, has_moment, resumed_of, frames_after}

@@ -3,8 +3,8 @@ use Rattle.std.proofs.Common.{◌≡◌, ℕ, suc, ◌+◌, not, Bool, false, Re
 use Rattle.cpu12_parts.specs.State.{State}
 use Rattle.cpu12_emul.specs.declared.ends.Stepped.{Stepped}
 use Rattle.cpu12_emul.specs.declared.ends.Stepped.TheVariants.{Part}
-use Rattle.cpu12_emul.specs.Step.{Next, next_of}
-use Rattle.run_law.specs.Forms.{is_part, one_if}
+use Rattle.cpu12_emul.specs.Step.{Next, next_of, is_part}
+use Rattle.run_law.specs.Forms.{one_if}
 use Rattle.run_law.specs.Uninterrupted.{stepped, kind_at, state_by, kind_by, uninterrupted, counted}
 use Rattle.run_law.specs.Soundness.{Before}
 use Rattle.fz_run.proofs.Algebra.{uninterrupted_add, counted_add, before_add}
