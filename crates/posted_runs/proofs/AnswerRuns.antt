@@ -15,6 +15,7 @@ use Rattle.run_law.specs.Following.{asked, onto, Completes}
 use Rattle.run_law.specs.Moments.{TakenAtFirstOpen}
 use Rattle.run_law.specs.Soundness.{AllGood, Ascend, Before}
 use Rattle.run_law.specs.Uninterrupted.{uninterrupted, counted, is_inside, stepped, taken_at, resumed_of, frames_after}
+use Rattle.run_law.proofs.Algebra.{uninterrupted_add, counted_add}
 use Rattle.interrupt_plan.specs.declared.Post.{Post}
 use Rattle.interrupt_plan.specs.Posts.{IsGoodPost}
 use Rattle.codegen.specs.declared.firmware.Firmware.{Firmware}
@@ -22,7 +23,6 @@ use Rattle.codegen.specs.Mailboxes.{is_mail, is_postable}
 use Rattle.codegen.specs.Turns.{IsAt}
 use Rattle.codegen.specs.Widths.{width_of, places}
 use Rattle.fz_run.specs.Facts.{FactsBeside}
-use Rattle.fz_run.proofs.Algebra.{uninterrupted_add, counted_add}
 use Rattle.posted_runs.specs.Turns.{up_to, behind, waiting}
 use Rattle.posted_runs.specs.Runs.{TurnForm, turn_form}
 use Rattle.posted_runs.specs.PostedTurns.{TurnEnds, plain_frame, PostedTurnsFollow}
