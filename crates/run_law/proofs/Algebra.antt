@@ -1,5 +1,10 @@
--- Steps of a run without interrupts one after another: what holds before each, stretches of them, and kept sums.
+-- Steps of a run without interrupts one after another: what holds before each, stretches of them, and sums that are
+-- kept between parts or pushed.
 use Rattle.std.proofs.Common.{◌≡◌, ℕ, zero, suc, ◌+◌, ◌^◌, ◌<◌, ◌≤◌, not, Bool, false, Result, Ok, refl, ap, ap₂, sym, ◌∙◌, subst, arith}
+use Rattle.cpu12_isa.specs.declared.instr.Regs.{Regs}
+use Rattle.cpu12_isa.specs.Fits.{FitsRegs}
+use Rattle.cpu12_isa.specs.Memory.{plus}
+use Rattle.cpu12_isa.specs.Regions.{stack_start, stack_end}
 use Rattle.cpu12_parts.specs.declared.temps.Temps.{Temps}
 use Rattle.cpu12_parts.specs.declared.temps.Temps.TheVariants.{Free, Running, OnStack}
 use Rattle.cpu12_parts.specs.Laws.{AreKept}
@@ -9,7 +14,7 @@ use Rattle.cpu12_emul.specs.declared.ends.Stepped.TheVariants.{Part}
 use Rattle.cpu12_emul.specs.Step.{Next, next_of, is_part}
 use Rattle.run_law.specs.Forms.{one_if}
 use Rattle.run_law.specs.Uninterrupted.{stepped, kind_at, state_by, kind_by, uninterrupted, counted}
-use Rattle.run_law.specs.Soundness.{Before}
+use Rattle.run_law.specs.Soundness.{Before, below_sums}
 
 pub before_at : (P : State → Type 0) (flags n m : ℕ) (s : State) → Before P flags n s → suc m ≤ n
     → P (uninterrupted flags m s)
@@ -88,3 +93,13 @@ pub kept_sums : (t : Temps) → AreKept t → KeptSums t
 kept_sums Free h = absurd h
 kept_sums OnStack h = absurd h
 kept_sums (Running p w) h = record { product = p; weight = w; running = refl; product_fits = h.0; weight_fits = h.1 }
+
+-- registers below sums that are pushed fit, and SP is no more than six lower
+pub below_fits : (r : Regs) (t : Temps) → FitsRegs r → stack_start + 15 ≤ r.sp → r.sp ≤ stack_end
+    → FitsRegs (below_sums r t) × (r.sp ≤ (below_sums r t).sp + 6) × ((below_sums r t).sp ≤ r.sp)
+below_fits r Free f l h = (f, omega arith, omega arith)
+below_fits r OnStack f l h = (f, omega arith, omega arith)
+below_fits r (Running p w) f l h = (at (plus r.sp 65530) (omega arith), omega arith, omega arith)
+  where
+    at : (k : ℕ) → k < 2 ^ 16 → FitsRegs (record r { sp = k })
+    at k fits = record { a = f.a; b = f.b; x = f.x; y = f.y; sp = fits; pc = f.pc; ccr = f.ccr }
