@@ -19,7 +19,8 @@ use Rattle.codegen.specs.declared.firmware.Firmware.{Firmware}
 use Rattle.codegen.specs.declared.layout.Layout.{Layout}
 use Rattle.codegen.specs.Turns.{IsMaskedStep}
 use Rattle.posted_runs.specs.UninterruptedTurns.{IsAnswerRun}
-use Rattle.posted_runs.proofs.Passing.{StepLaws, plain_next}
+use Rattle.posted_runs.specs.UsedLaws.{StepLaws}
+use Rattle.posted_runs.proofs.Passing.{plain_next}
 use Rattle.posted_runs.proofs.TwoSteps.{IsHere, here_at}
 
 -- a plain step
