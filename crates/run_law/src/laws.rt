@@ -6,7 +6,7 @@ ghost use Rattle.run_law.specs.Forms.{Form};
 ghost use Rattle.run_law.specs.Soundness.{Sound, WritesAreQuiet};
 ghost use Rattle.run_law.specs.Following.{RunFollows, RunsFollow};
 ghost use Rattle.run_law.specs.Moments.{TakenAtFirstOpen};
-ghost use Rattle.run_law.specs.Steps.{StepLaws};
+ghost use Rattle.run_law.specs.Steps.{MachineLaws, StepLaws};
 
 use cpu12_emul::laws::{
     frame_is_on_stack, plain_is_step, rev_is_step, revw_is_step, step_keeps, sums_are_step,
@@ -54,14 +54,21 @@ pub trait SoundForm {
         → Sound (open_to x) (form x) (holds x) (good x) (own x) };
 }
 
-/// The run of one sample, from any boundary on, follows the run without interrupts.
-pub fn run_follows<F: SoundForm>()
-    ensures { (x : F.Setting) → RunFollows (F.open_to x) (F.form x) (F.holds x) (F.good x) (F.own x) }
+/// What is known of a step beside hidden bytes, of what an interrupt pushes and of what is hidden then.
+fn machine_laws()
+    ensures { MachineLaws }
 {
     step_keeps();
     frame_is_on_stack();
     stack_is_hidden();
     wav_suspends();
+}
+
+/// The run of one sample, from any boundary on, follows the run without interrupts.
+pub fn run_follows<F: SoundForm>()
+    ensures { (x : F.Setting) → RunFollows (F.open_to x) (F.form x) (F.holds x) (F.good x) (F.own x) }
+{
+    machine_laws();
     writes_agree();
     writes_are_quiet();
 }
@@ -73,10 +80,7 @@ pub fn run_follows<F: SoundForm>()
 pub fn runs_follow<F: SoundForm>()
     ensures { (x : F.Setting) → RunsFollow (F.open_to x) (F.form x) (F.holds x) (F.good x) (F.own x) }
 {
-    step_keeps();
-    frame_is_on_stack();
-    stack_is_hidden();
-    wav_suspends();
+    machine_laws();
     writes_agree();
     writes_are_quiet();
 }
