@@ -3,6 +3,7 @@ use Rattle.std.specs.Prelude.{◌≡◌, ℕ, ◌+◌, ◌^◌, ◌<◌, ◌≤�
 use Rattle.fuzzy_meaning.specs.declared.block.Block.{Block}
 use Rattle.cpu12_isa.specs.declared.instr.Instr.{Instr}
 use Rattle.cpu12_isa.specs.declared.instr.Instr.TheVariants.{Rts}
+use Rattle.cpu12_isa.specs.Regions.{vector}
 use Rattle.cpu12_asm.specs.declared.items.Item.{Item}
 use Rattle.cpu12_asm.specs.declared.items.Item.TheVariants.{Place, Byte, Op}
 use Rattle.cpu12_asm.specs.declared.image.Image.{Image}
@@ -23,7 +24,7 @@ bytes_at at bytes = Place at ∷ map Byte bytes
 -- the interrupt's and the reset vector (CPU12 Reference Manual, section 7): the last instruction before EVAL, and the
 -- first one
 abbrev pub vector_items : Layout → List Item
-vector_items l = bytes_at 0xFFF2 (bytes_of_word l.interrupt) ++ bytes_at 0xFFFE (bytes_of_word l.code)
+vector_items l = bytes_at vector (bytes_of_word l.interrupt) ++ bytes_at 0xFFFE (bytes_of_word l.code)
 
 -- a block's EVAL with the code before and behind it, its tables, singletons, weights and rule list
 unfoldable pub block_items : Layout → Block → Width → List Instr → List Instr → List Item

@@ -7,7 +7,7 @@ use Rattle.fuzzy_meaning.specs.Blocks.{IsValid, output_at}
 use Rattle.byte_scaling.specs.Cells.{nearest_byte}
 use Rattle.rule_layout.specs.Layouts.{IsWithinLimits}
 use Rattle.cpu12_isa.specs.declared.instr.Instr.TheVariants.{Rts}
-use Rattle.cpu12_isa.specs.Regions.{is_free}
+use Rattle.cpu12_isa.specs.Regions.{is_free, vector}
 use Rattle.cpu12_asm.specs.declared.items.Item.{Item}
 use Rattle.cpu12_asm.specs.Bytes.{byte_at}
 use Rattle.cpu12_parts.specs.State.{State}
@@ -70,7 +70,7 @@ pub record Watched : Type 0 where
 -- the byte is one that the image has from the tables' start up to the vectors
 abbrev pub IsTableChange : Layout → List (ℕ × ℕ) → Option Change → Type 0
 IsTableChange l image None = Unit {0}
-IsTableChange l image (Some c) = (l.tables ≤ c.0) × (c.0 < 0xFFF2) × (byte_at image c.0 ≢ None) × (c.1 < 2 ^ 8)
+IsTableChange l image (Some c) = (l.tables ≤ c.0) × (c.0 < vector) × (byte_at image c.0 ≢ None) × (c.1 < 2 ^ 8)
 
 pub record IsGoodSample (b : Block) (l : Layout) (image : List (ℕ × ℕ)) (x : Watched) : Type 0 where
   pub bytes : AreInputBytes b x.bytes

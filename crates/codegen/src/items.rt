@@ -14,6 +14,7 @@ use crate::layout::Layout;
 use crate::width::Width;
 use cpu12_asm::Item;
 use cpu12_isa::instr::Instr;
+use cpu12_isa::mem::VECTOR;
 use fuzzy_meaning::{Block, Input, Output};
 use point_slope::table;
 use rule_layout::{Flat, Form, Slot};
@@ -173,7 +174,7 @@ fn push_rule_data(
 pub fn push_vectors(items: &mut Vec<Item>, layout: &Layout) -> Result<(), AllocError>
     ensures { OnOk result (items.new.items ≡ items.old.items ++ vector_items layout.now) }
 {
-    items.push(Item::Place(0xFFF2))?;
+    items.push(Item::Place(VECTOR))?;
     push_word(items, layout.interrupt)?;
     items.push(Item::Place(0xFFFE))?;
     push_word(items, layout.code)

@@ -1,5 +1,5 @@
 -- One step of the machine: a plain instruction, or one part of REV, REVW or WAV.
-use Rattle.std.specs.Prelude.{ℕ, Result, Ok, Err, List, slice_index}
+use Rattle.std.specs.Prelude.{ℕ, Bool, true, false, Result, Ok, Err, List, slice_index}
 use Rattle.cpu12_isa.specs.Memory.{word_of}
 use Rattle.cpu12_isa.specs.declared.instr.Regs.{Regs}
 use Rattle.cpu12_isa.specs.declared.instr.Instr.{Instr}
@@ -16,6 +16,12 @@ use Rattle.cpu12_parts.specs.Parts.{rev_act, revw_act, wav_act}
 use Rattle.cpu12_parts.specs.Sums.{wav_pull}
 use Rattle.cpu12_emul.specs.declared.ends.Stepped.{Stepped}
 use Rattle.cpu12_emul.specs.declared.ends.Stepped.TheVariants.{Plain, Part, LastPart}
+
+-- whether a step was a part, and not the last
+abbrev pub is_part : Stepped → Bool
+is_part Plain = false
+is_part Part = true
+is_part LastPart = false
 
 -- the machine: its state, and the byte from which open flags are taken
 pub record Whole : Type 0 where

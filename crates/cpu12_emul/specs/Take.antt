@@ -1,9 +1,10 @@
 -- An interrupt that is taken.
-use Rattle.std.specs.Prelude.{ℕ, Bool, true, not, List, [], ◌∷◌, ◌++◌, slice_index}
+use Rattle.std.specs.Prelude.{ℕ, Bool, true, not, List, [], ◌∷◌, ◌++◌}
 use Rattle.cpu12_isa.specs.declared.instr.Write.{Write}
 use Rattle.cpu12_isa.specs.Act.{write_all}
-use Rattle.cpu12_isa.specs.Memory.{plus, from, placed, bytes_at, word_of}
+use Rattle.cpu12_isa.specs.Memory.{plus, from, placed, bytes_at}
 use Rattle.cpu12_isa.specs.Flags.{interrupts_masked, has, put}
+use Rattle.cpu12_isa.specs.Regions.{vector_word}
 use Rattle.cpu12_isa.specs.Registers.{frame_bytes, pulled}
 use Rattle.cpu12_parts.specs.declared.temps.Temps.{Temps}
 use Rattle.cpu12_parts.specs.declared.temps.Temps.TheVariants.{Free, Running, OnStack}
@@ -47,7 +48,7 @@ taken ws s = framed ws (suspended wav s)
 
 -- PC from the interrupt's vector
 abbrev pub vectored : State → State
-vectored s = record s { regs = record (s.regs) { pc = word_of (slice_index s.mem 65522) (slice_index s.mem 65523) } }
+vectored s = record s { regs = record (s.regs) { pc = vector_word s.mem } }
 
 -- an interrupt up to its handler's first instruction
 abbrev pub entered : List Write → State → State

@@ -1,4 +1,7 @@
 // What calls of the machine answer.
+ghost use Rattle.std.specs.Prelude.{◌≡◌};
+ghost use Rattle.cpu12_emul.specs.Step.{is_part};
+
 use arrayvec::ArrayVec;
 
 /// What a step was: a plain instruction, a part of REV, REVW or WAV after which there is more, or a
@@ -8,6 +11,18 @@ pub enum Stepped {
     Plain,
     Part,
     LastPart,
+}
+
+impl Stepped {
+    /// Whether it was a part after which there is more.
+    pub fn is_part(self) -> bool
+        ensures { result ≡ is_part self }
+    {
+        match self {
+            Stepped::Part => true,
+            Stepped::Plain | Stepped::LastPart => false,
+        }
+    }
 }
 
 /// How a run ended: PC at a branch to itself after so many steps; a trap with the place and the byte

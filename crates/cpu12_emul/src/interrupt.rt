@@ -12,13 +12,10 @@ use crate::machine::Machine;
 use arrayvec::ArrayVec;
 use cpu12_isa::ccr::INTERRUPTS_MASKED;
 use cpu12_isa::instr::Write;
-use cpu12_isa::mem::{Mem, word_of};
+use cpu12_isa::mem::{Mem, VECTOR, word_of};
 use cpu12_isa::stack::{pull_frame, push_frame};
 use cpu12_parts::temps::{Resumable, Temps};
 use cpu12_parts::wav::Wav;
-
-/// The address of the interrupt's vector.
-const VECTOR: u16 = 0xFFF2;
 
 impl<M: Mem> Machine<M> {
     /// Whether an interrupt may be taken: I is 0.

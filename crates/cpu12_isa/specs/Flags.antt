@@ -21,6 +21,10 @@ interrupts_masked = 4
 abbrev pub half_carry : ℕ
 half_carry = 5
 
+-- the bit of X, which masks XIRQ
+abbrev pub x_masked : ℕ
+x_masked = 6
+
 -- whether the flag of a bit is set
 abbrev pub has : Ccr → ℕ → Bool
 has c k = c.0 / 2 ^ k % 2 == 1
@@ -98,6 +102,6 @@ subtracted_word c u v =
     overflow ((nat_le 32768 u && nat_lt v 32768 && nat_lt d 32768)
     || (nat_lt u 32768 && nat_le 32768 v && nat_le 32768 d))) carry (nat_lt u v)
 
--- the flags as they are pulled from the stack: a pull never sets X (bit 6)
+-- the flags as they are pulled from the stack: a pull never sets X
 abbrev pub pulled_flags : Ccr → ℕ → Ccr
-pulled_flags c byte = record { 0 = bit_and byte (bit_or c.0 191) }
+pulled_flags c byte = record { 0 = bit_and byte (bit_or c.0 (255 - 2 ^ x_masked)) }

@@ -16,6 +16,8 @@ pub const NEGATIVE: u8 = 3;
 pub const INTERRUPTS_MASKED: u8 = 4;
 /// The bit of H.
 pub const HALF_CARRY: u8 = 5;
+/// The bit of X, which masks XIRQ.
+pub const X_MASKED: u8 = 6;
 
 /// The masks of flags that an instruction leaves open, by the flags' letters.
 pub const HNZVC: u8 = 0b10_1111;
@@ -151,6 +153,6 @@ impl Ccr {
     pub fn pulled(self, byte: u8) -> Ccr
         ensures { result ≡ pulled_flags self byte }
     {
-        Ccr(byte & (self.0 | 191))
+        Ccr(byte & (self.0 | !(1 << X_MASKED)))
     }
 }

@@ -5,6 +5,9 @@ ghost use Rattle.cpu12_isa.specs.Memory.{zeros, word_of, high_of, low_of};
 use fz_list::Memory;
 use std::alloc::{AllocError, Global};
 
+/// The address of the interrupt's vector.
+pub const VECTOR: u16 = 0xFFF2;
+
 /// What an instruction reads and writes: 65536 bytes by their addresses.
 pub trait Mem: Sized {
     /// The 65536 bytes.

@@ -30,6 +30,7 @@ use Rattle.codegen.specs.Uninterrupted.{AreAnswersOf}
 use Rattle.run_law.specs.Forms.{RowSeen, rows_from}
 use Rattle.run_law.specs.Uninterrupted.{uninterrupted, counted}
 use Rattle.run_law.specs.Following.{Completes, AllComplete, AllWithin}
+use Rattle.run_law.proofs.Algebra.{before_at, before_weaker}
 use Rattle.fz_run.specs.Forms.{given, answer_size, answers_at, answers_in, with_writes}
 use Rattle.fz_run.specs.Rows.{requests_of, arrival, first_state, firmware_rows}
 use Rattle.fz_run.specs.Arrival.{ArrivesPlainly}
@@ -37,7 +38,7 @@ use Rattle.fz_run.specs.Facts.{FactsBeside, FactsAlone, WaitsAlone}
 use Rattle.fz_run.specs.Instructions.{AreSteps, IsServing}
 use Rattle.fz_run.specs.Following.{row_of_sample, rows_of_samples, IsLow, FollowsAlone, AllWait}
 use Rattle.fz_run.specs.Answering.{answer_of_row, AnswersItsBlock, AnswersUnder, AnswersUnderPlans, RunsBeside, FirmwareRunsBeside, FirstAlike, FirstStatesAlike}
-use Rattle.fz_run.proofs.Algebra.{before_at, before_weaker, at_stack}
+use Rattle.fz_run.proofs.Algebra.{at_stack}
 use Rattle.fz_run.proofs.UsedLaws.{WayLaws, Laws}
 
 -- a firmware at the layout that stands alone, with n answers

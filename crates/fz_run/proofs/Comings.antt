@@ -2,9 +2,9 @@
 use Rattle.std.proofs.Common.{◌≡◌, ℕ, suc, ◌+◌, Bool, true, false, ◌&&◌, nat_lt, Result, Ok, Err, List, length, drop, map, refl, ap, ap₂, sym, ◌∙◌}
 use Rattle.std.specs.Prelude.{if◌then◌else◌}
 use Rattle.cpu12_parts.specs.State.{State}
-use Rattle.cpu12_emul.specs.Step.{Next, next_of}
+use Rattle.cpu12_emul.specs.Step.{Next, next_of, is_part}
 use Rattle.cpu12_emul.specs.declared.ends.Stepped.{Stepped}
-use Rattle.run_law.specs.Forms.{Form, Ran, takes, is_part, one_if}
+use Rattle.run_law.specs.Forms.{Form, Ran, takes, one_if}
 use Rattle.fz_run.specs.declared.boundary.Stand.{Stand}
 use Rattle.fz_run.specs.Rest.{Brief, with_before, counted_at}
 use Rattle.fz_run.specs.Rows.{frames_seen}

@@ -3,10 +3,10 @@ use Rattle.std.proofs.Common.{◌≡◌, ℕ, zero, suc, ◌+◌, Bool, true, fa
 use Rattle.std.proofs.lemmas.Bool.Decides.{nat_tests}
 use Rattle.std.proofs.lemmas.List.{map-append}
 use Rattle.cpu12_parts.specs.State.{State}
-use Rattle.cpu12_emul.specs.Step.{Next, next_of}
+use Rattle.cpu12_emul.specs.Step.{Next, next_of, is_part}
 use Rattle.cpu12_emul.specs.declared.ends.Stepped.{Stepped}
 use Rattle.cpu12_emul.specs.Take.{FrameSeen}
-use Rattle.run_law.specs.Forms.{Form, Taking, Ran, takes, is_part, one_if, is_empty, resumes, before_rest, stuck, then_rest, run_from, ended}
+use Rattle.run_law.specs.Forms.{Form, Taking, Ran, takes, one_if, is_empty, resumes, before_rest, stuck, then_rest, run_from, ended}
 use Rattle.fz_run.specs.Rest.{Brief, Brought, with_before, brief, after, rest_of}
 use Rattle.fz_run.specs.Rows.{tellings}
 

@@ -19,11 +19,13 @@ use Rattle.cpu12_parts.specs.Fits.{FitsTemps, FitsOutcome}
 use Rattle.cpu12_parts.specs.Laws.{addresses, PartsTo}
 use Rattle.cpu12_parts.specs.Rules.{NotIn, AreApart}
 use Rattle.cpu12_parts.specs.Touching.{Each}
+use Rattle.cpu12_emul.specs.declared.ends.Stepped.TheVariants.{LastPart}
 use Rattle.cpu12_emul.specs.Simulation.{AreSumsReady, left_of}
 use Rattle.cpu12_emul.specs.Step.{Left, Next, kind_of, applied, next_of}
 use Rattle.fz_run.specs.Facts.{Facts, AreNoneOrRunning}
-use Rattle.fz_run.proofs.Stretches.{Stretch, Kept, SameAbove, AtInstruction, WriteLaws, RuleLaws}
-use Rattle.fz_run.proofs.Stretching.{last_stretch, part_stretch}
+use Rattle.run_law.specs.Steps.{WriteLaws, RuleLaws}
+use Rattle.fz_run.proofs.Stretches.{OneInstruction, Kept, SameAbove, AtInstruction}
+use Rattle.run_law.proofs.Algebra.{one_stretch, part_stretch}
 
 -- an address is one of these
 abbrev pub is_among : List ℕ → ℕ → Bool
@@ -173,13 +175,13 @@ kinded k flags s e = Ok (record { state = after_part k flags s; kind = kind_of e
 pub parts_at : (i : Instr) (k : Kind) → RuleLaws i k → WriteLaws
     → (open_to : ℕ → Bool) (flags : ℕ) (Q : State → Type 0) (sp pc : ℕ) (first : List ℕ) (d : ℕ) (s t : State) → flags < 2 ^ 8
     → Stands open_to i sp pc first s → ((v : State) → v.regs.pc ≡ pc → v.regs.sp ≡ sp → SameAbove first v.mem → Q v)
-    → PartsTo k flags (is_hidden open_to sp) (is_spared (is_hidden open_to sp) (six_from pc)) d s t → Stretch (Kept open_to flags Q) flags d s t
+    → PartsTo k flags (is_hidden open_to sp) (is_spared (is_hidden open_to sp) (six_from pc)) d s t → OneInstruction (Kept open_to flags Q) flags d s t
 unfolding kinded
 parts_at i k laws writes open_to flags Q sp pc first zero s t hf at q h =
     let w = spares (is_hidden open_to sp) (six_from pc) (addresses (part_of k flags s).writes) h.0.1 in
     let p = touched i k laws open_to flags sp pc first s at w h.0.0 in
-    subst (λ (u : State). Stretch (Kept open_to flags Q) flags 0 s u) (sym h.2)
-    (last_stretch (Kept open_to flags Q) flags s (after_part k flags s) (p.facts, q s at.at at.stack at.above) (p.goes ∙ ap (kinded k flags s) h.1))
+    subst (λ (u : State). OneInstruction (Kept open_to flags Q) flags 0 s u) (sym h.2)
+    (one_stretch (Kept open_to flags Q) flags LastPart s (after_part k flags s) refl (p.facts, q s at.at at.stack at.above) (p.goes ∙ ap (kinded k flags s) h.1))
 parts_at i k laws writes open_to flags Q sp pc first (suc n) s t hf at q h =
     let o : Outcome = part_of k flags s in
     let w = spares (is_hidden open_to sp) (six_from pc) (addresses (part_of k flags s).writes) h.0.1 in
@@ -195,5 +197,5 @@ parts_at i k laws writes open_to flags Q sp pc first (suc n) s t hf at q h =
       at = on.1 ∙ at.at;
       above = above_with first s.mem u.mem at.above (above_stays writes.writes_stay o.writes s.mem w.above);
     } in
-    part_stretch (Kept open_to flags Q) flags n s u t (p.facts, q s at.at at.stack at.above) (p.goes ∙ ap (kinded k flags s) h.1)
+    part_stretch (Kept open_to flags Q) flags (suc n) s u t (p.facts, q s at.at at.stack at.above) (p.goes ∙ ap (kinded k flags s) h.1)
     (parts_at i k laws writes open_to flags Q sp pc first n u t hf next q h.2)

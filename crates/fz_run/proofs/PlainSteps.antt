@@ -1,5 +1,5 @@
 -- A plain instruction is one step, before which the state keeps the facts.
-use Rattle.std.proofs.Common.{ℕ, Bool, Result, Ok, ap, sym, ◌∙◌, subst, inl, min}
+use Rattle.std.proofs.Common.{ℕ, Bool, Result, Ok, refl, ap, sym, ◌∙◌, subst, inl, min}
 use Rattle.cpu12_isa.specs.declared.instr.Instr.{Instr}
 use Rattle.cpu12_isa.specs.Act.{read_by}
 use Rattle.cpu12_isa.specs.Agreement.{AllShown, Uncovers}
@@ -16,8 +16,8 @@ use Rattle.cpu12_emul.specs.Simulation.{AreSumsReady, PlainIsStep}
 use Rattle.cpu12_emul.specs.Step.{Left, Next, applied}
 use Rattle.fz_run.specs.Facts.{Facts, AreNoneOrRunning}
 use Rattle.fz_run.specs.Instructions.{PlainIsOneStep}
-use Rattle.fz_run.proofs.Stretches.{Stretch, Kept, AtInstruction}
-use Rattle.fz_run.proofs.Stretching.{plain_stretch}
+use Rattle.fz_run.proofs.Stretches.{OneInstruction, Kept, AtInstruction}
+use Rattle.run_law.proofs.Algebra.{one_stretch}
 
 -- its step, whatever the state keeps beside
 pub plain_next : PlainIsStep → PlainIsOneStep
@@ -32,7 +32,7 @@ pub plain_step : PlainIsStep → (open_to : ℕ → Bool) (flags : ℕ) (Q : Sta
     → AllShown (is_hidden open_to s.regs.sp) (read_by (act_of flags i s.regs) s.mem)
     → AllShown (is_hidden open_to (min s.regs.sp t.regs.sp)) (addresses (effect flags i s.regs s.mem).writes)
     → Uncovers (is_hidden open_to s.regs.sp) (effect flags i s.regs s.mem).writes (is_hidden open_to t.regs.sp) → Q s
-    → Stretch (Kept open_to flags Q) flags 0 s t
+    → OneInstruction (Kept open_to flags Q) flags 0 s t
 plain_step law open_to flags Q i s t c p reads writes covers q =
     let h = is_hidden open_to s.regs.sp in
     let e : Effect = effect flags i s.regs s.mem in
@@ -50,4 +50,4 @@ plain_step law open_to flags Q i s t c p reads writes covers q =
       unmasked = c.unmasked;
       sums = subst AreNoneOrRunning (sym c.temps) tt;
     } in
-    plain_stretch (Kept open_to flags Q) flags s t (facts, q) (plain_next law flags i s t c.temps p)
+    one_stretch (Kept open_to flags Q) flags Plain s t refl (facts, q) (plain_next law flags i s t c.temps p)

@@ -10,8 +10,10 @@ use Rattle.codegen.specs.declared.layout.Layout.{Layout}
 use Rattle.codegen.specs.Interruptible.{is_idle, IsInterruptible, IsShownInstruction, IsInterruptibleStep}
 use Rattle.fz_run.specs.Facts.{IsStackOfOneCall}
 use Rattle.fz_run.specs.Instructions.{IsServing, InstructionsAreSteps}
-use Rattle.fz_run.proofs.Algebra.{before_weaker, at_stack}
-use Rattle.fz_run.proofs.Stretches.{Stretch, Kept, SameAbove, AtInstruction, StepLaws}
+use Rattle.run_law.specs.Steps.{StepLaws}
+use Rattle.run_law.proofs.Algebra.{before_weaker}
+use Rattle.fz_run.proofs.Algebra.{at_stack}
+use Rattle.fz_run.proofs.Stretches.{OneInstruction, Kept, SameAbove, AtInstruction}
 use Rattle.fz_run.proofs.Stretching.{all_stretches}
 use Rattle.fz_run.proofs.PlainSteps.{plain_step}
 use Rattle.fz_run.proofs.WholeSteps.{Inside, rev_step, revw_step, average_step}
@@ -47,7 +49,7 @@ at_instruction open_to image s c = record {
 
 step_stretch : StepLaws → (open_to : ℕ → Bool) (l : Layout) (image : List ℕ) (flags d : ℕ) (s t : State)
     → flags < 2 ^ 8 → IsInterruptibleStep open_to l image flags d s t
-    → Stretch (Kept open_to flags (On l image)) flags d s t
+    → OneInstruction (Kept open_to flags (On l image)) flags d s t
 unfolding On
 step_stretch laws open_to l image flags d s t hf h = by h.instruction
   where
@@ -77,9 +79,9 @@ step_stretch laws open_to l image flags d s t hf h = by h.instruction
       λ at le. ap (λ (n : List ℕ). get_or n at 0) m ∙ same at le,
     )
 
-    by : IsShownInstruction open_to l flags d s t → Stretch (Kept open_to flags (On l image)) flags d s t
+    by : IsShownInstruction open_to l flags d s t → OneInstruction (Kept open_to flags (On l image)) flags d s t
     by (inl p) =
-        subst (λ (k : ℕ). Stretch (Kept open_to flags (On l image)) flags k s t) (sym p.1.1)
+        subst (λ (k : ℕ). OneInstruction (Kept open_to flags (On l image)) flags k s t) (sym p.1.1)
         (plain_step laws.plain_is_step open_to flags (On l image) p.0 s t c p.1.0.step p.1.0.reads p.1.0.writes
         p.1.0.uncovers here)
     by (inr (inl p)) =
@@ -95,7 +97,7 @@ step_stretch laws open_to l image flags d s t hf h = by h.instruction
 
 stretches : StepLaws → (open_to : ℕ → Bool) (l : Layout) (image : List ℕ) (flags : ℕ) (ds : List ℕ) (s t : State)
     → flags < 2 ^ 8 → Execution (IsInterruptibleStep open_to l image flags) ds s t
-    → Execution (Stretch (Kept open_to flags (On l image)) flags) ds s t
+    → Execution (OneInstruction (Kept open_to flags (On l image)) flags) ds s t
 stretches laws open_to l image flags [] s t hf h = h
 stretches laws open_to l image flags (d ∷ ds) s t hf h = (
   h.0,

@@ -11,20 +11,22 @@ use Rattle.cpu12_isa.specs.Memory.{plus, bytes_at}
 use Rattle.cpu12_isa.specs.Regions.{stack_start, stack_end, is_hidden}
 use Rattle.cpu12_isa.proofs.Algebra.{shown_append}
 use Rattle.cpu12_parts.specs.declared.temps.Temps.{Temps}
-use Rattle.cpu12_parts.specs.declared.temps.Temps.TheVariants.{Free, Running, OnStack}
+use Rattle.cpu12_parts.specs.declared.temps.Temps.TheVariants.{Running}
 use Rattle.cpu12_parts.specs.declared.temps.PartEnd.{PartEnd}
 use Rattle.cpu12_parts.specs.declared.temps.PartEnd.TheVariants.{More}
 use Rattle.cpu12_parts.specs.State.{State, Outcome}
 use Rattle.cpu12_parts.specs.Cuts.{wav, part_of, after_part}
 use Rattle.cpu12_parts.specs.Fits.{FitsTemps, FitsState, FitsOutcome}
 use Rattle.cpu12_parts.specs.Inside.{second_byte}
-use Rattle.cpu12_parts.specs.Laws.{addresses, AreKept, PartsTo}
+use Rattle.cpu12_parts.specs.Laws.{addresses, PartsTo}
+use Rattle.cpu12_emul.specs.declared.ends.Stepped.TheVariants.{LastPart}
 use Rattle.cpu12_emul.specs.Simulation.{AreSumsReady, left_of, HasRoom}
 use Rattle.cpu12_emul.specs.Step.{Left, Next, kind_of, step_act, applied}
 use Rattle.cpu12_isa.specs.Act.{outcome}
 use Rattle.fz_run.specs.Facts.{Facts, AreNoneOrRunning}
-use Rattle.fz_run.proofs.Stretches.{Stretch, Kept, AtInstruction, SumLaws}
-use Rattle.fz_run.proofs.Stretching.{last_stretch, part_stretch}
+use Rattle.run_law.specs.Steps.{SumLaws}
+use Rattle.fz_run.proofs.Stretches.{OneInstruction, Kept, AtInstruction}
+use Rattle.run_law.proofs.Algebra.{one_stretch, part_stretch, kept_sums}
 
 -- a state within WAV
 pub record Summing (open_to : ℕ → Bool) (s : State) : Type 0 where
@@ -63,19 +65,6 @@ part_facts laws open_to flags s goes reads room ready unmasked sums =
       unmasked = unmasked;
       sums = sums;
     }
-
--- sums that stand between parts
-record KeptSums (t : Temps) : Type 0 where
-  product : ℕ
-  weight : ℕ
-  running : t ≡ Running product weight
-  product_fits : product < 2 ^ 32
-  weight_fits : weight < 2 ^ 16
-
-kept_sums : (t : Temps) → AreKept t → KeptSums t
-kept_sums Free h = absurd h
-kept_sums OnStack h = absurd h
-kept_sums (Running p w) h = record { product = p; weight = w; running = refl; product_fits = h.0; weight_fits = h.1 }
 
 -- a part leaves memory
 mem_stays : SumLaws → (flags : ℕ) (s : State) → (after_part wav flags s).mem ≡ s.mem
@@ -134,11 +123,11 @@ kinded flags s e = Ok (record { state = after_part wav flags s; kind = kind_of e
 pub sums_at : SumLaws → (open_to : ℕ → Bool) (flags : ℕ) (Q : State → Type 0) (sp pc : ℕ) (none : ℕ → Bool) (first : List ℕ) (d : ℕ) (s t : State)
     → flags < 2 ^ 8 → Summing open_to s → s.regs.sp ≡ sp → s.regs.pc ≡ pc
     → s.mem ≡ first → ((v : State) → v.regs.pc ≡ pc → v.regs.sp ≡ sp → v.mem ≡ first → Q v) → PartsTo wav flags (is_hidden open_to sp) none d s t
-    → Stretch (Kept open_to flags Q) flags d s t
+    → OneInstruction (Kept open_to flags Q) flags d s t
 unfolding kinded
 sums_at laws open_to flags Q sp pc none first zero s t hf c esp epc em q h =
-    subst (λ (u : State). Stretch (Kept open_to flags Q) flags 0 s u) (sym h.2)
-    (last_stretch (Kept open_to flags Q) flags s (after_part wav flags s) (sum_facts laws open_to flags sp s c esp h.0.0, q s epc esp em)
+    subst (λ (u : State). OneInstruction (Kept open_to flags Q) flags 0 s u) (sym h.2)
+    (one_stretch (Kept open_to flags Q) flags LastPart s (after_part wav flags s) refl (sum_facts laws open_to flags sp s c esp h.0.0, q s epc esp em)
     (ap (λ (x : Result Left ℕ). applied x s.mem) (sum_goes laws open_to flags s c) ∙ ap (kinded flags s) h.1))
 sums_at laws open_to flags Q sp pc none first (suc n) s t hf c esp epc em q h =
     let u = after_part wav flags s in
@@ -147,7 +136,7 @@ sums_at laws open_to flags Q sp pc none first (suc n) s t hf c esp epc em q h =
     let next = next_sums laws open_to flags s.regs.pc s hf (room_of open_to s c) fit c.unmasked own c.code c.shown h.1 in
     let on = laws.goes_on flags s h.1 in
     let stack : u.regs.sp ≡ sp = (let steady = laws.steady in steady.stack flags s) ∙ esp in
-    part_stretch (Kept open_to flags Q) flags n s u t (sum_facts laws open_to flags sp s c esp h.0.0, q s epc esp em)
+    part_stretch (Kept open_to flags Q) flags (suc n) s u t (sum_facts laws open_to flags sp s c esp h.0.0, q s epc esp em)
     (ap (λ (x : Result Left ℕ). applied x s.mem) (sum_goes laws open_to flags s c) ∙ ap (kinded flags s) h.1)
     (sums_at laws open_to flags Q sp pc none first n u t hf next stack (on.1 ∙ own ∙ epc) (mem_stays laws flags s ∙ em) q h.2)
 
@@ -155,7 +144,7 @@ sums_at laws open_to flags Q sp pc none first (suc n) s t hf c esp epc em q h =
 pub average_at : SumLaws → DecodedHasOpcode → (open_to : ℕ → Bool) (flags : ℕ) (Q : State → Type 0) (d : ℕ) (none : ℕ → Bool) (s t : State) → flags < 2 ^ 8
     → AtInstruction open_to s → decode_at s.mem s.regs.pc ≡ Ok Wav
     → Q s → ((v : State) → v.regs.pc ≡ plus s.regs.pc 1 → v.regs.sp ≡ s.regs.sp → v.mem ≡ s.mem → Q v)
-    → PartsTo wav flags (is_hidden open_to s.regs.sp) none d s t → Stretch (Kept open_to flags Q) flags d s t
+    → PartsTo wav flags (is_hidden open_to s.regs.sp) none d s t → OneInstruction (Kept open_to flags Q) flags d s t
 unfolding kinded
 average_at laws opcode open_to flags Q d none s t hf c decoded qs q h = by d h
   where
@@ -177,10 +166,10 @@ average_at laws opcode open_to flags Q d none s t hf c decoded qs q h = by d h
     fit : FitsState s
     fit = record { regs = c.fits; temps = subst FitsTemps (sym c.temps) tt; mem = c.bytes }
 
-    by : (n : ℕ) → PartsTo wav flags (is_hidden open_to s.regs.sp) none n s t → Stretch (Kept open_to flags Q) flags n s t
+    by : (n : ℕ) → PartsTo wav flags (is_hidden open_to s.regs.sp) none n s t → OneInstruction (Kept open_to flags Q) flags n s t
     by zero h =
-        subst (λ (u : State). Stretch (Kept open_to flags Q) flags 0 s u) (sym h.2)
-        (last_stretch (Kept open_to flags Q) flags s (after_part wav flags s) (facts h.0.0, qs) (ap (λ (x : Result Left ℕ). applied x s.mem) goes ∙ ap (kinded flags s) h.1))
+        subst (λ (u : State). OneInstruction (Kept open_to flags Q) flags 0 s u) (sym h.2)
+        (one_stretch (Kept open_to flags Q) flags LastPart s (after_part wav flags s) refl (facts h.0.0, qs) (ap (λ (x : Result Left ℕ). applied x s.mem) goes ∙ ap (kinded flags s) h.1))
     by (suc n) h =
         let u = after_part wav flags s in
         let second : second_byte s.temps s.regs.pc ≡ plus s.regs.pc 1 = ap (λ (x : Temps). second_byte x s.regs.pc) c.temps in
@@ -189,5 +178,5 @@ average_at laws opcode open_to flags Q d none s t hf c decoded qs q h = by d h
         let next = next_sums laws open_to flags (plus s.regs.pc 1) s hf room fit c.unmasked second byte shown h.1 in
         let on = laws.goes_on flags s h.1 in
         let stack : u.regs.sp ≡ s.regs.sp = (let steady = laws.steady in steady.stack flags s) in
-        part_stretch (Kept open_to flags Q) flags n s u t (facts h.0.0, qs) (ap (λ (x : Result Left ℕ). applied x s.mem) goes ∙ ap (kinded flags s) h.1)
+        part_stretch (Kept open_to flags Q) flags (suc n) s u t (facts h.0.0, qs) (ap (λ (x : Result Left ℕ). applied x s.mem) goes ∙ ap (kinded flags s) h.1)
         (sums_at laws open_to flags Q s.regs.sp (plus s.regs.pc 1) none s.mem n u t hf next stack (on.1 ∙ second) (mem_stays laws flags s) q h.2)

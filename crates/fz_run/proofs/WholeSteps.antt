@@ -13,7 +13,8 @@ use Rattle.cpu12_parts.specs.Averages.{wav_read}
 use Rattle.cpu12_parts.specs.Laws.{PartsTo}
 use Rattle.cpu12_parts.specs.Touching.{Each}
 use Rattle.cpu12_parts.specs.Whole.{IsRulesStep, IsAverageStep}
-use Rattle.fz_run.proofs.Stretches.{Stretch, Kept, SameAbove, AtInstruction, WriteLaws, RuleLaws, StepLaws}
+use Rattle.run_law.specs.Steps.{WriteLaws, RuleLaws, StepLaws}
+use Rattle.fz_run.proofs.Stretches.{OneInstruction, Kept, SameAbove, AtInstruction}
 use Rattle.fz_run.proofs.PartSteps.{is_spared, spared, parts_at}
 use Rattle.fz_run.proofs.SumSteps.{average_at}
 
@@ -32,16 +33,16 @@ rules_step : (i : Instr) (k : Kind) (f : Form) → RuleLaws i k → WriteLaws
     → (open_to : ℕ → Bool) (flags : ℕ) (Q : State → Type 0) (d : ℕ) (p : Rule) (ps : List Rule) (s t : State) → flags < 2 ^ 8
     → AtInstruction open_to s → IsRulesStep i f flags d p ps s t → Inside Q s
     → PartsTo k flags (is_hidden open_to s.regs.sp) (is_spared (is_hidden open_to s.regs.sp) (six_from s.regs.pc)) d s (rules_whole f flags s.regs s.temps s.mem p ps)
-    → Stretch (Kept open_to flags Q) flags d s t
+    → OneInstruction (Kept open_to flags Q) flags d s t
 rules_step i k f laws writes open_to flags Q d p ps s t hf c h q parts =
-    subst (λ (u : State). Stretch (Kept open_to flags Q) flags d s u) (sym h.after)
+    subst (λ (u : State). OneInstruction (Kept open_to flags Q) flags d s u) (sym h.after)
     (parts_at i k laws writes open_to flags Q s.regs.sp s.regs.pc s.mem d s (rules_whole f flags s.regs s.temps s.mem p ps) hf
     (record { begins = c; decoded = h.decoded; stack = refl; at = refl; above = λ at le. refl }) q parts)
 
 pub rev_step : StepLaws → (open_to : ℕ → Bool) (flags : ℕ) (Q : State → Type 0) (d : ℕ) (p : Rule) (ps : List Rule) (s t : State) → flags < 2 ^ 8
     → AtInstruction open_to s
     → IsRulesStep Rev (rev_form s.regs.y) flags d p ps s t → Touches open_to (rev_form s.regs.y) p ps s → Inside Q s
-    → Stretch (Kept open_to flags Q) flags d s t
+    → OneInstruction (Kept open_to flags Q) flags d s t
 rev_step laws open_to flags Q d p ps s t hf c h o q =
     let hidden = is_hidden open_to s.regs.sp in
     let own = six_from s.regs.pc in
@@ -52,7 +53,7 @@ rev_step laws open_to flags Q d p ps s t hf c h o q =
 
 pub revw_step : StepLaws → (open_to : ℕ → Bool) (flags : ℕ) (Q : State → Type 0) (d : ℕ) (p : Rule) (ps : List Rule) (s t : State) → flags < 2 ^ 8
     → AtInstruction open_to s
-    → IsRulesStep Revw revw_form flags d p ps s t → Touches open_to revw_form p ps s → Inside Q s → Stretch (Kept open_to flags Q) flags d s t
+    → IsRulesStep Revw revw_form flags d p ps s t → Touches open_to revw_form p ps s → Inside Q s → OneInstruction (Kept open_to flags Q) flags d s t
 revw_step laws open_to flags Q d p ps s t hf c h o q =
     let hidden = is_hidden open_to s.regs.sp in
     let own = six_from s.regs.pc in
@@ -65,7 +66,7 @@ pub average_step : StepLaws → (open_to : ℕ → Bool) (flags : ℕ) (Q : Stat
     → IsAverageStep flags d s t
     → AllShown (is_hidden open_to s.regs.sp) (wav_read s.regs) → Q s
     → ((v : State) → v.regs.pc ≡ plus s.regs.pc 1 → v.regs.sp ≡ s.regs.sp → v.mem ≡ s.mem → Q v)
-    → Stretch (Kept open_to flags Q) flags d s t
+    → OneInstruction (Kept open_to flags Q) flags d s t
 average_step laws open_to flags Q d s t hf c h reads qs q =
     let none : ℕ → Bool = λ k. false in
     let hidden = is_hidden open_to s.regs.sp in

@@ -3,8 +3,8 @@ use Rattle.std.specs.Prelude.{◌≡◌, ◌≤◌, ◌<◌, ℕ, ◌+◌, ◌-�
 use Rattle.std.specs.Prelude.{if◌then◌else◌, Result, Ok, Err, List, [], ◌∷◌, ◌++◌, length, drop}
 use Rattle.std.specs.Prelude.{vec_len, vec_capacity}
 use Rattle.cpu12_parts.specs.State.{State}
-use Rattle.cpu12_emul.specs.Step.{Next, next_of}
-use Rattle.run_law.specs.Forms.{is_part, one_if, run_from}
+use Rattle.cpu12_emul.specs.Step.{Next, next_of, is_part}
+use Rattle.run_law.specs.Forms.{one_if, run_from}
 use Rattle.fz_run.specs.declared.sample.Tally.{Tally}
 use Rattle.fz_run.specs.declared.boundary.Stand.{Stand}
 use Rattle.fz_run.specs.Forms.{plan_form, Harness}

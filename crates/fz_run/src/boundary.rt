@@ -3,12 +3,11 @@
 ghost use Rattle.std.specs.Prelude.{ℕ, ◌≡◌, ◌≤◌, ◌<◌, ◌+◌, ◌-◌};
 ghost use Rattle.std.specs.Prelude.{◌^◌, true, false, Ok, Err, length, vec_len, vec_capacity};
 ghost use Rattle.cpu12_emul.specs.declared.ends.Stepped.{Stepped as Kind};
-ghost use Rattle.cpu12_emul.specs.Step.{next_of};
-ghost use Rattle.run_law.specs.Forms.{is_part};
+ghost use Rattle.cpu12_emul.specs.Step.{next_of, is_part};
 ghost use Rattle.fz_run.specs.Sessions.{before_takes, after_takes, after_state, at_end, stepped_tally, IsSteady};
 
 use crate::form::RunForm;
-use crate::sample::{Tally, both, count, is_part, less, one_if, take_due};
+use crate::sample::{Tally, both, count, less, one_if, take_due};
 use cpu12_emul::machine::Machine;
 use cpu12_isa::mem::Mem;
 
@@ -93,7 +92,7 @@ pub(crate) fn step_on<M: Mem, U>(m: &mut Machine<M>, st: &mut Stand<U>) -> bool
 {
     match m.step() {
         Ok(kind) => {
-            st.tally.inside = is_part(kind);
+            st.tally.inside = kind.is_part();
             st.tally.instrs += one_if(!st.tally.inside);
             st.tally.moment += 1;
             true

@@ -12,15 +12,10 @@ use crate::form::RunForm;
 use codegen::laws::{
     answered_are_uninterrupted, firmware_answers, firmware_answers_beside, firmware_arrives_alike,
 };
-use cpu12_emul::laws::{
-    plain_is_step, rev_is_step, revw_is_step, step_agrees, sums_are_step, wav_is_step, wavr_goes_on,
-};
-use cpu12_isa::laws::{bytes_stay, decoded_has_opcode, writes_stay};
-use cpu12_parts::laws::{
-    rev_fits, rev_is_whole, rev_stays, rev_steady, revw_fits, revw_is_whole, revw_stays,
-    revw_steady, wav_fits, wav_is_whole, wav_stays, wav_steady, wav_suspends,
-};
-use run_law::laws::runs_follow;
+use cpu12_emul::laws::{plain_is_step, step_agrees, wavr_goes_on};
+use cpu12_isa::laws::writes_stay;
+use cpu12_parts::laws::wav_suspends;
+use run_law::laws::{runs_follow, step_laws};
 
 /// The run of a firmware that stands alone follows the run without interrupts under every good plan,
 /// where each state of the latter keeps the facts of [`FactsAlone`]: its answers, counts of instructions
@@ -78,26 +73,7 @@ pub fn plain_is_one_step()
 pub fn instructions_are_steps()
     ensures { InstructionsAreSteps }
 {
-    decoded_has_opcode();
-    writes_stay();
-    bytes_stay();
-    plain_is_step();
-    rev_is_step();
-    rev_fits();
-    rev_stays();
-    rev_steady();
-    rev_is_whole();
-    revw_is_step();
-    revw_fits();
-    revw_stays();
-    revw_steady();
-    revw_is_whole();
-    wav_is_step();
-    sums_are_step();
-    wav_fits();
-    wav_stays();
-    wav_steady();
-    wav_is_whole();
+    step_laws();
 }
 
 /// A sample is given to a run as it is to whole instructions.

@@ -1,13 +1,13 @@
 // What is taken at a boundary, and what is counted.
 ghost use Rattle.std.specs.Prelude.{◌≡◌, ◌≤◌, ◌<◌, ◌+◌, ◌-◌, ◌&&◌};
 ghost use Rattle.std.specs.Prelude.{true, length, map, vec_len, vec_capacity, drop, nat_lt};
-ghost use Rattle.run_law.specs.Forms.{takes, is_part, one_if};
+ghost use Rattle.run_law.specs.Forms.{takes, one_if};
 ghost use Rattle.fz_run.specs.Forms.{moment_in, plan_form};
 ghost use Rattle.fz_run.specs.Rows.{frames_seen};
 ghost use Rattle.fz_run.specs.Rest.{is_due, with_before};
 
 use crate::form::RunForm;
-use cpu12_emul::ends::{Frame, Stepped};
+use cpu12_emul::ends::Frame;
 use cpu12_emul::machine::Machine;
 use cpu12_isa::mem::Mem;
 
@@ -39,15 +39,6 @@ pub struct Tally<U> {
     pub frames: Vec<(u32, Frame)>,
     /// What each handler told.
     pub told: Vec<U>,
-}
-
-pub(crate) fn is_part(kind: Stepped) -> bool
-    ensures { result ≡ is_part kind }
-{
-    match kind {
-        Stepped::Part => true,
-        Stepped::Plain | Stepped::LastPart => false,
-    }
 }
 
 pub(crate) fn one_if(b: bool) -> u32

@@ -1,8 +1,8 @@
 -- The image that runs: a firmware's with a handler's bytes, and $4000 in the interrupt's vector.
 use Rattle.std.specs.Prelude.{ℕ, ◌+◌, ◌/◌, ◌%◌, Option, Some, None, List, ◌∷◌, ◌++◌}
+use Rattle.cpu12_isa.specs.Regions.{vector}
 use Rattle.cpu12_emul.specs.Image.{image_memory}
 use Rattle.handler_check.specs.Cut.{code_start}
-use Rattle.handled_runs.specs.Open.{vector}
 
 -- its bytes, of which the first at an address stands there: the vector's, then the handler's, then the firmware's
 abbrev pub joint_bytes : List (ℕ × ℕ) → List (ℕ × ℕ) → List (ℕ × ℕ)

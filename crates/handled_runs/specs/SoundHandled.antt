@@ -10,7 +10,7 @@ use Rattle.cpu12_isa.specs.declared.instr.Regs.{Regs}
 use Rattle.cpu12_isa.specs.declared.instr.Write.{Write}
 use Rattle.cpu12_isa.specs.Agreement.{Agree, WritesAgree}
 use Rattle.cpu12_isa.specs.Memory.{word_of}
-use Rattle.cpu12_isa.specs.Regions.{is_free, is_hidden, LeavesStack}
+use Rattle.cpu12_isa.specs.Regions.{is_free, is_hidden, vector, is_vector, LeavesStack}
 use Rattle.cpu12_asm.specs.Bytes.{byte_at}
 use Rattle.cpu12_parts.specs.declared.temps.Temps.{Temps}
 use Rattle.cpu12_parts.specs.declared.temps.Temps.TheVariants.{Free, Running, OnStack}
@@ -29,7 +29,7 @@ use Rattle.fz_run.specs.Facts.{IsStackOfOneCall, FactsBeside}
 use Rattle.fz_run.specs.Following.{IsLow, OpensFree}
 use Rattle.fz_run.specs.OpenBytes.{AreOpenAlike, StepsLeaveOpen, GivenLeavesOpen}
 use Rattle.fz_run.specs.SoundAlone.{low_ports, given_alike, answered_alike, ended_alike}
-use Rattle.handled_runs.specs.Open.{is_code, is_vector, is_open_to_code}
+use Rattle.handled_runs.specs.Open.{is_code, is_open_to_code}
 use Rattle.handled_runs.specs.Forms.{served, with_code}
 use Rattle.handled_runs.specs.Answering.{AreShort}
 
@@ -57,7 +57,7 @@ pub record HandlerStands (handler : List (ℕ × ℕ)) (most : ℕ) (done : List
 
 -- what is open
 pub not_open : (at : ℕ)
-    → (at < 0x1800) ⊎ (((0x1FE0 ≤ at) × (at < 0x4000)) ⊎ (((0x5000 ≤ at) × (at < 0xFFF2)) ⊎ (0xFFF4 ≤ at)))
+    → (at < 0x1800) ⊎ (((0x1FE0 ≤ at) × (at < 0x4000)) ⊎ (((0x5000 ≤ at) × (at < vector)) ⊎ (vector + 2 ≤ at)))
     → is_open_to_code at ≡ false
 not_open at (inl h) = grind (arith, nat_tests)
 not_open at (inr (inl h)) = let lo = h.0 in let hi = h.1 in grind (arith, nat_tests)

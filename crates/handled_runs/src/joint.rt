@@ -4,11 +4,9 @@ ghost use Rattle.cpu12_asm.specs.Bytes.{byte_at, start_of};
 ghost use Rattle.handled_runs.specs.Joint.{either, joint_bytes};
 
 use cpu12_asm::{ByteMap, Image};
+use cpu12_isa::mem::VECTOR;
 use fz_list::Memory;
 use std::alloc::{AllocError, Global};
-
-/// The address of the interrupt's vector.
-const VECTOR: u16 = 0xFFF2;
 
 /// Puts all bytes of one map into another, in the place of those that are there.
 fn put_each(alloc: Global, map: &mut ByteMap, from: &ByteMap) -> Result<(), AllocError>

@@ -1,5 +1,5 @@
 -- The interrupts of an accepted handler.
-use Rattle.std.proofs.Common.{◌≡◌, ℕ, ◌-◌, ◌^◌, ◌<◌, ◌≤◌, Bool, true, false, ◌&&◌, nat_lt, nat_le, Some, List, get_or, refl, ap, sym, ◌∙◌, subst, arith, inl, inr}
+use Rattle.std.proofs.Common.{◌≡◌, ℕ, ◌-◌, ◌<◌, ◌≤◌, Bool, true, false, ◌&&◌, nat_lt, nat_le, Some, List, get_or, refl, ap, sym, ◌∙◌, subst, arith, inl, inr}
 use Rattle.std.specs.Option.{is_some}
 use Rattle.std.proofs.lemmas.Bool.{or_parts}
 use Rattle.std.proofs.lemmas.Bool.Decides.{nat_tests}
@@ -22,6 +22,7 @@ use Rattle.cpu12_parts.specs.Laws.{IsOff}
 use Rattle.cpu12_parts.specs.Inside.{PushesRunning, PushesNone}
 use Rattle.cpu12_emul.specs.Take.{framed}
 use Rattle.cpu12_emul.specs.Simulation.{AreOpen, TakesQuietly}
+use Rattle.run_law.proofs.Algebra.{below_fits}
 use Rattle.run_law.specs.Soundness.{below_sums, Begins, AreLeft}
 use Rattle.handler_check.specs.Images.{IsWhole, IsHandler}
 use Rattle.handler_check.specs.Running.{until_rti, at_code, HasHandler, HasImage, CanBegin, CanEnter, IsTake, AcceptedIsTake, HandlersRunAsTakes, HandlersAreQuiet}
@@ -54,23 +55,15 @@ has_handler : (image : List (ℕ × ℕ)) (instrs : ℕ) (m : List ℕ) (k : IsH
 has_handler image instrs m k h = record { vector = h.vector; code = code_by image m k.code h.bytes k.accepted.ends k.cut.stands }
 
 -- where code begins
-fits_at : (r : Regs) (k : ℕ) → FitsRegs r → k < 2 ^ 16 → FitsRegs (record r { sp = k })
-fits_at r k f h = record { a = f.a; b = f.b; x = f.x; y = f.y; sp = h; pc = f.pc; ccr = f.ccr }
-
-below_fits : (r : Regs) (t : Temps) → FitsRegs r → 8190 ≤ r.sp → r.sp ≤ 8192 → FitsRegs (below_sums r t) × (8184 ≤ (below_sums r t).sp) × ((below_sums r t).sp ≤ 8192)
-below_fits r Free f l h = (f, omega arith, h)
-below_fits r OnStack f l h = (f, omega arith, h)
-below_fits r (Running p w) f l h = (fits_at r (plus r.sp 65530) f (omega arith), omega arith, omega arith)
-
 can_begin : (open_to : ℕ → Bool) (v s : State) → CanEnter s → Begins open_to v s → CanBegin v
 can_begin open_to v s k b =
-    let r = below_fits s.regs s.temps k.fits k.low k.high in
+    let r = below_fits s.regs s.temps k.fits (omega (arith, k.low)) k.high in
     record {
       temps = b.temps;
       size = b.mem.size ∙ k.size;
       fits = subst (λ (r : Regs). FitsRegs r) (sym b.regs) r.0;
-      low = subst (λ (r : Regs). 8184 ≤ r.sp) (sym b.regs) r.1;
-      high = subst (λ (r : Regs). r.sp ≤ 8192) (sym b.regs) r.2;
+      low = subst (λ (r : Regs). 8184 ≤ r.sp) (sym b.regs) (omega (arith, r.1, k.low));
+      high = subst (λ (r : Regs). r.sp ≤ 8192) (sym b.regs) (omega (arith, r.2, k.high));
     }
 
 takes : AcceptedIsTake → (image : List (ℕ × ℕ)) (instrs flags : ℕ) (ws : List Write) (v : State) → IsHandler image instrs → AreOpen is_free ws → HasImage image v.mem → CanBegin v

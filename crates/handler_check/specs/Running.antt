@@ -2,9 +2,8 @@
 use Rattle.std.specs.Prelude.{◌≡◌, ℕ, zero, suc, ◌+◌, ◌≤◌, ◌==◌, Bool, true, false, if◌then◌else◌, Result, Ok, Err, Some, List, length, slice_index}
 use Rattle.cpu12_isa.specs.declared.instr.Instr.{Instr}
 use Rattle.cpu12_isa.specs.declared.instr.Write.{Write}
-use Rattle.cpu12_isa.specs.Memory.{word_of}
 use Rattle.cpu12_isa.specs.Fits.{FitsRegs}
-use Rattle.cpu12_isa.specs.Regions.{is_free, stack_start, stack_end}
+use Rattle.cpu12_isa.specs.Regions.{is_free, stack_start, stack_end, vector_word}
 use Rattle.cpu12_asm.specs.Bytes.{byte_at}
 use Rattle.cpu12_parts.specs.State.{State}
 use Rattle.cpu12_parts.specs.Laws.{IsOff}
@@ -47,12 +46,12 @@ code_taken flags most ws s = until_rti flags most (entered ws s)
 
 -- a memory with code, and its address in the interrupt's vector
 pub record HasHandler (is : List Instr) (mem : List ℕ) : Type 0 where
-  pub vector : word_of (slice_index mem 65522) (slice_index mem 65523) ≡ code_start
+  pub vector : vector_word mem ≡ code_start
   pub code : HasCode is mem
 
 -- a memory with a handler's bytes, and $4000 in the interrupt's vector
 pub record HasImage (image : List (ℕ × ℕ)) (mem : List ℕ) : Type 0 where
-  pub vector : word_of (slice_index mem 65522) (slice_index mem 65523) ≡ code_start
+  pub vector : vector_word mem ≡ code_start
   pub bytes : (at byte : ℕ) → byte_at image at ≡ Some byte → slice_index mem at ≡ byte
 
 -- a state in which code can begin where sums were pushed or none run: 9 bytes of a frame and 15 of the handler below SP

@@ -1,15 +1,14 @@
 -- A text that spells a plan, posts or levels has no fault.
-use Rattle.std.proofs.Common.{arith, ◌≡◌, ◌<◌, ◌+◌, ℕ, true, false, List, [], ◌∷◌, ◌++◌, length, refl, sym, ◌∙◌, ap, ap₂, subst}
+use Rattle.std.proofs.Common.{arith, ◌≡◌, ◌<◌, ◌+◌, ℕ, true, false, List, ◌∷◌, ◌++◌, length, sym, ◌∙◌, ap, subst}
 use Rattle.std.specs.Prelude.{All, Option, Some}
 use Rattle.std.proofs.lemmas.List.{length-append}
-use Rattle.std.proofs.lemmas.List.Elements.{All-head, All-tail}
 use Rattle.fz_rows.specs.FirstRows.{Fields}
 use Rattle.fz_rows.specs.Laws.{FirstRowsAreOne}
 use Rattle.cpu12_isa.specs.Regions.{is_free}
 use Rattle.cpu12_isa.specs.declared.instr.Write.{Write}
 use Rattle.interrupt_plan.specs.OneReading.{SpelledLevelsHaveNoFault, SpelledPlansHaveNoFault, SpelledPostsHaveNoFault}
 use Rattle.interrupt_plan.specs.Levels.{AreGoodLevels, LevelNotAfter, SpellsLevel, no_writes, numbers_of}
-use Rattle.interrupt_plan.specs.Plans.{Ascend, IsGood, NotAfter}
+use Rattle.interrupt_plan.specs.Plans.{IsGood, NotAfter}
 use Rattle.interrupt_plan.specs.Posts.{AreGoodPosts, NoLater, SpellsPost, writes_in}
 use Rattle.interrupt_plan.specs.PlanTexts.{SpellsRequest, writes_by}
 use Rattle.interrupt_plan.specs.Rows.{AreFree, AreInOrder, FirstFault, HasFirstFault, HasNumbers, RowFails, SpellAll, SpellsText, at_row, count_of, more, not_ascending, not_free, unread}
@@ -18,8 +17,9 @@ use Rattle.interrupt_plan.specs.declared.levels.Level.{Level}
 use Rattle.interrupt_plan.specs.declared.Post.{Post}
 use Rattle.interrupt_plan.specs.declared.Request.{Request}
 use Rattle.interrupt_plan.proofs.LevelLemmas.{one_numbers}
+use Rattle.interrupt_plan.proofs.SpelledLemmas.{Split, split_at, own_of, follows_last}
 
-same_some : {X : Type 0} {o : Option X} {x y : X} → o ≡ Some x → o ≡ Some y → x ≡ y
+pub same_some : {X : Type 0} {o : Option X} {x y : X} → o ≡ Some x → o ≡ Some y → x ≡ y
 same_some {X} {o} {x} {y} one other = let e : Some x ≡ Some y = sym one ∙ other in cc
 
 -- ---- a row spells one entry
@@ -53,83 +53,33 @@ level_one fast fields q r one other =
     let inner : q.inner.items ≡ r.inner.items = cc in
     (λ i. record { sample = sample i; moment = moment i; fast = answered i; inner = record { items = inner i } })
 
-first_is_free : (before : List Write) (w : Write) (after : List Write) → All (λ v. is_free v.at ≡ true) (before ++ w ∷ after) → is_free w.at ≡ true
-first_is_free [] w after free = All-head (λ v. is_free v.at ≡ true) w after free
-first_is_free (v ∷ before) w after free = first_is_free before w after (All-tail (λ u. is_free u.at ≡ true) v (before ++ w ∷ after) free)
-
 -- ---- entries that are spelled in one way do not fail
 
 module _ {E : Type 0} (Spells : Fields → E → Type 0) (writes : E → List Write) (Follows : E → E → Type 0)
     (entry_one : (fields : Fields) (q r : E) → Spells fields q → Spells fields r → q ≡ r) where
-  -- the entries before a row, its own, and those behind
-  record Split (before : List Fields) (row : Fields) (all : List E) : Type 0 where
-    front : List E
-    own : E
-    behind : List E
-    parts : all ≡ front ++ own ∷ behind
-    spelled : SpellAll Spells before front
-    own_is : Spells row own
-
-  split_at : (before : List Fields) (row : Fields) (after : List Fields) (all : List E)
-      → SpellAll Spells (before ++ row ∷ after) all → Split before row all
-  split_at [] row after [] spelled = absurd spelled
-  split_at [] row after (r ∷ rs) spelled = record { front = []; own = r; behind = rs; parts = refl; spelled = tt; own_is = spelled.0 }
-  split_at (b ∷ before) row after [] spelled = absurd spelled
-  split_at (b ∷ before) row after (r ∷ rs) spelled =
-      let rest = split_at before row after rs spelled.1 in
-      record {
-        front = r ∷ rest.front;
-        own = rest.own;
-        behind = rest.behind;
-        parts = ap (λ (l : List E). r ∷ l) rest.parts;
-        spelled = (spelled.0, rest.spelled);
-        own_is = rest.own_is;
-      }
-
-  entries_one : (rows : List Fields) (ps qs : List E) → SpellAll Spells rows ps → SpellAll Spells rows qs → ps ≡ qs
-  entries_one [] [] [] one other = refl
-  entries_one [] [] (q ∷ qs) one other = absurd other
-  entries_one [] (p ∷ ps) qs one other = absurd one
-  entries_one (row ∷ rows) [] qs one other = absurd one
-  entries_one (row ∷ rows) (p ∷ ps) [] one other = absurd other
-  entries_one (row ∷ rows) (p ∷ ps) (q ∷ qs) one other =
-      ap₂ (λ (r : E) (rs : List E). r ∷ rs) (entry_one row p q one.0 other.0) (entries_one rows ps qs one.1 other.1)
-
-  own_free_in : (front : List E) (own : E) (behind : List E) → All (λ e. AreFree (writes e)) (front ++ own ∷ behind) → AreFree (writes own)
-  own_free_in [] own behind free = All-head (λ e. AreFree (writes e)) own behind free
-  own_free_in (r ∷ front) own behind free = own_free_in front own behind (All-tail (λ e. AreFree (writes e)) r (front ++ own ∷ behind) free)
-
-  rises : (front : List E) (last own : E) (behind : List E) → Ascend Follows ((front ++ last ∷ []) ++ own ∷ behind) → Follows last own
-  rises [] last own behind ascends = ascends.0
-  rises (r ∷ []) last own behind ascends = rises [] last own behind ascends.1
-  rises (r ∷ q ∷ front) last own behind ascends = rises (q ∷ front) last own behind ascends.1
-
-  module _ (before : List Fields) (row : Fields) (others all : List E) (order : AreInOrder writes Follows all) (at : Split before row all)
+  module _ (before : List Fields) (row : Fields) (others all : List E) (order : AreInOrder writes Follows all) (at : Split Spells before row all)
       (spelled : SpellAll Spells before others) where
     own_free : AreFree (writes at.own)
-    own_free = own_free_in at.front at.own at.behind (subst (λ (l : List E). All (λ e. AreFree (writes e)) l) at.parts order.free)
+    own_free = own_of (λ e. AreFree (writes e)) at.front at.own at.behind (subst (λ (l : List E). All (λ e. AreFree (writes e)) l) at.parts order.free)
 
     row_apart : (n : ℕ) (fault : PlanFault) → RowFails Spells writes Follows others n row fault → ⊥
     row_apart n fault (unread none) = none at.own at.own_is
     row_apart n fault (not_free r address spells first) =
         let same : writes r ≡ writes at.own = ap writes (entry_one row r at.own spells at.own_is) in
         let parts : writes at.own ≡ first.before ++ first.write ∷ first.after = sym same ∙ first.writes_are in
-        let free = first_is_free first.before first.write first.after
+        let free = own_of (λ (v : Write). is_free v.at ≡ true) first.before first.write first.after
         (subst (λ (l : List Write). All (λ v. is_free v.at ≡ true) l) parts own_free) in
         let bad : true ≡ false = sym free ∙ first.taken in
         cc
     row_apart n fault (not_ascending r spells free falls) =
         let own : r ≡ at.own = entry_one row r at.own spells at.own_is in
-        let front : at.front ≡ falls.front ++ falls.last ∷ [] = entries_one before at.front others at.spelled spelled ∙ falls.before_is in
-        let parts : all ≡ (falls.front ++ falls.last ∷ []) ++ at.own ∷ at.behind =
-        at.parts ∙ ap (λ (l : List E). l ++ at.own ∷ at.behind) front in
-        let up = rises falls.front falls.last at.own at.behind (subst (λ (l : List E). Ascend Follows l) parts order.ascends) in
+        let up = follows_last Spells entry_one Follows before row others all at spelled order.ascends falls.front falls.last falls.before_is in
         falls.falls (subst (λ (q : E). Follows falls.last q) (sym own) up)
 
   rows_apart : (rows : List Fields) (all : List E) (fault : PlanFault) → length rows < 10001 → AreInOrder writes Follows all → SpellAll Spells rows all
       → FirstFault Spells writes Follows rows fault → ⊥
   rows_apart rows all fault few order spelled (at_row before row after others f split lt front front_order fails) =
-      let at = split_at before row after all (subst (λ (rs : List Fields). SpellAll Spells rs all) split spelled) in
+      let at = split_at Spells before row after all (subst (λ (rs : List Fields). SpellAll Spells rs all) split spelled) in
       row_apart before row others all order at front (length before + 1) f fails
   rows_apart rows all fault few order spelled (more before row after others split full front front_order) =
       omega (arith, few, full, ap length split, length-append before (row ∷ after))

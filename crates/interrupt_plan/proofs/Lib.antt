@@ -1,4 +1,5 @@
 pub mod Instances
+pub mod SpelledLemmas
 pub mod PlanLemmas
 pub mod PairLemmas
 pub mod ByteLemmas

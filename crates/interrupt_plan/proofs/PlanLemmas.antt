@@ -16,12 +16,13 @@ use Rattle.interrupt_plan.specs.declared.Request.{Request}
 use Rattle.interrupt_plan.specs.declared.Post.{Post}
 use Rattle.interrupt_plan.specs.declared.PlanFault.{PlanFault}
 use Rattle.interrupt_plan.specs.declared.PlanFault.TheVariants.{TooMany}
-use Rattle.interrupt_plan.specs.Plans.{Ascend, IsGood, IsGoodRequest, NotAfter}
+use Rattle.interrupt_plan.specs.Plans.{IsGood, IsGoodRequest, NotAfter}
 use Rattle.interrupt_plan.specs.PlanTexts.{SpellsRequest, writes_by}
 use Rattle.interrupt_plan.specs.Posts.{AreGoodPosts, IsGoodPost, NoLater, SpellsPost, writes_in}
 use Rattle.interrupt_plan.specs.Rows.{AreFree, AreInOrder, FirstFault, IsFirstTaken, RowFails, SpellAll, SpellsRow, SpellsText, at_row, count_of, more, writes_of}
 use Rattle.interrupt_plan.proofs.PairLemmas.{length-writes}
 use Rattle.interrupt_plan.proofs.ByteLemmas.{writes_small}
+use Rattle.interrupt_plan.proofs.SpelledLemmas.{ascends-snoc, spelled-length, spell-snoc}
 
 take_more : {X : Type 0} (xs : List X) (i : ℕ) (d : X) → i < length xs → take (i + 1) xs ≡ take i xs ++ get_or xs i d ∷ []
 take_more xs i d lt = rw add-one (take-suc xs i d lt)
@@ -189,40 +190,22 @@ module _ (rows : List Row) (i : ℕ) (row : Row) (lt : i < length rows) (is : ro
 -- ---- one entry more
 
 module _ {E : Type 0} (Spells : Fields → E → Type 0) (writes : E → List Write) (Follows : E → E → Type 0) where
-  ascends-snoc : (es : List E) (e : E) → Ascend Follows es → ((front : List E) (last : E) → es ≡ front ++ last ∷ [] → Follows last e) → Ascend Follows (es ++ e ∷ [])
-  ascends-snoc [] e ascends follows = tt
-  ascends-snoc (a ∷ []) e ascends follows = (follows [] a refl, tt)
-  ascends-snoc (a ∷ b ∷ rest) e ascends follows =
-      (ascends.0, ascends-snoc (b ∷ rest) e ascends.1 (λ front last is. follows (a ∷ front) last (ap (λ (l : List E). a ∷ l) is)))
-
-  spelled-length : (rows : List Fields) (es : List E) → SpellAll Spells rows es → length es ≡ length rows
-  spelled-length [] [] spelled = refl
-  spelled-length [] (e ∷ es) spelled = absurd spelled
-  spelled-length (row ∷ rows) [] spelled = absurd spelled
-  spelled-length (row ∷ rows) (e ∷ es) spelled = omega (arith, spelled-length rows es spelled.1)
-
-  spell-snoc : (rows : List Fields) (es : List E) (row : Fields) (e : E) → SpellAll Spells rows es → Spells row e → SpellAll Spells (rows ++ row ∷ []) (es ++ e ∷ [])
-  spell-snoc [] [] row e so_far here = (here, tt)
-  spell-snoc [] (x ∷ es) row e so_far here = absurd so_far
-  spell-snoc (x ∷ rows) [] row e so_far here = absurd so_far
-  spell-snoc (x ∷ rows) (y ∷ es) row e so_far here = (so_far.0, spell-snoc rows es row e so_far.1 here)
-
   module _ (rows : List Row) (i : ℕ) (row : Row) (lt : i < length rows) (is : row ≡ get_or rows i row) (es : List E)
       (so_far : SpellAll Spells (map fields_of (take i rows)) es) (order : AreInOrder writes Follows es) where
     size : length (map fields_of (take i rows)) ≡ i
     size = length-fields rows i row lt is
 
     pub entries_more : (e : E) (es' : List E) → Spells (fields_of row) e → es' ≡ es ++ e ∷ [] → SpellAll Spells (map fields_of (take (i + 1) rows)) es'
-    entries_more e es' here added = rw (fields_more rows i row lt is, added) (spell-snoc (map fields_of (take i rows)) es (fields_of row) e so_far here)
+    entries_more e es' here added = rw (fields_more rows i row lt is, added) (spell-snoc Spells (map fields_of (take i rows)) es (fields_of row) e so_far here)
 
     pub order_more : (e : E) (es' : List E) → AreFree (writes e) → ((front : List E) (last : E) → es ≡ front ++ last ∷ [] → Follows last e) → i < 10000
         → es' ≡ es ++ e ∷ [] → AreInOrder writes Follows es'
     order_more e es' here follows few added =
-        let count : length es ≡ i = spelled-length (map fields_of (take i rows)) es so_far ∙ size in
+        let count : length es ≡ i = spelled-length Spells (map fields_of (take i rows)) es so_far ∙ size in
         subst (AreInOrder writes Follows) (sym added) (record {
           few = omega (arith, length-append es (e ∷ []), count);
           free = All-append (λ x. AreFree (writes x)) es (e ∷ []) order.free (All-cons (λ x. AreFree (writes x)) e [] here (All-nil (λ x. AreFree (writes x))));
-          ascends = ascends-snoc es e order.ascends follows;
+          ascends = ascends-snoc Follows es e order.ascends follows;
         })
 
     pub fault_at : (fault : PlanFault) (n : ℕ) → n ≡ i + 1 → i < 10000 → RowFails Spells writes Follows es n (fields_of row) fault

@@ -4,7 +4,7 @@ use Rattle.fz_rows.specs.FirstRows.{Fields, AreFirstRows}
 use Rattle.interrupt_plan.specs.declared.upsets.Upset.{Upset}
 use Rattle.interrupt_plan.specs.declared.upsets.UpsetFault.{UpsetFault}
 use Rattle.interrupt_plan.specs.declared.upsets.UpsetFault.TheVariants.{BadRow, NotTable, NotAscending, TooMany}
-use Rattle.interrupt_plan.specs.Rows.{count_of, write_of}
+use Rattle.interrupt_plan.specs.Rows.{SpellAll, count_of, write_of}
 use Rattle.interrupt_plan.specs.Upsets.{AreGoodUpsets, is_table}
 
 -- three fields are an upset's sample, from 1, its address and its value
@@ -35,10 +35,7 @@ pub data UpsetRowFails (image : List (ℕ × ℕ)) (before : List Upset) (n : �
 
 -- the rows spell these upsets
 abbrev pub SpellUpsets : List Fields → List Upset → Type 0
-SpellUpsets [] [] = Unit {0}
-SpellUpsets [] (u ∷ us) = ⊥
-SpellUpsets (row ∷ rows) [] = ⊥
-SpellUpsets (row ∷ rows) (u ∷ us) = SpellsUpset row u × SpellUpsets rows us
+SpellUpsets = SpellAll SpellsUpset
 
 -- the first fault of rows: that of the first row that fails, where it is among the first 10000,
 -- and else that there are more

@@ -1,7 +1,8 @@
 -- Good upsets.
-use Rattle.std.specs.Prelude.{◌≡◌, ◌<◌, ◌≤◌, ◌^◌, ◌&&◌, nat_le, ℕ, Bool, true, false, List, [], ◌∷◌, length, All, Option, Some, None}
+use Rattle.std.specs.Prelude.{◌≡◌, ◌<◌, ◌≤◌, ◌^◌, ◌&&◌, nat_le, ℕ, Bool, true, false, List, length, All, Option, Some, None}
 use Rattle.cpu12_asm.specs.Bytes.{byte_at}
 use Rattle.interrupt_plan.specs.declared.upsets.Upset.{Upset}
+use Rattle.interrupt_plan.specs.Plans.{Ascend}
 
 -- the byte is there
 abbrev pub is_there : Option ℕ → Bool
@@ -19,10 +20,11 @@ pub record IsGoodUpset (image : List (ℕ × ℕ)) (u : Upset) : Type 0 where
   pub value : u.value < 2 ^ 8
 
 -- each sample is above the one before
+abbrev pub IsBefore : Upset → Upset → Type 0
+IsBefore a b = a.sample < b.sample
+
 abbrev pub SamplesAscend : List Upset → Type 0
-SamplesAscend [] = Unit {0}
-SamplesAscend (a ∷ []) = Unit {0}
-SamplesAscend (a ∷ b ∷ rest) = (a.sample < b.sample) × SamplesAscend (b ∷ rest)
+SamplesAscend = Ascend IsBefore
 
 pub record AreGoodUpsets (image : List (ℕ × ℕ)) (upsets : List Upset) : Type 0 where
   pub few : length upsets ≤ 10000

@@ -14,9 +14,10 @@ use Rattle.posted_runs.specs.Answering.{ended, answer_of, frames_in, resumed_in,
 use Rattle.posted_runs.specs.UninterruptedTurns.{AllTurnRuns}
 use Rattle.posted_runs.specs.Postings.{IsBox, AreOfSize}
 use Rattle.posted_runs.specs.WholeRuns.{RunsAreTurns}
+use Rattle.posted_runs.specs.UsedLaws.{TurnLaws}
 use Rattle.posted_runs.proofs.LastOnes.{not_zero, some_answered, zero_or}
 use Rattle.posted_runs.proofs.TakenLists.{Rise, rise_behind}
-use Rattle.posted_runs.proofs.AnswerRuns.{TurnLaws, good_behind}
+use Rattle.posted_runs.proofs.AnswerRuns.{good_behind}
 use Rattle.posted_runs.proofs.TurnsFollow.{Begins, over_turn, idle_turn, answer_next}
 
 -- where posts are left, or came, the boundary is not far

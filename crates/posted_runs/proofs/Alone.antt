@@ -2,8 +2,8 @@
 use Rattle.std.proofs.Common.{◌≡◌, ℕ, zero, suc, ◌≤◌, ◌&&◌, nat_lt, Bool, true, false, Ok, List, [], refl, sym, ap, ◌∙◌, subst, arith}
 use Rattle.std.proofs.lemmas.Bool.Decides.{nat_tests}
 use Rattle.cpu12_parts.specs.State.{State}
-use Rattle.cpu12_emul.specs.Step.{Next, next_of}
-use Rattle.run_law.specs.Forms.{Taking, takes, Ran, is_part, ended, before_rest, run_from}
+use Rattle.cpu12_emul.specs.Step.{Next, next_of, is_part}
+use Rattle.run_law.specs.Forms.{Taking, takes, Ran, ended, before_rest, run_from}
 use Rattle.run_law.specs.Uninterrupted.{uninterrupted, state_by}
 use Rattle.run_law.specs.Soundness.{Before}
 use Rattle.interrupt_plan.specs.declared.Post.{Post}

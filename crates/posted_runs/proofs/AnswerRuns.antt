@@ -15,6 +15,7 @@ use Rattle.run_law.specs.Following.{asked, onto, Completes}
 use Rattle.run_law.specs.Moments.{TakenAtFirstOpen}
 use Rattle.run_law.specs.Soundness.{AllGood, Ascend, Before}
 use Rattle.run_law.specs.Uninterrupted.{uninterrupted, counted, is_inside, stepped, taken_at, resumed_of, frames_after}
+use Rattle.run_law.proofs.Algebra.{uninterrupted_add, counted_add}
 use Rattle.interrupt_plan.specs.declared.Post.{Post}
 use Rattle.interrupt_plan.specs.Posts.{IsGoodPost}
 use Rattle.codegen.specs.declared.firmware.Firmware.{Firmware}
@@ -22,29 +23,21 @@ use Rattle.codegen.specs.Mailboxes.{is_mail, is_postable}
 use Rattle.codegen.specs.Turns.{IsAt}
 use Rattle.codegen.specs.Widths.{width_of, places}
 use Rattle.fz_run.specs.Facts.{FactsBeside}
-use Rattle.fz_run.proofs.Algebra.{uninterrupted_add, counted_add}
 use Rattle.posted_runs.specs.Turns.{up_to, behind, waiting}
 use Rattle.posted_runs.specs.Runs.{TurnForm, turn_form}
 use Rattle.posted_runs.specs.PostedTurns.{TurnEnds, plain_frame, PostedTurnsFollow}
-use Rattle.posted_runs.specs.Shifts.{frames_from, ran_from, RunsCountOn}
+use Rattle.posted_runs.specs.Shifts.{frames_from, ran_from}
 use Rattle.posted_runs.specs.Postings.{mailed, posted, IsBox, AreOfSize}
-use Rattle.posted_runs.specs.Behind.{part_form, posted_by, not_mail, HoldsMail, FollowsBehind}
+use Rattle.posted_runs.specs.Behind.{part_form, posted_by, not_mail, HoldsMail}
 use Rattle.posted_runs.specs.UninterruptedTurns.{IsAnswerRun}
-use Rattle.posted_runs.proofs.Mailing.{Writing, mailed_apart, mailed_alike}
-use Rattle.posted_runs.proofs.Posting.{TakingLaws, waits_within}
-use Rattle.posted_runs.proofs.Behind.{Stepping, to_mail, steps_keep}
-use Rattle.posted_runs.proofs.Passing.{StepLaws, less_hidden, pass, plain_follows, masked_run, ends_there, not_over}
+use Rattle.posted_runs.specs.UsedLaws.{Stepping, TurnLaws, Writing}
+use Rattle.posted_runs.proofs.Mailing.{mailed_apart, mailed_alike}
+use Rattle.posted_runs.proofs.Posting.{waits_within}
+use Rattle.posted_runs.proofs.Behind.{to_mail, steps_keep}
+use Rattle.posted_runs.proofs.Passing.{less_hidden, pass, plain_follows, masked_run, ends_there, not_over}
 use Rattle.posted_runs.proofs.TakenLists.{Rise, Splits, splits, rise_behind}
 use Rattle.posted_runs.proofs.TwoSteps.{IsHere, here_at, wide_less, posted_is, taken_at as taken_here, two_steps}
 use Rattle.posted_runs.proofs.CopyRuns.{IsCopyRun, copy_run, first_is, first_past}
-
-pub record TurnLaws : Type 0 where
-  pub steps : StepLaws
-  pub taking : TakingLaws
-  pub stepping : Stepping
-  pub follows : FollowsBehind
-  pub count_on : RunsCountOn (Unit {0}) Post (Unit {0})
-  pub first_open : TakenAtFirstOpen
 
 -- the sample that was posted last
 posted_last : (ts done : List (Post × Unit {0})) → posted_by (onto ts done) ≡ waiting (posted_by done) (asked ts)
@@ -142,7 +135,7 @@ module _ (laws : TurnLaws) (flags : ℕ) (f : Firmware) (samples : List (List �
   }
     where
       writing : Writing
-      writing = (let taking = laws.taking in taking.writing)
+      writing = (let taking = laws.posting.taking in taking.writing)
 
       by : (q : ℕ) (b : Bool) → is_mail q ≡ b → is_hidden is_free t.regs.sp q ≡ false → get_or z.mem q 0 ≡ get_or (mailed f.layout samples w t.mem) q 0
       by q true e h =
@@ -169,7 +162,7 @@ module _ (laws : TurnLaws) (flags : ℕ) (f : Firmware) (samples : List (List �
       (resumed_of flags (at_in all u) u qs all) (frames_from g (frames_after flags (at_in all u) u None (up_to (g + all - 1) qs))) (up_to (g + all - 1) qs) (behind (g + all - 1) qs) z
       × (Same is_free z (posted f.layout samples (waiting 0 (up_to (g + all - 1) qs)) (uninterrupted flags all u)) × Same is_postable z (uninterrupted flags all u)))
   behind_ends k all u v qs fuel here run end good rise l =
-      let c = copy_run laws.steps flags f n all inputs u here run in
+      let c = copy_run laws.posting.steps flags f n all inputs u here run in
       let later = c.behind in
       let x = uninterrupted flags (n + 5) u in
       let left = all - (n + 5) in
@@ -198,7 +191,7 @@ module _ (laws : TurnLaws) (flags : ℕ) (f : Firmware) (samples : List (List �
       let kept = r.own in
       let mail : Agree not_mail ran.state.mem (mailed f.layout samples w x.mem) = subst (λ (y : ℕ). Agree not_mail ran.state.mem (mailed f.layout samples y x.mem)) w_is kept.mail in
       let at_end : uninterrupted flags left x ≡ uninterrupted flags all u = sym (uninterrupted_add flags (n + 5) left u) ∙ ap (λ (y : ℕ). uninterrupted flags y u) (let e : n + 5 + left ≡ all = omega arith in e) in
-      let stays : Agree not_mail (uninterrupted flags all u).mem x.mem = subst (λ (y : State). Agree not_mail y.mem x.mem) at_end (mail_stays laws.stepping flags f left x facts) in (
+      let stays : Agree not_mail (uninterrupted flags all u).mem x.mem = subst (λ (y : State). Agree not_mail y.mem x.mem) at_end (mail_stays laws.posting.stepping flags f left x facts) in (
         ran.state,
         (
           subst (λ (y : Ran Post (Unit {0})). TurnEnds y left (counted flags left x) (resumed_of flags at u qs all) (frames_from g (frames_after flags at u None (up_to (g + all - 1) qs))) (up_to (g + all - 1) qs) (behind (g + all - 1) qs) ran.state) (sym is) (record {
@@ -231,7 +224,7 @@ module _ (laws : TurnLaws) (flags : ℕ) (f : Firmware) (samples : List (List �
       × Same is_postable z (uninterrupted flags all (with_sample wf s))))
   answer_run k all w wf s v qs fuel here some le somef lef end good rise none l wf_is run =
       let u = with_sample wf s in
-      let taking = laws.taking in
+      let taking = laws.posting.taking in
       let r = here.ready in
       let apart = mailed_apart taking.writing f.layout n samples box size is_free wf s.mem lef in
       let here_u : IsHere u = record {
@@ -239,7 +232,7 @@ module _ (laws : TurnLaws) (flags : ℕ) (f : Firmware) (samples : List (List �
         code = here.code;
         sp = here.sp;
       } in
-      let c = copy_run laws.steps flags f n all inputs u here_u run in
+      let c = copy_run laws.posting.steps flags f n all inputs u here_u run in
       let later = c.behind in
       let qs1 = behind (g + 1) qs in
       let qs2 = behind (g + 2) qs1 in
@@ -248,12 +241,12 @@ module _ (laws : TurnLaws) (flags : ℕ) (f : Firmware) (samples : List (List �
       let w1 = waiting w (up_to (g + 1) qs) in
       let le1 = waits_within (length samples) (g + 1) w qs le good in
       let posted : get_or (mailed f.layout samples w s.mem) f.layout.ready 0 ≡ get_or (mailed f.layout samples wf s.mem) f.layout.ready 0 =
-      posted_is laws.steps taking flags f samples n g image box size s.mem r.size w some le ∙ sym (posted_is laws.steps taking flags f samples n g image box size s.mem r.size wf somef lef) in
-      let p = two_steps laws.steps taking flags f samples n g image box size s.mem r.size u run.looked run.chosen v w wf qs here_u run.look run.choice le lef refl posted good none
+      posted_is laws.posting.steps taking flags f samples n g image box size s.mem r.size w some le ∙ sym (posted_is laws.posting.steps taking flags f samples n g image box size s.mem r.size wf somef lef) in
+      let p = two_steps laws.posting.steps taking flags f samples n g image box size s.mem r.size u run.looked run.chosen v w wf qs here_u run.look run.choice le lef refl posted good none
       (record { regs = l.regs; temps = l.temps; mem = l.mem }) in
       let on = run.on in
       let here2 = here_at image (f.layout.wait + 5) run.chosen on in
-      let b = taken_here laws.steps taking flags f samples n g image box size s.mem r.size run.chosen w1 (g + 2) qs1 p.next here2.ready le1 good1 p.stands in
+      let b = taken_here laws.posting.steps taking flags f samples n g image box size s.mem r.size run.chosen w1 (g + 2) qs1 p.next here2.ready le1 good1 p.stands in
       let v3 = (takes form (g + 2) qs1 p.next).state in
       let copy = run.copy in
       let look = run.look in
@@ -262,8 +255,8 @@ module _ (laws : TurnLaws) (flags : ℕ) (f : Firmware) (samples : List (List �
       let st : Same is_free v3 (record (run.chosen) { mem = mailed f.layout samples wf s.mem }) =
       subst (λ (x : ℕ). Same is_free v3 (record (run.chosen) { mem = mailed f.layout samples x s.mem })) (sym wf_is) b.stands in
       let at3 : Same is_free v3 run.chosen = record { regs = st.regs; temps = st.temps; mem = subst (λ (m : List ℕ). Agree (is_hidden is_free (let t : State = run.chosen in t.regs.sp)) v3.mem m) (sym mem) st.mem } in
-      let o = plain_follows laws.steps false image flags (Orcc 0x10) run.chosen copy.masked v3 on.steady copy.sets at3 in
-      let many = masked_run laws.steps flags f samples n g box size taking image copy.ds (suc (g + 2)) qs2 copy.masked run.called o.next copy.copies o.same in
+      let o = plain_follows laws.posting.steps false image flags (Orcc 0x10) run.chosen copy.masked v3 on.steady copy.sets at3 in
+      let many = masked_run laws.posting.steps flags f samples n g box size taking image copy.ds (suc (g + 2)) qs2 copy.masked run.called o.next copy.copies o.same in
       let j = k - (n + 5) in
       let len : length copy.ds ≡ n + 2 = copy.count ∙ ap (λ (x : ℕ). x + 2) inputs in
       let called : uninterrupted flags (n + 5) u ≡ run.called = ap (λ (x : ℕ). uninterrupted flags (x + 5) u) (sym inputs) ∙ run.call in

@@ -14,11 +14,10 @@ use Rattle.cpu12_parts.specs.declared.temps.Temps.TheVariants.{Free, Running, On
 use Rattle.cpu12_parts.specs.State.{State}
 use Rattle.cpu12_parts.specs.Sums.{sum_bytes}
 use Rattle.cpu12_parts.specs.Cuts.{suspended, wav}
-use Rattle.cpu12_parts.specs.Inside.{PushesRunning, PushesNone}
 use Rattle.cpu12_parts.specs.Laws.{IsOff, addresses}
 use Rattle.cpu12_emul.specs.Step.{Left, Next, step_act, applied, next_of}
 use Rattle.cpu12_emul.specs.Take.{framed}
-use Rattle.cpu12_emul.specs.Simulation.{Simulates, AreSumsReady, HasRoom, IsShownStep, StepAgrees, WavrGoesOn}
+use Rattle.cpu12_emul.specs.Simulation.{Simulates, AreSumsReady, HasRoom, IsShownStep}
 use Rattle.run_law.specs.Uninterrupted.{stepped, state_by}
 use Rattle.run_law.specs.Soundness.{below_sums, Begins, Sound, WritesAreQuiet}
 use Rattle.interrupt_plan.specs.declared.Post.{Post}
@@ -33,14 +32,8 @@ use Rattle.fz_run.specs.Facts.{Facts, FactsBeside, IsStackOfOneCall}
 use Rattle.posted_runs.specs.Runs.{post_writes}
 use Rattle.posted_runs.specs.Postings.{mailed, last_of, IsBox, AreOfSize}
 use Rattle.posted_runs.specs.Behind.{part_form, posted_by, not_mail, HoldsMail}
-use Rattle.posted_runs.proofs.Mailing.{Writing, leaves_stack, open_post, post_mailed, mailed_over}
-
-pub record Stepping : Type 0 where
-  pub writing : Writing
-  pub step_agrees : StepAgrees
-  pub wavr_goes_on : WavrGoesOn
-  pub pushes_running : PushesRunning
-  pub pushes_none : PushesNone
+use Rattle.posted_runs.specs.UsedLaws.{Stepping}
+use Rattle.posted_runs.proofs.Mailing.{leaves_stack, open_post, post_mailed, mailed_over}
 
 clash : (b : Bool) → b ≡ true → b ≡ false → ⊥
 clash b t f = cc

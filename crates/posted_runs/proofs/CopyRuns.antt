@@ -9,17 +9,18 @@ use Rattle.cpu12_parts.specs.Executions.{Execution}
 use Rattle.cpu12_emul.specs.declared.ends.Stepped.{Stepped}
 use Rattle.cpu12_emul.specs.declared.ends.Stepped.TheVariants.{Plain}
 use Rattle.cpu12_emul.specs.Image.{image_memory}
-use Rattle.cpu12_emul.specs.Step.{Next}
+use Rattle.cpu12_emul.specs.Step.{Next, is_part}
 use Rattle.cpu12_emul.specs.Take.{may_interrupt}
-use Rattle.run_law.specs.Forms.{is_part, one_if}
+use Rattle.run_law.specs.Forms.{one_if}
 use Rattle.run_law.specs.Moments.{TakenAtFirstOpen}
 use Rattle.run_law.specs.Uninterrupted.{uninterrupted, counted, is_inside, stepped, state_by, kind_by, kind_at, first_open}
+use Rattle.run_law.proofs.Algebra.{uninterrupted_add}
 use Rattle.codegen.specs.declared.firmware.Firmware.{Firmware}
 use Rattle.codegen.specs.declared.layout.Layout.{Layout}
 use Rattle.codegen.specs.Turns.{IsMaskedStep}
-use Rattle.fz_run.proofs.Algebra.{uninterrupted_add}
 use Rattle.posted_runs.specs.UninterruptedTurns.{IsAnswerRun}
-use Rattle.posted_runs.proofs.Passing.{StepLaws, plain_next}
+use Rattle.posted_runs.specs.UsedLaws.{StepLaws}
+use Rattle.posted_runs.proofs.Passing.{plain_next}
 use Rattle.posted_runs.proofs.TwoSteps.{IsHere, here_at}
 
 -- a plain step

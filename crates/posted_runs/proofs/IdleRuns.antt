@@ -13,8 +13,8 @@ use Rattle.posted_runs.specs.Turns.{up_to, behind, waiting}
 use Rattle.posted_runs.specs.Runs.{TurnForm, turn_form}
 use Rattle.posted_runs.specs.Postings.{mailed, posted}
 use Rattle.posted_runs.specs.PostedTurns.{TurnEnds, plain_frame, IdleTurnsFollow}
-use Rattle.posted_runs.proofs.Posting.{TakingLaws}
-use Rattle.posted_runs.proofs.Passing.{StepLaws, ends_there, pass_end}
+use Rattle.posted_runs.specs.UsedLaws.{StepLaws, TakingLaws}
+use Rattle.posted_runs.proofs.Passing.{ends_there, pass_end}
 use Rattle.posted_runs.proofs.TwoSteps.{here_at, two_steps}
 
 pub idle_turns_follow : StepLaws → TakingLaws → IdleTurnsFollow

@@ -5,15 +5,14 @@ use Rattle.std.proofs.lemmas.Bool.{or_parts, cases_lt}
 use Rattle.std.proofs.lemmas.Bool.Decides.{nat_tests}
 use Rattle.cpu12_isa.specs.declared.instr.Write.{Write}
 use Rattle.cpu12_isa.specs.Act.{write_all}
-use Rattle.cpu12_isa.specs.Agreement.{Agree, IsWritten, WritesAgree, WritesStay}
-use Rattle.cpu12_isa.specs.Interrupts.{HidesPushed}
+use Rattle.cpu12_isa.specs.Agreement.{Agree, IsWritten}
 use Rattle.cpu12_isa.specs.Memory.{plus, placed}
 use Rattle.cpu12_isa.specs.Registers.{frame_bytes}
 use Rattle.cpu12_isa.specs.Regions.{is_free, is_hidden, LeavesStack}
 use Rattle.cpu12_isa.proofs.Algebra.{agree_self, agree_with}
 use Rattle.cpu12_parts.specs.State.{State}
 use Rattle.cpu12_emul.specs.Take.{pairs_of, framed}
-use Rattle.cpu12_emul.specs.Simulation.{AreOpen, TakesQuietly}
+use Rattle.cpu12_emul.specs.Simulation.{AreOpen}
 use Rattle.interrupt_plan.specs.declared.Post.{Post}
 use Rattle.codegen.specs.declared.layout.Layout.{Layout}
 use Rattle.codegen.specs.Answers.{put}
@@ -21,12 +20,7 @@ use Rattle.codegen.specs.Mailboxes.{is_postable}
 use Rattle.fz_run.specs.Rows.{bytes_of}
 use Rattle.posted_runs.specs.Runs.{writes_from, post_writes}
 use Rattle.posted_runs.specs.Postings.{mailed, last_of, IsBox, AreOfSize}
-
-pub record Writing : Type 0 where
-  pub writes_agree : WritesAgree
-  pub writes_stay : WritesStay
-  pub takes_quietly : TakesQuietly
-  pub hides_pushed : HidesPushed
+use Rattle.posted_runs.specs.UsedLaws.{Writing}
 
 -- ---- lists of writes
 

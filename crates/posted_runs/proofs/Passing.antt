@@ -21,7 +21,7 @@ use Rattle.cpu12_parts.specs.Executions.{Execution}
 use Rattle.cpu12_emul.specs.declared.ends.Stepped.TheVariants.{Plain}
 use Rattle.cpu12_emul.specs.Step.{Left, Next, step_act, applied, next_of}
 use Rattle.cpu12_emul.specs.Take.{FrameSeen, may_interrupt}
-use Rattle.cpu12_emul.specs.Simulation.{Same, HasRoom, IsShownStep, AreSumsReady, StepAgrees, StepKeeps, PlainIsStep}
+use Rattle.cpu12_emul.specs.Simulation.{Same, HasRoom, IsShownStep, AreSumsReady, PlainIsStep}
 use Rattle.run_law.specs.Forms.{Taking, Ran, takes, before_rest, run_from, ended}
 use Rattle.run_law.specs.Following.{asked}
 use Rattle.interrupt_plan.specs.declared.Post.{Post}
@@ -32,12 +32,8 @@ use Rattle.codegen.specs.Turns.{IsMaskedStep}
 use Rattle.posted_runs.specs.Runs.{TurnForm, turn_form}
 use Rattle.posted_runs.specs.PostedTurns.{TurnEnds}
 use Rattle.posted_runs.specs.Postings.{IsBox, AreOfSize}
-use Rattle.posted_runs.proofs.Posting.{TakingLaws, took_none}
-
-pub record StepLaws : Type 0 where
-  pub step_agrees : StepAgrees
-  pub step_keeps : StepKeeps
-  pub plain_is_step : PlainIsStep
+use Rattle.posted_runs.specs.UsedLaws.{StepLaws, TakingLaws}
+use Rattle.posted_runs.proofs.Posting.{took_none}
 
 abbrev pub plainly : State → Result Next ℕ
 plainly u = Ok (record { state = u; kind = Plain })

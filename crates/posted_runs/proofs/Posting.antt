@@ -11,9 +11,8 @@ use Rattle.cpu12_isa.proofs.Algebra.{agree_self, agree_with}
 use Rattle.cpu12_parts.specs.declared.temps.Temps.TheVariants.{Free}
 use Rattle.cpu12_parts.specs.State.{State}
 use Rattle.cpu12_parts.specs.Cuts.{suspended, wav}
-use Rattle.cpu12_parts.specs.Inside.{PushesNone}
 use Rattle.cpu12_emul.specs.Take.{FrameSeen, frame_of, frame_in, may_interrupt, framed}
-use Rattle.cpu12_emul.specs.Simulation.{Same, FrameIsOnStack}
+use Rattle.cpu12_emul.specs.Simulation.{Same}
 use Rattle.run_law.specs.Forms.{Taking, takes, taken, told, put_take}
 use Rattle.run_law.specs.Following.{asked}
 use Rattle.run_law.specs.Soundness.{AllGood}
@@ -25,13 +24,9 @@ use Rattle.posted_runs.specs.Turns.{up_to, behind, waiting}
 use Rattle.posted_runs.specs.Runs.{TurnForm, turn_form, post_writes}
 use Rattle.posted_runs.specs.PostedTurns.{plain_frame}
 use Rattle.posted_runs.specs.Postings.{posted, last_of, IsBox, AreOfSize}
+use Rattle.posted_runs.specs.UsedLaws.{TakingLaws}
 use Rattle.posted_runs.proofs.LastOnes.{zero_or, none_put, some_put}
-use Rattle.posted_runs.proofs.Mailing.{Writing, leaves_stack, open_post, post_mailed, mailed_apart, mailed_over}
-
-pub record TakingLaws : Type 0 where
-  pub writing : Writing
-  pub frame_is_on_stack : FrameIsOnStack
-  pub pushes_none : PushesNone
+use Rattle.posted_runs.proofs.Mailing.{leaves_stack, open_post, post_mailed, mailed_apart, mailed_over}
 
 -- a state in which an interrupt may come, with no sums, and room on the stack
 pub record IsReady (v : State) : Type 0 where

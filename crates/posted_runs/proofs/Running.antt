@@ -5,9 +5,9 @@ use Rattle.std.specs.Prelude.{slice_index}
 use Rattle.std.proofs.lemmas.Bool.Decides.{nat_tests}
 use Rattle.std.proofs.lemmas.List.{map-append}
 use Rattle.cpu12_parts.specs.State.{State}
-use Rattle.cpu12_emul.specs.Step.{Next, next_of}
+use Rattle.cpu12_emul.specs.Step.{Next, next_of, is_part}
 use Rattle.cpu12_emul.specs.Take.{FrameSeen, may_interrupt}
-use Rattle.run_law.specs.Forms.{Taking, Ran, takes, taken, is_empty, is_part, then_rest, run_from}
+use Rattle.run_law.specs.Forms.{Taking, Ran, takes, taken, is_empty, then_rest, run_from}
 use Rattle.run_law.specs.Following.{asked}
 use Rattle.interrupt_plan.specs.declared.Post.{Post}
 use Rattle.codegen.specs.declared.firmware.Firmware.{Firmware}

@@ -10,6 +10,7 @@ use Rattle.cpu12_emul.specs.Image.{image_memory}
 use Rattle.cpu12_emul.specs.Step.{next_of}
 use Rattle.run_law.specs.Uninterrupted.{state_by, uninterrupted}
 use Rattle.run_law.specs.Soundness.{Before}
+use Rattle.run_law.proofs.Algebra.{before_at, before_weaker, uninterrupted_add}
 use Rattle.codegen.specs.declared.firmware.Firmware.{Firmware}
 use Rattle.codegen.specs.declared.layout.Layout.{Layout}
 use Rattle.codegen.specs.Answers.{given}
@@ -20,7 +21,6 @@ use Rattle.codegen.specs.SampleTurns.{IsSampleTurn}
 use Rattle.codegen.specs.Turns.{IsAt, IsLook, IsChoice, IsCopied, call_of}
 use Rattle.codegen.specs.Widths.{width_of}
 use Rattle.fz_run.specs.Instructions.{AreSteps, IsServing, InstructionsAreSteps, PlainIsOneStep}
-use Rattle.fz_run.proofs.Algebra.{before_at, before_weaker, uninterrupted_add}
 use Rattle.posted_runs.specs.UninterruptedTurns.{IsAnswerRun}
 use Rattle.posted_runs.proofs.WholeTurns.{IsOnWay, one_step, steps_append, steps_on, masked_steps, masked_count}
 use Rattle.posted_runs.proofs.Serving.{IsServed, served, on_way_by, facts_by}

@@ -9,8 +9,8 @@ use Rattle.cpu12_parts.specs.Executions.{IsUntil, all_steps}
 use Rattle.cpu12_parts.specs.State.{State}
 use Rattle.cpu12_emul.specs.declared.ends.Stepped.TheVariants.{Plain}
 use Rattle.cpu12_emul.specs.Image.{image_memory}
-use Rattle.cpu12_emul.specs.Step.{Next, next_of}
-use Rattle.run_law.specs.Forms.{is_part, one_if}
+use Rattle.cpu12_emul.specs.Step.{Next, next_of, is_part}
+use Rattle.run_law.specs.Forms.{one_if}
 use Rattle.run_law.specs.Uninterrupted.{state_by, kind_by, uninterrupted, counted}
 use Rattle.codegen.specs.declared.firmware.Firmware.{Firmware}
 use Rattle.codegen.specs.Answers.{given}

@@ -3,9 +3,9 @@ use Rattle.std.proofs.Common.{◌≡◌, ℕ, zero, suc, ◌+◌, ◌-◌, ◌<�
 use Rattle.std.proofs.Common.{refl, ap, ap₂, sym, ◌∙◌, arith, append_assoc, append-nil, length-append}
 use Rattle.std.proofs.lemmas.Bool.Decides.{nat_tests}
 use Rattle.cpu12_parts.specs.State.{State}
-use Rattle.cpu12_emul.specs.Step.{Next, next_of}
+use Rattle.cpu12_emul.specs.Step.{Next, next_of, is_part}
 use Rattle.cpu12_emul.specs.Take.{FrameSeen}
-use Rattle.run_law.specs.Forms.{Taking, Ran, takes, is_part, one_if, is_empty, resumes, before_rest, stuck, then_rest, run_from, ended}
+use Rattle.run_law.specs.Forms.{Taking, Ran, takes, one_if, is_empty, resumes, before_rest, stuck, then_rest, run_from, ended}
 use Rattle.interrupt_plan.specs.declared.Post.{Post}
 use Rattle.cpu12_emul.specs.declared.ends.Stepped.{Stepped}
 use Rattle.posted_runs.specs.declared.tally.Tally.{Tally}

@@ -7,7 +7,8 @@ use Rattle.cpu12_parts.specs.State.{State}
 use Rattle.cpu12_emul.specs.Image.{image_memory}
 use Rattle.cpu12_emul.specs.Take.{FrameSeen}
 use Rattle.cpu12_emul.specs.Simulation.{Same}
-use Rattle.run_law.specs.Forms.{Ran, takes, is_empty, is_part, one_if, run_from}
+use Rattle.cpu12_emul.specs.Step.{is_part}
+use Rattle.run_law.specs.Forms.{Ran, takes, is_empty, one_if, run_from}
 use Rattle.run_law.specs.Following.{asked}
 use Rattle.run_law.specs.Soundness.{AllGood}
 use Rattle.run_law.specs.Uninterrupted.{uninterrupted, counted, is_inside, has_moment, resumed_of, frames_after}
@@ -26,6 +27,7 @@ use Rattle.posted_runs.specs.UninterruptedTurns.{IsIdleRun, IsAnswerRun}
 use Rattle.posted_runs.specs.PostedTurns.{TurnEnds, plain_frame, part_taken}
 use Rattle.posted_runs.specs.Shifts.{frames_from}
 use Rattle.posted_runs.specs.Postings.{mailed, posted, IsBox, AreOfSize}
+use Rattle.posted_runs.specs.UsedLaws.{TurnLaws}
 use Rattle.posted_runs.proofs.LastOnes.{split, waiting_append, further, not_zero}
 use Rattle.posted_runs.proofs.Posting.{waits_within}
 use Rattle.posted_runs.proofs.Running.{run_over, run_on, waits_behind}
@@ -35,7 +37,7 @@ use Rattle.posted_runs.proofs.TurnViews.{frames_seen, resumed_seen}
 use Rattle.posted_runs.proofs.Mailing.{mailed_apart}
 use Rattle.posted_runs.proofs.IdleRuns.{idle_turns_follow}
 use Rattle.posted_runs.proofs.TwoSteps.{IsHere, here_at, Stands, taken_at as taken_here, posted_is}
-use Rattle.posted_runs.proofs.AnswerRuns.{TurnLaws, good_behind, posted_turns_follow}
+use Rattle.posted_runs.proofs.AnswerRuns.{good_behind, posted_turns_follow}
 use Rattle.posted_runs.proofs.Behind.{values_alike}
 
 -- a run by its parts
@@ -125,10 +127,10 @@ module _ (laws : TurnLaws) (flags : ℕ) (f : Firmware) (samples : List (List �
   over_turn m g w posts s v h at cleared none left =
       let here = here_at image f.layout.wait s at in
       let r = here.ready in
-      let taking = laws.taking in
+      let taking = laws.posting.taking in
       let b = takes (turn_form flags f samples g) g posts v in
-      let t = taken_here laws.steps taking flags f samples n g image box size s.mem r.size s w g posts v r h.within h.good h.same in
-      let stands : Stands laws.steps taking flags f samples n g image box size s.mem r.size s 0 b.state = subst (λ (x : ℕ). Stands laws.steps taking flags f samples n g image box size s.mem r.size s x b.state) none t.stands in
+      let t = taken_here laws.posting.steps taking flags f samples n g image box size s.mem r.size s w g posts v r h.within h.good h.same in
+      let stands : Stands laws.posting.steps taking flags f samples n g image box size s.mem r.size s 0 b.state = subst (λ (x : ℕ). Stands laws.posting.steps taking flags f samples n g image box size s.mem r.size s x b.state) none t.stands in
       let sp = at.sp in
       let at_ready = box.ready in
       let free : is_hidden is_free s.regs.sp f.layout.ready ≡ false =
@@ -159,10 +161,10 @@ module _ (laws : TurnLaws) (flags : ℕ) (f : Firmware) (samples : List (List �
   idle_turn m g w posts s v h at bound none some idle_run end =
       let here = here_at image f.layout.wait s at in
       let r = here.ready in
-      let taking = laws.taking in
+      let taking = laws.posting.taking in
       let form = turn_form flags f samples g in
       let b = takes form g posts v in
-      let tk = taken_here laws.steps taking flags f samples n g image box size s.mem r.size s w g posts v r h.within h.good h.same in
+      let tk = taken_here laws.posting.steps taking flags f samples n g image box size s.mem r.size s w g posts v r h.within h.good h.same in
       let q0 = behind g posts in
       let a0 = up_to g posts in
       let a1 = up_to (g + 1) q0 in
@@ -173,7 +175,7 @@ module _ (laws : TurnLaws) (flags : ℕ) (f : Firmware) (samples : List (List �
       let rise0 : Rise (suc g) q0 = rise_behind g g posts h.rise in
       let due0 : up_to g q0 ≡ [] = none_due g (suc g) q0 (omega arith) rise0 in
       let good0 = good_behind (IsGoodPost (length samples)) g posts h.good in
-      let res = idle_turns_follow laws.steps taking flags f samples n g (last - g) s b.state q0 box size (omega arith) at end good0 due0 same0 idle_run in
+      let res = idle_turns_follow laws.posting.steps taking flags f samples n g (last - g) s b.state q0 box size (omega arith) at end good0 due0 same0 idle_run in
       let rest = run m in
       let e1 = run_on flags f samples last m g w posts v on in
       let told : waiting w (asked b.told) ≡ 0 = ap (waiting w) tk.told ∙ none in
@@ -187,7 +189,7 @@ module _ (laws : TurnLaws) (flags : ℕ) (f : Firmware) (samples : List (List �
       let looked_here = here_at image (f.layout.wait + 3) idle_run.looked look.at in
       let lr = looked_here.ready in
       let step = look.step in
-      let inside : (k : ℕ) → k < 2 → is_inside flags s k ≡ false = outside_two s (ap is_part (kind_plain laws.steps flags _ s idle_run.looked r.temps step.step)) in
+      let inside : (k : ℕ) → k < 2 → is_inside flags s k ≡ false = outside_two s (ap is_part (kind_plain laws.posting.steps flags _ s idle_run.looked r.temps step.step)) in
       let no_resumed : resumed_of flags (λ p. p.0 - g) s (taken_from g (up_to (g + 1) posts)) 2 ≡ 0 = none_resumed flags (λ (p : ℕ × Post). p.0 - g) s (taken_from g (up_to (g + 1) posts)) 2 inside in
       let rise1 : Rise (g + 1) q0 = (let e : suc g ≡ g + 1 = omega arith in subst (λ (x : ℕ). Rise x q0) e rise0) in
       let g0 : g + 0 ≡ g = omega arith in
@@ -279,10 +281,10 @@ module _ (laws : TurnLaws) (flags : ℕ) (f : Firmware) (samples : List (List �
     answer_turn some0 run1 end =
         let here = here_at image f.layout.wait s at in
         let r = here.ready in
-        let taking = laws.taking in
+        let taking = laws.posting.taking in
         let form = turn_form flags f samples g in
         let b = takes form g posts v in
-        let tk = taken_here laws.steps taking flags f samples n g image box size s.mem r.size s w g posts v r h.within h.good h.same in
+        let tk = taken_here laws.posting.steps taking flags f samples n g image box size s.mem r.size s w g posts v r h.within h.good h.same in
         let v0 = waiting w a0 in
         let some : 1 ≤ v0 = not_zero v0 waits in
         let le0 = waits_within (length samples) g w posts h.within h.good in
@@ -291,7 +293,7 @@ module _ (laws : TurnLaws) (flags : ℕ) (f : Firmware) (samples : List (List �
         let ready = box.ready in
         let sp = at.sp in
         let free : is_hidden is_free s.regs.sp f.layout.ready ≡ false = ready_shown s.regs.sp f.layout.ready ready in
-        let one : get_or b.state.mem f.layout.ready 0 ≡ 1 = st.mem.bytes f.layout.ready free ∙ posted_is laws.steps taking flags f samples n g image box size s.mem r.size v0 some le0 in
+        let one : get_or b.state.mem f.layout.ready 0 ≡ 1 = st.mem.bytes f.layout.ready free ∙ posted_is laws.posting.steps taking flags f samples n g image box size s.mem r.size v0 some le0 in
         let on : is_over f.layout b ≡ false = ap (λ (x : ℕ). is_empty b.left && (x == 0)) one ∙ and_no (is_empty b.left) in
         let rise0 : Rise (suc g) q0 = rise_behind g g posts h.rise in
         let rise1 : Rise (g + 1) q0 = (let d : suc g ≡ g + 1 = omega arith in subst (λ (x : ℕ). Rise x q0) d rise0) in
@@ -363,12 +365,12 @@ module _ (laws : TurnLaws) (flags : ℕ) (f : Firmware) (samples : List (List �
         let r = answer_turn some0 run1 end1 in
         let here = here_at image f.layout.wait s at in
         let hr = here.ready in
-        let taking = laws.taking in
+        let taking = laws.posting.taking in
         let writing = taking.writing in
         let lk0 = waits_within (length samples) (g + 2) w posts h.within h.good in
         let apart = mailed_apart writing f.layout n samples box size is_free k0 s.mem lk0 in
         let here_u : IsHere u = record { ready = record { may = hr.may; temps = hr.temps; size = apart.size ∙ hr.size; fits = hr.fits; low = hr.low; high = hr.high }; code = here.code; sp = here.sp } in
-        let c = copy_run laws.steps flags f n all inputs u here_u run1 in
+        let c = copy_run laws.posting.steps flags f n all inputs u here_u run1 in
         let look = run1.look in
         let h1 = here_at image (f.layout.wait + 3) run1.looked look.at in
         let h2 = here_at image (f.layout.wait + 5) run1.chosen run1.on in

@@ -27,10 +27,11 @@ use Rattle.fz_run.specs.Rows.{bytes_of}
 use Rattle.posted_runs.specs.Runs.{TurnForm, turn_form}
 use Rattle.posted_runs.specs.Postings.{mailed, posted, last_of, IsBox, AreOfSize}
 use Rattle.posted_runs.specs.PostedTurns.{TurnEnds, plain_frame}
+use Rattle.posted_runs.specs.UsedLaws.{StepLaws, TakingLaws}
 use Rattle.posted_runs.proofs.LastOnes.{split}
 use Rattle.posted_runs.proofs.Mailing.{wide, is_boxed, mailed_apart, mailed_over}
-use Rattle.posted_runs.proofs.Posting.{TakingLaws, IsReady, ready_as, same_with, waiting_last, waits_within, took_all}
-use Rattle.posted_runs.proofs.Passing.{StepLaws, plainly, quiet_plain, less_hidden, shown_weaker, pass, not_over}
+use Rattle.posted_runs.proofs.Posting.{IsReady, ready_as, same_with, waiting_last, waits_within, took_all}
+use Rattle.posted_runs.proofs.Passing.{plainly, quiet_plain, less_hidden, shown_weaker, pass, not_over}
 
 not_below : (g : ℕ) → nat_lt g g ≡ false
 not_below g = grind (arith, nat_tests)

@@ -3,14 +3,14 @@ use Rattle.std.proofs.Common.{◌≡◌, ◌≢◌, ℕ, ◌+◌, not, Result, O
 use Rattle.cpu12_parts.specs.Executions.{Execution, all_steps}
 use Rattle.cpu12_parts.specs.State.{State}
 use Rattle.cpu12_emul.specs.declared.ends.Stepped.TheVariants.{Plain}
-use Rattle.cpu12_emul.specs.Step.{Next, next_of}
-use Rattle.run_law.specs.Forms.{is_part, one_if}
+use Rattle.cpu12_emul.specs.Step.{Next, next_of, is_part}
+use Rattle.run_law.specs.Forms.{one_if}
 use Rattle.run_law.specs.Uninterrupted.{state_by, kind_by, uninterrupted, counted}
 use Rattle.run_law.specs.Soundness.{Before}
+use Rattle.run_law.proofs.Algebra.{uninterrupted_add, counted_add, before_add}
 use Rattle.codegen.specs.declared.layout.Layout.{Layout}
 use Rattle.codegen.specs.Turns.{IsMaskedStep}
 use Rattle.fz_run.specs.Instructions.{AreSteps, PlainIsOneStep}
-use Rattle.fz_run.proofs.Algebra.{uninterrupted_add, counted_add, before_add}
 
 -- a step is defined, and PC is not where the code waits
 pub record IsOnWay (l : Layout) (flags : ℕ) (s : State) : Type 0 where

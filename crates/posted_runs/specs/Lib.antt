@@ -9,3 +9,4 @@ pub mod Postings
 pub mod PostedTurns
 pub mod Behind
 pub mod WholeRuns
+pub mod UsedLaws

@@ -7,6 +7,7 @@ ghost use Rattle.posted_runs.specs.Shifts.{RunsCountOn};
 ghost use Rattle.posted_runs.specs.Turns.{AllAreTaken, LastIsAnswered, TurnsAreOne};
 ghost use Rattle.posted_runs.specs.TurnsExist.{PostsHaveTurns};
 ghost use Rattle.posted_runs.specs.UninterruptedTurns.{MailboxRunsTurns, TurnsHaveSteps};
+ghost use Rattle.posted_runs.specs.UsedLaws.{PostingLaws, TurnLaws};
 ghost use Rattle.posted_runs.specs.WholeRuns.{RunsAreTurns};
 
 use crate::copied::BehindTheCopy;
@@ -68,19 +69,39 @@ pub fn turns_count_on()
     ensures { RunsCountOn (Unit {0}) plan.Post (Unit {0}) }
 {}
 
-/// Behind the copy a turn under posts follows the turn without interrupts, and the mailbox holds the
-/// sample that was posted last.
-pub fn turns_follow_behind()
-    ensures { FollowsBehind }
+/// What is known where posts come: of their writes, of steps, and of interrupts that are taken.
+fn posting_laws()
+    ensures { PostingLaws }
 {
     writes_agree();
     writes_stay();
     stack_is_hidden();
     wav_suspends();
     takes_quietly();
+    frame_is_on_stack();
     step_agrees();
+    step_keeps();
     wavr_goes_on();
+    plain_is_step();
+}
+
+/// Behind the copy a turn under posts follows the turn without interrupts, and the mailbox holds the
+/// sample that was posted last.
+pub fn turns_follow_behind()
+    ensures { FollowsBehind }
+{
+    posting_laws();
     run_follows::<BehindTheCopy>();
+}
+
+/// What is known of turns under posts.
+fn turn_laws()
+    ensures { TurnLaws }
+{
+    posting_laws();
+    taken_at_first_open();
+    turns_count_on();
+    turns_follow_behind();
 }
 
 /// Under posts a turn that answers is the turn without interrupts of the sample that was posted last
@@ -89,19 +110,7 @@ pub fn turns_follow_behind()
 pub fn posted_turns_follow()
     ensures { PostedTurnsFollow }
 {
-    writes_agree();
-    writes_stay();
-    stack_is_hidden();
-    wav_suspends();
-    takes_quietly();
-    frame_is_on_stack();
-    step_agrees();
-    step_keeps();
-    wavr_goes_on();
-    plain_is_step();
-    taken_at_first_open();
-    turns_count_on();
-    turns_follow_behind();
+    turn_laws();
 }
 
 /// Under posts an idle turn is the idle turn without interrupts: it takes two steps and ends in its
@@ -109,15 +118,7 @@ pub fn posted_turns_follow()
 pub fn idle_turns_follow()
     ensures { IdleTurnsFollow }
 {
-    writes_agree();
-    writes_stay();
-    stack_is_hidden();
-    wav_suspends();
-    takes_quietly();
-    frame_is_on_stack();
-    step_agrees();
-    step_keeps();
-    plain_is_step();
+    posting_laws();
 }
 
 /// The run under good posts is that of its turns, each from where the one before ended without
@@ -125,19 +126,7 @@ pub fn idle_turns_follow()
 pub fn runs_are_turns()
     ensures { RunsAreTurns }
 {
-    writes_agree();
-    writes_stay();
-    stack_is_hidden();
-    wav_suspends();
-    takes_quietly();
-    frame_is_on_stack();
-    step_agrees();
-    step_keeps();
-    wavr_goes_on();
-    plain_is_step();
-    taken_at_first_open();
-    turns_count_on();
-    turns_follow_behind();
+    turn_laws();
 }
 
 /// The mailbox firmware of a block answers under all good posts by its turns.

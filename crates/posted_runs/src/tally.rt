@@ -1,6 +1,7 @@
 // What was counted of a run.
 ghost use Rattle.std.specs.Prelude.{◌≡◌, ◌≤◌, ◌&&◌, not, nat_lt, length};
-ghost use Rattle.run_law.specs.Forms.{is_part, one_if};
+ghost use Rattle.cpu12_emul.specs.Step.{is_part};
+ghost use Rattle.run_law.specs.Forms.{one_if};
 ghost use Rattle.posted_runs.specs.Runs.{frames_seen};
 
 use cpu12_emul::ends::{Frame, Stepped};
@@ -25,15 +26,6 @@ pub struct Tally {
     pub frames: Vec<(u32, Frame)>,
     /// Room for the writes of a post.
     pub writes: Vec<Write>,
-}
-
-pub(crate) fn is_part(kind: Stepped) -> bool
-    ensures { result ≡ is_part kind }
-{
-    match kind {
-        Stepped::Part => true,
-        Stepped::Plain | Stepped::LastPart => false,
-    }
 }
 
 /// How many instructions end with a step of this kind.

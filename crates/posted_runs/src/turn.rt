@@ -4,7 +4,7 @@ ghost use Rattle.interrupt_plan.specs.Posts.{AreGoodPosts};
 ghost use Rattle.posted_runs.specs.Tallies.{form_of, rest_of, turned_at};
 
 use crate::post::take_due;
-use crate::tally::{Tally, count, instructions, is_part, resumes};
+use crate::tally::{Tally, count, instructions, resumes};
 use codegen::Firmware;
 use cpu12_emul::machine::Machine;
 use cpu12_isa::mem::Mem;
@@ -47,7 +47,7 @@ fn pass<M: Mem>(
     t.resumed += resumes(t.inside, before, count(&t.frames));
     match m.step() {
         Ok(kind) => {
-            t.inside = is_part(kind);
+            t.inside = kind.is_part();
             t.instrs += instructions(kind);
             t.moment += 1;
             true

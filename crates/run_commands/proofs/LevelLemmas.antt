@@ -6,7 +6,7 @@ use Rattle.std.proofs.lemmas.List.Elements.{All-append, All-cons, All-head, All-
 use Rattle.std.proofs.lemmas.Option.{slice_get_within}
 use Rattle.fuzzy_meaning.specs.declared.block.Block.{Block}
 use Rattle.cpu12_parts.specs.State.{State}
-use Rattle.cpu12_emul.specs.Step.{Next, next_of}
+use Rattle.cpu12_emul.specs.Step.{Next, next_of, is_part}
 use Rattle.cpu12_emul.specs.Take.{frame_of, may_interrupt}
 use Rattle.codegen.specs.Bounds.{instruction_bound}
 use Rattle.codegen.specs.Uninterrupted.{AreAnswersOf}
@@ -17,7 +17,7 @@ use Rattle.interrupt_plan.specs.Levels.{AreGoodLevels, IsGoodLevel, LevelNotAfte
 use Rattle.interrupt_plan.specs.Plans.{Ascend, Ascends, IsGood, IsGoodRequest}
 use Rattle.interrupt_plan.specs.declared.Request.{Request}
 use Rattle.interrupt_plan.specs.declared.levels.Level.{Level}
-use Rattle.run_law.specs.Forms.{Form, Ran, RowSeen, Taking, ended, is_part, put_take}
+use Rattle.run_law.specs.Forms.{Form, Ran, RowSeen, Taking, ended, put_take}
 use Rattle.run_law.specs.Forms.{rows_from, run_from, taken, takes, told, then_rest}
 use Rattle.trace_io.specs.declared.sample.Sample.{Sample}
 use Rattle.fz_run.specs.Answering.{AnswersItsBlock, AnswersUnderPlans}

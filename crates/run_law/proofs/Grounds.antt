@@ -1,21 +1,10 @@
 -- What the law on runs stands on: a sound form, and the machine's laws.
 use Rattle.std.proofs.Common.{ℕ, Bool, List}
-use Rattle.cpu12_isa.specs.Interrupts.{HidesMoreAbove, ShowsFromSp, HidesPushed}
 use Rattle.cpu12_parts.specs.State.{State}
-use Rattle.cpu12_parts.specs.Inside.{PushesRunning, PushesNone}
-use Rattle.cpu12_emul.specs.Simulation.{StepKeeps, FrameIsOnStack}
 use Rattle.run_law.specs.Forms.{Form}
 use Rattle.run_law.specs.Soundness.{Sound}
-
-pub record Machine : Type 0 where
-  pub step_keeps : StepKeeps
-  pub frame_is_on_stack : FrameIsOnStack
-  pub more : HidesMoreAbove
-  pub shown : ShowsFromSp
-  pub pushed : HidesPushed
-  pub running : PushesRunning
-  pub none : PushesNone
+use Rattle.run_law.specs.Steps.{MachineLaws}
 
 pub record Ground {S A B : Type 0} (open_to : ℕ → Bool) (f : Form S A B) (P : State → Type 0) (Good : A → Type 0) (Own : List (A × B) → State → Type 0) : Type 0 where
   pub sound : Sound open_to f P Good Own
-  pub machine : Machine
+  pub machine : MachineLaws

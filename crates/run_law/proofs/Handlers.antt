@@ -1,7 +1,6 @@
 -- A handler that does listed writes is quiet.
-use Rattle.std.proofs.Common.{◌≡◌, ℕ, ◌+◌, ◌^◌, ◌<◌, ◌≤◌, Bool, length, sym, ◌∙◌, subst, arith}
+use Rattle.std.proofs.Common.{◌≡◌, ℕ, ◌+◌, ◌≤◌, Bool, length, sym, ◌∙◌, subst, arith}
 use Rattle.cpu12_isa.specs.declared.instr.Regs.{Regs}
-use Rattle.cpu12_isa.specs.Memory.{plus}
 use Rattle.cpu12_isa.specs.Fits.{FitsRegs}
 use Rattle.cpu12_isa.specs.Regions.{stack_start, stack_end}
 use Rattle.cpu12_parts.specs.declared.temps.Temps.{Temps}
@@ -10,10 +9,8 @@ use Rattle.cpu12_parts.specs.State.{State}
 use Rattle.cpu12_parts.specs.Laws.{IsOff}
 use Rattle.cpu12_emul.specs.Take.{framed}
 use Rattle.cpu12_emul.specs.Simulation.{HasRoom, TakesQuietly}
-use Rattle.run_law.specs.Soundness.{below_sums, Begins, AreLeft, WritesAreQuiet}
-
-fits_at : (r : Regs) (k : ℕ) → FitsRegs r → k < 2 ^ 16 → FitsRegs (record r { sp = k })
-fits_at r k f h = record { a = f.a; b = f.b; x = f.x; y = f.y; sp = h; pc = f.pc; ccr = f.ccr }
+use Rattle.run_law.proofs.Algebra.{below_fits}
+use Rattle.run_law.specs.Soundness.{Begins, AreLeft, WritesAreQuiet}
 
 -- the state in which a handler begins has room for the nine bytes
 record Begun (v : State) : Type 0 where
@@ -22,19 +19,14 @@ record Begun (v : State) : Type 0 where
   low : stack_start + 9 ≤ v.regs.sp
   high : v.regs.sp ≤ stack_end
 
-below_fits : (r : Regs) (t : Temps) → FitsRegs r → stack_start + 15 ≤ r.sp → r.sp ≤ stack_end → FitsRegs (below_sums r t) × (stack_start + 9 ≤ (below_sums r t).sp) × ((below_sums r t).sp ≤ stack_end)
-below_fits r Free f l h = (f, omega arith, h)
-below_fits r OnStack f l h = (f, omega arith, h)
-below_fits r (Running p w) f l h = (fits_at r (plus r.sp 65530) f (omega arith), omega arith, omega arith)
-
 begun : (open_to : ℕ → Bool) (v s : State) → HasRoom s → Begins open_to v s → Begun v
 begun open_to v s k b =
     let r = below_fits s.regs s.temps k.fits k.low k.high in
     record {
       size = b.mem.size ∙ k.size;
       fits = subst (λ (r : Regs). FitsRegs r) (sym b.regs) r.0;
-      low = subst (λ (r : Regs). stack_start + 9 ≤ r.sp) (sym b.regs) r.1;
-      high = subst (λ (r : Regs). r.sp ≤ stack_end) (sym b.regs) r.2;
+      low = subst (λ (r : Regs). stack_start + 9 ≤ r.sp) (sym b.regs) (omega (arith, r.1, k.low));
+      high = subst (λ (r : Regs). r.sp ≤ stack_end) (sym b.regs) (omega (arith, r.2, k.high));
     }
 
 -- sums that stay as they were are left

@@ -1,3 +1,4 @@
+pub mod Algebra
 pub mod Grounds
 pub mod Steps
 pub mod Takes

@@ -5,10 +5,10 @@ use Rattle.std.specs.Prelude.{if◌then◌else◌}
 use Rattle.std.proofs.lemmas.List.{map-append}
 use Rattle.cpu12_parts.specs.State.{State}
 use Rattle.cpu12_emul.specs.declared.ends.Stepped.{Stepped}
-use Rattle.cpu12_emul.specs.Step.{next_of}
+use Rattle.cpu12_emul.specs.Step.{next_of, is_part}
 use Rattle.cpu12_emul.specs.Take.{FrameSeen, may_interrupt}
 use Rattle.cpu12_emul.specs.Simulation.{Same}
-use Rattle.run_law.specs.Forms.{Form, Taking, Ran, takes, is_part, one_if, is_empty, ended, before_rest, then_rest, run_from}
+use Rattle.run_law.specs.Forms.{Form, Taking, Ran, takes, one_if, is_empty, ended, before_rest, then_rest, run_from}
 use Rattle.run_law.specs.Uninterrupted.{stepped, state_by, uninterrupted, counted, is_inside, taken_at}
 use Rattle.run_law.specs.Soundness.{Before, AllSimulate, AllGood, Ascend}
 use Rattle.run_law.specs.Following.{onto, asked, Completes, Follows, RunFollows}

@@ -21,7 +21,8 @@ use Rattle.cpu12_emul.specs.Simulation.{Same, Parked, Simulates, HasRoom, IsShow
 use Rattle.run_law.specs.Forms.{Form, taken, told}
 use Rattle.run_law.specs.Uninterrupted.{frame_on, expected_frame}
 use Rattle.run_law.specs.Soundness.{below_sums, Begins, AreLeft, Quiet}
-use Rattle.run_law.proofs.Grounds.{Machine, Ground}
+use Rattle.run_law.proofs.Grounds.{Ground}
+use Rattle.run_law.specs.Steps.{MachineLaws}
 
 -- which sums a handler may leave
 left_running : (t u v : Temps) (p q : ℕ) → t ≡ Running p q → AreLeft t u v → IsOff u
@@ -43,7 +44,7 @@ below_off r t (inl e) = ap (below_sums r) (sym e)
 below_off r t (inr e) = ap (below_sums r) (sym e)
 
 -- what an interrupt's push of running sums leaves is hidden
-pushed_agrees : Machine → (open_to : ℕ → Bool) (w s : State) (p q : ℕ) → Same open_to w s → LeavesStack open_to → stack_start + 15 ≤ s.regs.sp
+pushed_agrees : MachineLaws → (open_to : ℕ → Bool) (w s : State) (p q : ℕ) → Same open_to w s → LeavesStack open_to → stack_start + 15 ≤ s.regs.sp
     → s.regs.sp ≤ stack_end
     → Agree (is_hidden open_to s.regs.sp) (write_all (placed (plus w.regs.sp 65530) (sum_bytes p q)) w.mem) w.mem
 pushed_agrees laws open_to w s p q l a lo hi =
@@ -76,7 +77,7 @@ record Taken (open_to : ℕ → Bool) (first : Bool) (w s : State) : Type 0 wher
   after : (u : State) → Quiet open_to u (suspended wav w) s → Settled open_to false u s
 
 -- where sums run they are parked
-taken_running : Machine → (open_to : ℕ → Bool) (w s : State) (p q : ℕ) → LeavesStack open_to → HasRoom s → Same open_to w s → s.temps ≡ Running p q
+taken_running : MachineLaws → (open_to : ℕ → Bool) (w s : State) (p q : ℕ) → LeavesStack open_to → HasRoom s → Same open_to w s → s.temps ≡ Running p q
     → Taken open_to true w s
 unfolding Settled
 taken_running laws open_to w s p q a k l run =
@@ -140,7 +141,7 @@ expected_off first s (inl e) = ap (λ (t : Temps). frame_on first s t) e
 expected_off first s (inr e) = ap (λ (t : Temps). frame_on first s t) e
 
 -- where none run the state stays the same
-taken_off : Machine → (open_to : ℕ → Bool) (first : Bool) (w s : State) → HasRoom s → Same open_to w s → IsOff s.temps → Taken open_to first w s
+taken_off : MachineLaws → (open_to : ℕ → Bool) (first : Bool) (w s : State) → HasRoom s → Same open_to w s → IsOff s.temps → Taken open_to first w s
 unfolding Settled
 taken_off laws open_to first w s k l off =
     let fits = k.fits in
@@ -169,7 +170,7 @@ taken_off laws open_to first w s k l off =
         }
 
 -- where they are parked they stay so
-taken_parked : Machine → (open_to : ℕ → Bool) (w s : State) → LeavesStack open_to → HasRoom s → Parked open_to w s → Taken open_to false w s
+taken_parked : MachineLaws → (open_to : ℕ → Bool) (w s : State) → LeavesStack open_to → HasRoom s → Parked open_to w s → Taken open_to false w s
 unfolding Settled
 taken_parked laws open_to w s a k l =
     let lo = k.low in
@@ -207,7 +208,7 @@ taken_parked laws open_to w s a k l =
           mem = agree_with (is_hidden open_to s.regs.sp) u.mem w.mem s.mem (laws.more open_to w.regs.sp s.regs.sp u.mem w.mem (omega arith) q.mem) l.mem;
         }
 
-taken_any : Machine → (open_to : ℕ → Bool) (first : Bool) (w s : State) → LeavesStack open_to → HasRoom s → Settled open_to first w s → Taken open_to first w s
+taken_any : MachineLaws → (open_to : ℕ → Bool) (first : Bool) (w s : State) → LeavesStack open_to → HasRoom s → Settled open_to first w s → Taken open_to first w s
 unfolding Settled
 taken_any laws open_to first w s a k (inr l) = subst (λ (b : Bool). Taken open_to b w s) (sym l.1) (taken_parked laws open_to w s a k l.0)
 taken_any laws open_to first w s a k (inl l) = elim (temps_cases s.temps) [

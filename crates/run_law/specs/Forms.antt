@@ -3,8 +3,7 @@ use Rattle.std.specs.Prelude.{ℕ, zero, suc, ◌+◌, ◌&&◌, not, nat_le, Bo
 use Rattle.cpu12_parts.specs.State.{State}
 use Rattle.cpu12_parts.specs.Cuts.{suspended, wav}
 use Rattle.cpu12_emul.specs.declared.ends.Stepped.{Stepped}
-use Rattle.cpu12_emul.specs.declared.ends.Stepped.TheVariants.{Plain, Part, LastPart}
-use Rattle.cpu12_emul.specs.Step.{Next, next_of}
+use Rattle.cpu12_emul.specs.Step.{Next, next_of, is_part}
 use Rattle.cpu12_emul.specs.Take.{FrameSeen, frame_of, may_interrupt}
 
 -- A firmware that is given samples S and serves requests A, each of which tells a B: the byte from which open flags
@@ -27,12 +26,6 @@ taken f a s = f.handle a (suspended wav s)
 
 abbrev pub told : {S A B : Type 0} → Form S A B → A → State → A × B
 told f a s = (a, f.tells a (suspended wav s))
-
--- whether a step was a part, and not the last
-abbrev pub is_part : Stepped → Bool
-is_part Plain = false
-is_part Part = true
-is_part LastPart = false
 
 abbrev pub one_if : Bool → ℕ
 one_if true = 1

@@ -3,3 +3,4 @@ pub mod Uninterrupted
 pub mod Soundness
 pub mod Following
 pub mod Moments
+pub mod Steps

@@ -8,9 +8,9 @@ use Rattle.cpu12_parts.specs.State.{State}
 use Rattle.cpu12_parts.specs.Sums.{sum_bytes}
 use Rattle.cpu12_emul.specs.declared.ends.Stepped.{Stepped}
 use Rattle.cpu12_emul.specs.declared.ends.Stepped.TheVariants.{Plain}
-use Rattle.cpu12_emul.specs.Step.{Next, next_of}
+use Rattle.cpu12_emul.specs.Step.{Next, next_of, is_part}
 use Rattle.cpu12_emul.specs.Take.{FrameSeen, may_interrupt}
-use Rattle.run_law.specs.Forms.{is_part, one_if}
+use Rattle.run_law.specs.Forms.{one_if}
 
 -- the state after a step, which stays where none is defined, and the step's kind
 abbrev pub state_by : State → Result Next ℕ → State

@@ -6,10 +6,17 @@ ghost use Rattle.run_law.specs.Forms.{Form};
 ghost use Rattle.run_law.specs.Soundness.{Sound, WritesAreQuiet};
 ghost use Rattle.run_law.specs.Following.{RunFollows, RunsFollow};
 ghost use Rattle.run_law.specs.Moments.{TakenAtFirstOpen};
+ghost use Rattle.run_law.specs.Steps.{MachineLaws, StepLaws};
 
-use cpu12_emul::laws::{frame_is_on_stack, step_keeps, takes_quietly};
-use cpu12_isa::laws::{stack_is_hidden, writes_agree};
-use cpu12_parts::laws::wav_suspends;
+use cpu12_emul::laws::{
+    frame_is_on_stack, plain_is_step, rev_is_step, revw_is_step, step_keeps, sums_are_step,
+    takes_quietly, wav_is_step,
+};
+use cpu12_isa::laws::{bytes_stay, decoded_has_opcode, stack_is_hidden, writes_agree, writes_stay};
+use cpu12_parts::laws::{
+    rev_fits, rev_is_whole, rev_stays, rev_steady, revw_fits, revw_is_whole, revw_stays,
+    revw_steady, wav_fits, wav_is_whole, wav_stays, wav_steady, wav_suspends,
+};
 
 /// A form of firmware with its handler, and what it owes so that its runs under interrupts follow
 /// those without. It has ghost members alone: an implementation is the proof that they are sound.
@@ -47,14 +54,21 @@ pub trait SoundForm {
         → Sound (open_to x) (form x) (holds x) (good x) (own x) };
 }
 
-/// The run of one sample, from any boundary on, follows the run without interrupts.
-pub fn run_follows<F: SoundForm>()
-    ensures { (x : F.Setting) → RunFollows (F.open_to x) (F.form x) (F.holds x) (F.good x) (F.own x) }
+/// What is known of a step beside hidden bytes, of what an interrupt pushes and of what is hidden then.
+fn machine_laws()
+    ensures { MachineLaws }
 {
     step_keeps();
     frame_is_on_stack();
     stack_is_hidden();
     wav_suspends();
+}
+
+/// The run of one sample, from any boundary on, follows the run without interrupts.
+pub fn run_follows<F: SoundForm>()
+    ensures { (x : F.Setting) → RunFollows (F.open_to x) (F.form x) (F.holds x) (F.good x) (F.own x) }
+{
+    machine_laws();
     writes_agree();
     writes_are_quiet();
 }
@@ -66,10 +80,7 @@ pub fn run_follows<F: SoundForm>()
 pub fn runs_follow<F: SoundForm>()
     ensures { (x : F.Setting) → RunsFollow (F.open_to x) (F.form x) (F.holds x) (F.good x) (F.own x) }
 {
-    step_keeps();
-    frame_is_on_stack();
-    stack_is_hidden();
-    wav_suspends();
+    machine_laws();
     writes_agree();
     writes_are_quiet();
 }
@@ -84,4 +95,31 @@ pub fn writes_are_quiet()
     ensures { WritesAreQuiet }
 {
     takes_quietly();
+}
+
+/// What whole instructions are as steps: a plain one is one step, and so is each part of REV, REVW and WAV, which fit,
+/// stay where they are and are in all the whole instruction.
+pub fn step_laws()
+    ensures { StepLaws }
+{
+    decoded_has_opcode();
+    writes_stay();
+    bytes_stay();
+    plain_is_step();
+    rev_is_step();
+    rev_fits();
+    rev_stays();
+    rev_steady();
+    rev_is_whole();
+    revw_is_step();
+    revw_fits();
+    revw_stays();
+    revw_steady();
+    revw_is_whole();
+    wav_is_step();
+    sums_are_step();
+    wav_fits();
+    wav_stays();
+    wav_steady();
+    wav_is_whole();
 }

@@ -7,7 +7,7 @@ use Rattle.cpu12_isa.specs.declared.instr.Instr.TheVariants.{Andcc, Rti}
 use Rattle.cpu12_isa.specs.Agreement.{WritesStay}
 use Rattle.cpu12_isa.specs.Code.{decode_at, six_from, StandsAt}
 use Rattle.cpu12_isa.specs.Fits.{StaysFit}
-use Rattle.cpu12_isa.specs.Flags.{has, interrupts_masked}
+use Rattle.cpu12_isa.specs.Flags.{has, interrupts_masked, x_masked}
 use Rattle.cpu12_isa.specs.Memory.{plus}
 use Rattle.cpu12_parts.specs.State.{State}
 use Rattle.cpu12_parts.specs.Touching.{IsIn, Each}
@@ -16,7 +16,6 @@ use Rattle.cpu12_parts.specs.Whole.{after_plain}
 use Rattle.cpu12_emul.specs.Image.{image_memory}
 use Rattle.codegen.specs.declared.width.Width.TheVariants.{Byte}
 use Rattle.codegen.specs.Evaluation.{Writes, code_region, IsEvalStep, IsAtEval, IsEvaluated, EvalAnswers}
-use Rattle.codegen.specs.Masks.{x_masked}
 use Rattle.codegen.specs.Placed.{StandsBetween}
 use Rattle.two_level.specs.declared.two.Two.{Two}
 use Rattle.two_level.specs.Layouts.{fast_front, fast_back, fast_layout}

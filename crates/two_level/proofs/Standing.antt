@@ -12,7 +12,7 @@ use Rattle.cpu12_isa.specs.declared.instr.Instr.TheVariants.{Rts}
 use Rattle.cpu12_isa.specs.Agreement.{Agree}
 use Rattle.cpu12_isa.specs.Fits.{AreBytes}
 use Rattle.cpu12_isa.specs.Memory.{word_of}
-use Rattle.cpu12_isa.specs.Regions.{is_free}
+use Rattle.cpu12_isa.specs.Regions.{is_free, vector, is_vector}
 use Rattle.cpu12_asm.proofs.Algebra.{or_else, byte_at-append}
 use Rattle.cpu12_asm.specs.declared.items.Item.{Item}
 use Rattle.cpu12_asm.specs.declared.items.Item.TheVariants.{Place}
@@ -29,7 +29,7 @@ use Rattle.codegen.specs.Evaluation.{HasAnswers, Reads, Writes}
 use Rattle.codegen.specs.Answers.{LeavesLayout, FirmwareAnswersBeside, FirmwareArrivesAlike}
 use Rattle.codegen.specs.Placed.{BlockStaysInside, GivesBehind, GiveBytes, BlockGivesBytes}
 use Rattle.two_level.specs.declared.two.Two.{Two}
-use Rattle.two_level.specs.Layouts.{fast_front, fast_back, fast_layout, slow_layout, is_fast_ram, is_fast_rom, is_vector, is_open_to_fast}
+use Rattle.two_level.specs.Layouts.{fast_front, fast_back, fast_layout, slow_layout, is_fast_ram, is_fast_rom, is_open_to_fast}
 use Rattle.two_level.specs.Images.{fast_items, slow_items, two_items, IsTwoOf}
 use Rattle.two_level.specs.Standing.{TwoStandBeside}
 use Rattle.two_level.proofs.FastCode.{CodeLaws, standing, first_decoded}
@@ -52,10 +52,10 @@ low at h = grind (arith, nat_tests)
 between : (at : ℕ) → 0x1FE0 ≤ at → at < 0x4000 → is_open_to_fast at ≡ false
 between at from to = grind (arith, nat_tests)
 
-high : (at : ℕ) → 0x7F00 ≤ at → at < 0xFFF2 → is_open_to_fast at ≡ false
+high : (at : ℕ) → 0x7F00 ≤ at → at < vector → is_open_to_fast at ≡ false
 high at from to = grind (arith, nat_tests)
 
-top : (at : ℕ) → 0xFFF4 ≤ at → is_open_to_fast at ≡ false
+top : (at : ℕ) → vector + 2 ≤ at → is_open_to_fast at ≡ false
 top at from = grind (arith, nat_tests)
 
 not_read : (at : ℕ) → Reads main_layout at → is_open_to_fast at ≡ false
@@ -92,7 +92,7 @@ slow_starts b = (_, refl)
 
 -- what the items give
 given_slow : GivesBehind → (l : Layout) (b : Block) → given_by (slow_block b ++ vector_items l) ≡ given_by (slow_block b) ++ given_by (vector_items l)
-given_slow behind l b = behind (slow_block b) _ 0xFFF2
+given_slow behind l b = behind (slow_block b) _ vector
 
 given_two : GivesBehind → (slow fast : Block)
     → given_by (two_items slow fast) ≡ given_by (fast_items fast) ++ (given_by (slow_block slow) ++ given_by (vector_items slow_layout))
@@ -132,20 +132,20 @@ other : (at p : ℕ) → (at < p) ⊎ (p < at) → is_at (nat_cmp at) p ≡ fals
 other at p (inl h) = grind (arith, nat_tests)
 other at p (inr h) = grind (arith, nat_tests)
 
-same_vectors : (at : ℕ) → (at < 0xFFF2) ⊎ (0xFFF4 ≤ at) → byte_at (given_by (vector_items slow_layout)) at ≡ byte_at (given_by (vector_items main_layout)) at
+same_vectors : (at : ℕ) → (at < vector) ⊎ (vector + 2 ≤ at) → byte_at (given_by (vector_items slow_layout)) at ≡ byte_at (given_by (vector_items main_layout)) at
 same_vectors at (inl h) =
-    let a = other at 0xFFF2 (inl h) in
-    let b = other at 0xFFF3 (inl (omega arith)) in
+    let a = other at vector (inl h) in
+    let b = other at (vector + 1) (inl (omega arith)) in
     rw (a, b) refl
 same_vectors at (inr h) =
-    let a = other at 0xFFF2 (inr (omega arith)) in
-    let b = other at 0xFFF3 (inr (omega arith)) in
+    let a = other at vector (inr (omega arith)) in
+    let b = other at (vector + 1) (inr (omega arith)) in
     rw (a, b) refl
 
-no_vector : (at : ℕ) → at < 0xFFF2 → byte_at (given_by (vector_items slow_layout)) at ≡ None
+no_vector : (at : ℕ) → at < vector → byte_at (given_by (vector_items slow_layout)) at ≡ None
 no_vector at h =
-    let a = other at 0xFFF2 (inl h) in
-    let b = other at 0xFFF3 (inl (omega arith)) in
+    let a = other at vector (inl h) in
+    let b = other at (vector + 1) (inl (omega arith)) in
     let c = other at 0xFFFE (inl (omega arith)) in
     let d = other at 0xFFFF (inl (omega arith)) in
     rw (a, b, c, d) refl
@@ -184,7 +184,7 @@ bytes_by (x ∷ xs) h =
     All-cons (λ v. v < 2 ^ 8) x xs (ltb-true x 256 both.0) (bytes_by xs both.1)
 
 vectors_fit : GiveBytes (given_by (vector_items slow_layout))
-vectors_fit = four (0xFFF2, 0x40) (0xFFF3, 0) (0xFFFE, 0xC0) (0xFFFF, 0) (omega arith) (omega arith) (omega arith) (omega arith)
+vectors_fit = four (vector, 0x40) (vector + 1, 0) (0xFFFE, 0xC0) (0xFFFF, 0) (omega arith) (omega arith) (omega arith) (omega arith)
   where
     four : (a b c d : ℕ × ℕ) → Fits a → Fits b → Fits c → Fits d → All Fits (a ∷ b ∷ c ∷ d ∷ [])
     four a b c d p q r s =
@@ -208,7 +208,7 @@ two_bytes laws slow fast two h is at = elim (cases_lt at 65536) [
 ]
 
 -- an interrupt enters the fast code
-vector_byte : StandingLaws → (slow fast : Block) (two : Two) (at : ℕ) → AreSound slow fast → IsTwoOf slow fast two → 0xFFF2 ≤ at → at < 65536
+vector_byte : StandingLaws → (slow fast : Block) (two : Two) (at : ℕ) → AreSound slow fast → IsTwoOf slow fast two → vector ≤ at → at < 65536
     → get_or (image_memory two.image.bytes) at 0 ≡ byte_or_zero (byte_at (given_by (vector_items slow_layout)) at)
 vector_byte laws slow fast two at h is from to =
     let vectors = byte_at (given_by (vector_items slow_layout)) at in
@@ -241,12 +241,12 @@ apart lo hi at h = elim (cases_lt at lo) [
   ]
 ]
 
-outside : (at : ℕ) → is_open_to_fast at ≡ false → ((at < 0x4000) ⊎ (0x7F00 ≤ at)) × ((at < 0xFFF2) ⊎ (0xFFF4 ≤ at))
+outside : (at : ℕ) → is_open_to_fast at ≡ false → ((at < 0x4000) ⊎ (0x7F00 ≤ at)) × ((at < vector) ⊎ (vector + 2 ≤ at))
 outside at h =
     let a = or_parts (is_free at) (is_fast_ram at || (is_fast_rom at || is_vector at)) h in
     let b = or_parts (is_fast_ram at) (is_fast_rom at || is_vector at) a.1 in
     let c = or_parts (is_fast_rom at) (is_vector at) b.1 in
-    (apart 0x4000 0x7F00 at c.0, apart 0xFFF2 0xFFF4 at c.1)
+    (apart 0x4000 0x7F00 at c.0, apart vector (vector + 2) at c.1)
 
 alike_in : StandingLaws → (slow fast : Block) (two : Two) (at : ℕ) → AreSound slow fast → IsTwoOf slow fast two → is_open_to_fast at ≡ false → at < 65536
     → get_or (image_memory two.image.bytes) at 0 ≡ get_or (image_memory two.slow.image.bytes) at 0
@@ -280,8 +280,8 @@ two_stand_beside laws slow fast two vs ls vf lf is =
     let left : LeavesLayout is_open_to_fast two.slow.layout = subst (λ (l : Layout). LeavesLayout is_open_to_fast l) (sym firmware.layout) main_left in
     let agree = alike laws slow fast two h is in
     let mem = image_memory two.image.bytes in
-    let first = vector_byte laws slow fast two 0xFFF2 h is (omega arith) (omega arith) in
-    let second = vector_byte laws slow fast two 0xFFF3 h is (omega arith) (omega arith) in (
+    let first = vector_byte laws slow fast two vector h is (omega arith) (omega arith) in
+    let second = vector_byte laws slow fast two (vector + 1) h is (omega arith) (omega arith) in (
       record {
         bytes = two_bytes laws slow fast two h is;
         enters = ap₂ word_of first second;

@@ -2,7 +2,7 @@
 use Rattle.std.specs.Prelude.{ℕ, ◌+◌, ◌-◌, List, [], ◌∷◌, nat_le, nat_lt, ◌&&◌, ◌||◌, Bool}
 use Rattle.cpu12_isa.specs.declared.instr.Instr.{Instr}
 use Rattle.cpu12_isa.specs.declared.instr.Instr.TheVariants.{Andcc, Rti}
-use Rattle.cpu12_isa.specs.Regions.{is_free}
+use Rattle.cpu12_isa.specs.Regions.{is_free, is_vector}
 use Rattle.codegen.specs.declared.layout.Layout.{Layout}
 use Rattle.codegen.specs.Layouts.{main_layout}
 
@@ -49,19 +49,13 @@ fast_rom_end = fast_layout.rules + 9984
 abbrev pub fast_ram_end : ℕ
 fast_ram_end = fast_layout.slots + 300
 
--- the fast block's RAM: READY, the inputs, the outputs and the slots; its ROM; and the interrupt's vector
+-- the fast block's RAM: READY, the inputs, the outputs and the slots; and its ROM
 abbrev pub is_fast_ram : ℕ → Bool
 is_fast_ram at = nat_le fast_layout.ready at && nat_lt at fast_ram_end
 
 abbrev pub is_fast_rom : ℕ → Bool
 is_fast_rom at = nat_le fast_layout.code at && nat_lt at fast_rom_end
 
-abbrev pub vector : ℕ
-vector = 0xFFF2
-
-abbrev pub is_vector : ℕ → Bool
-is_vector at = nat_le vector at && nat_lt at (vector + 2)
-
--- Beside the run of the slow firmware all these belong to its interrupts, with the free bytes.
+-- Beside the run of the slow firmware both belong to its interrupts, with their vector and the free bytes.
 abbrev pub is_open_to_fast : ℕ → Bool
 is_open_to_fast at = is_free at || (is_fast_ram at || (is_fast_rom at || is_vector at))

@@ -6,7 +6,7 @@ use Rattle.rule_layout.specs.Slots.{slots_of}
 use Rattle.rule_layout.specs.Layouts.{IsWithinLimits}
 use Rattle.cpu12_isa.specs.declared.instr.Instr.TheVariants.{Andcc, Rti}
 use Rattle.cpu12_isa.specs.Code.{decode_at, six_from}
-use Rattle.cpu12_isa.specs.Flags.{has, interrupts_masked}
+use Rattle.cpu12_isa.specs.Flags.{has, interrupts_masked, x_masked}
 use Rattle.cpu12_isa.specs.Regions.{stack_start, stack_end}
 use Rattle.cpu12_parts.specs.State.{State}
 use Rattle.cpu12_parts.specs.Touching.{IsIn, Each, IsInstructionOver, IsBetween}
@@ -16,7 +16,6 @@ use Rattle.codegen.specs.declared.width.Width.TheVariants.{Byte}
 use Rattle.codegen.specs.Widths.{answer}
 use Rattle.codegen.specs.Bounds.{instruction_bound, step_bound}
 use Rattle.codegen.specs.Firing.{AreInputBytes}
-use Rattle.codegen.specs.Masks.{x_masked}
 use Rattle.codegen.specs.Evaluation.{Reads, Writes, HasBytes, HasAnswers}
 use Rattle.two_level.specs.declared.two.Two.{Two}
 use Rattle.two_level.specs.Layouts.{fast_layout, fast_rom_end}

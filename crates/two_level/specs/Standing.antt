@@ -1,17 +1,17 @@
 -- The slow firmware beside a fast block.
-use Rattle.std.specs.Prelude.{◌≡◌, ℕ, ◌+◌, ◌^◌, ◌<◌, slice_index}
+use Rattle.std.specs.Prelude.{◌≡◌, ℕ, ◌^◌, ◌<◌}
 use Rattle.fuzzy_meaning.specs.declared.block.Block.{Block}
 use Rattle.fuzzy_meaning.specs.Blocks.{IsValid}
 use Rattle.rule_layout.specs.Layouts.{IsWithinLimits}
 use Rattle.cpu12_isa.specs.Agreement.{Agree}
 use Rattle.cpu12_isa.specs.Fits.{AreBytes}
-use Rattle.cpu12_isa.specs.Memory.{word_of}
+use Rattle.cpu12_isa.specs.Regions.{vector_word}
 use Rattle.cpu12_emul.specs.Image.{image_memory}
 use Rattle.codegen.specs.declared.width.Width.TheVariants.{Byte}
 use Rattle.codegen.specs.Evaluation.{HasAnswers}
 use Rattle.codegen.specs.Answers.{LeavesLayout, AnswersBeside, ArrivesAlike}
 use Rattle.two_level.specs.declared.two.Two.{Two}
-use Rattle.two_level.specs.Layouts.{fast_layout, vector, is_open_to_fast}
+use Rattle.two_level.specs.Layouts.{fast_layout, is_open_to_fast}
 use Rattle.two_level.specs.Images.{IsTwoOf}
 use Rattle.two_level.specs.Running.{LetsIn}
 
@@ -20,8 +20,7 @@ use Rattle.two_level.specs.Running.{LetsIn}
 -- firmware's layout.
 pub record StandsBeside (fast : Block) (two : Two) : Type 0 where
   pub bytes : AreBytes (image_memory two.image.bytes)
-  pub enters : word_of (slice_index (image_memory two.image.bytes) vector)
-      (slice_index (image_memory two.image.bytes) (vector + 1)) ≡ fast_layout.code
+  pub enters : vector_word (image_memory two.image.bytes) ≡ fast_layout.code
   pub lets_in : LetsIn (image_memory two.image.bytes)
   pub outputs : HasAnswers fast_layout fast Byte (λ o. 0) (image_memory two.image.bytes)
   pub leaves : LeavesLayout is_open_to_fast two.slow.layout

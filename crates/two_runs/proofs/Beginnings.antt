@@ -2,60 +2,25 @@
 use Rattle.std.proofs.Common.{◌≡◌, ℕ, ◌≤◌, Bool, Ok, List, [], ◌∷◌, length, refl, ap, ap₂, sym, ◌∙◌, subst, arith, inl, inr}
 use Rattle.std.specs.Prelude.{slice_index}
 use Rattle.cpu12_isa.specs.declared.instr.Instr.{Instr}
-use Rattle.cpu12_isa.specs.declared.instr.Instr.TheVariants.{Rev, Revw, Wav}
 use Rattle.cpu12_isa.specs.Act.{outcome, read_by, write_all}
 use Rattle.cpu12_isa.specs.Agreement.{AllShown, WritesStay}
-use Rattle.cpu12_isa.specs.Code.{decode_of, decode_at, six_from, DecodedHasOpcode}
-use Rattle.cpu12_isa.specs.Fits.{FitsRegs, AreBytes, BytesStay}
+use Rattle.cpu12_isa.specs.Code.{decode_of, decode_at, six_from}
+use Rattle.cpu12_isa.specs.Fits.{FitsRegs, AreBytes}
 use Rattle.cpu12_isa.specs.Flags.{interrupts_masked, has}
 use Rattle.cpu12_isa.specs.Memory.{bytes_at}
 use Rattle.cpu12_isa.specs.Regions.{is_hidden}
 use Rattle.cpu12_parts.specs.declared.temps.Temps.{Temps}
 use Rattle.cpu12_parts.specs.declared.temps.Temps.TheVariants.{Free, Running, OnStack}
 use Rattle.cpu12_parts.specs.State.{State}
-use Rattle.cpu12_parts.specs.Cuts.{Kind, rev, revw, wav}
-use Rattle.cpu12_parts.specs.Fits.{PartFits, FitsTemps}
-use Rattle.cpu12_parts.specs.Inside.{own_address, second_byte, GoesOnAt, LeavesSums, WritesNothing}
-use Rattle.cpu12_parts.specs.Laws.{Any, AreKept, IsOff, addresses, IsSteady, RevIsWhole, RevwIsWhole, WavIsWhole}
+use Rattle.cpu12_parts.specs.Fits.{FitsTemps}
+use Rattle.cpu12_parts.specs.Laws.{IsOff, addresses}
 use Rattle.cpu12_parts.specs.Touching.{IsIn, Each}
-use Rattle.cpu12_emul.specs.Simulation.{AreSumsReady, PlainIsStep, PartIsStep, SumsAreStep}
+use Rattle.cpu12_emul.specs.Simulation.{AreSumsReady}
 use Rattle.cpu12_emul.specs.Step.{Left, step_act}
 use Rattle.two_level.specs.Layouts.{fast_layout}
 use Rattle.two_level.specs.Running.{HasFastRom, IsFastStack, fast_code}
 use Rattle.two_runs.specs.Steps.{is_open_inside, is_foreign, is_kept, IsFastState}
 use Rattle.two_runs.proofs.Owned.{all_shown, hides_more, not_written, rom_kept}
-
--- the laws of writes, of an instruction whose parts leave the sums, and of WAV
-pub record WriteLaws : Type 0 where
-  pub writes_stay : WritesStay
-  pub bytes_stay : BytesStay
-
-pub record RuleLaws (i : Instr) (k : Kind) : Type 0 where
-  pub is_step : PartIsStep i k
-  pub fits : PartFits k
-  pub goes_on : GoesOnAt own_address k
-  pub sums : LeavesSums k
-  pub steady : IsSteady k Any
-
-pub record SumLaws : Type 0 where
-  pub first_is_step : PartIsStep Wav wav
-  pub sums_are_step : SumsAreStep
-  pub fits : PartFits wav
-  pub goes_on : GoesOnAt second_byte wav
-  pub writes : WritesNothing wav
-  pub steady : IsSteady wav AreKept
-
--- the laws of steps
-pub record StepLaws : Type 0 where
-  pub decoded_has_opcode : DecodedHasOpcode
-  pub writes : WriteLaws
-  pub plain_is_step : PlainIsStep
-  pub rev : RuleLaws Rev rev
-  pub revw : RuleLaws Revw revw
-  pub wav : SumLaws
-  pub rev_is_whole : RevIsWhole
-  pub revw_is_whole : RevwIsWhole
-  pub wav_is_whole : WavIsWhole
 
 -- what each state of the fast code has, in which I is 1 or not, and SP is this
 pub record Stands (image : List ℕ) (masked : Bool) (sp : ℕ) (s : State) : Type 0 where

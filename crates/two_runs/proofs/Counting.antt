@@ -5,10 +5,10 @@ use Rattle.std.specs.Int.{from_bool}
 use Rattle.arrayvec.specs.ArrayVec.{array_vec_len}
 use Rattle.cpu12_parts.specs.State.{State}
 use Rattle.cpu12_emul.specs.declared.ends.Stepped.{Stepped}
-use Rattle.cpu12_emul.specs.Step.{Next, next_of}
+use Rattle.cpu12_emul.specs.Step.{Next, next_of, is_part}
 use Rattle.cpu12_parts.specs.Cuts.{suspended, wav}
 use Rattle.cpu12_emul.specs.Take.{FrameSeen, frame_of, framed}
-use Rattle.run_law.specs.Forms.{Taking, Ran, takes, taken, told, put_take, is_part, one_if, resumes, stuck, then_rest, run_from, ended}
+use Rattle.run_law.specs.Forms.{Taking, Ran, takes, taken, told, put_take, one_if, resumes, stuck, then_rest, run_from, ended}
 use Rattle.fz_run.specs.Rest.{is_due}
 use Rattle.two_runs.specs.declared.counts.Counts.{Counts}
 use Rattle.two_runs.specs.Runs.{fast_form, fast_run}

@@ -12,8 +12,8 @@ use Rattle.cpu12_emul.specs.Take.{may_interrupt}
 use Rattle.run_law.specs.Uninterrupted.{stepped, uninterrupted, first_open, taken_at}
 use Rattle.run_law.specs.Soundness.{Before, Sound, WritesAreQuiet, AllGood, Ascend}
 use Rattle.run_law.specs.Following.{RunFollows, Completes, Follows}
+use Rattle.run_law.proofs.Algebra.{before_weaker, before_at}
 use Rattle.two_level.specs.Layouts.{fast_layout}
-use Rattle.fz_run.proofs.Algebra.{before_weaker, before_at}
 use Rattle.two_runs.specs.Runs.{fast_form, fast_run}
 use Rattle.two_runs.specs.Steps.{is_open_inside, IsFastState, IsOpenState}
 use Rattle.two_runs.specs.Inside.{AnyMoment, HoldsBytes, Inside, FollowsInside, FastRunsFollow, AreOnStack}

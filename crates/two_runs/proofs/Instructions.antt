@@ -24,8 +24,9 @@ use Rattle.two_level.specs.Layouts.{fast_layout}
 use Rattle.two_level.specs.Running.{IsFastStack, IsInFast, IsFastStep}
 use Rattle.two_runs.specs.Steps.{is_foreign, is_kept}
 use Rattle.two_runs.proofs.Owned.{reads_own, writes_own, code_own}
-use Rattle.two_runs.proofs.Stretches.{Stretch, no_stretch, joined, one_stretch}
-use Rattle.two_runs.proofs.Beginnings.{StepLaws, Begins, Kept, kept, off_ready}
+use Rattle.run_law.specs.Steps.{StepLaws}
+use Rattle.run_law.proofs.Algebra.{Stretch, no_stretch, joined, one_stretch}
+use Rattle.two_runs.proofs.Beginnings.{Begins, Kept, kept, off_ready}
 use Rattle.two_runs.proofs.RuleParts.{parts_at}
 use Rattle.two_runs.proofs.SumParts.{average_at}
 

@@ -8,6 +8,7 @@ use Rattle.run_law.specs.Forms.{RowSeen}
 use Rattle.run_law.specs.Uninterrupted.{uninterrupted, counted, taken_at, taken_before, resumed_of, frames_of}
 use Rattle.run_law.specs.Soundness.{Before}
 use Rattle.run_law.specs.Following.{Completes, AllComplete, expected_row, expected_rows, expected_taken}
+use Rattle.run_law.proofs.Algebra.{before_at}
 use Rattle.interrupt_plan.specs.declared.Request.{Request}
 use Rattle.interrupt_plan.specs.declared.levels.Level.{Level}
 use Rattle.codegen.specs.declared.firmware.Firmware.{Firmware}
@@ -17,7 +18,7 @@ use Rattle.fz_run.specs.Forms.{given, answers_in, with_writes}
 use Rattle.fz_run.specs.Rows.{requests_of}
 use Rattle.fz_run.specs.Facts.{IsStackOfOneCall, FactsBeside}
 use Rattle.fz_run.specs.Following.{rows_of_samples}
-use Rattle.fz_run.proofs.Algebra.{before_at, taken_is}
+use Rattle.fz_run.proofs.Algebra.{taken_is}
 use Rattle.two_runs.specs.Inside.{AreOnStack}
 use Rattle.two_runs.specs.Rows.{levels_of}
 use Rattle.two_runs.specs.Answering.{request_of, plan_of, taken_by}

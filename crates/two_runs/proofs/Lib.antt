@@ -1,4 +1,3 @@
-pub mod Stretches
 pub mod Owned
 pub mod Beginnings
 pub mod RuleParts

@@ -18,15 +18,15 @@ use Rattle.cpu12_emul.specs.declared.ends.Stepped.TheVariants.{Plain}
 use Rattle.cpu12_emul.specs.Step.{Left, applied, next_of}
 use Rattle.run_law.specs.Uninterrupted.{stepped, state_by, uninterrupted, counted}
 use Rattle.run_law.specs.Soundness.{Before}
+use Rattle.run_law.specs.Steps.{StepLaws}
+use Rattle.run_law.proofs.Algebra.{before_weaker, Stretch, joined, one_stretch}
 use Rattle.fuzzy_meaning.specs.declared.block.Block.{Block}
 use Rattle.codegen.specs.Evaluation.{Reads, Writes}
 use Rattle.two_level.specs.Layouts.{fast_layout}
 use Rattle.two_level.specs.Running.{IsFastStack, fast_code, IsInFast, IsFastStep, IsFastAnswered}
-use Rattle.fz_run.proofs.Algebra.{before_weaker}
 use Rattle.two_runs.specs.Steps.{is_foreign, is_kept, IsFastState, IsOpenState, IsFastRun, FastStepsReturn}
 use Rattle.two_runs.proofs.Owned.{code_own, frame_shown, not_written, stack_kept}
-use Rattle.two_runs.proofs.Stretches.{Stretch, joined, one_stretch}
-use Rattle.two_runs.proofs.Beginnings.{StepLaws, Begins, Kept, kept, off_ready, same_decode}
+use Rattle.two_runs.proofs.Beginnings.{Begins, Kept, kept, off_ready, same_decode}
 use Rattle.two_runs.proofs.Pulling.{pulled_same}
 use Rattle.two_runs.proofs.Instructions.{free_stays, begins, plain_next, instruction_at, instructions_at}
 

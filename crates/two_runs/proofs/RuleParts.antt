@@ -18,8 +18,9 @@ use Rattle.cpu12_emul.specs.Step.{Left, Next, kind_of, applied, next_of}
 use Rattle.two_level.specs.Running.{fast_code}
 use Rattle.two_runs.specs.Steps.{is_foreign, is_kept}
 use Rattle.two_runs.proofs.Owned.{code_own}
-use Rattle.two_runs.proofs.Stretches.{Stretch, one_stretch, part_stretch}
-use Rattle.two_runs.proofs.Beginnings.{WriteLaws, RuleLaws, Begins, Kept, kept, off_ready, off_fits, same_decode, rom_stays}
+use Rattle.run_law.specs.Steps.{WriteLaws, RuleLaws}
+use Rattle.run_law.proofs.Algebra.{Stretch, one_stretch, part_stretch}
+use Rattle.two_runs.proofs.Beginnings.{Begins, Kept, kept, off_ready, off_fits, same_decode, rom_stays}
 
 kinded : Kind → ℕ → State → PartEnd → Result Next ℕ
 kinded k flags s e = Ok (record { state = after_part k flags s; kind = kind_of e })

@@ -3,12 +3,12 @@ use Rattle.std.proofs.Common.{◌≡◌, ℕ, ◌<◌, ◌≤◌, nat_le, nat_lt
 use Rattle.std.proofs.lemmas.Bool.{or_parts, cases_lt}
 use Rattle.std.proofs.lemmas.Bool.Decides.{nat_tests}
 use Rattle.cpu12_isa.specs.Agreement.{Agree}
-use Rattle.cpu12_isa.specs.Regions.{is_free, is_hidden, LeavesStack}
+use Rattle.cpu12_isa.specs.Regions.{is_free, is_vector, is_hidden, LeavesStack}
 use Rattle.cpu12_parts.specs.declared.temps.Temps.{Temps}
 use Rattle.cpu12_parts.specs.declared.temps.Temps.TheVariants.{Free, Running, OnStack}
 use Rattle.cpu12_parts.specs.Laws.{IsOff}
 use Rattle.run_law.specs.Soundness.{WritesAreQuiet, Quiet, AreLeft}
-use Rattle.two_level.specs.Layouts.{is_fast_ram, is_fast_rom, is_vector, is_open_to_fast}
+use Rattle.two_level.specs.Layouts.{is_fast_ram, is_fast_rom, is_open_to_fast}
 use Rattle.two_runs.specs.Runs.{entered, fast_run, served_by}
 use Rattle.two_runs.specs.Outer.{OuterIsQuiet, IsQuietRun, RunsFast, IsServable, AreSlow, OuterServes}
 

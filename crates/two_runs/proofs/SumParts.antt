@@ -10,22 +10,23 @@ use Rattle.cpu12_isa.specs.Memory.{plus, bytes_at}
 use Rattle.cpu12_isa.specs.Regions.{is_hidden}
 use Rattle.cpu12_isa.proofs.Algebra.{shown_append}
 use Rattle.cpu12_parts.specs.declared.temps.Temps.{Temps}
-use Rattle.cpu12_parts.specs.declared.temps.Temps.TheVariants.{Free, Running, OnStack}
+use Rattle.cpu12_parts.specs.declared.temps.Temps.TheVariants.{Running}
 use Rattle.cpu12_parts.specs.declared.temps.PartEnd.{PartEnd}
 use Rattle.cpu12_parts.specs.declared.temps.PartEnd.TheVariants.{More}
 use Rattle.cpu12_parts.specs.State.{State, Outcome}
 use Rattle.cpu12_parts.specs.Cuts.{wav, part_of, after_part}
 use Rattle.cpu12_parts.specs.Fits.{FitsTemps, FitsOutcome}
 use Rattle.cpu12_parts.specs.Inside.{second_byte}
-use Rattle.cpu12_parts.specs.Laws.{IsOff, addresses, AreKept, PartsTo}
+use Rattle.cpu12_parts.specs.Laws.{IsOff, addresses, PartsTo}
 use Rattle.cpu12_emul.specs.Simulation.{AreSumsReady, left_of}
 use Rattle.cpu12_emul.specs.declared.ends.Stepped.TheVariants.{LastPart}
 use Rattle.cpu12_emul.specs.Step.{Left, Next, kind_of, step_act, applied, next_of}
 use Rattle.two_level.specs.Running.{HasFastRom}
 use Rattle.two_runs.specs.Steps.{is_open_inside, is_foreign, is_kept}
 use Rattle.two_runs.proofs.Owned.{code_own, own_shown}
-use Rattle.two_runs.proofs.Stretches.{Stretch, one_stretch, part_stretch}
-use Rattle.two_runs.proofs.Beginnings.{SumLaws, Stands, Begins, Kept, kept, off_ready, off_fits}
+use Rattle.run_law.specs.Steps.{SumLaws}
+use Rattle.run_law.proofs.Algebra.{Stretch, one_stretch, part_stretch, kept_sums}
+use Rattle.two_runs.proofs.Beginnings.{Stands, Begins, Kept, kept, off_ready, off_fits}
 
 -- a state within WAV
 record Summing (image : List ℕ) (masked : Bool) (sp : ℕ) (s : State) : Type 0 where
@@ -37,19 +38,6 @@ record Summing (image : List ℕ) (masked : Bool) (sp : ℕ) (s : State) : Type 
   weight_fits : weight < 2 ^ 16
   code : slice_index s.mem s.regs.pc ≡ 60
   own : is_foreign sp s.regs.pc ≡ false
-
--- sums that stand between parts
-record KeptSums (t : Temps) : Type 0 where
-  product : ℕ
-  weight : ℕ
-  running : t ≡ Running product weight
-  product_fits : product < 2 ^ 32
-  weight_fits : weight < 2 ^ 16
-
-kept_sums : (t : Temps) → AreKept t → KeptSums t
-kept_sums Free h = absurd h
-kept_sums OnStack h = absurd h
-kept_sums (Running p w) h = record { product = p; weight = w; running = refl; product_fits = h.0; weight_fits = h.1 }
 
 -- a part leaves memory and SP
 mem_stays : SumLaws → (flags : ℕ) (s : State) → (after_part wav flags s).mem ≡ s.mem

@@ -1,12 +1,11 @@
 -- The outer interrupt in which a fast run runs.
-use Rattle.std.specs.Prelude.{◌≡◌, ℕ, suc, ◌+◌, ◌^◌, ◌<◌, ◌≤◌, true, Option, None, Some, List, length, slice_index}
+use Rattle.std.specs.Prelude.{◌≡◌, ℕ, suc, ◌+◌, ◌^◌, ◌<◌, ◌≤◌, true, Option, None, Some, List, length}
 use Rattle.fuzzy_meaning.specs.declared.block.Block.{Block}
 use Rattle.fuzzy_meaning.specs.Blocks.{IsValid}
 use Rattle.rule_layout.specs.Layouts.{IsWithinLimits}
 use Rattle.cpu12_isa.specs.Agreement.{Agree}
 use Rattle.cpu12_isa.specs.Fits.{FitsRegs, AreBytes}
-use Rattle.cpu12_isa.specs.Memory.{word_of}
-use Rattle.cpu12_isa.specs.Regions.{stack_start, stack_end, is_hidden}
+use Rattle.cpu12_isa.specs.Regions.{stack_start, stack_end, is_hidden, vector_word}
 use Rattle.cpu12_parts.specs.declared.temps.Temps.{Temps}
 use Rattle.cpu12_parts.specs.declared.temps.Temps.TheVariants.{Free, Running, OnStack}
 use Rattle.cpu12_parts.specs.State.{State}
@@ -20,7 +19,7 @@ use Rattle.cpu12_emul.specs.Simulation.{HasRoom}
 use Rattle.run_law.specs.Forms.{Ran}
 use Rattle.run_law.specs.Soundness.{Ascend, Begins, Quiet}
 use Rattle.two_level.specs.declared.two.Two.{Two}
-use Rattle.two_level.specs.Layouts.{fast_layout, is_fast_ram, vector, is_open_to_fast}
+use Rattle.two_level.specs.Layouts.{fast_layout, is_fast_ram, is_open_to_fast}
 use Rattle.two_level.specs.Images.{fast_most, IsTwoOf}
 use Rattle.two_level.specs.Running.{HasFastRom, IsEntered}
 use Rattle.two_runs.specs.Runs.{entered, fast_run, Outer, served}
@@ -29,7 +28,7 @@ use Rattle.two_runs.specs.Steps.{IsFastRun}
 -- the fast code stands in memory, and the vector leads to it
 pub record HasFastCode (image mem : List ℕ) : Type 0 where
   pub rom : HasFastRom image mem
-  pub enters : word_of (slice_index mem vector) (slice_index mem (vector + 1)) ≡ fast_layout.code
+  pub enters : vector_word mem ≡ fast_layout.code
 
 -- An outer interrupt may enter the fast code from here, after these answers: no sums run, and below SP there is room
 -- for its own frame and for one of an inner interrupt.

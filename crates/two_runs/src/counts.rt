@@ -2,12 +2,12 @@
 ghost use Rattle.std.specs.Prelude.{ℕ, ◌≡◌, ◌≤◌, ◌<◌, ◌+◌, ◌^◌, List, [], true, false, IsTrue};
 ghost use Rattle.arrayvec.specs.ArrayVec.{array_vec_len};
 ghost use Rattle.cpu12_emul.specs.Take.{may_interrupt};
-ghost use Rattle.run_law.specs.Forms.{is_part, one_if};
+ghost use Rattle.run_law.specs.Forms.{one_if};
 ghost use Rattle.two_runs.specs.Runs.{fast_form};
 ghost use Rattle.two_runs.specs.Counts.{due_at, past_of, rest_of, counted_at};
 
 use arrayvec::ArrayVec;
-use cpu12_emul::ends::{Frame, Stepped};
+use cpu12_emul::ends::Frame;
 use cpu12_emul::machine::Machine;
 use cpu12_isa::mem::Mem;
 
@@ -46,15 +46,6 @@ pub struct Counts {
     pub inside: bool,
     /// What the inner interrupts pushed, of which each inner moment so far has one.
     pub frames: ArrayVec<InnerFrame, 8>,
-}
-
-fn is_part(kind: Stepped) -> bool
-    ensures { result ≡ is_part kind }
-{
-    match kind {
-        Stepped::Part => true,
-        Stepped::Plain | Stepped::LastPart => false,
-    }
 }
 
 impl Counts {
@@ -128,7 +119,7 @@ impl Counts {
     {
         match m.step() {
             Ok(kind) => {
-                self.inside = is_part(kind);
+                self.inside = kind.is_part();
                 self.instrs += u32::from(!self.inside);
                 self.steps += 1;
                 true

@@ -8,20 +8,14 @@ ghost use Rattle.two_runs.specs.Outer.{OuterEnters, OuterIsServable, OuterIsQuie
 
 use crate::inside::InsideForm;
 use crate::levels::LevelForm;
-use cpu12_emul::laws::{
-    holds_image, plain_is_step, rev_is_step, revw_is_step, step_fits, step_keeps, sums_are_step,
-    takes_quietly, wav_is_step,
-};
-use cpu12_isa::laws::{bytes_stay, decoded_has_opcode, frame_comes_back, writes_stay};
-use cpu12_parts::laws::{
-    rev_fits, rev_is_whole, rev_stays, rev_steady, revw_fits, revw_is_whole, revw_stays,
-    revw_steady, wav_fits, wav_is_whole, wav_stays, wav_steady, wav_suspends,
-};
+use cpu12_emul::laws::{holds_image, step_fits, step_keeps, takes_quietly};
+use cpu12_isa::laws::{bytes_stay, frame_comes_back, writes_stay};
+use cpu12_parts::laws::wav_suspends;
 use fz_run::laws::{
     answers_under_plans, firmware_runs_beside, first_states_alike, given_leaves_open,
     requests_are_good, steps_leave_open,
 };
-use run_law::laws::{run_follows, runs_follow, writes_are_quiet};
+use run_law::laws::{run_follows, runs_follow, step_laws, writes_are_quiet};
 use two_level::{fast_answers_entered, two_stand_beside};
 
 /// The whole instructions with which the fast code answers, and its return, are steps from the state
@@ -30,26 +24,7 @@ use two_level::{fast_answers_entered, two_stand_beside};
 pub fn fast_steps_return()
     ensures { FastStepsReturn }
 {
-    decoded_has_opcode();
-    writes_stay();
-    bytes_stay();
-    plain_is_step();
-    rev_is_step();
-    rev_fits();
-    rev_stays();
-    rev_steady();
-    rev_is_whole();
-    revw_is_step();
-    revw_fits();
-    revw_stays();
-    revw_steady();
-    revw_is_whole();
-    wav_is_step();
-    sums_are_step();
-    wav_fits();
-    wav_stays();
-    wav_steady();
-    wav_is_whole();
+    step_laws();
 }
 
 /// From wherever the fast code of two blocks is entered it has such a run.
