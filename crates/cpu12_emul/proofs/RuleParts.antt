@@ -1,7 +1,7 @@
 -- Parts of REV and REVW that go on, and leave the instruction where it stands, are steps.
-use Rattle.std.proofs.Common.{◌≡◌, ◌≢◌, ◌==◌, ℕ, zero, suc, ◌+◌, min, max, Bool, true, false, Result, Ok, List, [], ◌∷◌, get_or, get_or-set_other, refl, ap, sym, ◌∙◌, subst, arith}
+use Rattle.std.proofs.Common.{◌≡◌, ◌≢◌, ◌==◌, ◌<◌, ℕ, ◌+◌, min, max, Bool, true, false, Result, Ok, List, [], ◌∷◌, get_or, get_or-set_other, refl, ap, sym, ◌∙◌, subst, arith}
 use Rattle.std.specs.Prelude.{if◌then◌else◌}
-use Rattle.std.proofs.lemmas.Bool.{eqb-true}
+use Rattle.std.proofs.lemmas.Bool.{eqb-true, ne_eqb}
 use Rattle.cpu12_isa.specs.declared.instr.Regs.{Regs}
 use Rattle.cpu12_isa.specs.declared.instr.Instr.{Instr}
 use Rattle.cpu12_isa.specs.declared.instr.Instr.TheVariants.{Rev, Revw}
@@ -9,6 +9,7 @@ use Rattle.cpu12_isa.specs.Act.{Act, outcome, write_all}
 use Rattle.cpu12_isa.specs.Code.{decode_at, decode_of}
 use Rattle.cpu12_isa.specs.Flags.{has, put, opened, carry, overflow, hnzc, hnz}
 use Rattle.cpu12_isa.specs.Memory.{plus, word_of, bytes_at}
+use Rattle.cpu12_isa.proofs.Algebra.{bit, bit_or_is, bit_and_is}
 use Rattle.cpu12_parts.specs.declared.temps.Temps.{Temps}
 use Rattle.cpu12_parts.specs.declared.temps.PartEnd.{PartEnd}
 use Rattle.cpu12_parts.specs.declared.temps.PartEnd.TheVariants.{More, Done}
@@ -16,21 +17,13 @@ use Rattle.cpu12_parts.specs.Cuts.{Kind, rev, revw, part_of, after_part}
 use Rattle.cpu12_parts.specs.Inside.{own_address, GoesOnAt, LeavesSums}
 use Rattle.cpu12_parts.specs.Laws.{IsOff, IsSteady, Any, state_of}
 use Rattle.cpu12_parts.specs.Parts.{leaving, met, rev_element, revw_element}
-use Rattle.cpu12_parts.specs.State.{State, Outcome}
-use Rattle.cpu12_emul.specs.declared.ends.Stepped.{Stepped}
+use Rattle.cpu12_parts.specs.State.{State, Outcome, state_after}
 use Rattle.cpu12_emul.specs.declared.ends.Stepped.TheVariants.{Part}
-use Rattle.cpu12_emul.specs.Ruling.{Stands, GoesOnBeside}
-use Rattle.cpu12_emul.specs.Run.{StepsOf, PartsTo}
+use Rattle.cpu12_emul.specs.Ruling.{Stands, GoesOnBeside, Ruled, met_by_rev}
 use Rattle.cpu12_emul.specs.Simulation.{PartIsStep}
 use Rattle.cpu12_emul.specs.Step.{Left, kind_of, applied, next_of}
+use Rattle.cpu12_emul.proofs.Runs.{StepsOf-append}
 use Rattle.cpu12_emul.proofs.Stepping.{rev_is_step, revw_is_step}
-
--- one step more
-StepsOf-suc : (kind : Stepped) (P : State → Type 0) (flags n : ℕ) (s t u : State) → StepsOf kind P flags n s t → next_of flags t ≡ Ok (record { state = u; kind = kind })
-    → P u → StepsOf kind P flags (suc n) s u
-StepsOf-suc kind P flags zero s t u to step p =
-    subst (λ (r : State). StepsOf kind P flags 1 r u) (sym to) (u, (step, p, refl))
-StepsOf-suc kind P flags (suc n) s t u to step p = (to.0, (to.1.0, to.1.1, StepsOf-suc kind P flags n to.0 t u to.1.2 step p))
 
 -- The part goes on, and writes at most the byte at one address.
 record Passes (at : ℕ) (m : List ℕ) (o : Outcome) : Type 0 where
@@ -114,40 +107,56 @@ revw_ruling stays sums steady = record {
   stack = steady.stack;
 }
 
--- n parts lead from s to t, and the instruction stands where it stood
-pub record Ruled (opcode flags : ℕ) (s t : State) (n : ℕ) : Type 0 where
-  pub parts : PartsTo (λ u. (u.regs.pc ≡ s.regs.pc) × (u.regs.sp ≡ s.regs.sp)) flags n s t
-  pub pc : t.regs.pc ≡ s.regs.pc
-  pub sp : t.regs.sp ≡ s.regs.sp
-  pub temps : t.temps ≡ s.temps
-  pub stands : Stands opcode s.regs.pc t.mem
-
 pub Ruled-none : (opcode flags : ℕ) (s : State) → Stands opcode s.regs.pc s.mem → Ruled opcode flags s s 0
 Ruled-none opcode flags s stands = record { parts = refl; pc = refl; sp = refl; temps = refl; stands = stands }
 
-Ruled-more : (i : Instr) (k : Kind) (opcode flags : ℕ) (s t : State) (n at stop e : ℕ) → Ruling i k opcode → IsOff s.temps → Ruled opcode flags s t n
-    → GoesOnBeside stop e at t.regs.pc → Passes at t.mem (part_of k flags t) → Ruled opcode flags s (after_part k flags t) (n + 1)
-Ruled-more i k opcode flags s t n at stop e law off is beside passes =
-    let u : State = after_part k flags t in
-    let off_there : IsOff t.temps = subst IsOff (sym is.temps) off in
-    let there : Stands opcode t.regs.pc t.mem = subst (λ (p : ℕ). Stands opcode p t.mem) (sym is.pc) is.stands in
-    let step : next_of flags t ≡ Ok (record { state = u; kind = Part }) =
-    ap (λ (l : Result Left ℕ). applied l t.mem) (law.is_step flags t off_there (law.decoded t.mem t.regs.pc there)).0
-    ∙ ap (λ (end : PartEnd). Ok (record { state = u; kind = kind_of end })) passes.end in
-    let pc : u.regs.pc ≡ s.regs.pc = (law.stays flags t passes.end).1 ∙ is.pc in
-    let sp : u.regs.sp ≡ s.regs.sp = law.stack flags t ∙ is.sp in
-    let after : Stands opcode t.regs.pc u.mem = record {
-      prebyte = passes.others t.regs.pc beside.first ∙ there.prebyte;
-      code = passes.others (plus t.regs.pc 1) beside.second ∙ there.code;
-    } in
-    let P : State → Type 0 = λ v. (v.regs.pc ≡ s.regs.pc) × (v.regs.sp ≡ s.regs.sp) in
+-- The part goes on, and leaves the two bytes at PC.
+record Keeps (pc : ℕ) (m : List ℕ) (o : Outcome) : Type 0 where
+  end : o.end ≡ More
+  prebyte : get_or (write_all o.writes m) pc 0 ≡ get_or m pc 0
+  code : get_or (write_all o.writes m) (plus pc 1) 0 ≡ get_or m (plus pc 1) 0
+
+keeps_beside : (stop e at pc : ℕ) (m : List ℕ) (o : Outcome) → GoesOnBeside stop e at pc → Passes at m o → Keeps pc m o
+keeps_beside stop e at pc m o beside passes = record {
+  end = passes.end;
+  prebyte = passes.others pc beside.first;
+  code = passes.others (plus pc 1) beside.second;
+}
+
+-- one part
+Ruled-one : (i : Instr) (k : Kind) (opcode flags : ℕ) (s : State) → Ruling i k opcode → IsOff s.temps → Stands opcode s.regs.pc s.mem
+    → Keeps s.regs.pc s.mem (part_of k flags s) → Ruled opcode flags s (after_part k flags s) 1
+Ruled-one i k opcode flags s law off stands keeps =
+    let t : State = after_part k flags s in
+    let step : next_of flags s ≡ Ok (record { state = t; kind = Part }) =
+    ap (λ (l : Result Left ℕ). applied l s.mem) (law.is_step flags s off (law.decoded s.mem s.regs.pc stands)).0
+    ∙ ap (λ (end : PartEnd). Ok (record { state = t; kind = kind_of end })) keeps.end in
+    let pc : t.regs.pc ≡ s.regs.pc = (law.stays flags s keeps.end).1 in
+    let sp : t.regs.sp ≡ s.regs.sp = law.stack flags s in
     record {
-      parts = subst (λ (j : ℕ). PartsTo P flags j s u) (let j : suc n ≡ n + 1 = omega arith in j)
-          (StepsOf-suc Part P flags n s t u is.parts step (pc, sp));
+      parts = (t, (step, (pc, sp), refl));
       pc = pc;
       sp = sp;
-      temps = law.sums flags t ∙ is.temps;
-      stands = subst (λ (p : ℕ). Stands opcode p u.mem) is.pc after;
+      temps = law.sums flags s;
+      stands = record { prebyte = keeps.prebyte ∙ stands.prebyte; code = keeps.code ∙ stands.code };
+    }
+
+-- the instruction stands at PC
+pub Ruled-here : (opcode flags : ℕ) (s t : State) (n : ℕ) → Ruled opcode flags s t n → Stands opcode t.regs.pc t.mem
+Ruled-here opcode flags s t n is = subst (λ (p : ℕ). Stands opcode p t.mem) (sym is.pc) is.stands
+
+-- parts, and then further ones
+pub Ruled-then : (opcode flags : ℕ) (s t u : State) (n k : ℕ) → IsOff s.temps → Ruled opcode flags s t n
+    → (IsOff t.temps → Stands opcode t.regs.pc t.mem → Ruled opcode flags t u k) → Ruled opcode flags s u (n + k)
+Ruled-then opcode flags s t u n k off is further =
+    let more : Ruled opcode flags t u k = further (subst IsOff (sym is.temps) off) (Ruled-here opcode flags s t n is) in
+    record {
+      parts = StepsOf-append Part (λ v. (v.regs.pc ≡ s.regs.pc) × (v.regs.sp ≡ s.regs.sp)) (λ v. (v.regs.pc ≡ t.regs.pc) × (v.regs.sp ≡ t.regs.sp))
+          (λ v at. (at.0 ∙ is.pc, at.1 ∙ is.sp)) flags n k s t u is.parts more.parts;
+      pc = more.pc ∙ is.pc;
+      sp = more.sp ∙ is.sp;
+      temps = more.temps ∙ is.temps;
+      stands = subst (λ (p : ℕ). Stands opcode p u.mem) is.pc more.stands;
     }
 
 -- a state after a part
@@ -164,24 +173,51 @@ after_part_is k flags t u is =
     ∙ ap (λ (p : Temps). state_of u.regs p mem) (sym is.temps)
     ∙ ap (λ (m : List ℕ). state_of u.regs u.temps m) (sym is.mem)
 
--- one part more
-pub Ruled-rev : (flags : ℕ) (s t u : State) (n : ℕ) → Ruling Rev rev 0x3A → IsOff s.temps → Ruled 0x3A flags s t n
-    → (let e = get_or t.mem t.regs.x 0 in GoesOnBeside 255 e (plus t.regs.y e) t.regs.pc) → IsAfter rev flags t u → Ruled 0x3A flags s u (n + 1)
-Ruled-rev flags s t u n law off is beside after =
-    let e : ℕ = get_or t.mem t.regs.x 0 in
-    subst (λ (v : State). Ruled 0x3A flags s v (n + 1)) (after_part_is rev flags t u after)
-    (Ruled-more Rev rev 0x3A flags s t n (plus t.regs.y e) 255 e law off is beside (rev_passes flags t.regs t.temps e t.mem beside.goes_on))
+pub Ruled-rev : (flags : ℕ) (s t : State) → Ruling Rev rev 0x3A → (let e = get_or s.mem s.regs.x 0 in GoesOnBeside 255 e (plus s.regs.y e) s.regs.pc)
+    → IsAfter rev flags s t → IsOff s.temps → Stands 0x3A s.regs.pc s.mem → Ruled 0x3A flags s t 1
+Ruled-rev flags s t law beside after off stands =
+    let e : ℕ = get_or s.mem s.regs.x 0 in
+    let passes : Passes (plus s.regs.y e) s.mem (part_of rev flags s) = rev_passes flags s.regs s.temps e s.mem beside.goes_on in
+    subst (λ (u : State). Ruled 0x3A flags s u 1) (after_part_is rev flags s t after)
+    (Ruled-one Rev rev 0x3A flags s law off stands (keeps_beside 255 e (plus s.regs.y e) s.regs.pc s.mem (part_of rev flags s) beside passes))
 
-pub Ruled-revw : (flags : ℕ) (s t u : State) (n : ℕ) → Ruling Revw revw 0x3B → IsOff s.temps → Ruled 0x3B flags s t n
-    → (let e = word_of (get_or t.mem t.regs.x 0) (get_or t.mem (plus t.regs.x 1) 0) in GoesOnBeside 65535 e e t.regs.pc) → IsAfter revw flags t u
-    → Ruled 0x3B flags s u (n + 1)
-Ruled-revw flags s t u n law off is beside after =
-    let e : ℕ = word_of (get_or t.mem t.regs.x 0) (get_or t.mem (plus t.regs.x 1) 0) in
-    subst (λ (v : State). Ruled 0x3B flags s v (n + 1)) (after_part_is revw flags t u after)
-    (Ruled-more Revw revw 0x3B flags s t n e 65535 e law off is beside (revw_passes flags t.regs t.temps e t.mem beside.goes_on))
+pub Ruled-revw : (flags : ℕ) (s t : State) → Ruling Revw revw 0x3B
+    → (let e = word_of (get_or s.mem s.regs.x 0) (get_or s.mem (plus s.regs.x 1) 0) in GoesOnBeside 65535 e e s.regs.pc)
+    → IsAfter revw flags s t → IsOff s.temps → Stands 0x3B s.regs.pc s.mem → Ruled 0x3B flags s t 1
+Ruled-revw flags s t law beside after off stands =
+    let e : ℕ = word_of (get_or s.mem s.regs.x 0) (get_or s.mem (plus s.regs.x 1) 0) in
+    let passes : Passes e s.mem (part_of revw flags s) = revw_passes flags s.regs s.temps e s.mem beside.goes_on in
+    subst (λ (u : State). Ruled 0x3B flags s u 1) (after_part_is revw flags s t after)
+    (Ruled-one Revw revw 0x3B flags s law off stands (keeps_beside 65535 e e s.regs.pc s.mem (part_of revw flags s) beside passes))
 
--- the parts, where the sums are said to be those before
-pub Ruled-parts : (opcode flags : ℕ) (s : State) (r : Regs) (t : Temps) (mem : List ℕ) (n : ℕ) → Ruled opcode flags s (state_of r t mem) n
-    → PartsTo (λ u. (u.regs.pc ≡ s.regs.pc) × (u.regs.sp ≡ s.regs.sp)) flags n s (state_of r s.temps mem)
-Ruled-parts opcode flags s r t mem n is =
-    subst (λ (p : Temps). PartsTo (λ u. (u.regs.pc ≡ s.regs.pc) × (u.regs.sp ≡ s.regs.sp)) flags n s (state_of r p mem)) is.temps is.parts
+-- an antecedent of REV
+abbrev met_outcome : ℕ → State → Outcome
+met_outcome flags s = record { regs = met_by_rev flags s.mem s.regs; temps = s.temps; writes = []; end = More }
+
+met_by_element : (flags : ℕ) (r : Regs) (t : Temps) (e : ℕ) (m : List ℕ) (o : Outcome) → e < 254 → has r.ccr overflow ≡ false
+    → record { regs = record r { a = min r.a (get_or m (plus r.y e) 0); x = plus r.x 1; ccr = opened r.ccr hnzc flags }; temps = t; writes = []; end = More } ≡ o
+    → outcome (rev_element flags r t e) m ≡ o
+met_by_element flags r t e m o l v is =
+    let h5 = ne_eqb e 255 (λ q. omega arith) in
+    let h4 = ne_eqb e 254 (λ q. omega arith) in
+    rw (h5, h4, v) is
+
+met_by_part : (flags : ℕ) (s : State) → get_or s.mem s.regs.x 0 < 254 → has s.regs.ccr overflow ≡ false → part_of rev flags s ≡ met_outcome flags s
+met_by_part flags s l v = met_by_element flags s.regs s.temps (get_or s.mem s.regs.x 0) s.mem (met_outcome flags s) l v refl
+
+pub Ruled-antecedent : (flags : ℕ) (s : State) → Ruling Rev rev 0x3A → get_or s.mem s.regs.x 0 < 254 → has s.regs.ccr overflow ≡ false
+    → IsOff s.temps → Stands 0x3A s.regs.pc s.mem → Ruled 0x3A flags s (state_of (met_by_rev flags s.mem s.regs) s.temps s.mem) 1
+Ruled-antecedent flags s law l v off stands =
+    let is : part_of rev flags s ≡ met_outcome flags s = met_by_part flags s l v in
+    subst (λ (o : Outcome). Ruled 0x3A flags s (state_after o s.mem) 1) is
+    (Ruled-one Rev rev 0x3A flags s law off stands
+    (subst (λ (o : Outcome). Keeps s.regs.pc s.mem o) (sym is) (record { end = refl; prebyte = refl; code = refl })))
+
+-- V after it
+pub overflow_met : (flags : ℕ) (mem : List ℕ) (r : Regs) → has (met_by_rev flags mem r).ccr overflow ≡ has r.ccr overflow
+overflow_met flags mem r = let v : bit (opened r.ccr hnzc flags).0 1 ≡ bit r.ccr.0 1 = simp (bit_or_is, bit_and_is) in v
+
+-- the sums of the state that parts lead to are those before
+pub Ruled-sums : (opcode flags : ℕ) (s : State) (r : Regs) (t : Temps) (mem : List ℕ) (n : ℕ) → Ruled opcode flags s (state_of r t mem) n
+    → Ruled opcode flags s (state_of r s.temps mem) n
+Ruled-sums opcode flags s r t mem n is = subst (λ (p : Temps). Ruled opcode flags s (state_of r p mem) n) is.temps is

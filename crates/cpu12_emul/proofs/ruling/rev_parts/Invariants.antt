@@ -1,6 +1,6 @@
 use Rattle.std.proofs.Common.{◌≤◌, ◌-◌}
 use Rattle.cpu12_parts.specs.Laws.{state_of}
-use Rattle.cpu12_emul.proofs.RuleParts.{Ruled}
+use Rattle.cpu12_emul.specs.Ruling.{Ruled}
 use Rattle.cpu12_emul.proofs.ruling.rev_parts.Given as goal
 
 abbrev pub invariant-loop-done : goal.invariant-loop-done
