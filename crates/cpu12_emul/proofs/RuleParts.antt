@@ -141,15 +141,11 @@ Ruled-one i k opcode flags s law off stands keeps =
       stands = record { prebyte = keeps.prebyte ∙ stands.prebyte; code = keeps.code ∙ stands.code };
     }
 
--- the instruction stands at PC
-pub Ruled-here : (opcode flags : ℕ) (s t : State) (n : ℕ) → Ruled opcode flags s t n → Stands opcode t.regs.pc t.mem
-Ruled-here opcode flags s t n is = subst (λ (p : ℕ). Stands opcode p t.mem) (sym is.pc) is.stands
-
 -- parts, and then further ones
 pub Ruled-then : (opcode flags : ℕ) (s t u : State) (n k : ℕ) → IsOff s.temps → Ruled opcode flags s t n
     → (IsOff t.temps → Stands opcode t.regs.pc t.mem → Ruled opcode flags t u k) → Ruled opcode flags s u (n + k)
 Ruled-then opcode flags s t u n k off is further =
-    let more : Ruled opcode flags t u k = further (subst IsOff (sym is.temps) off) (Ruled-here opcode flags s t n is) in
+    let more : Ruled opcode flags t u k = further (subst IsOff (sym is.temps) off) (subst (λ (p : ℕ). Stands opcode p t.mem) (sym is.pc) is.stands) in
     record {
       parts = StepsOf-append Part (λ v. (v.regs.pc ≡ s.regs.pc) × (v.regs.sp ≡ s.regs.sp)) (λ v. (v.regs.pc ≡ t.regs.pc) × (v.regs.sp ≡ t.regs.sp))
           (λ v at. (at.0 ∙ is.pc, at.1 ∙ is.sp)) flags n k s t u is.parts more.parts;

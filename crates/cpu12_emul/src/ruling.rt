@@ -59,13 +59,12 @@ fn antecedent<M: Mem>(m: &M, regs: Regs, flags: u8) -> Option<Regs>
     Some(r)
 }
 
-/// Does the antecedents of REV that stand at X, at most `most`. They write nothing. Answers the registers
-/// after them, and how many they were.
+/// Does the parts of REV whose antecedents stand at X, at most `most`. None writes, so where their bytes
+/// are does not matter. Answers the registers after them, and how many they were.
 #[inline(always)]
 fn antecedents<M: Mem>(m: &M, regs: Regs, flags: u8, most: u32) -> (Regs, u32)
-    requires stands { Stands 0x3A regs.pc (M.bytes m.now) }
-    ensures parts { (t : Temps) → IsOff t → Ruled 0x3A flags (state_of regs t (M.bytes m.now))
-        (state_of result.0 t (M.bytes m.now)) result.1 }
+    ensures parts { (t : Temps) → IsOff t → Stands 0x3A regs.pc (M.bytes m.now)
+        → Ruled 0x3A flags (state_of regs t (M.bytes m.now)) (state_of result.0 t (M.bytes m.now)) result.1 }
     ensures most { result.1 ≤ most }
 {
     rev_stays();
@@ -131,7 +130,7 @@ fn revw_parts<M: Mem>(m: &mut M, regs: Regs, temps: Temps, flags: u8, most: u32)
 impl<M: Mem> Machine<M> {
     /// Does parts of REV or REVW at once where one of them stands at PC and no sums of WAV run: parts that
     /// are not the last, at most `most`, up to one that might write where the instruction stands. Answers
-    /// how many; the next step is done by `step`. PC and SP stay.
+    /// how many, 0 where neither stands there; the next step is done by `step`. PC and SP stay.
     #[inline(never)]
     pub fn rule_parts(&mut self, most: u32) -> u32
         ensures steps { PartsTo (λ s. (s.regs.pc ≡ self.old.state.regs.pc) × (s.regs.sp ≡ self.old.state.regs.sp)) self.old.flags result self.old.state self.new.state }

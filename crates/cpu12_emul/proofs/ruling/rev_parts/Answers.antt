@@ -3,21 +3,8 @@ use Rattle.cpu12_parts.specs.Cuts.{rev}
 use Rattle.cpu12_parts.specs.Laws.{state_of}
 use Rattle.cpu12_parts.specs.State.{State}
 use Rattle.cpu12_emul.specs.Ruling.{Ruled}
-use Rattle.cpu12_emul.proofs.RuleParts.{IsAfter, Ruled-rev, Ruled-then, Ruled-here, Ruled-sums, rev_ruling}
+use Rattle.cpu12_emul.proofs.RuleParts.{IsAfter, Ruled-rev, Ruled-then, Ruled-sums, rev_ruling}
 use Rattle.cpu12_emul.proofs.ruling.rev_parts.Goals as goal
-
-pub antecedents-more-requires : goal.antecedents-more-requires
-antecedents-more-requires g c =
-    let a = c.args in
-    let l = c.loop-done in
-    let s : State = state_of a.regs a.temps (g.M.Mem.bytes a.m.now) in
-    let t : State = state_of l.r l.t (g.M.Mem.bytes l.m) in
-    let u : State = state_of c.part.new.r c.part.new._t (g.M.Mem.bytes c.part.new.m) in
-    let law = rev_ruling c.rev_stays.ensures.goes_on c.rev_stays.ensures.sums c.rev_steady.ensures in
-    let after : IsAfter rev a.flags t u = record { regs = c.part.ensures.regs; temps = c.part.ensures.temps; mem = c.part.ensures.mem } in
-    let ruled : Ruled 0x3A a.flags s u (l.done + 1) =
-    Ruled-then 0x3A a.flags s t u l.done 1 c.requires.off l.invariant.ruled (Ruled-rev a.flags t u law (c.rev_goes_on.ensures c.if-rev_goes_on.true) after) in
-    record { stands = Ruled-here 0x3A a.flags s u (l.done + 1) ruled }
 
 pub loop-done-preserved : goal.loop-done-preserved
 loop-done-preserved g c =
@@ -32,7 +19,7 @@ loop-done-preserved g c =
     Ruled-then 0x3A a.flags s t u l.done 1 c.requires.off l.invariant.ruled (Ruled-rev a.flags t u law (c.rev_goes_on.ensures c.if-rev_goes_on.true) after) in
     let v : State = state_of c.antecedents-more.result.0 c.part.new._t (g.M.Mem.bytes c.part.new.m) in
     record {
-      ruled = Ruled-then 0x3A a.flags s u v (l.done + 1) c.antecedents-more.result.1 c.requires.off ruled (λ off stands. c.antecedents-more.ensures.parts u.temps off);
+      ruled = Ruled-then 0x3A a.flags s u v (l.done + 1) c.antecedents-more.result.1 c.requires.off ruled (c.antecedents-more.ensures.parts u.temps);
       within = omega arith;
     }
 
