@@ -19,7 +19,7 @@ use Rattle.cpu12_parts.specs.Laws.{IsOff, IsSteady, Any, state_of}
 use Rattle.cpu12_parts.specs.Parts.{leaving, met, rev_element, revw_element}
 use Rattle.cpu12_parts.specs.State.{State, Outcome, state_after}
 use Rattle.cpu12_emul.specs.declared.ends.Stepped.TheVariants.{Part}
-use Rattle.cpu12_emul.specs.Ruling.{Stands, GoesOnBeside, Ruled, met_by_rev}
+use Rattle.cpu12_emul.specs.Ruling.{Stands, GoesOnBeside, RevGoesOn, RevwGoesOn, Ruled, met_by_rev}
 use Rattle.cpu12_emul.specs.Simulation.{PartIsStep}
 use Rattle.cpu12_emul.specs.Step.{Left, kind_of, applied, next_of}
 use Rattle.cpu12_emul.proofs.Runs.{StepsOf-append}
@@ -76,10 +76,34 @@ revw_passes flags r t e m ne =
     (record { end = refl; others = λ k n. refl })))
     (met_passes r s t e m))
 
--- an instruction in parts that stays at PC
-pub record Ruling (i : Instr) (k : Kind) (opcode : ℕ) : Type 0 where
+-- The part goes on, and leaves the two bytes at PC.
+pub record Keeps (pc : ℕ) (m : List ℕ) (o : Outcome) : Type 0 where
+  pub end : o.end ≡ More
+  pub prebyte : get_or (write_all o.writes m) pc 0 ≡ get_or m pc 0
+  pub code : get_or (write_all o.writes m) (plus pc 1) 0 ≡ get_or m (plus pc 1) 0
+
+keeps_beside : (stop e at pc : ℕ) (m : List ℕ) (o : Outcome) → GoesOnBeside stop e at pc → Passes at m o → Keeps pc m o
+keeps_beside stop e at pc m o beside passes = record {
+  end = passes.end;
+  prebyte = passes.others pc beside.first;
+  code = passes.others (plus pc 1) beside.second;
+}
+
+rev_keeps : (flags : ℕ) (s : State) → RevGoesOn s.mem s.regs → Keeps s.regs.pc s.mem (part_of rev flags s)
+rev_keeps flags s on =
+    let e : ℕ = get_or s.mem s.regs.x 0 in
+    keeps_beside 255 e (plus s.regs.y e) s.regs.pc s.mem (part_of rev flags s) on (rev_passes flags s.regs s.temps e s.mem on.goes_on)
+
+revw_keeps : (flags : ℕ) (s : State) → RevwGoesOn s.mem s.regs → Keeps s.regs.pc s.mem (part_of revw flags s)
+revw_keeps flags s on =
+    let e : ℕ = word_of (get_or s.mem s.regs.x 0) (get_or s.mem (plus s.regs.x 1) 0) in
+    keeps_beside 65535 e e s.regs.pc s.mem (part_of revw flags s) on (revw_passes flags s.regs s.temps e s.mem on.goes_on)
+
+-- an instruction in parts that stays at PC, and keeps its bytes where a part goes on
+pub record Ruling (i : Instr) (k : Kind) (opcode : ℕ) (On : List ℕ → Regs → Type 0) : Type 0 where
   pub is_step : PartIsStep i k
   pub decoded : (mem : List ℕ) (pc : ℕ) → Stands opcode pc mem → decode_at mem pc ≡ Ok i
+  pub keeps : (flags : ℕ) (s : State) → On s.mem s.regs → Keeps s.regs.pc s.mem (part_of k flags s)
   pub stays : GoesOnAt own_address k
   pub sums : LeavesSums k
   pub stack : (flags : ℕ) (s : State) → (part_of k flags s).regs.sp ≡ s.regs.sp
@@ -89,19 +113,21 @@ decoded_by i opcode is mem pc s =
     let rest : List ℕ = bytes_at mem (plus pc 2 ∷ plus pc 3 ∷ plus pc 4 ∷ plus pc 5 ∷ []) in
     ap (λ (b : ℕ). decode_of (b ∷ get_or mem (plus pc 1) 0 ∷ rest)) s.prebyte ∙ ap (λ (b : ℕ). decode_of (0x18 ∷ b ∷ rest)) s.code ∙ is rest
 
-pub rev_ruling : GoesOnAt own_address rev → LeavesSums rev → IsSteady rev Any → Ruling Rev rev 0x3A
+pub rev_ruling : GoesOnAt own_address rev → LeavesSums rev → IsSteady rev Any → Ruling Rev rev 0x3A RevGoesOn
 rev_ruling stays sums steady = record {
   is_step = rev_is_step;
   decoded = decoded_by Rev 0x3A (λ rest. refl);
+  keeps = rev_keeps;
   stays = stays;
   sums = sums;
   stack = steady.stack;
 }
 
-pub revw_ruling : GoesOnAt own_address revw → LeavesSums revw → IsSteady revw Any → Ruling Revw revw 0x3B
+pub revw_ruling : GoesOnAt own_address revw → LeavesSums revw → IsSteady revw Any → Ruling Revw revw 0x3B RevwGoesOn
 revw_ruling stays sums steady = record {
   is_step = revw_is_step;
   decoded = decoded_by Revw 0x3B (λ rest. refl);
+  keeps = revw_keeps;
   stays = stays;
   sums = sums;
   stack = steady.stack;
@@ -110,23 +136,10 @@ revw_ruling stays sums steady = record {
 pub Ruled-none : (opcode flags : ℕ) (s : State) → Stands opcode s.regs.pc s.mem → Ruled opcode flags s s 0
 Ruled-none opcode flags s stands = record { parts = refl; pc = refl; sp = refl; temps = refl; stands = stands }
 
--- The part goes on, and leaves the two bytes at PC.
-record Keeps (pc : ℕ) (m : List ℕ) (o : Outcome) : Type 0 where
-  end : o.end ≡ More
-  prebyte : get_or (write_all o.writes m) pc 0 ≡ get_or m pc 0
-  code : get_or (write_all o.writes m) (plus pc 1) 0 ≡ get_or m (plus pc 1) 0
-
-keeps_beside : (stop e at pc : ℕ) (m : List ℕ) (o : Outcome) → GoesOnBeside stop e at pc → Passes at m o → Keeps pc m o
-keeps_beside stop e at pc m o beside passes = record {
-  end = passes.end;
-  prebyte = passes.others pc beside.first;
-  code = passes.others (plus pc 1) beside.second;
-}
-
 -- one part
-Ruled-one : (i : Instr) (k : Kind) (opcode flags : ℕ) (s : State) → Ruling i k opcode → IsOff s.temps → Stands opcode s.regs.pc s.mem
-    → Keeps s.regs.pc s.mem (part_of k flags s) → Ruled opcode flags s (after_part k flags s) 1
-Ruled-one i k opcode flags s law off stands keeps =
+Ruled-one : {i : Instr} {k : Kind} {opcode : ℕ} {On : List ℕ → Regs → Type 0} (flags : ℕ) (s : State) → Ruling i k opcode On
+    → Keeps s.regs.pc s.mem (part_of k flags s) → IsOff s.temps → Stands opcode s.regs.pc s.mem → Ruled opcode flags s (after_part k flags s) 1
+Ruled-one {i} {k} {opcode} flags s law keeps off stands =
     let t : State = after_part k flags s in
     let step : next_of flags s ≡ Ok (record { state = t; kind = Part }) =
     ap (λ (l : Result Left ℕ). applied l s.mem) (law.is_step flags s off (law.decoded s.mem s.regs.pc stands)).0
@@ -141,6 +154,18 @@ Ruled-one i k opcode flags s law off stands keeps =
       stands = record { prebyte = keeps.prebyte ∙ stands.prebyte; code = keeps.code ∙ stands.code };
     }
 
+-- one part that goes on, by what it leaves
+pub Ruled-part : {i : Instr} {k : Kind} {opcode : ℕ} {On : List ℕ → Regs → Type 0} (flags : ℕ) (s : State) (r : Regs) (mem : List ℕ)
+    → Ruling i k opcode On → On s.mem s.regs → r ≡ (part_of k flags s).regs → mem ≡ write_all (part_of k flags s).writes s.mem
+    → IsOff s.temps → Stands opcode s.regs.pc s.mem → Ruled opcode flags s (state_of r s.temps mem) 1
+Ruled-part {i} {k} {opcode} flags s r mem law on regs writes off stands =
+    let o : Outcome = part_of k flags s in
+    let is : after_part k flags s ≡ state_of r s.temps mem =
+    ap (λ (q : Regs). state_of q o.temps (write_all o.writes s.mem)) (sym regs)
+    ∙ ap (λ (t : Temps). state_of r t (write_all o.writes s.mem)) (law.sums flags s)
+    ∙ ap (λ (m : List ℕ). state_of r s.temps m) (sym writes) in
+    subst (λ (t : State). Ruled opcode flags s t 1) is (Ruled-one flags s law (law.keeps flags s on) off stands)
+
 -- parts, and then further ones
 pub Ruled-then : (opcode flags : ℕ) (s t u : State) (n k : ℕ) → IsOff s.temps → Ruled opcode flags s t n
     → (IsOff t.temps → Stands opcode t.regs.pc t.mem → Ruled opcode flags t u k) → Ruled opcode flags s u (n + k)
@@ -154,37 +179,6 @@ Ruled-then opcode flags s t u n k off is further =
       temps = more.temps ∙ is.temps;
       stands = subst (λ (p : ℕ). Stands opcode p u.mem) is.pc more.stands;
     }
-
--- a state after a part
-pub record IsAfter (k : Kind) (flags : ℕ) (t u : State) : Type 0 where
-  pub regs : u.regs ≡ (part_of k flags t).regs
-  pub temps : u.temps ≡ (part_of k flags t).temps
-  pub mem : u.mem ≡ write_all (part_of k flags t).writes t.mem
-
-after_part_is : (k : Kind) (flags : ℕ) (t u : State) → IsAfter k flags t u → after_part k flags t ≡ u
-after_part_is k flags t u is =
-    let o : Outcome = part_of k flags t in
-    let mem : List ℕ = write_all o.writes t.mem in
-    ap (λ (r : Regs). state_of r o.temps mem) (sym is.regs)
-    ∙ ap (λ (p : Temps). state_of u.regs p mem) (sym is.temps)
-    ∙ ap (λ (m : List ℕ). state_of u.regs u.temps m) (sym is.mem)
-
-pub Ruled-rev : (flags : ℕ) (s t : State) → Ruling Rev rev 0x3A → (let e = get_or s.mem s.regs.x 0 in GoesOnBeside 255 e (plus s.regs.y e) s.regs.pc)
-    → IsAfter rev flags s t → IsOff s.temps → Stands 0x3A s.regs.pc s.mem → Ruled 0x3A flags s t 1
-Ruled-rev flags s t law beside after off stands =
-    let e : ℕ = get_or s.mem s.regs.x 0 in
-    let passes : Passes (plus s.regs.y e) s.mem (part_of rev flags s) = rev_passes flags s.regs s.temps e s.mem beside.goes_on in
-    subst (λ (u : State). Ruled 0x3A flags s u 1) (after_part_is rev flags s t after)
-    (Ruled-one Rev rev 0x3A flags s law off stands (keeps_beside 255 e (plus s.regs.y e) s.regs.pc s.mem (part_of rev flags s) beside passes))
-
-pub Ruled-revw : (flags : ℕ) (s t : State) → Ruling Revw revw 0x3B
-    → (let e = word_of (get_or s.mem s.regs.x 0) (get_or s.mem (plus s.regs.x 1) 0) in GoesOnBeside 65535 e e s.regs.pc)
-    → IsAfter revw flags s t → IsOff s.temps → Stands 0x3B s.regs.pc s.mem → Ruled 0x3B flags s t 1
-Ruled-revw flags s t law beside after off stands =
-    let e : ℕ = word_of (get_or s.mem s.regs.x 0) (get_or s.mem (plus s.regs.x 1) 0) in
-    let passes : Passes e s.mem (part_of revw flags s) = revw_passes flags s.regs s.temps e s.mem beside.goes_on in
-    subst (λ (u : State). Ruled 0x3B flags s u 1) (after_part_is revw flags s t after)
-    (Ruled-one Revw revw 0x3B flags s law off stands (keeps_beside 65535 e e s.regs.pc s.mem (part_of revw flags s) beside passes))
 
 -- an antecedent of REV
 abbrev met_outcome : ℕ → State → Outcome
@@ -201,19 +195,13 @@ met_by_element flags r t e m o l v is =
 met_by_part : (flags : ℕ) (s : State) → get_or s.mem s.regs.x 0 < 254 → has s.regs.ccr overflow ≡ false → part_of rev flags s ≡ met_outcome flags s
 met_by_part flags s l v = met_by_element flags s.regs s.temps (get_or s.mem s.regs.x 0) s.mem (met_outcome flags s) l v refl
 
-pub Ruled-antecedent : (flags : ℕ) (s : State) → Ruling Rev rev 0x3A → get_or s.mem s.regs.x 0 < 254 → has s.regs.ccr overflow ≡ false
+pub Ruled-antecedent : (flags : ℕ) (s : State) → Ruling Rev rev 0x3A RevGoesOn → get_or s.mem s.regs.x 0 < 254 → has s.regs.ccr overflow ≡ false
     → IsOff s.temps → Stands 0x3A s.regs.pc s.mem → Ruled 0x3A flags s (state_of (met_by_rev flags s.mem s.regs) s.temps s.mem) 1
 Ruled-antecedent flags s law l v off stands =
     let is : part_of rev flags s ≡ met_outcome flags s = met_by_part flags s l v in
     subst (λ (o : Outcome). Ruled 0x3A flags s (state_after o s.mem) 1) is
-    (Ruled-one Rev rev 0x3A flags s law off stands
-    (subst (λ (o : Outcome). Keeps s.regs.pc s.mem o) (sym is) (record { end = refl; prebyte = refl; code = refl })))
+    (Ruled-one flags s law (subst (λ (o : Outcome). Keeps s.regs.pc s.mem o) (sym is) (record { end = refl; prebyte = refl; code = refl })) off stands)
 
 -- V after it
 pub overflow_met : (flags : ℕ) (mem : List ℕ) (r : Regs) → has (met_by_rev flags mem r).ccr overflow ≡ has r.ccr overflow
 overflow_met flags mem r = let v : bit (opened r.ccr hnzc flags).0 1 ≡ bit r.ccr.0 1 = simp (bit_or_is, bit_and_is) in v
-
--- the sums of the state that parts lead to are those before
-pub Ruled-sums : (opcode flags : ℕ) (s : State) (r : Regs) (t : Temps) (mem : List ℕ) (n : ℕ) → Ruled opcode flags s (state_of r t mem) n
-    → Ruled opcode flags s (state_of r s.temps mem) n
-Ruled-sums opcode flags s r t mem n is = subst (λ (p : Temps). Ruled opcode flags s (state_of r p mem) n) is.temps is

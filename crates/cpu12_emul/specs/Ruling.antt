@@ -2,7 +2,7 @@
 use Rattle.std.specs.Prelude.{◌≡◌, ◌≢◌, ℕ, min, List, slice_index}
 use Rattle.cpu12_isa.specs.declared.instr.Regs.{Regs}
 use Rattle.cpu12_isa.specs.Flags.{opened, hnzc}
-use Rattle.cpu12_isa.specs.Memory.{plus}
+use Rattle.cpu12_isa.specs.Memory.{plus, word_of}
 use Rattle.cpu12_parts.specs.State.{State}
 use Rattle.cpu12_emul.specs.Run.{PartsTo}
 
@@ -16,6 +16,14 @@ pub record GoesOnBeside (stop element at pc : ℕ) : Type 0 where
   pub goes_on : element ≢ stop
   pub first : pc ≢ at
   pub second : plus pc 1 ≢ at
+
+-- the next part of REV goes on, and cannot write where it stands; and that of REVW
+abbrev pub RevGoesOn : List ℕ → Regs → Type 0
+RevGoesOn mem r = let e = slice_index mem r.x in GoesOnBeside 255 e (plus r.y e) r.pc
+
+abbrev pub RevwGoesOn : List ℕ → Regs → Type 0
+RevwGoesOn mem r =
+    let e = word_of (slice_index mem r.x) (slice_index mem (plus r.x 1)) in GoesOnBeside 65535 e e r.pc
 
 -- the registers after an antecedent of REV
 abbrev pub met_by_rev : ℕ → List ℕ → Regs → Regs

@@ -1,10 +1,10 @@
 // Many parts of REV or REVW at once.
 ghost use Rattle.std.specs.Prelude.{ℕ, ◌≡◌, ◌≢◌, ◌≤◌, ◌<◌, true, false, slice_index, IfSome};
 ghost use Rattle.cpu12_isa.specs.Flags.{has, overflow};
-ghost use Rattle.cpu12_isa.specs.Memory.{plus, word_of};
+ghost use Rattle.cpu12_isa.specs.Memory.{plus};
 ghost use Rattle.cpu12_parts.specs.declared.temps.Temps.{Temps};
 ghost use Rattle.cpu12_parts.specs.Laws.{IsOff, state_of};
-ghost use Rattle.cpu12_emul.specs.Ruling.{Stands, GoesOnBeside, Ruled, met_by_rev};
+ghost use Rattle.cpu12_emul.specs.Ruling.{Stands, RevGoesOn, RevwGoesOn, Ruled, met_by_rev};
 ghost use Rattle.cpu12_emul.specs.Run.{PartsTo};
 
 use crate::fetch::{is_rev, is_revw};
@@ -28,7 +28,7 @@ fn is_beside(at: u16, pc: u16) -> bool
 /// Whether the next part of REV is not its last, and cannot write where REV stands.
 #[inline(always)]
 fn rev_goes_on<M: Mem>(m: &M, r: Regs) -> bool
-    ensures { result ≡ true → (let e = slice_index (M.bytes m.now) r.x in GoesOnBeside 255 e (plus r.y e) r.pc) }
+    ensures { result ≡ true → RevGoesOn (M.bytes m.now) r }
 {
     let e = m.read(r.x);
     e != 0xFF && is_beside(r.y.wrapping_add(e as u16), r.pc)
@@ -37,7 +37,7 @@ fn rev_goes_on<M: Mem>(m: &M, r: Regs) -> bool
 /// Whether the next part of REVW is not its last, and cannot write where REVW stands.
 #[inline(always)]
 fn revw_goes_on<M: Mem>(m: &M, r: Regs) -> bool
-    ensures { result ≡ true → (let e = word_of (slice_index (M.bytes m.now) r.x) (slice_index (M.bytes m.now) (plus r.x 1)) in GoesOnBeside 65535 e e r.pc) }
+    ensures { result ≡ true → RevwGoesOn (M.bytes m.now) r }
 {
     let e = word_of(m.read(r.x), m.read(r.x.wrapping_add(1)));
     e != 0xFFFF && is_beside(e, r.pc)
@@ -95,9 +95,9 @@ fn rev_parts<M: Mem>(m: &mut M, regs: Regs, temps: Temps, flags: u8, most: u32) 
     rev_stays();
     rev_steady();
     let mut r = regs;
-    let mut t = temps;
     let mut done = 0;
     while done < most && rev_goes_on(m, r) {
+        let mut t = temps;
         let _ = Rev.part(&mut r, m, &mut t, flags);
         done += 1;
         let (next, more) = antecedents(m, r, flags, most - done);
@@ -118,9 +118,9 @@ fn revw_parts<M: Mem>(m: &mut M, regs: Regs, temps: Temps, flags: u8, most: u32)
     revw_stays();
     revw_steady();
     let mut r = regs;
-    let mut t = temps;
     let mut done = 0;
     while done < most && revw_goes_on(m, r) {
+        let mut t = temps;
         let _ = Revw.part(&mut r, m, &mut t, flags);
         done += 1;
     }
