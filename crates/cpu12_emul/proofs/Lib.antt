@@ -6,3 +6,4 @@ mod Bytes
 pub mod Fitting
 pub mod Endings
 pub mod Turns
+pub mod RuleParts

@@ -1,8 +1,9 @@
 -- Steps one after another.
 use Rattle.std.proofs.Common.{◌≡◌, ℕ, zero, suc, ◌+◌, false, Ok, subst, sym, refl, arith}
 use Rattle.cpu12_parts.specs.State.{State}
+use Rattle.cpu12_emul.specs.declared.ends.Stepped.{Stepped}
 use Rattle.cpu12_emul.specs.Step.{Next, next_of}
-use Rattle.cpu12_emul.specs.Run.{is_at_rest, StepsTo}
+use Rattle.cpu12_emul.specs.Run.{is_at_rest, StepsTo, StepsOf}
 
 -- one step more
 pub StepsTo-suc : (flags k : ℕ) (s t : State) (next : Next) → StepsTo flags k s t → is_at_rest t ≡ false → next_of flags t ≡ Ok next → StepsTo flags (suc k) s next.state
@@ -12,3 +13,17 @@ StepsTo-suc flags (suc k) s t next to free e = (to.0, (to.1.0, (to.1.1.0, StepsT
 
 pub StepsTo-more : (flags k : ℕ) (s t : State) (next : Next) → StepsTo flags k s t → is_at_rest t ≡ false → next_of flags t ≡ Ok next → StepsTo flags (k + 1) s next.state
 StepsTo-more flags k s t next to free e = subst (λ (n : ℕ). StepsTo flags n s next.state) (let n : suc k ≡ k + 1 = omega arith in n) (StepsTo-suc flags k s t next to free e)
+
+-- steps of a kind, and then further ones
+pub StepsOf-append : (kind : Stepped) (P Q : State → Type 0) → ((s : State) → Q s → P s) → (flags n k : ℕ) (s t u : State)
+    → StepsOf kind P flags n s t → StepsOf kind Q flags k t u → StepsOf kind P flags (n + k) s u
+StepsOf-append kind P Q by flags zero k s t u to further =
+    subst (λ (j : ℕ). StepsOf kind P flags j s u) (let j : k ≡ 0 + k = omega arith in j)
+    (subst (λ (r : State). StepsOf kind P flags k r u) (sym to) (StepsOf-by kind P Q by flags k t u further))
+  where
+    StepsOf-by : (kind : Stepped) (P Q : State → Type 0) → ((s : State) → Q s → P s) → (flags k : ℕ) (t u : State) → StepsOf kind Q flags k t u → StepsOf kind P flags k t u
+    StepsOf-by kind P Q by flags zero t u to = to
+    StepsOf-by kind P Q by flags (suc k) t u to = (to.0, (to.1.0, by to.0 to.1.1, StepsOf-by kind P Q by flags k to.0 u to.1.2))
+StepsOf-append kind P Q by flags (suc n) k s t u to further =
+    subst (λ (j : ℕ). StepsOf kind P flags j s u) (let j : suc (n + k) ≡ suc n + k = omega arith in j)
+    (to.0, (to.1.0, to.1.1, StepsOf-append kind P Q by flags n k to.0 t u to.1.2 further))

@@ -5,3 +5,4 @@ pub mod Run
 pub mod Simulation
 pub mod Fits
 pub mod Adding
+pub mod Ruling

@@ -1,19 +1,155 @@
 // Many parts of REV or REVW at once.
-ghost use Rattle.std.specs.Prelude.{◌≡◌, ◌≤◌};
+ghost use Rattle.std.specs.Prelude.{ℕ, ◌≡◌, ◌≢◌, ◌≤◌, ◌<◌, true, false, slice_index, IfSome};
+ghost use Rattle.cpu12_isa.specs.Flags.{has, overflow};
+ghost use Rattle.cpu12_isa.specs.Memory.{plus};
+ghost use Rattle.cpu12_parts.specs.declared.temps.Temps.{Temps};
+ghost use Rattle.cpu12_parts.specs.Laws.{IsOff, state_of};
+ghost use Rattle.cpu12_emul.specs.Ruling.{Stands, RevGoesOn, RevwGoesOn, Ruled, met_by_rev};
 ghost use Rattle.cpu12_emul.specs.Run.{PartsTo};
 
+use crate::fetch::{is_rev, is_revw};
 use crate::machine::Machine;
-use cpu12_isa::mem::Mem;
+use cpu12_isa::ccr::{HNZC, OVERFLOW};
+use cpu12_isa::instr::Regs;
+use cpu12_isa::mem::{Mem, word_of};
+use cpu12_parts::laws::{rev_stays, rev_steady, revw_stays, revw_steady};
+use cpu12_parts::rules::{Rev, Revw};
+use cpu12_parts::temps::{Resumable, Temps};
+
+/// Whether an address is none of the two at `pc`.
+#[inline(always)]
+fn is_beside(at: u16, pc: u16) -> bool
+    ensures first { result ≡ true → pc ≢ at }
+    ensures second { result ≡ true → plus pc 1 ≢ at }
+{
+    at.wrapping_sub(pc) >= 2
+}
+
+/// Whether the next part of REV is not its last, and cannot write where REV stands.
+#[inline(always)]
+fn rev_goes_on<M: Mem>(m: &M, r: Regs) -> bool
+    ensures { result ≡ true → RevGoesOn (M.bytes m.now) r }
+{
+    let e = m.read(r.x);
+    e != 0xFF && is_beside(r.y.wrapping_add(e as u16), r.pc)
+}
+
+/// Whether the next part of REVW is not its last, and cannot write where REVW stands.
+#[inline(always)]
+fn revw_goes_on<M: Mem>(m: &M, r: Regs) -> bool
+    ensures { result ≡ true → RevwGoesOn (M.bytes m.now) r }
+{
+    let e = word_of(m.read(r.x), m.read(r.x.wrapping_add(1)));
+    e != 0xFFFF && is_beside(e, r.pc)
+}
+
+/// The registers after the part of REV at X, where it is of an antecedent.
+#[inline(always)]
+fn antecedent<M: Mem>(m: &M, regs: Regs, flags: u8) -> Option<Regs>
+    ensures { IfSome result (λ next. (slice_index (M.bytes m.now) regs.x < 254) × (next ≡ met_by_rev flags (M.bytes m.now) regs)) }
+{
+    let e = m.read(regs.x);
+    if e >= 0xFE {
+        return None;
+    }
+    let mut r = regs;
+    r.a = r.a.min(m.read(r.y.wrapping_add(e as u16)));
+    r.x = r.x.wrapping_add(1);
+    r.ccr = r.ccr.opened(HNZC, flags);
+    Some(r)
+}
+
+/// Does the parts of REV whose antecedents stand at X, at most `most`. None writes, so where their bytes
+/// are does not matter. Answers the registers after them, and how many they were.
+#[inline(always)]
+fn antecedents<M: Mem>(m: &M, regs: Regs, flags: u8, most: u32) -> (Regs, u32)
+    ensures parts { (t : Temps) → IsOff t → Stands 0x3A regs.pc (M.bytes m.now)
+        → Ruled 0x3A flags (state_of regs t (M.bytes m.now)) (state_of result.0 t (M.bytes m.now)) result.1 }
+    ensures most { result.1 ≤ most }
+{
+    rev_stays();
+    rev_steady();
+    if regs.ccr.has(OVERFLOW) {
+        return (regs, 0);
+    }
+    let mut r = regs;
+    let mut done = 0;
+    while done < most {
+        let Some(next) = antecedent(m, r, flags) else {
+            return (r, done);
+        };
+        r = next;
+        done += 1;
+    }
+    (r, done)
+}
+
+/// Does parts of REV that go on and leave it where it stands, at most `most`. Answers the registers after
+/// them, and how many they were.
+fn rev_parts<M: Mem>(m: &mut M, regs: Regs, temps: Temps, flags: u8, most: u32) -> (Regs, u32)
+    requires off { IsOff temps }
+    requires stands { Stands 0x3A regs.pc (M.bytes m.old) }
+    ensures parts { Ruled 0x3A flags (state_of regs temps (M.bytes m.old)) (state_of result.0 temps (M.bytes m.new)) result.1 }
+    ensures most { result.1 ≤ most }
+{
+    rev_stays();
+    rev_steady();
+    let mut r = regs;
+    let mut done = 0;
+    while done < most && rev_goes_on(m, r) {
+        let mut t = temps;
+        let _ = Rev.part(&mut r, m, &mut t, flags);
+        done += 1;
+        let (next, more) = antecedents(m, r, flags, most - done);
+        r = next;
+        done += more;
+    }
+    (r, done)
+}
+
+/// Does parts of REVW that go on and leave it where it stands, at most `most`. Answers the registers after
+/// them, and how many they were.
+fn revw_parts<M: Mem>(m: &mut M, regs: Regs, temps: Temps, flags: u8, most: u32) -> (Regs, u32)
+    requires off { IsOff temps }
+    requires stands { Stands 0x3B regs.pc (M.bytes m.old) }
+    ensures parts { Ruled 0x3B flags (state_of regs temps (M.bytes m.old)) (state_of result.0 temps (M.bytes m.new)) result.1 }
+    ensures most { result.1 ≤ most }
+{
+    revw_stays();
+    revw_steady();
+    let mut r = regs;
+    let mut done = 0;
+    while done < most && revw_goes_on(m, r) {
+        let mut t = temps;
+        let _ = Revw.part(&mut r, m, &mut t, flags);
+        done += 1;
+    }
+    (r, done)
+}
 
 impl<M: Mem> Machine<M> {
     /// Does parts of REV or REVW at once where one of them stands at PC and no sums of WAV run: parts that
     /// are not the last, at most `most`, up to one that might write where the instruction stands. Answers
-    /// how many; the next step is done by `step`. PC stays.
+    /// how many, 0 where neither stands there; the next step is done by `step`. PC and SP stay.
+    #[inline(never)]
     pub fn rule_parts(&mut self, most: u32) -> u32
-        ensures steps { PartsTo (λ s. s.regs.pc ≡ self.old.state.regs.pc) self.old.flags result self.old.state self.new.state }
+        ensures steps { PartsTo (λ s. (s.regs.pc ≡ self.old.state.regs.pc) × (s.regs.sp ≡ self.old.state.regs.sp)) self.old.flags result self.old.state self.new.state }
         ensures most { result ≤ most }
         ensures flags { self.new.flags ≡ self.old.flags }
     {
+        if let Temps::Running(_, _) = self.temps {
+            return 0;
+        }
+        if is_rev(&self.mem, self.regs.pc) {
+            let (regs, done) = rev_parts(&mut self.mem, self.regs, self.temps, self.flags, most);
+            self.regs = regs;
+            return done;
+        }
+        if is_revw(&self.mem, self.regs.pc) {
+            let (regs, done) = revw_parts(&mut self.mem, self.regs, self.temps, self.flags, most);
+            self.regs = regs;
+            return done;
+        }
         0
     }
 }

@@ -1,0 +1,42 @@
+-- Parts of REV and REVW that go on, and leave the instruction where it stands.
+use Rattle.std.specs.Prelude.{◌≡◌, ◌≢◌, ℕ, min, List, slice_index}
+use Rattle.cpu12_isa.specs.declared.instr.Regs.{Regs}
+use Rattle.cpu12_isa.specs.Flags.{opened, hnzc}
+use Rattle.cpu12_isa.specs.Memory.{plus, word_of}
+use Rattle.cpu12_parts.specs.State.{State}
+use Rattle.cpu12_emul.specs.Run.{PartsTo}
+
+-- the instruction of page two with this opcode stands at an address
+pub record Stands (opcode pc : ℕ) (mem : List ℕ) : Type 0 where
+  pub prebyte : slice_index mem pc ≡ 0x18
+  pub code : slice_index mem (plus pc 1) ≡ opcode
+
+-- an element is not that which ends a list, and the byte that it names is not one of the two at PC
+pub record GoesOnBeside (stop element at pc : ℕ) : Type 0 where
+  pub goes_on : element ≢ stop
+  pub first : pc ≢ at
+  pub second : plus pc 1 ≢ at
+
+-- the next part of REV goes on, and cannot write where it stands; and that of REVW
+abbrev pub RevGoesOn : List ℕ → Regs → Type 0
+RevGoesOn mem r = let e = slice_index mem r.x in GoesOnBeside 255 e (plus r.y e) r.pc
+
+abbrev pub RevwGoesOn : List ℕ → Regs → Type 0
+RevwGoesOn mem r =
+    let e = word_of (slice_index mem r.x) (slice_index mem (plus r.x 1)) in GoesOnBeside 65535 e e r.pc
+
+-- the registers after an antecedent of REV
+abbrev pub met_by_rev : ℕ → List ℕ → Regs → Regs
+met_by_rev flags mem r = record r {
+  a = min r.a (slice_index mem (plus r.y (slice_index mem r.x)));
+  x = plus r.x 1;
+  ccr = opened r.ccr hnzc flags;
+}
+
+-- n parts lead from s to t, and leave PC, SP and the instruction that stands there
+pub record Ruled (opcode flags : ℕ) (s t : State) (n : ℕ) : Type 0 where
+  pub parts : PartsTo (λ u. (u.regs.pc ≡ s.regs.pc) × (u.regs.sp ≡ s.regs.sp)) flags n s t
+  pub pc : t.regs.pc ≡ s.regs.pc
+  pub sp : t.regs.sp ≡ s.regs.sp
+  pub temps : t.temps ≡ s.temps
+  pub stands : Stands opcode s.regs.pc t.mem
