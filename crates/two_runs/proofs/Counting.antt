@@ -1,5 +1,5 @@
--- What is counted by one inner interrupt, and by one step.
-use Rattle.std.proofs.Common.{◌≡◌, ℕ, zero, suc, ◌+◌, ◌-◌, ◌<◌, ◌≤◌, nat_lt, Bool, true, false, not, Result, Ok, Err, List, [], ◌∷◌, ◌++◌, length, drop, refl, ap, sym, ◌∙◌, arith, append_assoc, append-nil}
+-- What is counted by one inner interrupt, by one step, and by parts that are done at once.
+use Rattle.std.proofs.Common.{◌≡◌, ℕ, zero, suc, ◌+◌, ◌-◌, ◌<◌, ◌≤◌, nat_lt, Bool, true, false, not, Result, Ok, Err, List, [], ◌∷◌, ◌++◌, length, drop, refl, ap, ap₂, sym, ◌∙◌, subst, arith, append_assoc, append-nil}
 use Rattle.std.proofs.lemmas.Bool.Decides.{nat_tests}
 use Rattle.std.specs.Int.{from_bool}
 use Rattle.arrayvec.specs.ArrayVec.{array_vec_len}
@@ -197,6 +197,35 @@ spent_counted flags outputs sp most inner c s e =
     ap (λ k. after c.instrs c.steps c.resumed (inner_frames_seen c.frames.items) (past (fast_form flags outputs sp) k c.steps c.inside qs s)) none
     ∙ nothing_more c.instrs c.steps c.resumed (inner_frames_seen c.frames.items) s (ended false qs s) refl refl refl refl refl
 
+-- the return is done, or it is not
+pub is_past : (sp at : ℕ) → sp < at → nat_lt sp at ≡ true
+is_past sp at less = grind (arith, nat_tests)
+
+pub is_not_past : (sp at : ℕ) → at ≤ sp → nat_lt sp at ≡ false
+is_not_past sp at le = grind (arith, nat_tests)
+
+-- where this many parts are done, at whose boundaries none is due, and SP stays
+pub parts_counted : (flags outputs sp most pc at : ℕ) (inner : List ℕ) (n : ℕ) (c : Counts) (s t : State) → c.inside ≡ true → c.steps + n ≤ most → at ≤ sp
+    → ((k : ℕ) (u : State) → k < n → due_at (record c { steps = c.steps + k }) inner u ≡ false)
+    → PartsTo (λ (u : State). (u.regs.pc ≡ pc) × (u.regs.sp ≡ at)) flags n s t
+    → past_of (fast_form flags outputs sp) most inner c s ≡ past_of (fast_form flags outputs sp) most inner (record c { steps = c.steps + n }) t
+parts_counted flags outputs sp most pc at inner zero c s t inside left low none to =
+    let same : c.steps ≡ c.steps + 0 = omega arith in
+    ap₂ (λ (k : ℕ) (u : State). past_of (fast_form flags outputs sp) most inner (record c { steps = k }) u) same to
+parts_counted flags outputs sp most pc at inner (suc n) c s t inside left low none to =
+    let u : State = to.0 in
+    let one : Counts = record c { steps = c.steps + 1 } in
+    let first : due_at c inner s ≡ false = subst (λ (k : ℕ). due_at (record c { steps = k }) inner s ≡ false) (omega arith) (none 0 s (omega arith)) in
+    let stack : u.regs.sp ≡ at = to.1.1.1 in
+    let rest = parts_counted flags outputs sp most pc at inner n one u t inside (omega (arith, left)) low
+    (λ k v less. subst (λ (j : ℕ). due_at (record c { steps = j }) inner v ≡ false) (omega arith) (none (suc k) v (omega (arith, less)))) to.1.2 in
+    let all : c.steps + 1 + n ≡ c.steps + suc n = omega arith in
+    step_counted flags outputs sp most inner c one s (record { state = u; kind = Part }) first (omega (arith, left)) to.1.0
+    (record { steps = refl; instrs = omega arith; resumed = refl; inside = inside; frames = refl })
+    ∙ goes_past flags outputs sp most inner one u (is_not_past sp u.regs.sp (omega (arith, stack, low)))
+    ∙ rest
+    ∙ ap (λ (k : ℕ). past_of (fast_form flags outputs sp) most inner (record c { steps = k }) t) all
+
 -- nothing was counted before
 from_nothing : (flags outputs sp most : ℕ) (inner : List ℕ) (c : Counts) (s : State) → c.steps ≡ 0 → c.instrs ≡ 0 → c.resumed ≡ 0 → c.inside ≡ false → c.frames.items ≡ []
     → rest_of (fast_form flags outputs sp) most inner c s ≡ counted (run_from (fast_form flags outputs sp) most 0 false inner s)
@@ -217,10 +246,3 @@ begins flags outputs sp most inner c s at steps instrs resumed inside frames =
     ap (λ sp. past_of (fast_form flags outputs sp) most inner c s) at
     ∙ sym (goes_past flags outputs s.regs.sp most inner c s low)
     ∙ from_nothing flags outputs s.regs.sp most inner c s steps instrs resumed inside frames
-
--- the return is done, or it is not
-pub is_past : (sp at : ℕ) → sp < at → nat_lt sp at ≡ true
-is_past sp at less = grind (arith, nat_tests)
-
-pub is_not_past : (sp at : ℕ) → at ≤ sp → nat_lt sp at ≡ false
-is_not_past sp at le = grind (arith, nat_tests)

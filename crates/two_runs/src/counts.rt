@@ -1,6 +1,7 @@
 // What is counted of a fast run.
 ghost use Rattle.std.specs.Prelude.{ℕ, ◌≡◌, ◌≤◌, ◌<◌, ◌+◌, ◌^◌, List, [], true, false, IsTrue};
 ghost use Rattle.arrayvec.specs.ArrayVec.{array_vec_len};
+ghost use Rattle.cpu12_parts.specs.State.{State};
 ghost use Rattle.cpu12_emul.specs.Take.{may_interrupt};
 ghost use Rattle.run_law.specs.Forms.{one_if};
 ghost use Rattle.two_runs.specs.Runs.{fast_form};
@@ -125,6 +126,39 @@ impl Counts {
                 true
             }
             Err(_) => false,
+        }
+    }
+
+    /// How many steps may be done before the next inner interrupt is due: as many as are left, where none is.
+    fn steps_alone(&self, most: u32, moments: &[u32]) -> u32
+        requires { self.now.steps ≤ most }
+        ensures left { self.now.steps + result ≤ most }
+        ensures none { (k : ℕ) (s : State) → k < result
+            → due_at (record self.now { steps = self.now.steps + k }) moments.now s ≡ false }
+    {
+        let end = match moments.get(self.frames.len()) {
+            Some(moment) => most.min(*moment),
+            None => most,
+        };
+        end.saturating_sub(self.steps)
+    }
+
+    /// Does parts of REV or REVW at once where the last step was one that goes on: at most up to `most` steps in
+    /// all, and to the boundary at which the next inner interrupt is due.
+    #[inline(always)]
+    pub(crate) fn pass_parts<M: Mem>(&mut self, m: &mut Machine<M>, most: u32, moments: &[u32])
+        requires { self.old.steps ≤ most }
+        ensures goes { (outputs sp : ℕ) → m.old.state.regs.sp ≤ sp
+            → past_of (fast_form m.old.flags outputs sp) most moments.now self.old m.old.state
+            ≡ past_of (fast_form m.old.flags outputs sp) most moments.now self.new m.new.state }
+        ensures least { self.old.steps ≤ self.new.steps }
+        ensures most { self.new.steps ≤ most }
+        ensures rest { self.new ≡ record self.old { steps = self.new.steps } }
+        ensures flags { m.new.flags ≡ m.old.flags }
+    {
+        if self.inside {
+            let alone = self.steps_alone(most, moments);
+            self.steps += m.rule_parts(alone);
         }
     }
 }

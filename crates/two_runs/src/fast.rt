@@ -53,6 +53,8 @@ pub(crate) fn run_inside<M: Mem>(m: &mut Machine<M>, most: u32, moments: &[u32])
             return counts;
         } else if m.regs().sp > entered {
             return counts;
+        } else {
+            counts.pass_parts(m, most, moments);
         }
     }
     counts

@@ -2,6 +2,7 @@ use Rattle.std.proofs.Common.{◌≡◌, ◌∙◌, ◌≤◌, ◌<◌, ℕ, tru
 use Rattle.arrayvec.specs.ArrayVec.{ArrayVec, array_vec_len}
 use Rattle.cpu12_isa.specs.declared.instr.Regs.{Regs}
 use Rattle.run_law.specs.Forms.{one_if}
+use Rattle.two_runs.specs.declared.counts.Counts.{Counts}
 use Rattle.two_runs.specs.declared.counts.InnerFrame.{InnerFrame}
 use Rattle.two_runs.specs.Runs.{fast_form}
 use Rattle.two_runs.specs.Counts.{due_at, past_of, rest_of}
@@ -49,22 +50,29 @@ loop-counts-preserved g c =
     let sp = c.regs-entered.result.sp in
     let l = c.loop-counts in
     let n = c.step.new in
+    let p = c.pass_parts in
     let done = c.if-not-step.false in
     let some = c.loop-counts-test.true in
     let none : due_at l.counts inner l.m.state ≡ false = sym c.is_due.ensures ∙ c.if-is_due.false in
     let at : c.regs.result.sp ≡ n.m.state.regs.sp = ap (λ (r : Regs). r.sp) c.regs.ensures in
     let low : n.m.state.regs.sp ≤ sp = (let not_over = c.if-regs-entered.false in omega (arith, at, not_over)) in
     let frames = ap (λ (fs : ArrayVec InnerFrame). array_vec_len fs) c.step.ensures.frames in
-    let steps = c.step.ensures.steps done in
+    let more = p.ensures.least in
+    let same = ap (λ (k : Counts). k.instrs) p.ensures.rest in
+    let taken = ap (λ (k : Counts). k.resumed) p.ensures.rest in
+    let inside = ap (λ (k : Counts). one_if k.inside) p.ensures.rest in
+    let still = ap (λ (k : Counts). array_vec_len k.frames) p.ensures.rest in
     record {
       rest = λ outputs.
-          sym (goes_past flags outputs sp most inner n.self n.m.state (is_not_past sp n.m.state.regs.sp low))
+          sym (subst (λ (k : ℕ). past_of (fast_form k outputs sp) most inner n.self n.m.state ≡ past_of (fast_form k outputs sp) most inner p.new.self p.new.m.state) (c.step.ensures.flags ∙ l.invariant.flags)
+          (p.ensures.goes outputs sp low))
+          ∙ sym (goes_past flags outputs sp most inner n.self n.m.state (is_not_past sp n.m.state.regs.sp low))
           ∙ sym (subst (λ (k : ℕ). past_of (fast_form k outputs sp) most inner l.counts l.m.state ≡ rest_of (fast_form k outputs sp) most inner n.self n.m.state) l.invariant.flags
           (c.step.ensures.goes done outputs sp most inner none some))
           ∙ l.invariant.rest outputs;
-      frames = (let few = l.invariant.frames in omega (arith, frames, few));
-      instrs = c.step.ensures.instrs;
-      resumed = c.step.ensures.resumed;
-      most = omega (arith, steps, some);
-      flags = c.step.ensures.flags ∙ l.invariant.flags;
+      frames = (let few = l.invariant.frames in omega (arith, frames, still, few));
+      instrs = (let few = c.step.ensures.instrs in omega (arith, few, more, same));
+      resumed = (let few = c.step.ensures.resumed in omega (arith, few, more, taken, inside));
+      most = p.ensures.most;
+      flags = p.ensures.flags ∙ c.step.ensures.flags ∙ l.invariant.flags;
     }
