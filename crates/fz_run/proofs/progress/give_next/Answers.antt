@@ -9,41 +9,32 @@ use Rattle.fz_run.specs.Slices.{Follow, HasRoom, HaveRoom, requests_first}
 use Rattle.fz_run.specs.Sessions.{before_takes, after_takes}
 use Rattle.fz_run.specs.Outlooks.{ahead, sample_at, with_row, rows_here, state_here}
 use Rattle.fz_run.proofs.PlanSlices.{first_few, later_follow, room_first, slice_first, rest_further, count_there}
-use Rattle.fz_run.proofs.Outlooks.{coming_of, states_here, fresh_coming, given_ahead, next_room, is_there, sample_next}
+use Rattle.fz_run.proofs.Outlooks.{HasRoomLeft, coming_of, states_here, fresh_coming, given_ahead, next_room, is_there, sample_next}
+use Rattle.fz_run.proofs.progress.give_next.Given.{Over}
+use Rattle.fz_run.proofs.progress.give_next.Goals.{After-come-arg-3-1}
 use Rattle.fz_run.proofs.progress.give_next.Goals as goal
 
-pub come-requires-clause-room : goal.come-requires-clause-room
-come-requires-clause-room g c =
+-- what is left of the room of the next sample
+left_there : (g : Over) (c : After-come-arg-3-1 g)
+    → HasRoomLeft (length (take (c.args.p.now.behind + c.count_of.result - c.args.p.now.behind) (drop c.args.p.now.behind c.args.plan.now))
+    - c.replace-stand.new.dest.tally.next) c.replace-stand.new.dest.tally
+left_there g c =
     let p = c.args.p.now in
     let h = g.F.RunForm.harness c.args.form.now in
     let w = c.requires.way in
     let more = c.requires.left in
-    let left = next_room h.parts.place c.args.plan.now (p.number + 1) p.behind c.count_of.result (length h.samples - p.number)
+    next_room h.parts.place c.args.plan.now (p.number + 1) p.behind c.count_of.result (length h.samples - p.number)
     c.in-Some.room c.pop_front.new.self.items p.rooms.items c.replace-stand.new.dest.tally c.count_of.ensures c.in-Some.ensures.items
-    w.rooms (omega (arith, more)) (ap (λ s. s.tally) c.replace-stand.ensures.after ∙ c.fresh_stand.ensures.tally) w.few in
-    left.frames
+    w.rooms (omega (arith, more)) (ap (λ s. s.tally) c.replace-stand.ensures.after ∙ c.fresh_stand.ensures.tally) w.few
+
+pub come-requires-clause-room : goal.come-requires-clause-room
+come-requires-clause-room g c = (left_there g c).frames
 
 pub come-requires-clause-told : goal.come-requires-clause-told
-come-requires-clause-told g c =
-    let p = c.args.p.now in
-    let h = g.F.RunForm.harness c.args.form.now in
-    let w = c.requires.way in
-    let more = c.requires.left in
-    let left = next_room h.parts.place c.args.plan.now (p.number + 1) p.behind c.count_of.result (length h.samples - p.number)
-    c.in-Some.room c.pop_front.new.self.items p.rooms.items c.replace-stand.new.dest.tally c.count_of.ensures c.in-Some.ensures.items
-    w.rooms (omega (arith, more)) (ap (λ s. s.tally) c.replace-stand.ensures.after ∙ c.fresh_stand.ensures.tally) w.few in
-    left.told
+come-requires-clause-told g c = (left_there g c).told
 
 pub come-requires-clause-few : goal.come-requires-clause-few
-come-requires-clause-few g c =
-    let p = c.args.p.now in
-    let h = g.F.RunForm.harness c.args.form.now in
-    let w = c.requires.way in
-    let more = c.requires.left in
-    let left = next_room h.parts.place c.args.plan.now (p.number + 1) p.behind c.count_of.result (length h.samples - p.number)
-    c.in-Some.room c.pop_front.new.self.items p.rooms.items c.replace-stand.new.dest.tally c.count_of.ensures c.in-Some.ensures.items
-    w.rooms (omega (arith, more)) (ap (λ s. s.tally) c.replace-stand.ensures.after ∙ c.fresh_stand.ensures.tally) w.few in
-    left.few
+come-requires-clause-few g c = (left_there g c).few
 
 pub returns-clause-outlook : goal.returns-clause-outlook
 returns-clause-outlook g c =
