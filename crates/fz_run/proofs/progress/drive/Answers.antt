@@ -1,4 +1,4 @@
-use Rattle.std.proofs.Common.{◌≡◌, ◌∙◌, ℕ, ap, ap₂, sym}
+use Rattle.std.proofs.Common.{◌∙◌, ℕ, ap, ap₂, sym}
 use Rattle.fz_run.specs.Outlooks.{Outlook, outlook_at, rows_here, state_here}
 use Rattle.fz_run.proofs.AtOnce.{PassesOn, passes_on}
 use Rattle.fz_run.proofs.progress.drive.Given.{Over}
