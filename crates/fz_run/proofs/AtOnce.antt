@@ -1,13 +1,14 @@
--- Plain instructions that are done at once.
-use Rattle.std.proofs.Common.{◌≡◌, ℕ, zero, suc, ◌+◌, ◌-◌, ◌<◌, ◌≤◌, Bool, false, ◌&&◌, nat_le, Ok, List, [], ◌∷◌, ◌++◌, length, length-append, length-drop, map, drop, refl, ap, ap₂, sym, ◌∙◌, subst, arith}
-use Rattle.std.specs.Prelude.{◌==◌, if◌then◌else◌}
+-- Steps that are done at once: parts of instructions that go on, or plain instructions.
+use Rattle.std.proofs.Common.{◌≡◌, ℕ, zero, suc, ◌+◌, ◌-◌, ◌<◌, ◌≤◌, Bool, true, false, ◌&&◌, nat_le, Ok, List, [], ◌∷◌, ◌++◌, length, length-append, length-drop, map, drop, refl, ap, ap₂, sym, ◌∙◌, subst, arith}
+use Rattle.std.specs.Prelude.{◌==◌, not, if◌then◌else◌}
 use Rattle.std.proofs.lemmas.Bool.{and_right}
 use Rattle.std.proofs.lemmas.Bool.Decides.{nat_tests}
 use Rattle.cpu12_parts.specs.State.{State}
-use Rattle.cpu12_emul.specs.declared.ends.Stepped.TheVariants.{Plain}
-use Rattle.cpu12_emul.specs.Run.{PlainlyTo}
+use Rattle.cpu12_emul.specs.declared.ends.Stepped.{Stepped}
+use Rattle.cpu12_emul.specs.Run.{StepsOf}
 use Rattle.cpu12_emul.specs.Step.{next_of}
 use Rattle.cpu12_emul.specs.Take.{may_interrupt}
+use Rattle.run_law.specs.Forms.{is_part, one_if}
 use Rattle.fz_run.specs.declared.boundary.Stand.{Stand}
 use Rattle.fz_run.specs.declared.progress.Progress.{Progress}
 use Rattle.fz_run.specs.Forms.{Harness, moment_in, plan_form}
@@ -33,7 +34,7 @@ none_later : {A : Type 0} (moment : A → ℕ) (m n : ℕ) (qs : List A) → Non
 none_later moment m n [] none = tt
 none_later moment m n (q ∷ qs) none = λ h. (let l : m + suc n < moment q = none (omega arith) in omega (arith, l))
 
-pub none_fewer : {A : Type 0} (moment : A → ℕ) (m n k : ℕ) (qs : List A) → n ≤ k → NoneDue moment m k qs
+none_fewer : {A : Type 0} (moment : A → ℕ) (m n k : ℕ) (qs : List A) → n ≤ k → NoneDue moment m k qs
     → NoneDue moment m n qs
 none_fewer moment m n k [] few none = tt
 none_fewer moment m n k (q ∷ qs) few none = λ h. (let l : m + k < moment q = none (omega (arith, h, few)) in omega (arith, l, few))
@@ -45,83 +46,124 @@ made st m i k l = record {
   over = st.over;
 }
 
-moved_none : {U : Type 0} (st : Stand U) → moved 0 st ≡ st
+same_either : {C : Type 0} (b : Bool) (x : C) → (if b then x else x) ≡ x
+same_either true x = refl
+same_either false x = refl
+
+one_instr : (part : Bool) → (if part then 0 else 1) ≡ one_if (not part)
+one_instr true = refl
+one_instr false = refl
+
+more_instrs : (part : Bool) (k n : ℕ) → k + (if part then 0 else 1) + (if part then 0 else n) ≡ k + (if part then 0 else suc n)
+more_instrs true k n = omega arith
+more_instrs false k n = omega arith
+
+moved_none : {U : Type 0} (part : Bool) (st : Stand U) → moved part 0 st ≡ st
 unfolding made
-moved_none st =
+moved_none part st =
     let t = st.tally in
     let m : t.moment + 0 ≡ t.moment = omega arith in
-    let k : t.instrs + 0 ≡ t.instrs = omega arith in
+    let none = same_either {C = ℕ} part 0 in
+    let k : t.instrs + (if part then 0 else 0) ≡ t.instrs = omega (arith, none) in
     let l : st.left - 0 ≡ st.left = omega arith in
     ap₂ (λ (m k : ℕ). made st m t.inside k (st.left - 0)) m k ∙ ap (made st t.moment t.inside t.instrs) l
 
-moved_more : {U : Type 0} (n : ℕ) (st : Stand U) → moved n (moved 1 st) ≡ moved (suc n) st
+moved_more : {U : Type 0} (part : Bool) (n : ℕ) (st : Stand U) → moved part n (moved part 1 st) ≡ moved part (suc n) st
 unfolding made
-moved_more n st =
+moved_more part n st =
     let t = st.tally in
     let m : t.moment + 1 + n ≡ t.moment + suc n = omega arith in
-    let k : t.instrs + 1 + n ≡ t.instrs + suc n = omega arith in
+    let k = more_instrs part t.instrs n in
     let l : st.left - 1 - n ≡ st.left - suc n = omega arith in
     let some : (suc n == 0) ≡ false = grind (arith, nat_tests) in
-    let i : ((n == 0) && false) ≡ ((suc n == 0) && t.inside) = and_right (n == 0) false refl ∙ sym (ap (λ (b : Bool). b && t.inside) some) in
-    ap₂ (λ (m k : ℕ). made st m ((n == 0) && false) k (st.left - 1 - n)) m k
-    ∙ ap₂ (λ (i : Bool) (l : ℕ). made st (t.moment + suc n) i (t.instrs + suc n) l) i l
+    let i : (if n == 0 then part else part) ≡ (if suc n == 0 then t.inside else part) =
+    same_either (n == 0) part ∙ sym (ap (λ (b : Bool). if b then t.inside else part) some) in
+    ap₂ (λ (m k : ℕ). made st m (if n == 0 then part else part) k (st.left - 1 - n)) m k
+    ∙ ap₂ (λ (i : Bool) (l : ℕ). made st (t.moment + suc n) i (t.instrs + (if part then 0 else suc n)) l) i l
 
--- a plain instruction at whose end nothing comes
-one_plain : {A U R S B T : Type 0} (flags : ℕ) (h : Harness A U R S B T) (qs : List A) (st : Stand U) (s u : State)
-    → st.over ≡ false → st.tally.arrived ≡ false → 1 ≤ st.left → next_of flags s ≡ Ok (record { state = u; kind = Plain })
+-- a step at whose end nothing comes
+one_step : {A U R S B T : Type 0} (kind : Stepped) (flags : ℕ) (h : Harness A U R S B T) (qs : List A) (st : Stand U) (s u : State)
+    → st.over ≡ false → st.tally.arrived ≡ false → 1 ≤ st.left → next_of flags s ≡ Ok (record { state = u; kind = kind })
     → h.parts.ends u ≡ false
     → is_due (moment_in h.parts.place) (st.tally.moment + 1) (drop st.tally.next qs) u ≡ false
-    → after_takes flags h qs st s ≡ after_state s (after_takes flags h qs (moved 1 st) u)
-one_plain {U = U} flags h qs st s u on alive left e busy due =
+    → after_takes flags h qs st s ≡ after_state s (after_takes flags h qs (moved (is_part kind) 1 st) u)
+one_step {U = U} kind flags h qs st s u on alive left e busy due =
     let t = st.tally in
-    let st1 : Stand U = record st { tally = stepped_tally t false } in
-    let st2 : Stand U = moved 1 st in
+    let part = is_part kind in
+    let st1 : Stand U = record st { tally = stepped_tally t part } in
+    let st2 : Stand U = moved part 1 st in
+    let none : one_if (part && false) ≡ 0 = ap one_if (and_right part false refl) in
     let k : Takes st1 st2 false = record {
       left = omega (arith, left);
       moment = refl;
       inside = refl;
-      instrs = refl;
+      instrs = ap (λ (k : ℕ). t.instrs + k) (one_instr part);
       arrived = alive;
-      resumed = omega arith;
+      resumed = omega (arith, none);
       taken_is = grind (arith, nat_tests);
     } in
-    let none = takes_end (plan_form flags h.parts) (t.moment + 1) (drop t.next qs) u (frames_seen t.frames.items) (map h.told t.told.items) due in
-    stepped_here flags h qs st st1 s u Plain on e refl
+    let takes = takes_end (plan_form flags h.parts) (t.moment + 1) (drop t.next qs) u (frames_seen t.frames.items) (map h.told t.told.items) due in
+    stepped_here flags h qs st st1 s u kind on e refl
     ∙ ap (after_state s) (sym (
     ap (λ (b : Bool). if b then at_end h.told st2.tally u else by_step flags h qs st2 u (next_of flags u)) on
-    ∙ taken_here flags h qs st1 st2 u u false busy k none))
+    ∙ taken_here flags h qs st1 st2 u u false busy k takes))
 
 -- many of them
-pub plain_on : {A U R S B T : Type 0} (flags : ℕ) (h : Harness A U R S B T) (qs : List A) (n : ℕ) (st : Stand U) (s t : State)
-    → st.over ≡ false → st.tally.arrived ≡ false → n ≤ st.left
-    → NoneDue (moment_in h.parts.place) st.tally.moment n (drop st.tally.next qs)
-    → PlainlyTo (λ u. h.parts.ends u ≡ false) flags n s t
-    → (states : List State) × (after_takes flags h qs st s ≡ after_states states (after_takes flags h qs (moved n st) t))
-plain_on {U = U} flags h qs zero st s t on alive left none to =
-    ([], ap₂ (λ (k : Stand U) (u : State). after_takes flags h qs k u) (sym (moved_none st)) to)
-plain_on {U = U} flags h qs (suc n) st s t on alive left none to =
+steps_on : {A U R S B T : Type 0} (kind : Stepped) (P : State → Type 0) (flags : ℕ) (h : Harness A U R S B T) (qs : List A) (n : ℕ)
+    (st : Stand U) (s t : State) → ((u : State) → P u → h.parts.ends u ≡ false) → st.over ≡ false → st.tally.arrived ≡ false → n ≤ st.left
+    → NoneDue (moment_in h.parts.place) st.tally.moment n (drop st.tally.next qs) → StepsOf kind P flags n s t
+    → (states : List State) × (after_takes flags h qs st s ≡ after_states states (after_takes flags h qs (moved (is_part kind) n st) t))
+steps_on {U = U} kind P flags h qs zero st s t busy on alive left none to =
+    ([], ap₂ (λ (k : Stand U) (u : State). after_takes flags h qs k u) (sym (moved_none (is_part kind) st)) to)
+steps_on {U = U} kind P flags h qs (suc n) st s t busy on alive left none to =
     let u : State = to.0 in
     let m : ℕ = st.tally.moment in
     let moment = moment_in h.parts.place in
+    let st1 : Stand U = moved (is_part kind) 1 st in
     let due = not_due moment m (suc n) (drop st.tally.next qs) u (omega arith) none in
-    let one = one_plain flags h qs st s u on alive (omega (arith, left)) to.1.0 to.1.1 due in
-    let rest = plain_on flags h qs n (moved 1 st) u t on alive (omega (arith, left)) (none_later moment m n (drop st.tally.next qs) none) to.1.2 in (
+    let one = one_step kind flags h qs st s u on alive (omega (arith, left)) to.1.0 (busy u to.1.1) due in
+    let rest = steps_on kind P flags h qs n st1 u t busy on alive (omega (arith, left)) (none_later moment m n (drop st.tally.next qs) none) to.1.2 in (
       s ∷ rest.0,
       one ∙ ap (after_state s) rest.1
-          ∙ ap (λ (k : Stand U). after_states (s ∷ rest.0) (after_takes flags h qs k t)) (moved_more n st),
+          ∙ ap (λ (k : Stand U). after_states (s ∷ rest.0) (after_takes flags h qs k t)) (moved_more (is_part kind) n st),
     )
 
-pub steady_moved : {A U : Type 0} (qs : List A) (n : ℕ) (st : Stand U) → n ≤ st.left → IsSteady qs st → IsSteady qs (moved n st)
-steady_moved qs n st left steady =
+fewer_instrs : (part : Bool) (n : ℕ) → (if part then 0 else n) ≤ n
+fewer_instrs true n = omega arith
+fewer_instrs false n = omega arith
+
+steady_moved : {A U : Type 0} (qs : List A) (part : Bool) (n : ℕ) (st : Stand U) → n ≤ st.left → IsSteady qs st
+    → IsSteady qs (moved part n st)
+steady_moved qs part n st left steady =
     let instrs = steady.instrs in
     let resumed = steady.resumed in
+    let few = fewer_instrs part n in
     record {
       room = steady.room;
       told = steady.told;
       few = steady.few;
-      instrs = omega (arith, instrs);
+      instrs = omega (arith, instrs, few);
       resumed = omega (arith, resumed);
       on = λ e. (let on = steady.on e in (on.0, (let sum = on.1 in omega (arith, left, sum))));
+    }
+
+-- what is to come is the same from a stand as after steps from there, which may go on too
+pub record PassesTo {A U R S B T : Type 0} (flags : ℕ) (h : Harness A U R S B T) (qs : List A) (st st2 : Stand U) (s t : State) : Type 0 where
+  pub coming : (states : List State) × (after_takes flags h qs st s ≡ after_states states (after_takes flags h qs st2 t))
+  pub steady : IsSteady qs st2
+
+-- steps of a kind, of which no more are done than come before a request and are left
+pub passes_to : {A U R S B T : Type 0} (kind : Stepped) (P : State → Type 0) (flags : ℕ) (h : Harness A U R S B T) (qs : List A) (most n : ℕ)
+    (st st2 : Stand U) (s t : State) → ((u : State) → P u → h.parts.ends u ≡ false) → st.over ≡ false → IsSteady qs st → most ≤ st.left
+    → NoneDue (moment_in h.parts.place) st.tally.moment most (drop st.tally.next qs) → n ≤ most → StepsOf kind P flags n s t
+    → st2 ≡ moved (is_part kind) n st → PassesTo flags h qs st st2 s t
+passes_to {U = U} kind P flags h qs most n st st2 s t busy on steady left none few to is =
+    let within : n ≤ st.left = omega (arith, left, few) in
+    let fewer = none_fewer (moment_in h.parts.place) st.tally.moment n most (drop st.tally.next qs) few none in
+    let go = steps_on kind P flags h qs n st s t busy on (steady.on on).0 within fewer to in
+    record {
+      coming = (go.0, go.1 ∙ ap (λ (k : Stand U). after_states go.0 (after_takes flags h qs k t)) (sym is));
+      steady = subst (λ (k : Stand U). IsSteady qs k) (sym is) (steady_moved qs (is_part kind) n st within steady);
     }
 
 length_numbered : (k m : ℕ) (ws : List State) → length (numbered k m ws) ≡ length ws
@@ -146,7 +188,7 @@ pub record PassesOn {T : Type 0} (o o2 : Outlook T) : Type 0 where
   pub state : o2.state ≡ o.state
   pub less : length o2.later < length o.later
 
--- a position further, and then by plain instructions
+-- a position further, and then by steps that were done at once
 passed : {A U R S B T : Type 0} (flags : ℕ) (h : Harness A U R S B T) (plan : List A) (p : Progress U R) (st : Stand U) (o : Outlook T)
     (s t : State) (at : Position) (states : List State) → o ≡ at_position at (from_here (outlook_at flags h plan p s))
     → after_takes flags h (requests_at plan p) p.stand s ≡ after_states states (after_takes flags h (requests_at plan p) st t)

@@ -8,14 +8,15 @@ use Rattle.run_law.specs.Forms.{Form, Ran, run_from, RowSeen, row_of, Rows}
 use Rattle.fz_run.specs.declared.boundary.Stand.{Stand}
 use Rattle.fz_run.specs.declared.sample.Tally.{Tally}
 use Rattle.fz_run.specs.declared.sample.Room.{Room}
+use Rattle.fz_run.specs.declared.progress.Progress.{Progress}
 use Rattle.fz_run.specs.Forms.{plan_form, Harness}
 use Rattle.fz_run.specs.Rest.{Brief, brief, after, rest_at, counted_at, shown_by}
 use Rattle.fz_run.specs.Rows.{frames_seen, tellings, shown}
 use Rattle.fz_run.specs.Slices.{Follow, requests_first, HasRoom, HaveRoom}
 use Rattle.fz_run.specs.Positions.{Position, numbered, all_numbered, positions_or, positions}
 use Rattle.fz_run.specs.Sessions.{Coming, before_takes, after_takes, after_state, at_end, by_step, IsSteady}
-use Rattle.fz_run.specs.Outlooks.{Ahead, Outlook, from_here, at_position, shown_run, ahead, sample_at, with_row, left_by, outlook}
-use Rattle.fz_run.proofs.PlanSlices.{room_first, slice_first, count_there, few_there}
+use Rattle.fz_run.specs.Outlooks.{Ahead, Outlook, from_here, at_position, shown_run, ahead, sample_at, with_row, left_by, outlook, rows_here, state_here, IsUnderWay}
+use Rattle.fz_run.proofs.PlanSlices.{room_first, slice_first, count_there, few_there, rest_further}
 use Rattle.fz_run.proofs.Onward.{from_nothing}
 use Rattle.fz_run.proofs.RowSteps.{rows_under, one_row, no_row}
 
@@ -51,7 +52,7 @@ fresh room = record {
 }
 
 -- all of a sample's run is to come
-pub fresh_coming : {A U R S B T : Type 0} (flags : ℕ) (h : Harness A U R S B T) (n : ℕ) (qs : List A) (room : Room U) (st : Stand U) (s : State) → st.tally ≡ fresh room → st.left ≡ n
+fresh_coming : {A U R S B T : Type 0} (flags : ℕ) (h : Harness A U R S B T) (n : ℕ) (qs : List A) (room : Room U) (st : Stand U) (s : State) → st.tally ≡ fresh room → st.left ≡ n
     → room.frames.items ≡ [] → room.told.items ≡ []
     → before_takes flags h qs st s ≡ coming_of (run_from (plan_form flags h.parts) n 0 false qs s)
 fresh_coming {A = A} {U = U} {S = S} {B = B} flags h n qs room st s et el ef eu =
@@ -93,7 +94,7 @@ outlook_goes {B = B} {T = T} flags h most k m m2 x s s2 c c2 plan rest rows e he
     ∙ ap₂ (λ (j : ℕ) (ws : List State). at_position (record { sample = k; moment = m; state = s }) (made (numbered k j ws ++ next.left) next.rows next.state)) one here
 
 -- the first boundary of a sample that was given
-pub given_ahead : {A U R S B T : Type 0} (flags : ℕ) (h : Harness A U R S B T) (most n m : ℕ) (plan plan2 qs : List A) (o : Option S) (y : S) (rest : List S) (rows : List T) (s t : State) (c : Coming B) → Follow h.parts.place (n + 1) plan
+given_ahead : {A U R S B T : Type 0} (flags : ℕ) (h : Harness A U R S B T) (most n m : ℕ) (plan plan2 qs : List A) (o : Option S) (y : S) (rest : List S) (rows : List T) (s t : State) (c : Coming B) → Follow h.parts.place (n + 1) plan
     → qs ≡ requests_first h.parts.place (n + 1) plan → plan2 ≡ drop (length (requests_first h.parts.place (n + 1) plan)) plan → c ≡ coming_of (run_from (plan_form flags h.parts) most 0 false qs (h.parts.give y s))
     → c.states ≡ t ∷ drop 1 c.states → m ≡ 0 → o ≡ Some y
     → from_here (outlook flags h most (n + 1) m o t c plan2 rest rows) ≡ ahead flags h most (n + 1) plan (y ∷ rest) rows s
@@ -183,6 +184,43 @@ next_room {A = A} {U = U} place plan k behind n left room rooms all t count item
     let first = room_first place k left rest room rooms more (subst (λ (l : List (Room U)). HaveRoom place k left rest l) items have) in
     given_room (take (behind + n - behind) rest) (requests_first place k rest) room t et first.0 (slice_first place k behind n rest here)
     (few_there plan behind (behind + n - behind) few)
+
+-- the next sample, where the one before was at an end: what is counted of it begins afresh
+pub given_next : {A U R S B T : Type 0} (flags i j : ℕ) (h : Harness A U R S B T) (plan : List A) (p : Progress U R) (n : ℕ) (room : Room U) (rooms : List (Room U))
+    (old st st2 : Stand U) (s past given t : State) (rows : List T) → IsUnderWay h plan p → p.number < length h.samples → p.rooms.items ≡ room ∷ rooms
+    → n ≡ length (requests_first h.parts.place (p.number + 1) (take (length plan - p.behind) (drop p.behind plan))) → old ≡ p.stand
+    → st.tally ≡ fresh room → st.left ≡ p.most → i ≡ j → j ≡ flags
+    → rows ≡ with_row (map h.seen p.rows.items) (shown_by h.shows h.parts.answers (counted_at h.told old.tally s)) (sample_at p.number h.samples)
+    → past ≡ state_here h p s → ((x : S) → slice_get h.samples p.number ≡ Some x → given ≡ h.parts.give x past)
+    → after_takes i h (take (p.behind + n - p.behind) (drop p.behind plan)) st2 t
+    ≡ before_takes i h (take (p.behind + n - p.behind) (drop p.behind plan)) st given
+    → st2.tally.moment ≡ st.tally.moment
+    → from_here (outlook flags h p.most (p.number + 1) st2.tally.moment (sample_at (p.number + 1) h.samples) t
+    (after_takes flags h (take (p.behind + n - p.behind) (drop p.behind plan)) st2 t) (drop (p.behind + n) plan) (drop (p.number + 1) h.samples) rows)
+    ≡ ahead flags h p.most (p.number + 1) (drop p.behind plan) (drop p.number h.samples) (rows_here h p s) (state_here h p s)
+given_next {A = A} {U = U} {R = R} {S = S} {B = B} {T = T} flags i j h plan p n room rooms old st st2 s past given t rows way more items count was tally left eij ej erow epast egiven came moment =
+    let form : Form S A B = plan_form flags h.parts in
+    let place = h.parts.place in
+    let k = p.number + 1 in
+    let rest : List A = drop p.behind plan in
+    let qs : List A = take (p.behind + n - p.behind) rest in
+    let here : n ≡ length (requests_first place k rest) = count_there place k p.behind n plan count in
+    let y = is_there h.samples p.number more in
+    let have = subst (λ (l : List (Room U)). HaveRoom place k (length h.samples - p.number) rest l) items way.rooms in
+    let empty = (room_first place k (length h.samples - p.number) rest room rooms (omega (arith, more)) have).0 in
+    let same : i ≡ flags = eij ∙ ej in
+    let comes : after_takes flags h qs st2 t ≡ coming_of (run_from form p.most 0 false qs (form.give y.sample past)) =
+    subst (λ (l : ℕ). after_takes l h qs st2 t ≡ before_takes l h qs st given) same came
+    ∙ fresh_coming flags h p.most qs room st given tally left empty.no_frames empty.none_told
+    ∙ ap (λ (u : State). coming_of (run_from form p.most 0 false qs u)) (egiven y.sample y.at) in
+    let begins : st2.tally.moment ≡ 0 = moment ∙ ap (λ (t : Tally U). t.moment) tally in
+    let rows_are : rows ≡ rows_here h p s =
+    erow ∙ ap (λ (st : Stand U). with_row (map h.seen p.rows.items) (shown_by h.shows h.parts.answers (counted_at h.told st.tally s)) (sample_at p.number h.samples)) was in
+    let further = rest_further place k p.behind n plan here in
+    given_ahead flags h p.most p.number st2.tally.moment rest (drop (p.behind + n) plan) qs (sample_at k h.samples) y.sample (drop k h.samples) rows past t (after_takes flags h qs st2 t) way.follow
+    (slice_first place k p.behind n rest here) further comes (states_here flags h qs st2 t) begins (sample_next p.number h.samples ∙ y.at)
+    ∙ ap (λ (l : List S). ahead flags h p.most k rest l rows past) (sym y.rest)
+    ∙ ap₂ (λ (rs : List T) (u : State). ahead flags h p.most k rest (drop p.number h.samples) rs u) rows_are epast
 
 -- the first position of a run, behind the one before its samples
 pub first_goes : {S A B T : Type 0} (shows : RowSeen S → List B → T) (first : State) (o n : Outlook T) (p q : Position) (all : Rows S A B)

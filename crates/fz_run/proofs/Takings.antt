@@ -1,5 +1,6 @@
 -- Requests that are taken one after the other.
-use Rattle.std.proofs.Common.{◌≡◌, ℕ, zero, suc, ◌+◌, ◌<◌, true, false, List, [], ◌∷◌, ◌++◌, length, get_or, drop, map, refl, ap, ap₂, sym, ◌∙◌, subst, arith, append_assoc, append-nil, drop-cons}
+use Rattle.std.proofs.Common.{Result, Ok, ◌≡◌, ℕ, zero, suc, ◌+◌, ◌<◌, true, false, List, [], ◌∷◌, ◌++◌, length, get_or, drop, map, refl, ap, ap₂, sym, ◌∙◌, subst, arith, append_assoc, append-nil, drop-cons}
+use Rattle.std.specs.Prelude.{if◌then◌else◌, is_ok}
 use Rattle.std.proofs.lemmas.List.{map-append, length-map}
 use Rattle.cpu12_parts.specs.State.{State}
 use Rattle.cpu12_emul.specs.declared.ends.Frame.{Frame}
@@ -46,10 +47,15 @@ takes_end {A = A} {B = B} g m qs s fs ts h =
 request_here : {A : Type 0} (qs : List A) (i : ℕ) (d : A) → i < length qs → drop i qs ≡ get_or qs i d ∷ drop (i + 1) qs
 request_here {A = A} qs i d h = drop-cons qs i d h ∙ ap (λ (k : ℕ). get_or qs i d ∷ drop k qs) (let e : suc i ≡ i + 1 = omega arith in e)
 
+-- what a vector holds after a push that was unwrapped
+pub pushed : {C V E : Type 0} (xs ys : List C) (x : C) (r : Result V E) (v : V) → ys ≡ (if is_ok r then xs ++ x ∷ [] else xs) → r ≡ Ok v
+    → ys ≡ xs ++ x ∷ []
+pushed xs ys x r v e ok = e ∙ ap (λ r. if is_ok r then xs ++ x ∷ [] else xs) ok
+
 frames_more : (fs : List (ℕ × Frame)) (f : ℕ × Frame) → frames_seen (fs ++ f ∷ []) ≡ frames_seen fs ++ boundary_seen f ∷ []
 frames_more fs f = map-append boundary_seen fs (f ∷ [])
 
-pub one_taken : {S A U B : Type 0} (g : Form S A B) (seen : U → B) (m : ℕ) (qs : List A) (i : ℕ) (d : A) (s t : State) (fs fs2 : List (ℕ × Frame)) (f : Frame) (us us2 : List U) (u : U) → i < length qs
+one_taken : {S A U B : Type 0} (g : Form S A B) (seen : U → B) (m : ℕ) (qs : List A) (i : ℕ) (d : A) (s t : State) (fs fs2 : List (ℕ × Frame)) (f : Frame) (us us2 : List U) (u : U) → i < length qs
     → is_due g.moment m (drop i qs) s ≡ true → t ≡ taken g (get_or qs i d) s → frame_seen f ≡ frame_of s → fs2 ≡ fs ++ (m, f) ∷ []
     → seen u ≡ g.tells (get_or qs i d) (suspended wav s) → us2 ≡ us ++ u ∷ []
     → with_before (frames_seen fs) (map seen us) (takes g m (drop i qs) s) ≡ with_before (frames_seen fs2) (map seen us2) (takes g m (drop (i + 1) qs) t)
@@ -65,8 +71,17 @@ one_taken {A = A} {B = B} g seen m qs i d s t fs fs2 f us us2 u lt due et ef efs
     ∙ ap₂ (λ (l : List (ℕ × FrameSeen)) (v : State). with_before l more (takes g m (drop (i + 1) qs) v)) fr (sym et)
     ∙ ap (λ (bs : List B). with_before (frames_seen fs2) bs (takes g m (drop (i + 1) qs) t)) told
 
-pub due_within : {A : Type 0} (moment : A → ℕ) (m : ℕ) (qs : List A) (i : ℕ) (s : State) → is_due moment m (drop i qs) s ≡ true → i < length qs
+due_within : {A : Type 0} (moment : A → ℕ) (m : ℕ) (qs : List A) (i : ℕ) (s : State) → is_due moment m (drop i qs) s ≡ true → i < length qs
 due_within moment m [] zero s h = absurd (let e : false ≡ true = h in cc)
 due_within moment m [] (suc i) s h = absurd (let e : false ≡ true = h in cc)
 due_within moment m (q ∷ qs) zero s h = omega arith
 due_within moment m (q ∷ qs) (suc i) s h = let r = due_within moment m qs i s h in omega arith
+
+-- the next request, at which a call found what is due
+pub next_taken : {S A U B : Type 0} (g : Form S A B) (seen : U → B) (m : ℕ) (qs : List A) (i : ℕ) (q d : A) (s t : State) (fs fs2 : List (ℕ × Frame)) (f : Frame) (us us2 : List U) (u : U)
+    → is_due g.moment m (drop i qs) s ≡ true → q ≡ get_or qs i d → t ≡ g.handle q (suspended wav s) → frame_seen f ≡ frame_of s → fs2 ≡ fs ++ (m, f) ∷ []
+    → seen u ≡ g.tells q (suspended wav s) → us2 ≡ us ++ u ∷ []
+    → with_before (frames_seen fs) (map seen us) (takes g m (drop i qs) s) ≡ with_before (frames_seen fs2) (map seen us2) (takes g m (drop (i + 1) qs) t)
+next_taken {A = A} g seen m qs i q d s t fs fs2 f us us2 u due at et ef efs eu eus =
+    one_taken g seen m qs i d s t fs fs2 f us us2 u (due_within g.moment m qs i s due) due
+    (et ∙ ap (λ (q : A). g.handle q (suspended wav s)) at) ef efs (eu ∙ ap (λ (q : A). g.tells q (suspended wav s)) at) eus

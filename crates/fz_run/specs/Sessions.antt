@@ -1,5 +1,5 @@
 -- What is to come of a sample's run, at a boundary of it.
-use Rattle.std.specs.Prelude.{◌≡◌, ◌≤◌, ◌<◌, ℕ, ◌+◌, ◌-◌, ◌^◌, ◌==◌, ◌&&◌, not, Bool, false}
+use Rattle.std.specs.Prelude.{◌≡◌, ◌≤◌, ◌<◌, ℕ, ◌+◌, ◌-◌, ◌^◌, ◌==◌, not, Bool, false}
 use Rattle.std.specs.Prelude.{if◌then◌else◌, Result, Ok, Err, List, [], ◌∷◌, ◌++◌, length, drop}
 use Rattle.std.specs.Prelude.{vec_len, vec_capacity}
 use Rattle.cpu12_parts.specs.State.{State}
@@ -61,13 +61,13 @@ pub record IsSteady {A U : Type 0} (requests : List A) (st : Stand U) : Type 0 w
   pub resumed : st.tally.resumed ≤ st.tally.moment + 1
   pub on : st.over ≡ false → (st.tally.arrived ≡ false) × (st.tally.moment + st.left + 1 < 2 ^ 32)
 
--- a stand after n plain instructions at whose ends nothing is taken
-abbrev pub moved : {U : Type 0} → ℕ → Stand U → Stand U
-moved n st = record {
+-- a stand after n steps at whose ends nothing is taken: parts of instructions that go on, or plain instructions
+abbrev pub moved : {U : Type 0} → Bool → ℕ → Stand U → Stand U
+moved part n st = record {
   tally = record (st.tally) {
     moment = st.tally.moment + n;
-    inside = (n == 0) && st.tally.inside;
-    instrs = st.tally.instrs + n;
+    inside = if n == 0 then st.tally.inside else part;
+    instrs = st.tally.instrs + (if part then 0 else n);
   };
   left = st.left - n;
   over = st.over;

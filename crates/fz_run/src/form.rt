@@ -1,6 +1,7 @@
 //! Forms of firmware: what a run is given, and what serves its requests.
-ghost use Rattle.std.specs.Prelude.{ℕ, ◌≡◌, ◌<◌, ◌≤◌, false, Some, List, length, vec_len, slice_get, IsTrue};
+ghost use Rattle.std.specs.Prelude.{ℕ, ◌≡◌, ◌<◌, ◌≤◌, true, false, Some, List, length, vec_len, slice_get, IsTrue};
 ghost use Rattle.cpu12_parts.specs.Cuts.{suspended, wav};
+ghost use Rattle.cpu12_parts.specs.State.{State};
 ghost use Rattle.cpu12_emul.specs.Run.{PlainlyTo};
 ghost use Rattle.cpu12_emul.specs.Take.{may_interrupt, frame_seen, frame_of};
 ghost use Rattle.run_law.specs.Forms.{RowSeen};
@@ -8,7 +9,7 @@ ghost use Rattle.fz_run.specs.Forms.{Harness};
 ghost use Rattle.fz_run.specs.Rest.{counted_at, shown_by};
 ghost use Rattle.fz_run.specs.Rows.{writes_harness};
 
-use crate::ports::{answers, give, is_idle};
+use crate::ports::{answers, give, is_busy_here, is_idle};
 use crate::rows::{Row, row_of};
 use crate::sample::Tally;
 use codegen::Firmware;
@@ -55,6 +56,11 @@ pub trait RunForm<A, U, R> {
     /// Whether a sample is over.
     fn ends<M: Mem>(&self, m: &Machine<M>) -> bool
         ensures { result ≡ (harness self.now).parts.ends m.now.state };
+
+    /// Whether the sample goes on as long as PC stays.
+    fn goes_on_here<M: Mem>(&self, m: &Machine<M>) -> bool
+        ensures { result ≡ true → (s : State) → s.regs.pc ≡ m.now.state.regs.pc
+            → (harness self.now).parts.ends s ≡ false };
 
     /// Does plain instructions at once, at most `most`, at whose ends the sample goes on. Answers how many.
     fn plain_steps<M: Mem>(&self, m: &mut Machine<M>, most: u32) -> u32
@@ -119,6 +125,11 @@ impl<'a> RunForm<Request, (), Row> for WithWrites<'a> {
 
     fn ends<M: Mem>(&self, m: &Machine<M>) -> bool {
         is_idle(&self.firmware.layout, m)
+    }
+
+    #[inline(always)]
+    fn goes_on_here<M: Mem>(&self, m: &Machine<M>) -> bool {
+        is_busy_here(&self.firmware.layout, m)
     }
 
     #[inline(always)]

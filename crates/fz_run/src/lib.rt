@@ -16,10 +16,10 @@
 #![tactic(auto)]
 
 pub mod alone;
+mod at_once;
 mod boundary;
 pub mod form;
 pub mod laws;
-mod plain;
 pub mod ports;
 mod progress;
 mod rows;

@@ -1,6 +1,7 @@
 //! How a firmware is given samples, and where its answers are read.
-ghost use Rattle.std.specs.Prelude.{ℕ, ◌≡◌, ◌≤◌, List, length};
+ghost use Rattle.std.specs.Prelude.{ℕ, ◌≡◌, ◌≤◌, true, false, List, length};
 ghost use Rattle.arrayvec.specs.ArrayVec.{array_vec_len};
+ghost use Rattle.cpu12_parts.specs.State.{State};
 ghost use Rattle.codegen.specs.Interruptible.{is_idle};
 ghost use Rattle.fz_run.specs.Forms.{given, answer_size, answer_at, answers_in};
 
@@ -14,6 +15,14 @@ pub fn is_idle<M: Mem>(layout: &Layout, m: &Machine<M>) -> bool
     ensures { result ≡ is_idle layout.now m.now.state }
 {
     m.regs().pc == layout.wait && m.peek(layout.ready) == 0
+}
+
+/// Whether PC is elsewhere than where the firmware waits, so that it is busy as long as PC stays.
+#[inline(always)]
+pub fn is_busy_here<M: Mem>(layout: &Layout, m: &Machine<M>) -> bool
+    ensures { result ≡ true → (s : State) → s.regs.pc ≡ m.now.state.regs.pc → is_idle layout.now s ≡ false }
+{
+    m.regs().pc != layout.wait
 }
 
 /// Gives a sample: writes its bytes from the first input on, and 1 to READY.

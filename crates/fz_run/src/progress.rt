@@ -8,9 +8,9 @@ ghost use Rattle.fz_run.specs.Slices.{HaveRoom, IsInOrder};
 ghost use Rattle.fz_run.specs.Outlooks.{ahead, at_position, from_here, left_by, outlook_at};
 ghost use Rattle.fz_run.specs.Outlooks.{rows_here, sample_at, shown_run, state_here, with_row, IsUnderWay};
 
+use crate::at_once::pass_at_once;
 use crate::boundary::{Stand, come, pass};
 use crate::form::RunForm;
-use crate::plain::pass_plain;
 use crate::runs::count_of;
 use crate::sample::{Room, Tally};
 use cpu12_emul::machine::Machine;
@@ -237,7 +237,7 @@ pub(crate) fn drive<M: Mem, A, U: Drop, R, F: RunForm<A, U, R>>(
     ensures way { IsUnderWay (F.harness form.now) plan.now p.new }
 {
     while advance(m, form, plan, p) {
-        pass_plain(m, form, &plan[p.first..p.behind], &mut p.stand);
+        pass_at_once(m, form, &plan[p.first..p.behind], &mut p.stand);
     }
 }
 

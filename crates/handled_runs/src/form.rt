@@ -10,7 +10,7 @@ use cpu12_emul::ends::Frame;
 use cpu12_emul::machine::Machine;
 use cpu12_isa::mem::Mem;
 use fz_run::form::RunForm;
-use fz_run::ports::{answers, give, is_idle};
+use fz_run::ports::{answers, give, is_busy_here, is_idle};
 use fz_run::{Tally, row_of};
 use interrupt_plan::Request;
 use trace_io::Sample;
@@ -56,6 +56,11 @@ impl<'a> RunForm<Request, u16, HandledRow> for WithCode<'a> {
 
     fn ends<M: Mem>(&self, m: &Machine<M>) -> bool {
         is_idle(&self.firmware.layout, m)
+    }
+
+    #[inline(always)]
+    fn goes_on_here<M: Mem>(&self, m: &Machine<M>) -> bool {
+        is_busy_here(&self.firmware.layout, m)
     }
 
     #[inline(always)]

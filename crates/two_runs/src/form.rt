@@ -12,7 +12,7 @@ use cpu12_emul::machine::Machine;
 use cpu12_isa::mem::Mem;
 use fz_list::List as Items;
 use fz_run::form::RunForm;
-use fz_run::ports::{answers, copy_of, give, is_idle};
+use fz_run::ports::{answers, copy_of, give, is_busy_here, is_idle};
 use fz_run::{Row, Tally};
 use interrupt_plan::Level;
 use trace_io::Sample;
@@ -52,6 +52,11 @@ impl<'a> RunForm<Level, Option<FastRow>, TwoRow> for WithLevels<'a> {
 
     fn ends<M: Mem>(&self, m: &Machine<M>) -> bool {
         is_idle(&self.two.slow.layout, m)
+    }
+
+    #[inline(always)]
+    fn goes_on_here<M: Mem>(&self, m: &Machine<M>) -> bool {
+        is_busy_here(&self.two.slow.layout, m)
     }
 
     #[inline(always)]

@@ -12,7 +12,7 @@ use cpu12_emul::ends::Frame;
 use cpu12_emul::machine::Machine;
 use cpu12_isa::mem::Mem;
 use fz_run::form::RunForm;
-use fz_run::ports::{answers, give, is_idle};
+use fz_run::ports::{answers, give, is_busy_here, is_idle};
 use fz_run::{Row, Tally, row_of};
 use interrupt_plan::{Request, Upset};
 use trace_io::Sample;
@@ -88,6 +88,11 @@ impl<'a> RunForm<Request, (), WatchedRow> for WithUpsets<'a> {
 
     fn ends<M: Mem>(&self, m: &Machine<M>) -> bool {
         is_idle(&self.firmware.layout, m)
+    }
+
+    #[inline(always)]
+    fn goes_on_here<M: Mem>(&self, m: &Machine<M>) -> bool {
+        is_busy_here(&self.firmware.layout, m)
     }
 
     #[inline(always)]

@@ -1,18 +1,25 @@
-use Rattle.std.proofs.Common.{◌≡◌, ◌∙◌, ℕ, ap, ap₂, sym}
+use Rattle.std.proofs.Common.{◌∙◌, ℕ, ap, ap₂, sym}
 use Rattle.fz_run.specs.Outlooks.{Outlook, outlook_at, rows_here, state_here}
-use Rattle.fz_run.proofs.AtOnce.{passes_on}
+use Rattle.fz_run.proofs.AtOnce.{PassesOn, passes_on}
+use Rattle.fz_run.proofs.progress.drive.Given.{Over}
+use Rattle.fz_run.proofs.progress.drive.Goals.{After-pass_at_once}
 use Rattle.fz_run.proofs.progress.drive.Goals as goal
+
+-- what is to come, after a position and the steps that were done at once from there
+further : (g : Over) (c : After-pass_at_once g) → PassesOn (outlook_at c.args.m.now.flags (g.F.RunForm.harness c.args.form.now) c.args.plan.now c.loop-m.p c.loop-m.m.state)
+    (outlook_at c.args.m.now.flags (g.F.RunForm.harness c.args.form.now) c.args.plan.now (record (c.advance.new.p) { stand = c.pass_at_once.new.st }) c.pass_at_once.new.m.state)
+further g c =
+    let l = c.loop-m in
+    let n = c.advance.new in
+    let q = c.pass_at_once.new in
+    let coming = c.pass_at_once.ensures.coming in
+    passes_on c.args.m.now.flags l.m.flags n.m.flags (g.F.RunForm.harness c.args.form.now) c.args.plan.now l.p n.p q.st l.m.state n.m.state q.m.state _ coming.0
+    l.invariant.flags (c.advance.ensures.flags ∙ l.invariant.flags) (c.advance.ensures.goes c.loop-m-test.true) coming.1
 
 pub loop-m-preserved : goal.loop-m-preserved
 loop-m-preserved g c =
-    let h = g.F.RunForm.harness c.args.form.now in
-    let plan = c.args.plan.now in
     let l = c.loop-m in
-    let n = c.advance.new in
-    let q = c.pass_plain.new in
-    let coming = c.pass_plain.ensures.coming in
-    let on = passes_on c.args.m.now.flags l.m.flags n.m.flags h plan l.p n.p q.st l.m.state n.m.state q.m.state _ coming.0
-    l.invariant.flags (c.advance.ensures.flags ∙ l.invariant.flags) (c.advance.ensures.goes c.loop-m-test.true) coming.1 in
+    let on = further g c in
     let way = c.advance.ensures.way in
     record {
       way = record {
@@ -24,24 +31,15 @@ loop-m-preserved g c =
         rooms = way.rooms;
         rows = way.rows;
         room = way.room;
-        stand = c.pass_plain.ensures.steady;
+        stand = c.pass_at_once.ensures.steady;
       };
       rows = on.rows ∙ l.invariant.rows;
       state = on.state ∙ l.invariant.state;
-      flags = c.pass_plain.ensures.flags ∙ c.advance.ensures.flags ∙ l.invariant.flags;
+      flags = c.pass_at_once.ensures.flags ∙ c.advance.ensures.flags ∙ l.invariant.flags;
     }
 
 pub loop-m-smaller : goal.loop-m-smaller
-loop-m-smaller g c =
-    let h = g.F.RunForm.harness c.args.form.now in
-    let plan = c.args.plan.now in
-    let l = c.loop-m in
-    let n = c.advance.new in
-    let q = c.pass_plain.new in
-    let coming = c.pass_plain.ensures.coming in
-    let on = passes_on c.args.m.now.flags l.m.flags n.m.flags h plan l.p n.p q.st l.m.state n.m.state q.m.state _ coming.0
-    l.invariant.flags (c.advance.ensures.flags ∙ l.invariant.flags) (c.advance.ensures.goes c.loop-m-test.true) coming.1 in
-    on.less
+loop-m-smaller g c = (further g c).less
 
 pub returns-clause-rows : goal.returns-clause-rows
 returns-clause-rows g c =

@@ -1,8 +1,5 @@
-use Rattle.std.proofs.Common.{◌≡◌, ◌++◌, ◌∷◌, [], ap, ◌∙◌}
-use Rattle.std.specs.Prelude.{if◌then◌else◌, is_ok}
-use Rattle.cpu12_parts.specs.Cuts.{suspended, wav}
-use Rattle.fz_run.specs.Forms.{moment_in, plan_form}
-use Rattle.fz_run.proofs.Takings.{one_taken, due_within}
+use Rattle.fz_run.specs.Forms.{plan_form}
+use Rattle.fz_run.proofs.Takings.{next_taken, pushed}
 use Rattle.fz_run.proofs.sample.take_next.Goals as goal
 
 pub returns-clause-takes : goal.returns-clause-takes
@@ -10,17 +7,14 @@ returns-clause-takes g c =
     let t = c.args.t.now in
     let m = c.args.m.now in
     let h = g.F.RunForm.harness c.args.form.now in
-    let parts = h.parts in
+    let request = c.index-requests-t.result in
     let frame = c.take-frame.result.0 in
     let one = c.take-frame.result.1 in
-    let items : c.push.new.self.items ≡ t.frames.items ++ (t.moment, frame) ∷ [] =
-    c.push.ensures.items
-    ∙ ap (λ r. if is_ok r then t.frames.items ++ (t.moment, frame) ∷ [] else t.frames.items) c.unwrap.ensures in
-    let told : c.push-2.new.self.items ≡ t.told.items ++ one ∷ [] =
-    c.push-2.ensures.items ∙ ap (λ r. if is_ok r then t.told.items ++ one ∷ [] else t.told.items) c.unwrap-2.ensures in
-    let state = c.take-frame.ensures.state ∙ ap (λ (q : g.row.A.Denot). parts.handle m.flags q (suspended wav m.state)) c.index-requests-t.is in
-    let tells = c.take-frame.ensures.told ∙ ap (λ (q : g.row.A.Denot). parts.tells m.flags q (suspended wav m.state)) c.index-requests-t.is in
-    one_taken (plan_form m.flags parts) h.told t.moment c.args.requests.now t.next c.index-requests-t.result m.state
-    c.take-frame.new.m.state t.frames.items c.push.new.self.items frame t.told.items c.push-2.new.self.items one
-    (due_within (moment_in parts.place) t.moment c.args.requests.now t.next m.state c.requires.due) c.requires.due state
-    c.take-frame.ensures.frame items tells told
+    let frames = c.push.new.self.items in
+    let told = c.push-2.new.self.items in
+    next_taken (plan_form m.flags h.parts) h.told t.moment c.args.requests.now t.next request request m.state
+    c.take-frame.new.m.state t.frames.items frames frame t.told.items told one c.requires.due c.index-requests-t.is
+    c.take-frame.ensures.state c.take-frame.ensures.frame
+    (pushed t.frames.items frames (t.moment, frame) c.push.result c.unwrap.result c.push.ensures.items c.unwrap.ensures)
+    c.take-frame.ensures.told
+    (pushed t.told.items told one c.push-2.result c.unwrap-2.result c.push-2.ensures.items c.unwrap-2.ensures)
