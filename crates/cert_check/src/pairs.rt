@@ -35,7 +35,8 @@ pub(crate) fn raise_errors(
     ensures raised { OnOk result (Raises block.now parts (part_of bytes.0.items pairs.now) errors.old errors.new) }
     ensures fault { IfErr result (HasPartFault block.now (part_of bytes.0.items pairs.now) line) }
 {
-    let table = BoxTable::over(block, kept, bytes);
+    let silent = pairs.iter().any(|pair| pair.1 == 0);
+    let table = BoxTable::for_leaves(block, kept, bytes, silent);
     for o in 0..pairs.len() {
         let (rule, k) = pairs[o];
         let bound = pair_bound(block, &table, Leaf { rule, k }, o as u8 + 1, parts, line)?;
@@ -47,7 +48,7 @@ pub(crate) fn raise_errors(
 /// The Bound of a pair for an output on a table's box, or its fault.
 fn pair_bound(
     block: &Block,
-    table: &BoxTable,
+    table: &BoxTable<'_>,
     pair: Leaf,
     out: u8,
     parts: u16,

@@ -1,17 +1,45 @@
--- The reaches of the parts of an AND or OR, from the last on.
-use Rattle.std.proofs.Common.{◌≡◌, ℕ, suc, ◌-◌, ◌<◌, ◌≤◌, max, Bool, List, [], ◌∷◌, length, map, drop, get_or, refl, ap, ap₂, sym, ◌∙◌, subst, arith}
+-- The ends of the reaches of the parts of an AND or OR, from the last on.
+use Rattle.std.proofs.Common.{◌≡◌, ℕ, suc, ◌-◌, ◌<◌, ◌≤◌, Bool, true, false, List, [], ◌∷◌, length, map, drop, get_or, refl, ap, ap₂, sym, ◌∙◌, subst, arith}
 use Rattle.std.proofs.Math.Seq.{drop-cons}
 use Rattle.fuzzy_meaning.specs.declared.block.Block.{Block}
 use Rattle.fuzzy_meaning.specs.declared.block.Cond.{Cond}
 use Rattle.fuzzy_meaning.specs.Conditions.{condition_of, also, conditions}
 use Rattle.error_bound.specs.declared.boxes.Interval.{Interval}
-use Rattle.error_bound.specs.declared.reaches.Reach.{Reach}
-use Rattle.error_bound.specs.Spans.{joined_spans, span_of_none, joined_bytes, bytes_of_none}
+use Rattle.error_bound.specs.declared.ends.End.{End}
+use Rattle.error_bound.specs.Ratios.{value_of, IsRatio}
+use Rattle.error_bound.specs.Spans.{Span, ByteSpan, span, byte_span, end_of, byte_end_of, joined_spans, span_of_none, joined_bytes, bytes_of_none, joined_ends, end_of_none, joined_byte_ends, byte_end_of_none}
 use Rattle.error_bound.specs.Boxes.{literal_span, literal_byte_span}
-use Rattle.error_bound.specs.CellErrors.{term_errors}
-use Rattle.error_bound.specs.Reaches.{span_of, byte_span_of, IsSmall, IsReachOfCondition}
+use Rattle.error_bound.specs.Reaches.{IsEndOfCondition}
 use Rattle.error_bound.specs.Flattening.{group}
-use Rattle.error_bound.proofs.Groups.{group_span, group_span_none, group_bytes, group_bytes_none, group_error, group_error_none}
+use Rattle.error_bound.proofs.Groups.{group_span, group_span_none, group_bytes, group_bytes_none}
+
+-- ---- ends of spans
+
+end-joined : (upper or : Bool) (s r : Span) → end_of upper (joined_spans or s r) ≡ joined_ends or (end_of upper s) (end_of upper r)
+end-joined true true s r = refl
+end-joined true false s r = refl
+end-joined false true s r = refl
+end-joined false false s r = refl
+
+byte_end-joined : (upper or : Bool) (s r : ByteSpan) → byte_end_of upper (joined_bytes or s r) ≡ joined_byte_ends or (byte_end_of upper s) (byte_end_of upper r)
+byte_end-joined true true s r = refl
+byte_end-joined true false s r = refl
+byte_end-joined false true s r = refl
+byte_end-joined false false s r = refl
+
+end-none : (upper or : Bool) → end_of upper (span_of_none or) ≡ end_of_none or
+end-none true true = refl
+end-none true false = refl
+end-none false true = refl
+end-none false false = refl
+
+byte_end-none : (upper or : Bool) → byte_end_of upper (bytes_of_none or) ≡ byte_end_of_none or
+byte_end-none true true = refl
+byte_end-none true false = refl
+byte_end-none false true = refl
+byte_end-none false false = refl
+
+-- ---- of conditions
 
 -- the conditions from a place on: that of the place, and those behind
 from_place : (parts : List Cond) (k : ℕ) (part : Cond) → 1 ≤ k → k ≤ length parts → part ≡ get_or parts (k - 1) part
@@ -24,34 +52,36 @@ from_place parts k part from to here_is =
     drop-cons parts (k - 1) part within ∙ ap₂ (λ x n. x ∷ drop n parts) (sym here_is) back in
     ap (λ l. conditions (map condition_of l)) here
 
-pub among_from : (b : Block) (box : List Interval) (or : Bool) (parts : List Cond) (k : ℕ) (part : Cond) (p r s : Reach)
+drop-length : (ps : List Cond) → drop (length ps) ps ≡ []
+drop-length [] = refl
+drop-length (p ∷ ps) = drop-length ps
+
+pub end_from : (b : Block) (box : List Interval) (or upper : Bool) (parts : List Cond) (k : ℕ) (part : Cond) (p r s : End)
     → 1 ≤ k → k ≤ length parts → part ≡ get_or parts (k - 1) part
-    → IsReachOfCondition b box (condition_of part) p
-    → IsReachOfCondition b box (group or (conditions (map condition_of (drop k parts)))) r
-    → span_of s.degrees ≡ joined_spans or (span_of p.degrees) (span_of r.degrees)
-    → byte_span_of s ≡ joined_bytes or (byte_span_of p) (byte_span_of r)
-    → s.error ≡ max p.error r.error → IsSmall s
-    → IsReachOfCondition b box (group or (conditions (map condition_of (drop (k - 1) parts)))) s
-among_from b box or parts k part p r s from to here_is hp hr value bytes error small =
+    → IsEndOfCondition b box (condition_of part) upper p
+    → IsEndOfCondition b box (group or (conditions (map condition_of (drop k parts)))) upper r
+    → value_of s.truth ≡ joined_ends or (value_of p.truth) (value_of r.truth)
+    → s.byte ≡ joined_byte_ends or p.byte r.byte → IsRatio 1000000000000 s.truth
+    → IsEndOfCondition b box (group or (conditions (map condition_of (drop (k - 1) parts)))) upper s
+end_from b box or upper parts k part p r s from to here_is hp hr value byte small =
     let c = condition_of part in
     let cs = conditions (map condition_of (drop k parts)) in
-    subst (λ ds. IsReachOfCondition b box (group or ds) s) (sym (from_place parts k part from to here_is)) (record {
-      value = value ∙ ap₂ (joined_spans or) hp.value hr.value ∙ sym (group_span (literal_span b box) or c cs);
-      bytes = bytes ∙ ap₂ (joined_bytes or) hp.bytes hr.bytes ∙ sym (group_bytes (literal_byte_span b box) or c cs);
-      error = error ∙ ap₂ max hp.error hr.error ∙ sym (group_error (term_errors b box) or c cs);
+    let spans = literal_span b box in
+    let bytes = literal_byte_span b box in
+    subst (λ ds. IsEndOfCondition b box (group or ds) upper s) (sym (from_place parts k part from to here_is)) (record {
+      value = value ∙ ap₂ (joined_ends or) hp.value hr.value
+          ∙ sym (ap (end_of upper) (group_span spans or c cs) ∙ end-joined upper or (span spans c) (span spans (group or cs)));
+      byte = byte ∙ ap₂ (joined_byte_ends or) hp.byte hr.byte
+          ∙ sym (ap (byte_end_of upper) (group_bytes bytes or c cs) ∙ byte_end-joined upper or (byte_span bytes c) (byte_span bytes (group or cs)));
       small = small;
     })
 
-pub among_none : (b : Block) (box : List Interval) (or : Bool) (parts : List Cond) (r : Reach) → span_of r.degrees ≡ span_of_none or → byte_span_of r ≡ bytes_of_none or → r.error ≡ 0 → IsSmall r
-    → IsReachOfCondition b box (group or (conditions (map condition_of (drop (length parts) parts)))) r
-among_none b box or parts r value bytes error small =
-    subst (λ ps. IsReachOfCondition b box (group or (conditions (map condition_of ps))) r) (sym (drop-length parts)) (record {
-      value = value ∙ sym (group_span_none (literal_span b box) or);
-      bytes = bytes ∙ sym (group_bytes_none (literal_byte_span b box) or);
-      error = error ∙ sym (group_error_none (term_errors b box) or);
+pub end_from_none : (b : Block) (box : List Interval) (or upper : Bool) (parts : List Cond) (r : End) → value_of r.truth ≡ end_of_none or
+    → r.byte ≡ byte_end_of_none or → IsRatio 1000000000000 r.truth
+    → IsEndOfCondition b box (group or (conditions (map condition_of (drop (length parts) parts)))) upper r
+end_from_none b box or upper parts r value byte small =
+    subst (λ ps. IsEndOfCondition b box (group or (conditions (map condition_of ps))) upper r) (sym (drop-length parts)) (record {
+      value = value ∙ sym (ap (end_of upper) (group_span_none (literal_span b box) or) ∙ end-none upper or);
+      byte = byte ∙ sym (ap (byte_end_of upper) (group_bytes_none (literal_byte_span b box) or) ∙ byte_end-none upper or);
       small = small;
     })
-  where
-    drop-length : (ps : List Cond) → drop (length ps) ps ≡ []
-    drop-length [] = refl
-    drop-length (p ∷ ps) = drop-length ps

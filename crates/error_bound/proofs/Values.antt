@@ -1,5 +1,5 @@
 -- Fractions of one value: what AND, OR and NOT make of them, and what is read from them.
-use Rattle.std.proofs.Common.{◌≡◌, ⊎_elim, ℕ, ◌-◌, ◌*◌, ◌/◌, ◌<◌, ◌≤◌, sym, ap, subst, arith, mul-le-mul_right, le_of_mul-le-mul_right}
+use Rattle.std.proofs.Common.{◌≡◌, ⊎_elim, ℕ, ◌-◌, ◌*◌, ◌/◌, ◌<◌, ◌≤◌, sym, ap, ◌∙◌, subst, arith, mul-le-mul_right, le_of_mul-le-mul_right}
 use Rattle.std.proofs.lemmas.Bool.{cases_lt}
 use Rattle.std.proofs.lemmas.Nat.{le-div}
 use Rattle.fz_num.specs.Fractions.{Fraction, over, IsProper, AtMost, IsBelow, lesser, greater, one_minus, times, one, none}
@@ -7,10 +7,10 @@ use Rattle.fz_num.proofs.Algebra.{AtMost-refl, AtMost-trans, by_lesser, by_great
 use Rattle.error_bound.specs.Errors.{billion}
 use Rattle.error_bound.specs.declared.boxes.Leaf.{Leaf}
 use Rattle.error_bound.specs.declared.boxes.LeafFault.{LeafFault}
-use Rattle.error_bound.specs.declared.boxes.LeafFault.TheVariants.{Weak, Silent}
-use Rattle.error_bound.specs.Spans.{Span, ByteSpan}
+use Rattle.error_bound.specs.declared.boxes.LeafFault.TheVariants.{Weak, Silent, Loud}
+use Rattle.error_bound.specs.Spans.{Span, ByteSpan, only_truth, only_byte}
 use Rattle.error_bound.specs.Faults.{parts_down, parts_up, IsStrongFault, weak, still, IsSilentFault, silent, loud}
-use Rattle.error_bound.specs.Flattening.{IsSame, AreSame}
+use Rattle.error_bound.specs.Flattening.{IsSame}
 use Rattle.error_bound.proofs.RuleLemmas.{times_mono, times_proper}
 use Rattle.error_bound.proofs.SilentLeaves.{none_below}
 
@@ -213,10 +213,10 @@ some_same f g a some = ⊎_elim
 
 -- ---- faults
 
-pub strong_same : (leaf : Leaf) (s r : Span) (m : ByteSpan) (f : LeafFault) → AreSame s r → IsStrongFault leaf s m f → IsStrongFault leaf r m f
-strong_same leaf s r m f a (weak l) = subst (λ k. IsStrongFault leaf r m (Weak leaf.rule leaf.k (record { 0 = k }))) (sym (down_same s.low r.low a.low)) (weak (below_same s.low r.low (over leaf.k 255) a.low l))
-strong_same leaf s r m f a (still l none) = still (AtMost-trans (over leaf.k 255) s.low r.low a.low.left l a.low.below) none
+pub strong_same : (leaf : Leaf) (f : Fraction) (n : ℕ) (r : Span) (m : ByteSpan) (fault : LeafFault) → IsSame f r.low → n ≡ m.low → IsStrongFault leaf (only_truth f) (only_byte n) fault → IsStrongFault leaf r m fault
+strong_same leaf f n r m fault a e (weak l) = subst (λ k. IsStrongFault leaf r m (Weak leaf.rule leaf.k (record { 0 = k }))) (sym (down_same f r.low a)) (weak (below_same f r.low (over leaf.k 255) a l))
+strong_same leaf f n r m fault a e (still l none) = still (AtMost-trans (over leaf.k 255) f r.low a.left l a.below) (sym e ∙ none)
 
-pub silent_same : (n : ℕ) (s r : Span) (m : ByteSpan) (f : LeafFault) → AreSame s r → IsSilentFault n s m f → IsSilentFault n r m f
-silent_same n s r m f a (silent some) = subst (λ k. IsSilentFault n r m (Silent n (record { 0 = k }))) (sym (up_same s.high r.high a.high)) (silent (some_same s.high r.high a.high some))
-silent_same n s r m f a (loud none some) = loud (none_same s.high r.high a.high none) some
+pub silent_same : (k : ℕ) (f : Fraction) (n : ℕ) (r : Span) (m : ByteSpan) (fault : LeafFault) → IsSame f r.high → n ≡ m.high → IsSilentFault k (only_truth f) (only_byte n) fault → IsSilentFault k r m fault
+silent_same k f n r m fault a e (silent some) = subst (λ j. IsSilentFault k r m (Silent k (record { 0 = j }))) (sym (up_same f r.high a)) (silent (some_same f r.high a some))
+silent_same k f n r m fault a e (loud none some) = subst (λ j. IsSilentFault k r m (Loud k j)) (sym e) (loud (none_same f r.high a none) (subst (λ j. 0 < j) e some))

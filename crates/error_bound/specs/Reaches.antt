@@ -1,5 +1,5 @@
 -- What the code's reaches stand for.
-use Rattle.std.specs.Prelude.{◌≡◌, ℕ, ◌≤◌, List, length, Some, slice_get, slice_index}
+use Rattle.std.specs.Prelude.{◌≡◌, ℕ, ◌≤◌, Bool, true, false, List, length, IfSome, Some, slice_get, slice_index}
 use Rattle.fz_num.specs.Decimals.{distance}
 use Rattle.fuzzy_meaning.specs.declared.block.Block.{Block}
 use Rattle.fuzzy_meaning.specs.declared.block.Input.{Input}
@@ -12,6 +12,7 @@ use Rattle.point_slope.specs.Tables.{row_of, grade_of}
 use Rattle.error_bound.specs.declared.boxes.Interval.{Interval}
 use Rattle.error_bound.specs.declared.cells.TermCells.{TermCells}
 use Rattle.error_bound.specs.declared.degrees.Degrees.{Degrees}
+use Rattle.error_bound.specs.declared.ends.End.{End}
 use Rattle.error_bound.specs.declared.reaches.Reach.{Reach}
 use Rattle.error_bound.specs.declared.tables.InputCells.{InputCells}
 use Rattle.error_bound.specs.declared.tables.BlockTable.{BlockTable}
@@ -19,10 +20,10 @@ use Rattle.error_bound.specs.declared.tables.Row.{Row}
 use Rattle.error_bound.specs.declared.tables.BoxTerms.{BoxTerms}
 use Rattle.error_bound.specs.declared.rules.BoxTable.{BoxTable}
 use Rattle.error_bound.specs.Ratios.{value_of, IsRatio}
-use Rattle.error_bound.specs.Spans.{Span, ByteSpan, span, byte_span, greatest_literal}
+use Rattle.error_bound.specs.Spans.{Span, ByteSpan, span, byte_span, end_of, byte_end_of}
 use Rattle.error_bound.specs.Boxes.{IsBoxOf, degrees_over, grades_over, literal_span, literal_byte_span, rule_span, rule_byte_span}
 use Rattle.error_bound.specs.Errors.{billion, rule_error}
-use Rattle.error_bound.specs.Flattening.{AreSame, ReachesAlike}
+use Rattle.error_bound.specs.Flattening.{IsSame, ReachesAlike}
 use Rattle.error_bound.specs.CellErrors.{cell_error, term_error, term_errors}
 
 abbrev pub span_of : Degrees → Span
@@ -102,35 +103,40 @@ pub record IsReachOfLiteral (b : Block) (box : List Interval) (i t : ℕ) (r : R
   pub error : r.error ≡ term_errors b box i t
   pub small : IsSmall r
 
--- of a condition
-pub record IsReachOfCondition (b : Block) (box : List Interval) (c : Condition) (r : Reach) : Type 0 where
-  pub value : span_of r.degrees ≡ span (literal_span b box) c
-  pub bytes : byte_span_of r ≡ byte_span (literal_byte_span b box) c
-  pub error : r.error ≡ greatest_literal (term_errors b box) c
-  pub small : IsSmall r
+-- an end of the reach of a condition, the upper one or the lower
+pub record IsEndOfCondition (b : Block) (box : List Interval) (c : Condition) (upper : Bool) (e : End) : Type 0 where
+  pub value : value_of e.truth ≡ end_of upper (span (literal_span b box) c)
+  pub byte : e.byte ≡ byte_end_of upper (byte_span (literal_byte_span b box) c)
+  pub small : IsRatio 1000000000000 e.truth
 
--- and by truths of the same values
-pub record ReachesAsFar (b : Block) (box : List Interval) (c : Condition) (r : Reach) : Type 0 where
-  pub value : AreSame (span_of r.degrees) (span (literal_span b box) c)
-  pub bytes : byte_span_of r ≡ byte_span (literal_byte_span b box) c
-  pub error : r.error ≡ greatest_literal (term_errors b box) c
-  pub small : IsSmall r
+-- of the reach of a rule's strength
+pub record IsEndOfRule (b : Block) (box : List Interval) (r : Rule) (upper : Bool) (e : End) : Type 0 where
+  pub value : IsSame (value_of e.truth) (end_of upper (rule_span b box r))
+  pub byte : e.byte ≡ byte_end_of upper (rule_byte_span b box r)
+  pub small : IsRatio 10000000000000000 e.truth
 
-pub record HasSmallTruths (q : Reach) : Type 0 where
-  pub low : IsRatio 10000000000000000 q.degrees.low
-  pub high : IsRatio 10000000000000000 q.degrees.high
+-- how far a rule's strength over bytes may be from the exact one
+pub record IsErrorOfRule (b : Block) (box : List Interval) (r : Rule) (e : ℕ) : Type 0 where
+  pub value : e ≡ rule_error (term_errors b box) r
+  pub small : e ≤ 3000000000
 
--- the reach of a rule's strength
-pub record IsReachOfRule (b : Block) (box : List Interval) (r : Rule) (q : Reach) : Type 0 where
-  pub value : AreSame (span_of q.degrees) (rule_span b box r)
-  pub bytes : byte_span_of q ≡ rule_byte_span b box r
-  pub error : q.error ≡ rule_error (term_errors b box) r
-  pub truths : HasSmallTruths q
-  pub small : q.error ≤ 3000000000
+-- those ends of all rules
+abbrev pub AreEndsOfRules : Block → List Interval → Bool → List End → Type 0
+AreEndsOfRules b box upper ends =
+    (k : ℕ) (r : Rule) → slice_get b.rules k ≡ Some r
+    → (e : End) × (slice_get ends k ≡ Some e) × IsEndOfRule b box r upper e
 
--- the reaches of all rules over a table's box
+abbrev pub AreErrorsOfRules : Block → List Interval → List ℕ → Type 0
+AreErrorsOfRules b box errors =
+    (k : ℕ) (r : Rule) → slice_get b.rules k ≡ Some r
+    → (e : ℕ) × (slice_get errors k ≡ Some e) × IsErrorOfRule b box r e
+
+-- what leaves need of a box, and what of it is made beforehand
 pub record IsTable (b : Block) (t : BoxTable) : Type 0 where
   pub box_is : IsBoxOf b t.bytes.0.items
-  pub count : length t.rules ≡ 256
-  pub each : (k : ℕ) (r : Rule) → slice_get b.rules k ≡ Some r
-      → (q : Reach) × (slice_get t.rules k ≡ Some q) × IsReachOfRule b t.bytes.0.items r q
+  pub same_box : t.terms.bytes.0.items ≡ t.bytes.0.items
+  pub terms : AreBoxTerms b t.terms
+  pub kept : IfSome t.kept (λ table. IsBlockTable b table.now)
+  pub errors : AreErrorsOfRules b t.bytes.0.items t.errors
+  pub lows : IfSome t.lows (AreEndsOfRules b t.bytes.0.items false)
+  pub highs : IfSome t.highs (AreEndsOfRules b t.bytes.0.items true)

@@ -22,7 +22,24 @@ abbrev pub joined_spans : Bool → Span → Span → Span
 joined_spans true = greater_span
 joined_spans false = lesser_span
 
+-- the greatest truth of a span, or the least
+abbrev pub end_of : Bool → Span → Fraction
+end_of true s = s.high
+end_of false s = s.low
+
+abbrev pub only_truth : Fraction → Span
+only_truth f = record { low = f; high = f }
+
+-- of the ends of an OR's parts, or of an AND's
+abbrev pub joined_ends : Bool → Fraction → Fraction → Fraction
+joined_ends true = greater
+joined_ends false = lesser
+
 -- of no parts
+abbrev pub end_of_none : Bool → Fraction
+end_of_none true = none
+end_of_none false = one
+
 abbrev pub span_of_none : Bool → Span
 span_of_none true = record { low = none; high = none }
 span_of_none false = record { low = one; high = one }
@@ -59,6 +76,21 @@ greater_bytes s r = record { low = max s.low r.low; high = max s.high r.high }
 abbrev pub joined_bytes : Bool → ByteSpan → ByteSpan → ByteSpan
 joined_bytes true = greater_bytes
 joined_bytes false = lesser_bytes
+
+abbrev pub byte_end_of : Bool → ByteSpan → ℕ
+byte_end_of true s = s.high
+byte_end_of false s = s.low
+
+abbrev pub only_byte : ℕ → ByteSpan
+only_byte n = record { low = n; high = n }
+
+abbrev pub joined_byte_ends : Bool → ℕ → ℕ → ℕ
+joined_byte_ends true = max
+joined_byte_ends false = min
+
+abbrev pub byte_end_of_none : Bool → ℕ
+byte_end_of_none true = 0
+byte_end_of_none false = 255
 
 abbrev pub bytes_of_none : Bool → ByteSpan
 bytes_of_none true = record { low = 0; high = 0 }

@@ -101,7 +101,7 @@ fn greatest_offset(output: &Output) -> u64
     greatest
 }
 
-impl BoxTable {
+impl BoxTable<'_> {
     /// The sum of the errors of an output's terms, in parts of 10^9.
     pub(crate) fn sum_of_errors(&self, block: &Block, output: &Output, out: u8) -> u64
         requires table { IsTable block.now self.now }
@@ -130,7 +130,7 @@ impl BoxTable {
         let mut errors = [0; 15];
         let rules = block.rules.as_slice();
         for n in (0..rules.len()).rev() {
-            raise_terms(&mut errors, &rules[n], out, self.rules[n].error);
+            raise_terms(&mut errors, &rules[n], out, self.errors[n]);
         }
         errors
     }

@@ -3,11 +3,12 @@ ghost use Rattle.std.specs.Prelude.{◌≡◌, ◌≤◌, ◌<◌, ◌+◌, ◌*
 ghost use Rattle.fuzzy_meaning.specs.Blocks.{IsValid};
 ghost use Rattle.error_bound.specs.Best.{IsBest, IsCandidate, IsFirstGreatest};
 ghost use Rattle.error_bound.specs.Boxes.{IsBoxOf};
-ghost use Rattle.error_bound.specs.Reaches.{span_of, byte_span_of, HasSmallTruths, IsTable};
+ghost use Rattle.error_bound.specs.Ratios.{value_of, IsRatio};
+ghost use Rattle.error_bound.specs.Reaches.{IsTable};
 
 use crate::boxes::{ByteBox, Leaf};
+use crate::ends::End;
 use crate::leaves::concludes_some;
-use crate::reaches::Reach;
 use crate::rules::BoxTable;
 use fuzzy_meaning::Block;
 
@@ -22,7 +23,7 @@ pub fn best(block: &Block, bytes: &ByteBox, out: u8) -> Option<Leaf>
     BoxTable::new(block, bytes.copied()).best(block, out)
 }
 
-impl BoxTable {
+impl BoxTable<'_> {
     /// The best leaf of the table's box for an output.
     pub fn best(&self, block: &Block, out: u8) -> Option<Leaf>
         requires block { IsValid block.now }
@@ -63,28 +64,27 @@ impl BoxTable {
     /// The part of rule number n + 1 that its leaf could count on, or 0.
     fn part_of_rule(&self, block: &Block, n: u16, out: u8) -> u8
         requires table { IsTable block.now self.now }
+        requires block { IsValid block.now }
         requires n { n < length block.now.rules }
-        requires few { length block.now.rules ≤ 256 }
         ensures candidate { 1 ≤ result → IsCandidate block.now self.now.bytes.0.items out (n + 1) result }
         ensures only { (k : ℕ) → IsCandidate block.now self.now.bytes.0.items out (n + 1) k → k ≡ result }
     {
         if concludes_some(&block.rules.as_slice()[n as usize], out) {
-            part_of(self.rules[n as usize])
+            part_of(self.end_of_rule(block, n as usize, false))
         } else {
             0
         }
     }
 }
 
-/// The strength all over a box in 255ths, rounded down, or 0 where over bytes it is 0 somewhere.
-fn part_of(reach: Reach) -> u8
-    requires { HasSmallTruths reach }
-    ensures part { 1 ≤ (byte_span_of reach).low
-        → result ≡ 255 * (span_of reach.degrees).low.num / (span_of reach.degrees).low.den }
-    ensures none { (byte_span_of reach).low ≡ 0 → result ≡ 0 }
+/// The least strength over a box in 255ths, rounded down, or 0 where over bytes it is 0.
+fn part_of(low: End) -> u8
+    requires { IsRatio 10000000000000000 low.truth }
+    ensures part { 1 ≤ low.byte → result ≡ 255 * (value_of low.truth).num / (value_of low.truth).den }
+    ensures none { low.byte ≡ 0 → result ≡ 0 }
 {
-    if reach.least == 0 {
+    if low.byte == 0 {
         return 0;
     }
-    reach.degrees.low.floor_255()
+    low.truth.floor_255()
 }

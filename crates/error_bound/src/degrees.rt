@@ -6,7 +6,6 @@ ghost use Rattle.fuzzy_meaning.specs.Blocks.{IsValidInput, IsValidTerm};
 ghost use Rattle.fuzzy_meaning.specs.Places.{rise_at, fall_at};
 ghost use Rattle.error_bound.specs.Places.{rise_end};
 ghost use Rattle.error_bound.specs.Ratios.{value_of, IsRatio};
-ghost use Rattle.error_bound.specs.Spans.{one_minus_span, lesser_span, greater_span};
 ghost use Rattle.error_bound.specs.Boxes.{degrees_over};
 ghost use Rattle.error_bound.specs.Reaches.{span_of, AreTruths};
 
@@ -20,43 +19,6 @@ use fz_num::Dec;
 pub(crate) struct Degrees {
     pub(crate) low: Ratio,
     pub(crate) high: Ratio,
-}
-
-impl Degrees {
-    pub(crate) fn one_minus(self) -> Degrees
-        requires { AreTruths self }
-        ensures value { span_of result ≡ one_minus_span (span_of self) }
-        ensures truth { AreTruths result }
-    {
-        Degrees {
-            low: self.high.one_minus(),
-            high: self.low.one_minus(),
-        }
-    }
-
-    pub(crate) fn min(self, other: Degrees) -> Degrees
-        requires left { AreTruths self }
-        requires right { AreTruths other }
-        ensures value { span_of result ≡ lesser_span (span_of self) (span_of other) }
-        ensures truth { AreTruths result }
-    {
-        Degrees {
-            low: self.low.min(other.low),
-            high: self.high.min(other.high),
-        }
-    }
-
-    pub(crate) fn max(self, other: Degrees) -> Degrees
-        requires left { AreTruths self }
-        requires right { AreTruths other }
-        ensures value { span_of result ≡ greater_span (span_of self) (span_of other) }
-        ensures truth { AreTruths result }
-    {
-        Degrees {
-            low: self.low.max(other.low),
-            high: self.high.max(other.high),
-        }
-    }
 }
 
 /// Of a term over the cells of an interval, between numbers too.

@@ -8,11 +8,13 @@ ghost use Rattle.error_bound.specs.Boxes.{IsBoxOf};
 ghost use Rattle.error_bound.specs.Bounds.{IsBound};
 ghost use Rattle.error_bound.specs.Faults.{HasLeafFault, IsStrongFault, IsSilentFault};
 ghost use Rattle.error_bound.specs.Leaves.{rule_at, Holds, IsStill, concludes_some as concludes_any, IsPairFor};
-ghost use Rattle.error_bound.specs.Reaches.{span_of, byte_span_of, HasSmallTruths, IsTable};
+ghost use Rattle.error_bound.specs.Ratios.{value_of, IsRatio};
+ghost use Rattle.error_bound.specs.Spans.{only_truth, only_byte};
+ghost use Rattle.error_bound.specs.Reaches.{IsTable};
 
 use crate::bounds::{silent_bound, strong_bound};
 use crate::boxes::{ByteBox, Leaf, LeafFault};
-use crate::reaches::Reach;
+use crate::ends::End;
 use crate::rules::BoxTable;
 use fuzzy_meaning::{Block, Rule};
 
@@ -47,7 +49,7 @@ pub fn leaf_bound16(block: &Block, bytes: &ByteBox, leaf: &Leaf, out: u8) -> Res
     BoxTable::new(block, bytes.copied()).bound(block, leaf, out, 256)
 }
 
-impl BoxTable {
+impl BoxTable<'_> {
     /// The Bound of a leaf's pair for an output on the table's box, or its first fault, for answers in
     /// so many parts to a byte: one, or 256 for those of 16 bits.
     pub fn bound(&self, block: &Block, leaf: &Leaf, out: u8, parts: u16) -> Result<u32, LeafFault>
@@ -70,7 +72,8 @@ impl BoxTable {
                 None => Ok(silent_bound(output)),
             };
         }
-        if let Some(fault) = strong_fault(self.rules[leaf.rule as usize - 1], *leaf) {
+        let low = self.end_of_rule(block, leaf.rule as usize - 1, false);
+        if let Some(fault) = strong_fault(low, *leaf) {
             return Err(fault);
         }
         let sum = self.sum_of_errors(block, output, out);
@@ -89,7 +92,8 @@ impl BoxTable {
         let rules = block.rules.as_slice();
         for n in 0..rules.len() {
             if concludes_some(&rules[n], out) {
-                if let Some(fault) = firing_fault(self.rules[n], n as u16 + 1) {
+                let high = self.end_of_rule(block, n, true);
+                if let Some(fault) = firing_fault(high, n as u16 + 1) {
                     return Some(fault);
                 }
             }
@@ -98,35 +102,33 @@ impl BoxTable {
     }
 }
 
-/// The fault of a strong leaf whose rule reaches so far.
-fn strong_fault(reach: Reach, leaf: Leaf) -> Option<LeafFault>
-    requires { HasSmallTruths reach }
-    ensures low { IfNone result (AtMost (over leaf.k 255) (span_of reach.degrees).low) }
-    ensures byte_low { IfNone result (1 ≤ (byte_span_of reach).low) }
-    ensures fault { IfSome result (IsStrongFault leaf (span_of reach.degrees) (byte_span_of reach)) }
+/// The fault of a strong leaf whose rule reaches so far down.
+fn strong_fault(low: End, leaf: Leaf) -> Option<LeafFault>
+    requires { IsRatio 10000000000000000 low.truth }
+    ensures low { IfNone result (AtMost (over leaf.k 255) (value_of low.truth)) }
+    ensures byte_low { IfNone result (1 ≤ low.byte) }
+    ensures fault { IfSome result (IsStrongFault leaf (only_truth (value_of low.truth)) (only_byte low.byte)) }
 {
-    let low = reach.degrees.low;
-    if low.is_below(leaf.k) {
-        Some(LeafFault::Weak(leaf.rule, leaf.k, low.floor_nano()))
-    } else if reach.least == 0 {
+    if low.truth.is_below(leaf.k) {
+        Some(LeafFault::Weak(leaf.rule, leaf.k, low.truth.floor_nano()))
+    } else if low.byte == 0 {
         Some(LeafFault::Still(leaf.rule))
     } else {
         None
     }
 }
 
-/// The fault of rule number n, which reaches so far, where it has a strength.
-fn firing_fault(reach: Reach, n: u16) -> Option<LeafFault>
-    requires { HasSmallTruths reach }
-    ensures high { IfNone result ((span_of reach.degrees).high.num ≡ 0) }
-    ensures byte_high { IfNone result ((byte_span_of reach).high ≡ 0) }
-    ensures fault { IfSome result (IsSilentFault n (span_of reach.degrees) (byte_span_of reach)) }
+/// The fault of rule number n, which reaches so far up, where it has a strength.
+fn firing_fault(high: End, n: u16) -> Option<LeafFault>
+    requires { IsRatio 10000000000000000 high.truth }
+    ensures high { IfNone result ((value_of high.truth).num ≡ 0) }
+    ensures byte_high { IfNone result (high.byte ≡ 0) }
+    ensures fault { IfSome result (IsSilentFault n (only_truth (value_of high.truth)) (only_byte high.byte)) }
 {
-    let high = reach.degrees.high;
-    if high.num > 0 {
-        Some(LeafFault::Silent(n, high.up_nano()))
-    } else if reach.greatest > 0 {
-        Some(LeafFault::Loud(n, reach.greatest))
+    if high.truth.num > 0 {
+        Some(LeafFault::Silent(n, high.truth.up_nano()))
+    } else if high.byte > 0 {
+        Some(LeafFault::Loud(n, high.byte))
     } else {
         None
     }

@@ -1,142 +1,247 @@
-//! The reaches of all rules over a box.
-ghost use Rattle.std.specs.Prelude.{◌≡◌, ◌≤◌, ◌+◌, ◌*◌, ◌/◌, ◌≤ℤ◌, ℕ, length, pos, unsigned_abs, if◌then◌else◌, ◌==◌, IfSome, Some, slice_get};
+//! What leaves need of all rules over a box.
+ghost use Rattle.std.specs.Prelude.{◌≡◌, ◌≤◌, ◌<◌, ◌+◌, ◌*◌, ◌/◌, ◌≤ℤ◌, length, pos, unsigned_abs, if◌then◌else◌, ◌==◌, IfSome, Some, false, true, slice_get};
 ghost use Rattle.fz_num.specs.Fractions.{up_div};
 ghost use Rattle.fuzzy_meaning.specs.declared.block.Rule.{Rule as TheRule};
 ghost use Rattle.fuzzy_meaning.specs.Blocks.{IsValid, IsValidRule};
 ghost use Rattle.fuzzy_meaning.specs.Conditions.{condition_of};
 ghost use Rattle.error_bound.specs.Boxes.{IsBoxOf};
 ghost use Rattle.error_bound.specs.Errors.{apart};
-ghost use Rattle.error_bound.specs.Reaches.{HasAlike, IsBlockTable, AreBoxTerms, IsReachOfRule, IsTable, ReachesAsFar};
+ghost use Rattle.error_bound.specs.Reaches.{HasAlike, IsBlockTable, AreBoxTerms, IsEndOfRule, IsErrorOfRule, AreEndsOfRules, AreErrorsOfRules, IsTable};
 ghost use Rattle.error_bound.specs.Flattening.{ReachesAlike};
 
 use crate::boxes::ByteBox;
-use crate::degrees::Degrees;
-use crate::reaches::{NOTHING, Reach, reach_of};
+use crate::ends::{End, end_of};
+use crate::literal_errors::error_of;
 use crate::tables::{BlockTable, BoxTerms};
 use byte_scaling::weight_byte;
 use fuzzy_meaning::{Block, Cond, Rule};
 use fz_num::Dec;
 
-/// What leaves need of a box, made once for all of them: how far the strength of each rule reaches.
+/// What leaves need of a box, made once for all of them. It answers for each leaf; which ends of the rules' strengths
+/// are made beforehand says only how fast.
 #[derive(Drop)]
-pub struct BoxTable {
+pub struct BoxTable<'a> {
     /// The box that the table was made from.
     pub bytes: ByteBox,
-    pub(crate) rules: [Reach; 256],
+    pub(crate) terms: BoxTerms,
+    pub(crate) kept: Option<&'a BlockTable>,
+    /// How far each rule's strength over bytes may be from the exact one, in parts of 10^9.
+    pub(crate) errors: [u64; 256],
+    /// The least strength of each rule.
+    pub(crate) lows: Option<[End; 256]>,
+    /// The greatest strength of each rule.
+    pub(crate) highs: Option<[End; 256]>,
 }
 
-impl BoxTable {
-    /// The table of a box. It takes some ten thousand steps for each input that has whole range, and
+impl<'a> BoxTable<'a> {
+    /// The table of a box, for any leaves. It takes some ten thousand steps for each input that has whole range, and
     /// then a few for each literal.
-    pub fn new(block: &Block, bytes: ByteBox) -> BoxTable
+    pub fn new(block: &Block, bytes: ByteBox) -> BoxTable<'a>
         requires block { IsValid block.now }
         requires bytes { IsBoxOf block.now bytes.0.items }
         ensures same { result.bytes ≡ bytes }
         ensures table { IsTable block.now result }
     {
-        BoxTable::of_terms(block, BoxTerms::new(block, bytes, None), None)
+        BoxTable::of(block, None, bytes, true, true)
     }
 
     /// The same where the block's table is kept, in a few steps for each byte of each term, and then for
     /// each literal.
-    pub fn over(block: &Block, table: &BlockTable, bytes: ByteBox) -> BoxTable
+    pub fn over(block: &Block, table: &'a BlockTable, bytes: ByteBox) -> BoxTable<'a>
         requires block { IsValid block.now }
         requires table { IsBlockTable block.now table.now }
         requires bytes { IsBoxOf block.now bytes.0.items }
         ensures same { result.bytes ≡ bytes }
         ensures table { IsTable block.now result }
     {
-        BoxTable::of_terms(block, BoxTerms::new(block, bytes, Some(table)), Some(table))
+        BoxTable::of(block, Some(table), bytes, true, true)
     }
 
-    fn of_terms(block: &Block, terms: BoxTerms, kept: Option<&BlockTable>) -> BoxTable
+    /// The same where few strong leaves are asked for, or the best ones are not. `silent` says that silent leaves are
+    /// asked for.
+    pub fn for_leaves(
+        block: &Block,
+        table: &'a BlockTable,
+        bytes: ByteBox,
+        silent: bool,
+    ) -> BoxTable<'a>
         requires block { IsValid block.now }
-        requires bytes { IsBoxOf block.now terms.bytes.0.items }
-        requires terms { AreBoxTerms block.now terms }
-        requires kept { IfSome kept (λ table. IsBlockTable block.now table.now) }
-        ensures same { result.bytes ≡ terms.bytes }
+        requires table { IsBlockTable block.now table.now }
+        requires bytes { IsBoxOf block.now bytes.0.items }
+        ensures same { result.bytes ≡ bytes }
         ensures table { IsTable block.now result }
     {
-        let mut rules = [NOTHING; 256];
-        fill(&mut rules, kept, block, &terms);
-        let BoxTerms { bytes, .. } = terms;
-        BoxTable { bytes, rules }
+        BoxTable::of(block, Some(table), bytes, false, silent)
+    }
+
+    fn of(
+        block: &Block,
+        kept: Option<&'a BlockTable>,
+        bytes: ByteBox,
+        lower: bool,
+        upper: bool,
+    ) -> BoxTable<'a>
+        requires block { IsValid block.now }
+        requires bytes { IsBoxOf block.now bytes.0.items }
+        requires kept { IfSome kept (λ table. IsBlockTable block.now table.now) }
+        ensures same { result.bytes ≡ bytes }
+        ensures table { IsTable block.now result }
+    {
+        let terms = BoxTerms::new(block, bytes.copied(), kept);
+        let errors = errors_of_rules(kept, block, &terms);
+        let lows = ends_if(lower, false, kept, block, &terms);
+        let highs = ends_if(upper, true, kept, block, &terms);
+        BoxTable {
+            bytes,
+            terms,
+            kept,
+            errors,
+            lows,
+            highs,
+        }
+    }
+
+    /// The upper end of the strength of the rule at a place, or the lower.
+    pub(crate) fn end_of_rule(&self, block: &Block, place: usize, upper: bool) -> End
+        requires block { IsValid block.now }
+        requires table { IsTable block.now self.now }
+        requires place { place < length block.now.rules }
+        ensures { (r : TheRule) → slice_get block.now.rules place ≡ Some r
+            → IsEndOfRule block.now self.now.bytes.0.items r upper result }
+    {
+        match self.made_ends(block, upper) {
+            Some(ends) => ends[place],
+            None => {
+                let rule = &block.rules.as_slice()[place];
+                end_of_strength(self.kept, place, rule, upper, block, &self.terms)
+            }
+        }
+    }
+
+    /// The upper ends of all rules' strengths, or the lower ones, where they were made.
+    fn made_ends(&self, block: &Block, upper: bool) -> &Option<[End; 256]>
+        requires table { IsTable block.now self.now }
+        ensures { IfSome result.now (AreEndsOfRules block.now self.now.bytes.0.items upper) }
+    {
+        if upper { &self.highs } else { &self.lows }
     }
 }
 
-/// Puts the reach of each rule's strength at its place.
-#[inline(never)]
-fn fill(rules: &mut [Reach; 256], kept: Option<&BlockTable>, block: &Block, terms: &BoxTerms)
+/// The upper ends of all rules' strengths, or the lower ones, where they are asked for.
+fn ends_if(
+    asked: bool,
+    upper: bool,
+    kept: Option<&BlockTable>,
+    block: &Block,
+    terms: &BoxTerms,
+) -> Option<[End; 256]>
     requires block { IsValid block.now }
     requires terms { AreBoxTerms block.now terms.now }
     requires kept { IfSome kept (λ table. IsBlockTable block.now table.now) }
-    ensures count { length rules.new ≡ 256 }
-    ensures each { (k : ℕ) (r : TheRule) → slice_get block.now.rules k ≡ Some r
-        → (q : Reach) × (slice_get rules.new k ≡ Some q) × IsReachOfRule block.now terms.now.bytes.0.items r q }
+    ensures { IfSome result (AreEndsOfRules block.now terms.now.bytes.0.items upper) }
 {
+    if asked {
+        Some(ends_of_rules(upper, kept, block, terms))
+    } else {
+        None
+    }
+}
+
+/// The upper end of each rule's strength at its place, or the lower.
+#[inline(never)]
+fn ends_of_rules(
+    upper: bool,
+    kept: Option<&BlockTable>,
+    block: &Block,
+    terms: &BoxTerms,
+) -> [End; 256]
+    requires block { IsValid block.now }
+    requires terms { AreBoxTerms block.now terms.now }
+    requires kept { IfSome kept (λ table. IsBlockTable block.now table.now) }
+    ensures { AreEndsOfRules block.now terms.now.bytes.0.items upper result }
+{
+    let mut ends = [End::NOTHING; 256];
     let all = block.rules.as_slice();
     for n in 0..all.len() {
-        rules[n] = reach_of_rule(kept, n, &all[n], block, terms);
+        ends[n] = end_of_strength(kept, n, &all[n], upper, block, terms);
+    }
+    ends
+}
+
+/// The error of each rule's strength at its place.
+#[inline(never)]
+fn errors_of_rules(kept: Option<&BlockTable>, block: &Block, terms: &BoxTerms) -> [u64; 256]
+    requires block { IsValid block.now }
+    requires terms { AreBoxTerms block.now terms.now }
+    requires kept { IfSome kept (λ table. IsBlockTable block.now table.now) }
+    ensures { AreErrorsOfRules block.now terms.now.bytes.0.items result }
+{
+    let mut errors = [0; 256];
+    let all = block.rules.as_slice();
+    for n in 0..all.len() {
+        errors[n] = error_of_strength(kept, n, &all[n], block, terms);
+    }
+    errors
+}
+
+/// The upper end of the strength of the rule at a place, or the lower.
+fn end_of_strength(
+    kept: Option<&BlockTable>,
+    place: usize,
+    rule: &Rule,
+    upper: bool,
+    block: &Block,
+    terms: &BoxTerms,
+) -> End
+    requires kept { IfSome kept (λ table. HasAlike block.now rule.now place table.now.conditions.items) }
+    requires rule { IsValidRule block.now rule.now }
+    requires block { IsValid block.now }
+    requires terms { AreBoxTerms block.now terms.now }
+    ensures { IsEndOfRule block.now terms.now.bytes.0.items rule.now upper result }
+{
+    let cond = condition_in(kept, place, rule, block);
+    let end = end_of(cond, upper, block, terms);
+    let weight = rule.weight.unwrap_or(Dec(10_000));
+    End {
+        truth: end.truth.times(weight),
+        byte: scaled(end.byte, weight_byte(rule.weight)),
     }
 }
 
-/// The reach of the strength of the rule at a place.
-fn reach_of_rule(
+/// The error of the strength of the rule at a place.
+fn error_of_strength(
     kept: Option<&BlockTable>,
     place: usize,
     rule: &Rule,
     block: &Block,
     terms: &BoxTerms,
-) -> Reach
+) -> u64
     requires kept { IfSome kept (λ table. HasAlike block.now rule.now place table.now.conditions.items) }
     requires rule { IsValidRule block.now rule.now }
     requires block { IsValid block.now }
     requires terms { AreBoxTerms block.now terms.now }
-    ensures { IsReachOfRule block.now terms.now.bytes.0.items rule.now result }
+    ensures { IsErrorOfRule block.now terms.now.bytes.0.items rule.now result }
 {
-    let truth = truth_in(kept, place, rule, block, terms);
+    let cond = condition_in(kept, place, rule, block);
     let weight = rule.weight.unwrap_or(Dec(10_000));
     let byte = weight_byte(rule.weight);
-    Reach {
-        degrees: Degrees {
-            low: truth.degrees.low.times(weight),
-            high: truth.degrees.high.times(weight),
-        },
-        least: scaled(truth.least, byte),
-        greatest: scaled(truth.greatest, byte),
-        error: truth.error + weight_error(weight, byte) + floor_error(byte),
-    }
+    error_of(cond, block, terms) + weight_error(weight, byte) + floor_error(byte)
 }
 
-/// The reach of the condition of the rule at a place, by the flat one where that is kept.
-fn truth_in(
-    kept: Option<&BlockTable>,
+/// The condition of the rule at a place, the flat one where that is kept.
+fn condition_in<'a>(
+    kept: Option<&'a BlockTable>,
     place: usize,
-    rule: &Rule,
+    rule: &'a Rule,
     block: &Block,
-    terms: &BoxTerms,
-) -> Reach
+) -> &'a Cond
     requires kept { IfSome kept (λ table. HasAlike block.now rule.now place table.now.conditions.items) }
-    requires rule { IsValidRule block.now rule.now }
-    requires block { IsValid block.now }
-    requires terms { AreBoxTerms block.now terms.now }
-    ensures { ReachesAsFar block.now terms.now.bytes.0.items (condition_of rule.now.cond) result }
+    ensures { ReachesAlike block.now (condition_of rule.now.cond) (condition_of result.now) }
 {
     match kept {
-        Some(table) => reach_by(&table.conditions[place], rule, block, terms),
-        None => reach_of(&rule.cond, block, terms),
+        Some(table) => &table.conditions[place],
+        None => &rule.cond,
     }
-}
-
-/// The reach of a rule's condition, by one that reaches alike.
-fn reach_by(cond: &Cond, rule: &Rule, block: &Block, terms: &BoxTerms) -> Reach
-    requires cond { ReachesAlike block.now (condition_of rule.now.cond) (condition_of cond.now) }
-    requires rule { IsValidRule block.now rule.now }
-    requires block { IsValid block.now }
-    requires terms { AreBoxTerms block.now terms.now }
-    ensures { ReachesAsFar block.now terms.now.bytes.0.items (condition_of rule.now.cond) result }
-{
-    reach_of(cond, block, terms)
 }
 
 /// A truth over bytes, scaled by a weight byte.

@@ -9,7 +9,7 @@ use crate::boxes::{ByteBox, Interval};
 use crate::cells::TermCells;
 use crate::degrees::degrees_of;
 use crate::flattening::{flattened, flattening_keeps_reaches};
-use crate::reaches::{NOTHING, Reach};
+use crate::reaches::Reach;
 use fuzzy_meaning::{Block, Cond, Input, Trapezoid};
 use std::alloc::{AllocError, Global};
 
@@ -95,7 +95,7 @@ pub(crate) struct BoxTerms {
 }
 
 const NO_TERMS: Row = Row {
-    reaches: [NOTHING; 15],
+    reaches: [Reach::NOTHING; 15],
 };
 
 impl BoxTerms {
@@ -149,7 +149,7 @@ fn row_of(input: &Input, cells: &InputCells, bytes: Interval) -> Row
     requires cells { AreInputCells input.now bytes cells.now }
     ensures { AreInputReaches input.now bytes result.reaches }
 {
-    let mut reaches = [NOTHING; 15];
+    let mut reaches = [Reach::NOTHING; 15];
     let terms = input.terms.as_slice();
     for t in 0..terms.len() {
         reaches[t] = reach_of_term(input, &terms[t], &cells.terms[t], bytes);

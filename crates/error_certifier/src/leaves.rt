@@ -31,7 +31,7 @@ impl BestLeaves {
     /// Of a table's box, if all are within the target.
     pub(crate) fn new(
         block: &Block,
-        table: &BoxTable,
+        table: &BoxTable<'_>,
         target: u32,
         parts: u16,
     ) -> Result<BestLeaves, Above>
@@ -68,7 +68,7 @@ impl BestLeaves {
 /// Bound, which is 1000001 where there is no best leaf.
 fn best_within(
     block: &Block,
-    table: &BoxTable,
+    table: &BoxTable<'_>,
     place: u8,
     target: u32,
     parts: u16,

@@ -20,7 +20,7 @@ returns-in_err-bound-clause-fault c =
     let named = leaf_at pairs k (get_or pairs k (0, 0)) (slice_get-get_or pairs k (0, 0) c.loop-o-test.true) in
     let k' : k ≡ k + 1 - 1 = omega arith in
     let leaf : Leaf = record { rule = (get_or pairs k (0, 0)).0; k = (get_or pairs k (0, 0)).1 } in
-    let there : HasPartFault b (record { box = c.over-table.result.bytes.0.items; pairs = leaves_of pairs }) c.args.line
+    let there : HasPartFault b (record { box = c.for_leaves-table.result.bytes.0.items; pairs = leaves_of pairs }) c.args.line
     c.in_err-bound.field-0.0 = record {
       output = k + 1;
       from = omega arith;
@@ -31,14 +31,14 @@ returns-in_err-bound-clause-fault c =
       is = c.in_err-bound.ensures.fault;
     } in
     rw (p.1, p.2) (subst (λ (x : ByteBox). HasPartFault b (record { box = x.0.items; pairs = leaves_of pairs }) c.args.line
-    c.in_err-bound.field-0.0) c.over-table.ensures.same there)
+    c.in_err-bound.field-0.0) c.for_leaves-table.ensures.same there)
 
 pub loop-o-preserved : goal.loop-o-preserved
 loop-o-preserved c =
     let k = c.loop-o.o in
     let b = c.args.block.now in
     let pairs = c.args.pairs.now in
-    let part : Part = record { box = c.over-table.result.bytes.0.items; pairs = leaves_of pairs } in
+    let part : Part = record { box = c.for_leaves-table.result.bytes.0.items; pairs = leaves_of pairs } in
     let leaf : Leaf = record { rule = (get_or pairs k (0, 0)).0; k = (get_or pairs k (0, 0)).1 } in
     let named = leaf_at pairs k (get_or pairs k (0, 0)) (slice_get-get_or pairs k (0, 0) c.loop-o-test.true) in
     let i = c.loop-o.invariant in
@@ -59,7 +59,7 @@ returns-clause-raised c =
     let pairs = c.args.pairs.now in
     let at = λ (x : ByteBox). Raises c.args.block.now c.args.parts (record { box = x.0.items; pairs = leaves_of pairs })
     c.args.errors.now c.loop-o.errors in
-    subst at c.over-table.ensures.same
+    subst at c.for_leaves-table.ensures.same
     (Raises-filled c.args.block.now c.args.parts (record
-    { box = c.over-table.result.bytes.0.items; pairs = leaves_of pairs }) c.args.errors.now c.loop-o.errors c.loop-o.o
+    { box = c.for_leaves-table.result.bytes.0.items; pairs = leaves_of pairs }) c.args.errors.now c.loop-o.errors c.loop-o.o
     (omega (arith, c.requires.pairs, c.loop-o-test.false)) c.loop-o.invariant.count c.loop-o.invariant.raised)

@@ -3,14 +3,15 @@ use Rattle.std.proofs.lemmas.Bool.{cases_lt}
 use Rattle.fz_num.specs.Fractions.{Fraction, AtMost, IsBelow}
 use Rattle.error_bound.specs.declared.boxes.LeafFault.TheVariants.{Weak}
 use Rattle.error_bound.specs.Faults.{IsStrongFault, weak, still}
-use Rattle.error_bound.specs.Reaches.{span_of, byte_span_of}
+use Rattle.error_bound.specs.Ratios.{value_of}
+use Rattle.error_bound.specs.Spans.{only_truth, only_byte}
 use Rattle.error_bound.proofs.leaves.strong_fault.Goals as goal
 
 pub returns-then-is_below-clause-fault : goal.returns-then-is_below-clause-fault
 returns-then-is_below-clause-fault c =
-    let q = c.args.reach in
+    let low = c.args.low in
     let leaf = c.args.leaf in
-    subst (λ (k : ℕ). IsStrongFault leaf (span_of q.degrees) (byte_span_of q) (Weak leaf.rule leaf.k (record { 0 = k }))) (sym c.floor_nano.ensures) (weak (c.is_below.ensures.0 c.if-is_below.true))
+    subst (λ (k : ℕ). IsStrongFault leaf (only_truth (value_of low.truth)) (only_byte low.byte) (Weak leaf.rule leaf.k (record { 0 = k }))) (sym c.floor_nano.ensures) (weak (c.is_below.ensures.0 c.if-is_below.true))
 
 not_below : (f g : Fraction) → (IsBelow f g → ⊥) → AtMost g f
 not_below f g h = ⊎_elim
@@ -18,5 +19,5 @@ not_below f g h = ⊎_elim
     (λ (l : g.num * f.den ≤ f.num * g.den). record { cross = l })
     (cases_lt (f.num * g.den) (g.num * f.den))
 
-pub returns-then-reach-eq0-clause-fault : goal.returns-then-reach-eq0-clause-fault
-returns-then-reach-eq0-clause-fault c = still (not_below _ _ (λ b. (let yes = c.is_below.ensures.1 b in let z : ⊥ = cc in z))) (let z = c.if-reach-eq0.true in omega (arith, z))
+pub returns-then-low-eq0-clause-fault : goal.returns-then-low-eq0-clause-fault
+returns-then-low-eq0-clause-fault c = still (not_below _ _ (λ b. (let yes = c.is_below.ensures.1 b in let z : ⊥ = cc in z))) (let z = c.if-low-eq0.true in omega (arith, z))

@@ -1,4 +1,4 @@
-use Rattle.std.proofs.Common.{◌≡◌, ℕ, zero, suc, true, ◌-◌, ◌<◌, ◌≤◌, List, length, get_or, Some, refl, sym, ap, ◌∙◌, subst, arith}
+use Rattle.std.proofs.Common.{◌≡◌, ℕ, zero, suc, true, ◌-◌, ◌≤◌, List, length, get_or, Some, refl, sym, ap, ◌∙◌, subst, arith}
 use Rattle.std.specs.Prelude.{IsTrue}
 use Rattle.std.proofs.lemmas.Option.{slice_get_read}
 use Rattle.fz_num.specs.Fractions.{over}
@@ -14,12 +14,11 @@ use Rattle.error_bound.specs.Boxes.{rule_span, rule_byte_span}
 use Rattle.error_bound.specs.Bounds.{IsBound, errors_from, strong_bound, silent_bound}
 use Rattle.error_bound.specs.CellErrors.{term_errors}
 use Rattle.error_bound.specs.Leaves.{concludes_some, rule_at, IsPairFor, strong, silent}
-use Rattle.error_bound.specs.Faults.{HasLeafFault, IsStrongFault, of_strong, of_silent}
-use Rattle.error_bound.specs.Reaches.{span_of, IsTable}
+use Rattle.error_bound.specs.Faults.{HasLeafFault, of_strong, of_silent}
+use Rattle.error_bound.specs.Reaches.{IsTable}
 use Rattle.error_bound.proofs.AnswerLemmas.{bound_strong, bound_silent}
 use Rattle.error_bound.proofs.LawLemmas.{term_errors-are}
 use Rattle.error_bound.proofs.ConclusionLemmas.{any-term}
-use Rattle.error_bound.proofs.TableLemmas.{no_reach, rule_reach}
 use Rattle.error_bound.proofs.Values.{strong_same}
 use Rattle.error_bound.proofs.rules.BoxTable.bound.Goals as goal
 
@@ -66,19 +65,14 @@ some_part : (k : ℕ) → (k ≡ 0 → ⊥) → 1 ≤ k
 some_part zero h = absurd (h refl)
 some_part (suc k) h = omega arith
 
-pub bounds-self-leaf : goal.bounds-self-leaf
-bounds-self-leaf c =
-    let b = c.args.block.now in
-    let some = some_part c.args.leaf.now.k c.if-leaf-eq0.false in
-    let few = c.requires.block.few_rules in
-    let within : c.args.leaf.now.rule - 1 < length b.rules = IsSomeAnd-within (λ r. IsTrue (concludes_some r c.args.out)) b.rules (c.args.leaf.now.rule - 1) (c.requires.pair.concludes_one some) in
-    omega (arith, few, within)
+pub end_of_rule-low-requires-clause-place : goal.end_of_rule-low-requires-clause-place
+end_of_rule-low-requires-clause-place c =
+    IsSomeAnd-within (λ r. IsTrue (concludes_some r c.args.out)) c.args.block.now.rules (c.args.leaf.now.rule - 1) (c.requires.pair.concludes_one (some_part c.args.leaf.now.k c.if-leaf-eq0.false))
 
 pub strong_fault-requires : goal.strong_fault-requires
 strong_fault-requires c =
-    let b = c.args.block.now in
-    let r = named b c.args.out c.args.leaf.now c.requires.pair (some_part c.args.leaf.now.k c.if-leaf-eq0.false) in
-    (rule_reach b c.args.self.now (c.args.leaf.now.rule - 1) r.0 c.requires.table r.1).truths
+    let r = named c.args.block.now c.args.out c.args.leaf.now c.requires.pair (some_part c.args.leaf.now.k c.if-leaf-eq0.false) in
+    (c.end_of_rule-low.ensures r.0 r.1).small
 
 pub returns-in-Some-strong_fault-clause-fault : goal.returns-in-Some-strong_fault-clause-fault
 returns-in-Some-strong_fault-clause-fault c =
@@ -87,9 +81,8 @@ returns-in-Some-strong_fault-clause-fault c =
     let box = c.args.self.now.bytes.0.items in
     let some = some_part leaf.k c.if-leaf-eq0.false in
     let r = named b c.args.out leaf c.requires.pair some in
-    let q = rule_reach b c.args.self.now (leaf.rule - 1) r.0 c.requires.table r.1 in
-    let f = c.in-Some-strong_fault.fault in
-    of_strong r.0 some r.1 (strong_same leaf _ (rule_span b box r.0) (rule_byte_span b box r.0) f q.value (subst (λ m. IsStrongFault leaf (span_of (get_or c.args.self.now.rules (leaf.rule - 1) no_reach).degrees) m f) q.bytes c.in-Some-strong_fault.ensures.fault))
+    let q = c.end_of_rule-low.ensures r.0 r.1 in
+    of_strong r.0 some r.1 (strong_same leaf _ _ (rule_span b box r.0) (rule_byte_span b box r.0) c.in-Some-strong_fault.fault q.value q.byte c.in-Some-strong_fault.ensures.fault)
 
 pub returns-clause-holds : goal.returns-clause-holds
 returns-clause-holds c =
@@ -98,10 +91,10 @@ returns-clause-holds c =
     let leaf = c.args.leaf.now in
     let some = some_part leaf.k c.if-leaf-eq0.false in
     let r = named b o leaf c.requires.pair some in
-    let q = rule_reach b c.args.self.now (leaf.rule - 1) r.0 c.requires.table r.1 in
+    let q = c.end_of_rule-low.ensures r.0 r.1 in
     let t = any-term o r.0.concl r.2 in
-    let low = AtMost-trans (over leaf.k 255) _ (rule_span b c.args.self.now.bytes.0.items r.0).low q.value.low.left c.in_default.ensures.low q.value.low.below in
-    let byte_low = subst (λ m. 1 ≤ m.low) q.bytes c.in_default.ensures.byte_low in
+    let low = AtMost-trans (over leaf.k 255) _ (rule_span b c.args.self.now.bytes.0.items r.0).low q.value.left c.in_default.ensures.low q.value.below in
+    let byte_low = subst (λ n. 1 ≤ n) q.byte c.in_default.ensures.byte_low in
     strong r.0 (c.requires.pair.strong some) some c.requires.pair.part r.1 (record { term = t.0; concludes_it = t.1; low = low; byte_low = byte_low })
 
 pub returns-clause-bound : goal.returns-clause-bound

@@ -5,7 +5,7 @@ use Rattle.std.proofs.lemmas.Option.{slice_get_read}
 use Rattle.fuzzy_meaning.specs.Rules.{concludes}
 use Rattle.error_bound.specs.CellErrors.{term_errors}
 use Rattle.error_bound.specs.Errors.{output_error_among}
-use Rattle.error_bound.proofs.TableLemmas.{no_reach, rule_reach}
+use Rattle.error_bound.proofs.TableLemmas.{rule_error_at}
 use Rattle.error_bound.proofs.rules.BoxTable.errors_by_term.Goals as goal
 
 raised-le : (p : Bool) (x y a n : ℕ) → a ≡ (if p then max x y else y) → x ≤ n → y ≤ n → a ≤ n
@@ -25,8 +25,8 @@ loop-n-preserved c =
     let upto = c.loop-n.auto.n in
     let within : j < length rules = omega arith in
     let found = slice_get_read rules (length rules) j r0 refl within c.index-rules-n.is in
-    let q = rule_reach b c.args.self.now j r0 c.requires.table (rw all at found) in
-    let error = (get_or c.args.self.now.rules j no_reach).error in
+    let q = rule_error_at b c.args.self.now j r0 c.requires.table (rw all at found) in
+    let error = get_or c.args.self.now.errors j 0 in
     let back : suc j ≡ c.loop-n.n = omega arith in
     let here : drop j rules ≡ r0 ∷ drop c.loop-n.n rules = drop-cons rules j r0 within ∙ ap₂ (λ r n. r ∷ drop n rules) (sym c.index-rules-n.is) back in
     let before = c.loop-n.invariant in
@@ -34,7 +34,7 @@ loop-n-preserved c =
     record {
       count = c.raise_terms.array_long;
       each = λ t few.
-          raised t few ∙ ap₂ (λ x y. if concludes r0 o (t + 1) then max x y else y) q.error (before.each t few)
+          raised t few ∙ ap₂ (λ x y. if concludes r0 o (t + 1) then max x y else y) q.value (before.each t few)
           ∙ sym (ap (output_error_among e o (t + 1)) here);
       small = λ t few. raised-le (concludes r0 o (t + 1)) error _ _ 3000000000 (raised t few) q.small (before.small t few);
     }

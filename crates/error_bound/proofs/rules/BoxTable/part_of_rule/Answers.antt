@@ -5,8 +5,6 @@ use Rattle.fuzzy_meaning.specs.declared.block.Block.{Block}
 use Rattle.fuzzy_meaning.specs.declared.block.Rule.{Rule}
 use Rattle.error_bound.specs.Boxes.{rule_span, rule_byte_span}
 use Rattle.error_bound.specs.Leaves.{concludes_some}
-use Rattle.error_bound.specs.Reaches.{byte_span_of}
-use Rattle.error_bound.proofs.TableLemmas.{no_reach, rule_reach}
 use Rattle.error_bound.proofs.Values.{part_same}
 use Rattle.error_bound.proofs.rules.BoxTable.part_of_rule.Goals as goal
 
@@ -24,17 +22,17 @@ returns-then-concludes_some-clause-candidate c some =
     let n = c.args.n in
     let r0 = c.index-as_slice-n.result in
     let found : slice_get b.rules n ≡ Some r0 = slice_get_read b.rules (length b.rules) n r0 refl c.requires.n (c.index-as_slice-n.is ∙ ap (λ l. get_or l n r0) c.as_slice.ensures) in
-    let q = rule_reach b c.args.self.now n r0 c.requires.table found in
+    let q = c.end_of_rule.ensures r0 found in
     let back : n ≡ n + 1 - 1 = omega arith in
-    let low : 1 ≤ (byte_span_of (get_or c.args.self.now.rules n no_reach)).low = some_below _ c.part_of.result c.part_of.ensures.none some in
+    let low : 1 ≤ c.end_of_rule.result.byte = some_below _ c.part_of.result c.part_of.ensures.none some in
     record {
       from = omega arith;
       rule = r0;
       rule_is = subst (λ k. slice_get b.rules k ≡ Some r0) back found;
       concludes_one = sym c.concludes_some.ensures ∙ c.if-concludes_some.true;
-      part = c.part_of.ensures.part low ∙ part_same _ _ q.value.low;
+      part = c.part_of.ensures.part low ∙ part_same _ _ q.value;
       some = some;
-      byte_low = subst (λ m. 1 ≤ m.low) q.bytes low;
+      byte_low = subst (λ m. 1 ≤ m) q.byte low;
     }
 
 pub returns-then-concludes_some-clause-only : goal.returns-then-concludes_some-clause-only
@@ -44,12 +42,12 @@ returns-then-concludes_some-clause-only c k cand =
     let n = c.args.n in
     let r0 = c.index-as_slice-n.result in
     let found : slice_get b.rules n ≡ Some r0 = slice_get_read b.rules (length b.rules) n r0 refl c.requires.n (c.index-as_slice-n.is ∙ ap (λ l. get_or l n r0) c.as_slice.ensures) in
-    let q = rule_reach b c.args.self.now n r0 c.requires.table found in
+    let q = c.end_of_rule.ensures r0 found in
     let back : n + 1 - 1 ≡ n = omega arith in
     let same = same_rule b back found cand.rule_is in
     let here : 1 ≤ (rule_byte_span b box r0).low = subst (λ r. 1 ≤ (rule_byte_span b box r).low) same cand.byte_low in
-    let low : 1 ≤ (byte_span_of (get_or c.args.self.now.rules n no_reach)).low = subst (λ m. 1 ≤ m.low) (sym q.bytes) here in
-    cand.part ∙ ap (λ r. 255 * (rule_span b box r).low.num / (rule_span b box r).low.den) same ∙ sym (c.part_of.ensures.part low ∙ part_same _ _ q.value.low)
+    let low : 1 ≤ c.end_of_rule.result.byte = subst (λ m. 1 ≤ m) (sym q.byte) here in
+    cand.part ∙ ap (λ r. 255 * (rule_span b box r).low.num / (rule_span b box r).low.den) same ∙ sym (c.part_of.ensures.part low ∙ part_same _ _ q.value)
 
 pub returns-else-concludes_some-clause-only : goal.returns-else-concludes_some-clause-only
 returns-else-concludes_some-clause-only c k cand =
@@ -62,3 +60,11 @@ returns-else-concludes_some-clause-only c k cand =
     let one : concludes_some r0 c.args.out ≡ true = subst (λ r. concludes_some r c.args.out ≡ true) same cand.concludes_one in
     let none : concludes_some r0 c.args.out ≡ false = sym c.concludes_some.ensures ∙ c.if-concludes_some.false in
     absurd (let z : ⊥ = cc in z)
+
+pub part_of-requires : goal.part_of-requires
+part_of-requires c =
+    let b = c.args.block.now in
+    let n = c.args.n in
+    let r0 = c.index-as_slice-n.result in
+    let found : slice_get b.rules n ≡ Some r0 = slice_get_read b.rules (length b.rules) n r0 refl c.requires.n (c.index-as_slice-n.is ∙ ap (λ l. get_or l n r0) c.as_slice.ensures) in
+    (c.end_of_rule.ensures r0 found).small

@@ -4,10 +4,8 @@ use Rattle.std.proofs.lemmas.Bool.{cases_lt}
 use Rattle.std.proofs.lemmas.Option.{slice_get_read, slice_get-get_or, get_or_from_slice_get}
 use Rattle.error_bound.specs.Boxes.{rule_span, rule_byte_span}
 use Rattle.error_bound.specs.Leaves.{concludes_some}
-use Rattle.error_bound.specs.Faults.{IsFirstFiring, IsSilentFault, of_silent}
-use Rattle.error_bound.specs.Reaches.{span_of}
+use Rattle.error_bound.specs.Faults.{IsFirstFiring, of_silent}
 use Rattle.error_bound.proofs.ConclusionLemmas.{any-some}
-use Rattle.error_bound.proofs.TableLemmas.{no_reach, rule_reach}
 use Rattle.error_bound.proofs.Values.{silent_same, none_same}
 use Rattle.error_bound.proofs.rules.BoxTable.silent_fault.Goals as goal
 use Rattle.error_bound.proofs.rules.BoxTable.silent_fault.Goals.{then-concludes_some+in_default, else-concludes_some}
@@ -21,7 +19,7 @@ returns-in-Some-clause-fault c =
     let rules = c.as_slice-rules.result.now in
     let all : rules ≡ b.rules = c.as_slice-rules.ensures in
     let found = rw all at (slice_get_read rules (length rules) n r0 refl c.loop-n-test.true c.index-rules-n.is) in
-    let q = rule_reach b c.args.self.now n r0 c.requires.table found in
+    let q = c.end_of_rule-high.ensures r0 found in
     let back : n ≡ n + 1 - 1 = omega arith in
     let first : IsFirstFiring b box c.args.out (n + 1) r0 = record {
       from = omega arith;
@@ -29,7 +27,7 @@ returns-in-Some-clause-fault c =
       concludes_one = sym c.concludes_some.ensures ∙ c.if-concludes_some.true;
       still_before = λ m q from lt e t y. c.loop-n.invariant (m - 1) q (omega arith) e t y;
     } in
-    let fault = silent_same (n + 1) _ (rule_span b box r0) (rule_byte_span b box r0) c.in-Some.fault q.value (subst (λ m. IsSilentFault (n + 1) (span_of (get_or c.args.self.now.rules n no_reach).degrees) m c.in-Some.fault) q.bytes c.in-Some.ensures.fault) in
+    let fault = silent_same (n + 1) _ _ (rule_span b box r0) (rule_byte_span b box r0) c.in-Some.fault q.value q.byte c.in-Some.ensures.fault in
     of_silent (n + 1) r0 refl first fault
 
 pub loop-n-preserved : goal.loop-n-preserved
@@ -43,12 +41,11 @@ loop-n-preserved c m q lt e t y = ⊎_elim
     let found : slice_get b.rules n ≡ Some q = subst (λ k. slice_get b.rules k ≡ Some q) same e in
     let r0 = c.index-rules-n.result in
     let same_rule : r0 ≡ q = c.index-rules-n.is ∙ ap (λ l. get_or l n r0) c.as_slice-rules.ensures ∙ get_or_from_slice_get b.rules n q r0 found in
-    let reach = rule_reach b c.args.self.now n q c.requires.table found in
     let some : concludes_some q c.args.out ≡ true = any-some c.args.out t q.concl y in
     elim c.if-concludes_some.branch [
       | then-concludes_some+in_default w ↦ record {
-        high = none_same _ _ reach.value.high w.in_default.ensures.high;
-        byte_high = ap (λ s. s.high) (sym reach.bytes) ∙ w.in_default.ensures.byte_high;
+        high = none_same _ _ (w.end_of_rule-high.ensures q found).value w.in_default.ensures.high;
+        byte_high = sym (w.end_of_rule-high.ensures q found).byte ∙ w.in_default.ensures.byte_high;
       }
       | else-concludes_some w ↦ absurd (let no : concludes_some q c.args.out ≡ false = ap (λ r. concludes_some r c.args.out) (sym same_rule) ∙ sym c.concludes_some.ensures ∙ w.if-concludes_some.false in let z : ⊥ = cc in z)
     ]

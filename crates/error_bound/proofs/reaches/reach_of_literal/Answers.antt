@@ -1,7 +1,7 @@
 use Rattle.std.proofs.Common.{sym, subst}
 use Rattle.error_bound.specs.Reaches.{IsReachOfLiteral}
 use Rattle.error_bound.proofs.TableLemmas.{literal_reach}
-use Rattle.error_bound.proofs.reaches.of_literal.Goals as goal
+use Rattle.error_bound.proofs.reaches.reach_of_literal.Goals as goal
 
 pub returns : goal.returns
 returns c =
