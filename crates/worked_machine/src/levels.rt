@@ -22,10 +22,10 @@ fn levels_are_read(rt: HostRuntime) -> Result<(), Fail> {
 }
 
 // Over one fast sample.
-const TAKEN: [&[u8]; 3] = [b"1,26,1,24", b"1,26,1,0", b"1,26,1,1,2,3,4,5,6,7,8"];
+static TAKEN: [&[u8]; 3] = [b"1,26,1,24", b"1,26,1,0", b"1,26,1,1,2,3,4,5,6,7,8"];
 
 // The first row of each is bad.
-const BAD: [&[u8]; 9] = [
+static BAD: [&[u8]; 9] = [
     b"1,26,2",
     b"1,26,0,5",
     b"1,26,1,5,4",
@@ -37,7 +37,7 @@ const BAD: [&[u8]; 9] = [
     b"1,26,1,",
 ];
 
-const ROWS: [(&[u8], PlanFault); 3] = [
+static ROWS: [(&[u8], PlanFault); 3] = [
     (b"2,5,0\n1,9,1", PlanFault::NotAscending(2)),
     (b"2,5,0\n2,5,1\n2,4,1", PlanFault::NotAscending(3)),
     (b"2,5,0\n1,9,2", PlanFault::BadRow(2)),
@@ -45,16 +45,16 @@ const ROWS: [(&[u8], PlanFault); 3] = [
 
 #[test]
 fn faults_of_levels(rt: HostRuntime) {
-    for text in TAKEN {
+    for text in TAKEN.iter() {
         assert!(rt; read_levels(rt.alloc(), text, 1).is_ok(), "{text:?}");
     }
-    for text in BAD {
+    for text in BAD.iter() {
         let fault = read_levels(rt.alloc(), text, 1).err();
         assert!(rt; fault == Some(PlanFault::BadRow(1)), "{text:?}");
     }
-    for (text, want) in ROWS {
+    for (text, want) in ROWS.iter() {
         assert!(rt;
-            read_levels(rt.alloc(), text, 1).err() == Some(want),
+            read_levels(rt.alloc(), text, 1).err() == Some(*want),
             "{text:?}"
         );
     }

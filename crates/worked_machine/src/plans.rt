@@ -41,7 +41,7 @@ fn a_plan_is_read(rt: HostRuntime) -> Result<(), Fail> {
 const NINE_PAIRS: &[u8] =
     b"1,0,1800,00,1800,00,1800,00,1800,00,1800,00,1800,00,1800,00,1800,00,1800,00";
 
-const ROWS: [(&[u8], PlanFault); 9] = [
+static ROWS: [(&[u8], PlanFault); 9] = [
     (
         b"1,0,1800,00,1FE0,00,0000,00",
         PlanFault::NotFree(1, 0x1FE0),
@@ -58,8 +58,8 @@ const ROWS: [(&[u8], PlanFault); 9] = [
 
 #[test]
 fn faults(rt: HostRuntime) {
-    for (text, want) in ROWS {
-        assert!(rt; fault_of(rt.alloc(), text) == Some(want), "{text:?}");
+    for (text, want) in ROWS.iter() {
+        assert!(rt; fault_of(rt.alloc(), text) == Some(*want), "{text:?}");
     }
 }
 

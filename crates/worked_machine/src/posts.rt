@@ -18,7 +18,7 @@ fn posts_are_read(rt: HostRuntime) -> Result<(), Fail> {
 }
 
 // Over two samples.
-const ROWS: [(&[u8], PlanFault); 7] = [
+static ROWS: [(&[u8], PlanFault); 7] = [
     (b"0,3", PlanFault::BadRow(1)),
     (b"1000001,1", PlanFault::BadRow(1)),
     (b"5,1\n4,2", PlanFault::NotAscending(2)),
@@ -30,9 +30,9 @@ const ROWS: [(&[u8], PlanFault); 7] = [
 
 #[test]
 fn faults_of_posts(rt: HostRuntime) {
-    for (text, want) in ROWS {
+    for (text, want) in ROWS.iter() {
         assert!(rt;
-            read_posts(rt.alloc(), text, 2).err() == Some(want),
+            read_posts(rt.alloc(), text, 2).err() == Some(*want),
             "{text:?}"
         );
     }

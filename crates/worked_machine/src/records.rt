@@ -33,7 +33,7 @@ fn read_from(alloc: Global, text: &[u8]) -> Option<Result<(usize, u16), SrecFaul
     Some(read(alloc, text).map(|image| (image.bytes.len(), image.start)))
 }
 
-const GOOD: [(&[u8], (usize, u16)); 5] = [
+static GOOD: [(&[u8], (usize, u16)); 5] = [
     (b"S903C0003C\n", (0, 0xC000)),
     (b"s108c00086054120fe4d\r\ns903c0003c\r\n", (5, 0xC000)),
     (b"S104FFFF00FD\nS5030001FB\nS9030000FC", (1, 0)),
@@ -43,12 +43,12 @@ const GOOD: [(&[u8], (usize, u16)); 5] = [
 
 #[test]
 fn images(rt: HostRuntime) {
-    for (text, want) in GOOD {
-        assert!(rt; read_from(rt.alloc(), text) == Some(Ok(want)), "{text:?}");
+    for (text, want) in GOOD.iter() {
+        assert!(rt; read_from(rt.alloc(), text) == Some(Ok(*want)), "{text:?}");
     }
 }
 
-const BAD: [(&[u8], SrecFault); 19] = [
+static BAD: [(&[u8], SrecFault); 19] = [
     (b"S0030000FC\n", SrecFault::NoEnd),
     (b"S2", SrecFault::Wide(1)),
     (b"s3xyz", SrecFault::Wide(1)),
@@ -75,7 +75,7 @@ const BAD: [(&[u8], SrecFault); 19] = [
 
 #[test]
 fn faults(rt: HostRuntime) {
-    for (text, want) in BAD {
-        assert!(rt; read_from(rt.alloc(), text) == Some(Err(want)), "{text:?}");
+    for (text, want) in BAD.iter() {
+        assert!(rt; read_from(rt.alloc(), text) == Some(Err(*want)), "{text:?}");
     }
 }

@@ -46,7 +46,7 @@ fn upsets_are_read(rt: HostRuntime) -> Result<(), Fail> {
     Ok(())
 }
 
-const ROWS: [(&[u8], UpsetFault); 14] = [
+static ROWS: [(&[u8], UpsetFault); 14] = [
     (b"1,D202,00", UpsetFault::NotTable(1, 0xD202)),
     (b"1,C000,00", UpsetFault::NotTable(1, 0xC000)),
     (b"1,CFFF,00", UpsetFault::NotTable(1, 0xCFFF)),
@@ -66,9 +66,9 @@ const ROWS: [(&[u8], UpsetFault); 14] = [
 #[test]
 fn upset_faults(rt: HostRuntime) -> Result<(), Fail> {
     let image = image(rt.alloc())?;
-    for (text, want) in ROWS {
+    for (text, want) in ROWS.iter() {
         let fault = read_upsets(rt.alloc(), text, &image).err();
-        assert!(rt; fault == Some(want), "{text:?}");
+        assert!(rt; fault == Some(*want), "{text:?}");
     }
     Ok(())
 }

@@ -10,7 +10,7 @@ type Told = Result<usize, CertFault>;
 const HEATER: &[u8] = b"FZC 1\nclaim 19609\nsplit 1 128\nleaf 1 127\nleaf 2 127\n";
 
 /// A version, a text, and what is told of it.
-const ROWS: [(u8, &[u8], Told); 25] = [
+static ROWS: [(u8, &[u8], Told); 25] = [
     (1, HEATER, Ok(3)),
     (2, HEATER, Err(CertFault::BadLine(1))),
     (2, b"FZC 2\nclaim 0 7\nleaf 0 0 256 255\n", Ok(1)),
@@ -139,14 +139,14 @@ fn walk_twice(begun: Result<Lines<'_>, CertFault>) -> Option<Told> {
 
 #[test]
 fn a_text_has_a_certificate_or_a_first_fault(rt: HostRuntime) -> Result<(), Fail> {
-    for (version, text, want) in ROWS {
+    for (version, text, want) in ROWS.iter() {
         assert!(rt; text.len() <= 1_048_576);
-        if version == 1 {
-            assert!(rt; read_again(rt.alloc(), text)? == want, "{text:?}");
-            assert!(rt; walk_twice(Lines::new(text)) == Some(want), "{text:?}");
+        if *version == 1 {
+            assert!(rt; read_again(rt.alloc(), text)? == *want, "{text:?}");
+            assert!(rt; walk_twice(Lines::new(text)) == Some(*want), "{text:?}");
         } else {
-            assert!(rt; read16_again(rt.alloc(), text)? == want, "{text:?}");
-            assert!(rt; walk_twice(Lines::new16(text)) == Some(want), "{text:?}");
+            assert!(rt; read16_again(rt.alloc(), text)? == *want, "{text:?}");
+            assert!(rt; walk_twice(Lines::new16(text)) == Some(*want), "{text:?}");
         }
     }
     Ok(())

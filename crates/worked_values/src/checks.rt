@@ -43,7 +43,7 @@ fn sixteen_bits_have_a_smaller_error(rt: HostRuntime) -> Result<(), Fail> {
 }
 
 /// Texts whose certificates are refused, each with the certificate's first fault.
-const REFUSED: [(&[u8], CheckFault); 8] = [
+static REFUSED: [(&[u8], CheckFault); 8] = [
     (
         b"FZC 1\nclaim 19608\nsplit 1 128\nleaf 1 127\nleaf 2 127\n",
         CheckFault::Claimed(1, 19608, 19609),
@@ -80,18 +80,18 @@ const REFUSED: [(&[u8], CheckFault); 8] = [
 
 #[test]
 fn the_first_fault_of_a_certificate_is_told(rt: HostRuntime) -> Result<(), Fail> {
-    for (text, fault) in REFUSED {
+    for (text, fault) in REFUSED.iter() {
         assert!(rt; text.len() <= 1_048_576);
-        assert!(rt; answer(rt.alloc(), text)? == Err(TextFault::Check(fault)));
+        assert!(rt; answer(rt.alloc(), text)? == Err(TextFault::Check(*fault)));
         let cert = read(rt.alloc(), text)?;
         let block = heater(rt.alloc())?;
-        assert!(rt; check(rt.alloc(), &block, &cert).err() == Some(fault));
+        assert!(rt; check(rt.alloc(), &block, &cert).err() == Some(*fault));
     }
     Ok(())
 }
 
 /// Texts with a fault, most of them behind a node that is at fault on its box.
-const FAULTY: [(&[u8], CertFault); 5] = [
+static FAULTY: [(&[u8], CertFault); 5] = [
     (b"FZC 1\nclaim 19609\nsplit 1 128\n", CertFault::Early),
     (
         b"FZC 1\nclaim 19609\nsplit 1 0\nleaf 1 127\n",
@@ -113,9 +113,9 @@ const FAULTY: [(&[u8], CertFault); 5] = [
 
 #[test]
 fn a_fault_of_the_text_comes_first(rt: HostRuntime) -> Result<(), Fail> {
-    for (text, fault) in FAULTY {
+    for (text, fault) in FAULTY.iter() {
         assert!(rt; text.len() <= 1_048_576);
-        assert!(rt; answer(rt.alloc(), text)? == Err(TextFault::Text(fault)));
+        assert!(rt; answer(rt.alloc(), text)? == Err(TextFault::Text(*fault)));
     }
     Ok(())
 }
