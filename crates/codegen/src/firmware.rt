@@ -5,7 +5,7 @@ ghost use Rattle.rule_layout.specs.Layouts.{IsWithinLimits, IsFaultOf};
 ghost use Rattle.cpu12_asm.specs.Items.{IsRising};
 ghost use Rattle.codegen.specs.Images.{IsImageOf};
 ghost use Rattle.codegen.specs.Firmwares.{IsFirmwareOf};
-ghost use Rattle.codegen.specs.Widths.{is_wide};
+ghost use Rattle.eval_code.specs.Widths.{is_wide};
 ghost use Rattle.codegen.specs.Answers.{AnswersFrom};
 ghost use Rattle.codegen.specs.Uninterrupted.{AnswersUninterrupted};
 

@@ -1,11 +1,11 @@
 //! Laws of the generated code.
 ghost use Rattle.codegen.specs.Alike.{FirmwaresAreOne, MailboxesAreOne, WatchedFirmwaresAreOne};
 ghost use Rattle.codegen.specs.Answers.{FirmwareAnswers, FirmwareAnswersBeside, FirmwareArrivesAlike};
-ghost use Rattle.codegen.specs.Evaluation.{EvalAnswers};
+ghost use Rattle.eval_code.specs.Evaluation.{EvalAnswers};
 ghost use Rattle.codegen.specs.Checksums.{OneChangeIsSeen, TwoChangesMayPass, UnchangedSumIsZero};
-ghost use Rattle.codegen.specs.Firing.{RulesGiveMasses};
+ghost use Rattle.eval_code.specs.Firing.{RulesGiveMasses};
 ghost use Rattle.codegen.specs.Mailboxes.{MailboxStepsAreFew};
-ghost use Rattle.codegen.specs.Placed.{BlockGivesBytes, BlockIsShort, BlockRises, BlockStands, BlockStaysInside, GivesBehind};
+ghost use Rattle.eval_code.specs.Placed.{BlockGivesBytes, BlockIsShort, BlockRises, BlockStands, BlockStaysInside, GivesBehind};
 ghost use Rattle.codegen.specs.SampleTurns.{MailboxTakesSamples};
 ghost use Rattle.codegen.specs.Turns.{MailboxTakesPosts, MailboxIsUninterrupted};
 ghost use Rattle.codegen.specs.Watched.{WatchedAnswers};

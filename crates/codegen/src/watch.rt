@@ -2,9 +2,10 @@
 ghost use Rattle.std.specs.Prelude.{◌≡◌, IfOk, IfErr, OnOk};
 ghost use Rattle.fuzzy_meaning.specs.Blocks.{IsValid};
 ghost use Rattle.rule_layout.specs.Layouts.{IsWithinLimits, IsFaultOf, flat_of, IsLaidOut};
-ghost use Rattle.codegen.specs.Layouts.{main_layout};
+ghost use Rattle.eval_code.specs.Layouts.{main_layout};
 ghost use Rattle.rule_layout.specs.declared.flat.LayoutFault.TheVariants as LayoutFault;
-ghost use Rattle.codegen.specs.Images.{HasRoom, IsImageOf};
+ghost use Rattle.eval_code.specs.Items.{HasRoom};
+ghost use Rattle.codegen.specs.Images.{IsImageOf};
 ghost use Rattle.codegen.specs.Watched.{AnswersWatched, IsWatchedFirmwareOf, watched_items};
 ghost use Rattle.codegen.specs.WatchedCode.{watched_front, watched_layout};
 

@@ -20,7 +20,7 @@ use Rattle.interrupt_plan.specs.Posts.{IsGoodPost}
 use Rattle.codegen.specs.declared.firmware.Firmware.{Firmware}
 use Rattle.codegen.specs.Mailboxes.{is_mail, is_postable}
 use Rattle.codegen.specs.Turns.{IsAt}
-use Rattle.codegen.specs.Widths.{width_of, places}
+use Rattle.eval_code.specs.Widths.{width_of, places}
 use Rattle.fz_run.specs.Facts.{FactsBeside}
 use Rattle.fz_run.proofs.Algebra.{uninterrupted_add, counted_add}
 use Rattle.posted_runs.specs.Turns.{up_to, behind, waiting}

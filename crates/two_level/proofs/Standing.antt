@@ -19,15 +19,17 @@ use Rattle.cpu12_asm.specs.declared.items.Item.TheVariants.{Place}
 use Rattle.cpu12_asm.specs.Bytes.{byte_at}
 use Rattle.cpu12_asm.specs.Items.{given_by}
 use Rattle.cpu12_emul.specs.Image.{byte_or_zero, image_memory, HoldsImage}
-use Rattle.codegen.specs.declared.layout.Layout.{Layout}
-use Rattle.codegen.specs.declared.width.Width.TheVariants.{Byte}
-use Rattle.codegen.specs.Layouts.{main_layout}
-use Rattle.codegen.specs.Widths.{width_of}
-use Rattle.codegen.specs.Code.{code_bytes, frame_code}
-use Rattle.codegen.specs.Images.{block_items, vector_items, firmware_items}
-use Rattle.codegen.specs.Evaluation.{HasAnswers, Reads, Writes}
+use Rattle.eval_code.specs.declared.layout.Layout.{Layout}
+use Rattle.eval_code.specs.declared.width.Width.TheVariants.{Byte}
+use Rattle.eval_code.specs.Layouts.{main_layout}
+use Rattle.eval_code.specs.Widths.{width_of}
+use Rattle.eval_code.specs.Code.{code_bytes}
+use Rattle.codegen.specs.Code.{frame_code}
+use Rattle.eval_code.specs.Items.{block_items}
+use Rattle.codegen.specs.Images.{vector_items, firmware_items}
+use Rattle.eval_code.specs.Evaluation.{HasAnswers, Reads, Writes}
 use Rattle.codegen.specs.Answers.{LeavesLayout, FirmwareAnswersBeside, FirmwareArrivesAlike}
-use Rattle.codegen.specs.Placed.{BlockStaysInside, GivesBehind, GiveBytes, BlockGivesBytes}
+use Rattle.eval_code.specs.Placed.{BlockStaysInside, GivesBehind, GiveBytes, BlockGivesBytes}
 use Rattle.two_level.specs.declared.two.Two.{Two}
 use Rattle.two_level.specs.Layouts.{fast_front, fast_back, fast_layout, slow_layout, is_fast_ram, is_fast_rom, is_vector, is_open_to_fast}
 use Rattle.two_level.specs.Images.{fast_items, slow_items, two_items, IsTwoOf}

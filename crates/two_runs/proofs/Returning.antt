@@ -19,7 +19,7 @@ use Rattle.cpu12_emul.specs.Step.{Left, applied, next_of}
 use Rattle.run_law.specs.Uninterrupted.{stepped, state_by, uninterrupted, counted}
 use Rattle.run_law.specs.Soundness.{Before}
 use Rattle.fuzzy_meaning.specs.declared.block.Block.{Block}
-use Rattle.codegen.specs.Evaluation.{Reads, Writes}
+use Rattle.eval_code.specs.Evaluation.{Reads, Writes}
 use Rattle.two_level.specs.Layouts.{fast_layout}
 use Rattle.two_level.specs.Running.{IsFastStack, fast_code, IsInFast, IsFastStep, IsFastAnswered}
 use Rattle.fz_run.proofs.Algebra.{before_weaker}

@@ -4,10 +4,10 @@ use Rattle.std.proofs.Common.{sym, ap, ap₂, ◌∙◌, subst, arith}
 use Rattle.std.proofs.lemmas.Bool.{or_parts}
 use Rattle.std.proofs.lemmas.Bool.Decides.{nat_tests}
 use Rattle.fuzzy_meaning.specs.declared.block.Block.{Block}
-use Rattle.codegen.specs.Bounds.{instruction_bound, step_bound}
+use Rattle.eval_code.specs.Bounds.{instruction_bound, step_bound}
 use Rattle.fuzzy_meaning.specs.Blocks.{IsValid}
 use Rattle.rule_layout.specs.Layouts.{IsWithinLimits}
-use Rattle.codegen.proofs.phases.RuleFacts.{BlockFacts}
+use Rattle.eval_code.proofs.Algebra.{BlockFacts}
 use Rattle.cpu12_isa.specs.Memory.{plus}
 use Rattle.cpu12_isa.specs.declared.instr.Instr.{Instr}
 use Rattle.cpu12_isa.specs.declared.instr.Instr.TheVariants.{Rts, Rev, Revw}
@@ -21,27 +21,27 @@ use Rattle.cpu12_parts.specs.State.{State}
 use Rattle.cpu12_parts.specs.Laws.{addresses}
 use Rattle.cpu12_parts.specs.Rules.{Rule, Form, concluded, all_concluded, named, raised, rules_written, rules_target, strength}
 use Rattle.cpu12_parts.specs.Whole.{after_plain}
-use Rattle.codegen.specs.declared.layout.Layout.{Layout}
-use Rattle.codegen.specs.declared.width.Width.{Width}
-use Rattle.codegen.specs.Widths.{answer}
-use Rattle.codegen.specs.Data.{table_bytes, singleton_bytes, weight_bytes, rule_bytes}
-use Rattle.codegen.specs.Images.{IsApart}
-use Rattle.codegen.specs.Firing.{AreInputBytes}
+use Rattle.eval_code.specs.declared.layout.Layout.{Layout}
+use Rattle.eval_code.specs.declared.width.Width.{Width}
+use Rattle.eval_code.specs.Widths.{answer}
+use Rattle.eval_code.specs.Data.{table_bytes, singleton_bytes, weight_bytes, rule_bytes}
+use Rattle.eval_code.specs.Items.{IsApart}
+use Rattle.eval_code.specs.Firing.{AreInputBytes}
 use Rattle.cpu12_parts.specs.Executions.{Execution, all_steps}
 use Rattle.cpu12_isa.specs.Regions.{is_hidden}
 use Rattle.codegen.specs.Interruptible.{IsInterruptible, IsShownRules, IsShownInstruction, IsInterruptibleStep}
 use Rattle.cpu12_parts.specs.Touching.{IsIn, Each, IsRulesOver, IsInstructionOver}
-use Rattle.codegen.specs.Code.{eval_code}
-use Rattle.codegen.specs.Evaluation.{HasBytes, HasEval, HasAnswers, IsAtEval, IsEvaluated, EvalAnswers, eval_bytes, Reads, Writes, code_region, IsEvalStep}
-use Rattle.codegen.proofs.steps.Memory.{SameHigh, high_set, same_bytes, high_writes}
+use Rattle.eval_code.specs.Code.{eval_code}
+use Rattle.eval_code.specs.Evaluation.{HasBytes, HasEval, HasAnswers, IsAtEval, IsEvaluated, EvalAnswers, eval_bytes, Reads, Writes, code_region, IsEvalStep}
+use Rattle.eval_code.proofs.Algebra.{SameHigh, high_set, same_bytes, high_writes}
 use Rattle.codegen.proofs.runs.Stepping.{code_room, IsShut, Ctx, Here, Live, Next, plain_next, low_shown, high_shown, not_at}
-use Rattle.codegen.proofs.steps.Executions.{execution_on, steps_append, length_append}
-use Rattle.codegen.proofs.steps.Decoding.{code_bytes, decode_here}
-use Rattle.codegen.proofs.phases.RuleMemory.{Below, From, apart_by, below_front, below_back}
-use Rattle.codegen.proofs.steps.Stepping.{written_low, writes_low}
-use Rattle.codegen.proofs.phases.Used.{answer_size}
-use Rattle.codegen.proofs.phases.Outputs.{places_few}
-use Rattle.codegen.proofs.phases.Law.{length-code}
+use Rattle.eval_code.proofs.Algebra.{execution_on, steps_append, length_append}
+use Rattle.eval_code.proofs.Algebra.{code_bytes, decode_here}
+use Rattle.eval_code.proofs.Algebra.{Below, From, apart_by, below_front, below_back}
+use Rattle.eval_code.proofs.Algebra.{written_low, writes_low}
+use Rattle.eval_code.proofs.Algebra.{answer_size}
+use Rattle.eval_code.proofs.Algebra.{places_few}
+use Rattle.eval_code.proofs.Algebra.{length-code}
 
 -- RTS with the return address on the stack
 less_hidden : (open_to : ℕ → Bool) (at : ℕ) → is_hidden open_to 0x2000 at ≡ false → is_hidden open_to 0x1FFE at ≡ false

@@ -14,24 +14,25 @@ use Rattle.cpu12_isa.specs.Flags.{has}
 use Rattle.cpu12_isa.specs.Memory.{plus}
 use Rattle.cpu12_parts.specs.State.{State}
 use Rattle.cpu12_parts.specs.Whole.{after_plain}
-use Rattle.codegen.specs.declared.layout.Layout.{Layout}
-use Rattle.codegen.specs.declared.width.Width.{Width}
-use Rattle.codegen.specs.declared.width.Width.TheVariants.{Byte, Word}
-use Rattle.codegen.specs.Widths.{places, bytes_of, answer}
-use Rattle.codegen.specs.Firing.{AreInputBytes}
-use Rattle.codegen.specs.Images.{IsApart}
-use Rattle.codegen.specs.Bounds.{instruction_bound, step_bound}
-use Rattle.codegen.specs.Evaluation.{HasAnswers, EvalAnswers}
-use Rattle.codegen.specs.Answers.{put, given}
+use Rattle.eval_code.specs.declared.layout.Layout.{Layout}
+use Rattle.eval_code.specs.declared.width.Width.{Width}
+use Rattle.eval_code.specs.declared.width.Width.TheVariants.{Byte, Word}
+use Rattle.eval_code.specs.Widths.{places, bytes_of, answer}
+use Rattle.eval_code.specs.Firing.{AreInputBytes}
+use Rattle.eval_code.specs.Items.{IsApart}
+use Rattle.eval_code.specs.Bounds.{instruction_bound, step_bound}
+use Rattle.eval_code.specs.Evaluation.{HasAnswers, EvalAnswers}
+use Rattle.eval_code.specs.Evaluation.{put}
+use Rattle.codegen.specs.Answers.{given}
 use Rattle.cpu12_parts.specs.Executions.{Execution, all_steps}
 use Rattle.cpu12_isa.specs.Regions.{is_hidden}
 use Rattle.codegen.specs.Interruptible.{is_idle, IsInterruptibleStep}
-use Rattle.codegen.proofs.steps.Flags.{masked_tested, zero_tested}
-use Rattle.codegen.proofs.steps.Memory.{HasBytes, length-put, has_put, bytes_put_out, bytes_set_out, bytes_after_set, bytes_after_put, high_set, high_put}
+use Rattle.eval_code.proofs.Algebra.{masked_tested, zero_tested}
+use Rattle.eval_code.proofs.Algebra.{HasBytes, length-put, has_put, bytes_put_out, bytes_set_out, bytes_after_set, bytes_after_put, high_set, high_put}
 use Rattle.codegen.proofs.runs.Stepping.{code_room, Ctx, Here, Live, Stands, Next, next, plain_next, Goes, goes_one, goes_on, interruptible_of, low_shown, high_shown}
 use Rattle.codegen.proofs.runs.Stepping.{not_at, clr, beq_on}
-use Rattle.codegen.proofs.steps.Executions.{execution_on, length_append, steps_append}
-use Rattle.codegen.proofs.phases.RuleFacts.{BlockFacts}
+use Rattle.eval_code.proofs.Algebra.{execution_on, length_append, steps_append}
+use Rattle.eval_code.proofs.Algebra.{BlockFacts}
 use Rattle.codegen.proofs.runs.Calling.{HasRoutine, IsCalled, Back, called}
 
 -- the code around EVAL

@@ -9,19 +9,20 @@ use Rattle.cpu12_asm.specs.Bytes.{Holds}
 use Rattle.cpu12_asm.specs.Items.{given_by, IsRising}
 use Rattle.cpu12_parts.specs.State.{State}
 use Rattle.cpu12_emul.specs.Image.{byte_or_zero, image_memory, HoldsImage}
-use Rattle.codegen.specs.declared.layout.Layout.{Layout}
-use Rattle.codegen.specs.declared.width.Width.{Width}
-use Rattle.codegen.specs.Widths.{width_of}
-use Rattle.codegen.specs.Layouts.{main_layout}
+use Rattle.eval_code.specs.declared.layout.Layout.{Layout}
+use Rattle.eval_code.specs.declared.width.Width.{Width}
+use Rattle.eval_code.specs.Widths.{width_of}
+use Rattle.eval_code.specs.Layouts.{main_layout}
 use Rattle.codegen.specs.Code.{frame_code}
-use Rattle.codegen.specs.Bounds.{instruction_bound}
-use Rattle.codegen.specs.Images.{vector_items, block_items, firmware_items, IsApart}
-use Rattle.codegen.specs.Firing.{AreInputBytes}
-use Rattle.codegen.specs.Evaluation.{EvalAnswers}
-use Rattle.codegen.specs.Evaluation.{Reads, Writes}
+use Rattle.eval_code.specs.Bounds.{instruction_bound}
+use Rattle.codegen.specs.Images.{vector_items, firmware_items}
+use Rattle.eval_code.specs.Items.{block_items, IsApart}
+use Rattle.eval_code.specs.Firing.{AreInputBytes}
+use Rattle.eval_code.specs.Evaluation.{EvalAnswers}
+use Rattle.eval_code.specs.Evaluation.{Reads, Writes}
 use Rattle.codegen.specs.Answers.{IsArrivedBeside, AreAnsweredBeside, FirmwareAnswers, LeavesLayout, FirmwareAnswersBeside, ArrivesAlike, FirmwareArrivesAlike}
-use Rattle.codegen.proofs.Placement.{HasSizes, main_rises}
-use Rattle.codegen.proofs.phases.RuleFacts.{BlockFacts, block_facts}
+use Rattle.eval_code.proofs.Algebra.{HasSizes, main_rises}
+use Rattle.eval_code.proofs.Algebra.{BlockFacts, block_facts}
 use Rattle.codegen.proofs.runs.Stepping.{IsShut, Ctx, interruptible_of}
 use Rattle.cpu12_isa.specs.Regions.{is_free}
 use Rattle.cpu12_isa.specs.Agreement.{Agree}
@@ -29,13 +30,13 @@ use Rattle.std.proofs.lemmas.Bool.Decides.{nat_tests}
 use Rattle.codegen.proofs.runs.Founding.{IsStarted, IsFramed, start_code, stood, start_stands, around_eval, frame_bytes, has_frame, has_routine}
 use Rattle.codegen.proofs.runs.Arriving.{Arrived, arrive, arrive_alike, zero_below}
 use Rattle.codegen.proofs.runs.Calling.{IsInCode}
-use Rattle.codegen.proofs.steps.Memory.{HasBytes}
-use Rattle.codegen.specs.Data.{bytes_of_word}
+use Rattle.eval_code.proofs.Algebra.{HasBytes}
+use Rattle.eval_code.specs.Data.{bytes_of_word}
 use Rattle.codegen.proofs.runs.Framing.{HasFrame, Samples, waits}
 use Rattle.codegen.proofs.runs.Sampling.{are_answered}
-use Rattle.codegen.proofs.runs.Standing.{Rises, HasGiven}
-use Rattle.codegen.proofs.runs.GivenBytes.{ItemsFit, block_fits, vectors_fit, memory_fits}
-use Rattle.codegen.proofs.steps.Decoding.{UsedCode, code_bytes}
+use Rattle.eval_code.proofs.Algebra.{Rises, HasGiven}
+use Rattle.eval_code.proofs.Algebra.{ItemsFit, block_fits, vectors_fit, memory_fits}
+use Rattle.eval_code.proofs.Algebra.{UsedCode, code_bytes}
 use Rattle.cpu12_isa.specs.declared.instr.Instr.TheVariants.{Rts}
 
 -- the laws of other crates, and that on EVAL
@@ -118,9 +119,6 @@ main_inside = record { from = omega arith; to = omega arith }
 main_frame_used : UsedCode (frame_code main_layout)
 main_frame_used = (tt, omega arith, (tt, omega arith, (tt, omega arith, (tt, omega arith, (tt, omega arith, (tt, omega arith, (tt, omega arith, (tt, omega arith, (tt, tt, tt)))))))))
 
-pub sizes_of : (b : Block) → BlockFacts b → IsWithinLimits b → HasSizes b
-sizes_of b facts h = record { few_slots = facts.few_slots; few_conjunctions = h.few_conjunctions; short_list = h.short_list }
-
 -- what runs are under that are beside handlers to which these bytes are open
 abbrev over_main : FirmwareLaws → (open_to : ℕ → Bool) → LeavesLayout open_to main_layout → List ℕ → (flags : ℕ) → flags < 2 ^ 8 → Ctx
 over_main laws open_to leaves image flags fits =
@@ -161,12 +159,6 @@ founded laws open_to leaves b w image flags fits v limits g rise =
       arrived = arrive c b w main_framed.started main_apart v.few_outputs vector fb.start g.size (memory_fits (firmware_items main_layout b w) image fit g.size g.bytes)
           (λ q lt. zero_below laws.rises image main_layout b w frame back (vector_items main_layout) g rise q lt (omega arith));
     }
-
--- the memory of an image that holds what items give
-pub image_given : HoldsImage → (image given : List (ℕ × ℕ)) → Holds image given → HasGiven (image_memory image) given
-image_given holds_image image given h =
-    let m = holds_image image in
-    record { size = m.0; bytes = λ at lt. m.1 at lt ∙ ap byte_or_zero (h.bytes at) }
 
 main_founded : (laws : FirmwareLaws) → (open_to : ℕ → Bool) (leaves : LeavesLayout open_to main_layout) (b : Block) (w : Width) (image : List (ℕ × ℕ)) (flags : ℕ) (fits : flags < 2 ^ 8)
     → IsValid b → IsWithinLimits b → Holds image (given_by (firmware_items main_layout b w)) → Founded (over_main laws open_to leaves (image_memory image) flags fits) b w

@@ -6,15 +6,16 @@ use Rattle.cpu12_isa.specs.declared.instr.Instr.{Instr}
 use Rattle.cpu12_isa.specs.declared.instr.Instr.TheVariants.{LdaaExtended, Beq, Bra, JsrExtended, MovbExtended, Orcc, Rts}
 use Rattle.cpu12_isa.specs.Code.{encode_of}
 use Rattle.cpu12_asm.specs.Items.{IsRising}
-use Rattle.codegen.specs.declared.width.Width.{Width}
-use Rattle.codegen.specs.Images.{vector_items, block_items, IsApart}
-use Rattle.codegen.specs.Evaluation.{HasBytes}
+use Rattle.eval_code.specs.declared.width.Width.{Width}
+use Rattle.codegen.specs.Images.{vector_items}
+use Rattle.eval_code.specs.Items.{block_items, IsApart}
+use Rattle.eval_code.specs.Evaluation.{HasBytes}
 use Rattle.codegen.specs.Mailboxes.{mailbox_layout, copy_code, call_code, mailbox_code, mailbox_items}
-use Rattle.codegen.proofs.Sizes.{code_size, code_size-append}
-use Rattle.codegen.proofs.Placement.{IsSpaced, HasSizes, part_sizes, length-block_items, with_vectors_rise}
-use Rattle.codegen.proofs.steps.Decoding.{sizes, sizes_append, UsedCode, used_append, code_bytes, decode_here}
-use Rattle.codegen.proofs.steps.Memory.{bytes_front, bytes_back}
-use Rattle.codegen.proofs.phases.Used.{sizes_is}
+use Rattle.eval_code.proofs.Algebra.{code_size, code_size-append}
+use Rattle.eval_code.proofs.Algebra.{IsSpaced, HasSizes, part_sizes, length-block_items, with_vectors_rise}
+use Rattle.eval_code.proofs.Algebra.{sizes, sizes_append, UsedCode, used_append, code_bytes, decode_here}
+use Rattle.eval_code.proofs.Algebra.{bytes_front, bytes_back}
+use Rattle.eval_code.proofs.Algebra.{sizes_is}
 use Rattle.codegen.proofs.runs.Stepping.{Ctx, Here, Stands, stands_of}
 use Rattle.codegen.proofs.runs.Calling.{IsInCode}
 use Rattle.codegen.proofs.runs.Founding.{IsStarted, start_code}

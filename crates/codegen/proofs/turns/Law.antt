@@ -6,22 +6,23 @@ use Rattle.rule_layout.specs.Layouts.{IsWithinLimits}
 use Rattle.cpu12_isa.specs.declared.instr.Instr.TheVariants.{Rts}
 use Rattle.cpu12_asm.specs.Items.{given_by, IsRising}
 use Rattle.cpu12_emul.specs.Image.{image_memory}
-use Rattle.codegen.specs.declared.layout.Layout.{Layout}
-use Rattle.codegen.specs.declared.width.Width.{Width}
-use Rattle.codegen.specs.Widths.{width_of}
-use Rattle.codegen.specs.Images.{vector_items, block_items}
+use Rattle.eval_code.specs.declared.layout.Layout.{Layout}
+use Rattle.eval_code.specs.declared.width.Width.{Width}
+use Rattle.eval_code.specs.Widths.{width_of}
+use Rattle.codegen.specs.Images.{vector_items}
+use Rattle.eval_code.specs.Items.{block_items}
 use Rattle.codegen.specs.Mailboxes.{mailbox_layout, mailbox_code, mailbox_items, mailbox_bound}
 use Rattle.codegen.specs.Turns.{TakesTurns, MailboxTakesPosts}
-use Rattle.codegen.proofs.phases.RuleFacts.{BlockFacts, block_facts}
-use Rattle.codegen.proofs.runs.Standing.{HasGiven}
+use Rattle.eval_code.proofs.Algebra.{BlockFacts, block_facts}
+use Rattle.eval_code.proofs.Algebra.{HasGiven}
 use Rattle.codegen.proofs.runs.Founding.{stood, start_stands, AroundEval, around_eval, has_routine}
-use Rattle.codegen.proofs.runs.GivenBytes.{ItemsFit, block_fits, vectors_fit, memory_fits}
+use Rattle.eval_code.proofs.Algebra.{ItemsFit, block_fits, vectors_fit, memory_fits}
 use Rattle.codegen.proofs.runs.Arriving.{Arrived, arrive, zero_below}
 use Rattle.codegen.proofs.runs.Law.{FirmwareLaws, image_given, sizes_of}
 use Rattle.codegen.proofs.turns.Posting.{Post, HasTurn, post_ctx, at_of}
 use Rattle.codegen.proofs.turns.Looking.{look_run, choose_run}
 use Rattle.codegen.proofs.turns.Copying.{copies_run}
-use Rattle.codegen.proofs.steps.Decoding.{sizes}
+use Rattle.eval_code.proofs.Algebra.{sizes}
 use Rattle.codegen.proofs.turns.Turning.{Turns, turn_run}
 use Rattle.codegen.proofs.turns.Founding.{sizes-mailbox, mailbox_apart, mailbox_started, mailbox_inside, mailbox_rises, used_mailbox, start_bytes, has_turn, has_call}
 

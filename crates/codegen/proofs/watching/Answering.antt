@@ -11,26 +11,27 @@ use Rattle.cpu12_asm.specs.Bytes.{Holds}
 use Rattle.cpu12_asm.specs.Items.{given_by, IsRising}
 use Rattle.cpu12_parts.specs.State.{State}
 use Rattle.cpu12_emul.specs.Image.{image_memory}
-use Rattle.codegen.specs.declared.layout.Layout.{Layout}
-use Rattle.codegen.specs.declared.width.Width.TheVariants.{Byte}
-use Rattle.codegen.specs.Layouts.{main_layout}
-use Rattle.codegen.specs.Code.{block_code}
-use Rattle.codegen.specs.Bounds.{instruction_bound}
-use Rattle.codegen.specs.Images.{IsApart, block_items, vector_items}
+use Rattle.eval_code.specs.declared.layout.Layout.{Layout}
+use Rattle.eval_code.specs.declared.width.Width.TheVariants.{Byte}
+use Rattle.eval_code.specs.Layouts.{main_layout}
+use Rattle.eval_code.specs.Code.{block_code}
+use Rattle.eval_code.specs.Bounds.{instruction_bound}
+use Rattle.eval_code.specs.Items.{IsApart, block_items}
+use Rattle.codegen.specs.Images.{vector_items}
 use Rattle.codegen.specs.Answers.{IsArrived}
 use Rattle.codegen.specs.WatchedCode.{segments_of, watched_front, watched_layout, code_length}
 use Rattle.codegen.specs.Watched.{watched_items, watched_bound, Change, Watched, IsTableChange, IsGoodSample, AreWatchAnswered, WatchedAnswers}
-use Rattle.codegen.proofs.Placement.{HasSizes, HasPartSizes, part_sizes, with_vectors_rise, length-block_items, IsSpaced}
-use Rattle.codegen.proofs.Sizes.{code_size}
-use Rattle.codegen.proofs.steps.Decoding.{UsedCode, sizes}
-use Rattle.codegen.proofs.phases.RuleFacts.{BlockFacts, block_facts}
-use Rattle.codegen.proofs.phases.Law.{length-code}
+use Rattle.eval_code.proofs.Algebra.{HasSizes, HasPartSizes, part_sizes, with_vectors_rise, length-block_items, IsSpaced}
+use Rattle.eval_code.proofs.Algebra.{code_size}
+use Rattle.eval_code.proofs.Algebra.{UsedCode, sizes}
+use Rattle.eval_code.proofs.Algebra.{BlockFacts, block_facts}
+use Rattle.eval_code.proofs.Algebra.{length-code}
 use Rattle.codegen.proofs.runs.Stepping.{Ctx, IsShut, interruptible_of}
 use Rattle.codegen.proofs.runs.Framing.{waits}
 use Rattle.codegen.proofs.runs.Founding.{AroundEval, stood, start_stands, around_eval, has_routine, frame_bytes}
-use Rattle.codegen.proofs.runs.GivenBytes.{ItemsFit, block_fits, vectors_fit, memory_fits}
+use Rattle.eval_code.proofs.Algebra.{ItemsFit, block_fits, vectors_fit, memory_fits}
 use Rattle.codegen.proofs.runs.Arriving.{Arrived, arrive, zero_below}
-use Rattle.codegen.proofs.runs.Standing.{HasGiven}
+use Rattle.eval_code.proofs.Algebra.{HasGiven}
 use Rattle.codegen.proofs.runs.Law.{FirmwareLaws, sizes_of, image_given, not_free, free_leaves}
 use Rattle.codegen.proofs.watching.Adding.{count_in}
 use Rattle.codegen.proofs.watching.Fronts.{IsWatchedLayout, sized, length-bad, length-front, used_front, fit_defaults, front_bytes, calls}

@@ -5,21 +5,21 @@ use Rattle.rule_layout.specs.declared.flat.Flat.{Flat}
 use Rattle.rule_layout.specs.declared.flat.Form.{Form}
 use Rattle.rule_layout.specs.declared.flat.Form.TheVariants as form
 use Rattle.rule_layout.specs.Layouts.{flat_of, form_of, weights_of, IsWithinLimits, LayoutLaw}
-use Rattle.codegen.specs.declared.layout.Layout.{Layout}
+use Rattle.eval_code.specs.declared.layout.Layout.{Layout}
 use Rattle.codegen.specs.declared.segments.Segment.{Segment}
-use Rattle.codegen.specs.declared.width.Width.TheVariants.{Byte}
-use Rattle.codegen.specs.Layouts.{main_layout}
-use Rattle.codegen.specs.Data.{table_bytes, singleton_bytes, rule_bytes_by, rule_bytes}
-use Rattle.codegen.specs.Bounds.{instruction_bound}
+use Rattle.eval_code.specs.declared.width.Width.TheVariants.{Byte}
+use Rattle.eval_code.specs.Layouts.{main_layout}
+use Rattle.eval_code.specs.Data.{table_bytes, singleton_bytes, rule_bytes_by, rule_bytes}
+use Rattle.eval_code.specs.Bounds.{instruction_bound}
 use Rattle.codegen.specs.Watched.{segment_bound, watched_bound}
 use Rattle.codegen.specs.WatchedCode.{IsSegment, AreSegments, segment, weight_segments, segments_of}
 use Rattle.std.proofs.lemmas.List.Elements.{All-cons, All-nil}
-use Rattle.codegen.proofs.Placement.{HasPartSizes, part_sizes}
-use Rattle.codegen.proofs.phases.RuleFacts.{block_facts}
+use Rattle.eval_code.proofs.Algebra.{HasPartSizes, part_sizes}
+use Rattle.eval_code.proofs.Algebra.{block_facts}
 use Rattle.codegen.proofs.runs.Law.{sizes_of}
 use Rattle.codegen.proofs.watching.Tables.{are_segments, few_weights}
 use Rattle.fuzzy_meaning.specs.Blocks.{IsValid}
-use Rattle.codegen.proofs.Joins.{form-flat_of, weights-flat_of, conjunctions-flat_of}
+use Rattle.eval_code.proofs.Algebra.{form-flat_of, weights-flat_of, conjunctions-flat_of}
 
 segment_at : (gs : List Segment) (i : ℕ) (g : Segment) → i < length gs → AreSegments gs → IsSegment (get_or gs i g)
 segment_at [] i g lt h = absurd (omega arith)

@@ -13,19 +13,20 @@ use Rattle.cpu12_parts.specs.State.{State}
 use Rattle.cpu12_parts.specs.Executions.{Execution}
 use Rattle.codegen.specs.Interruptible.{IsInterruptible, IsInterruptibleStep}
 use Rattle.codegen.specs.declared.segments.Segment.{Segment}
-use Rattle.codegen.specs.declared.width.Width.TheVariants.{Byte}
-use Rattle.codegen.specs.Widths.{answer}
-use Rattle.codegen.specs.Bounds.{instruction_bound}
-use Rattle.codegen.specs.Images.{IsApart}
-use Rattle.codegen.specs.Firing.{AreInputBytes}
-use Rattle.codegen.specs.Evaluation.{HasBytes, EvalAnswers}
-use Rattle.codegen.specs.Answers.{given, put}
+use Rattle.eval_code.specs.declared.width.Width.TheVariants.{Byte}
+use Rattle.eval_code.specs.Widths.{answer}
+use Rattle.eval_code.specs.Bounds.{instruction_bound}
+use Rattle.eval_code.specs.Items.{IsApart}
+use Rattle.eval_code.specs.Firing.{AreInputBytes}
+use Rattle.eval_code.specs.Evaluation.{HasBytes, EvalAnswers}
+use Rattle.codegen.specs.Answers.{given}
+use Rattle.eval_code.specs.Evaluation.{put}
 use Rattle.codegen.specs.WatchedCode.{segment_bytes, fault_at, watched_front_over, code_length}
 use Rattle.codegen.specs.Checksums.{check_byte}
 use Rattle.codegen.specs.Watched.{Change, changed, is_upset, Watched, default_of, watched_answer, watched_fault, upset_given, restored, IsWatchAnswered, AreWatchAnswered}
-use Rattle.codegen.proofs.steps.Memory.{SameHigh, bytes_set_out, bytes_after_set, bytes_put_out, has_put, length-put}
-use Rattle.codegen.proofs.steps.Decoding.{code_bytes}
-use Rattle.codegen.proofs.phases.RuleFacts.{BlockFacts}
+use Rattle.eval_code.proofs.Algebra.{SameHigh, bytes_set_out, bytes_after_set, bytes_put_out, has_put, length-put}
+use Rattle.eval_code.proofs.Algebra.{code_bytes}
+use Rattle.eval_code.proofs.Algebra.{BlockFacts}
 use Rattle.codegen.proofs.runs.Stepping.{Ctx, Live, interruptible_of}
 use Rattle.codegen.proofs.runs.Calling.{HasRoutine}
 use Rattle.codegen.proofs.runs.Framing.{Home, given_live, waits}

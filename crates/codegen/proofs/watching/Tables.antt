@@ -12,32 +12,19 @@ use Rattle.rule_layout.specs.Slots.{term_count, singleton_count}
 use Rattle.rule_layout.specs.Layouts.{form_of, weights_of, conjunctions_of, IsWithinLimits}
 use Rattle.cpu12_isa.specs.declared.instr.Instr.{Instr}
 use Rattle.codegen.specs.declared.segments.Segment.{Segment}
-use Rattle.codegen.specs.declared.width.Width.TheVariants.{Byte}
-use Rattle.codegen.specs.Layouts.{main_layout}
-use Rattle.codegen.specs.Data.{table_bytes, singleton_bytes, weight_bytes_by, weight_bytes, rule_bytes}
-use Rattle.codegen.specs.Bounds.{entry_count}
-use Rattle.codegen.specs.Evaluation.{HasBytes}
+use Rattle.eval_code.specs.declared.width.Width.TheVariants.{Byte}
+use Rattle.eval_code.specs.Layouts.{main_layout}
+use Rattle.eval_code.specs.Data.{table_bytes, singleton_bytes, weight_bytes_by, weight_bytes, rule_bytes}
+use Rattle.eval_code.specs.Bounds.{entry_count}
+use Rattle.eval_code.specs.Evaluation.{HasBytes}
 use Rattle.codegen.specs.Watched.{segment_bound}
 use Rattle.codegen.specs.WatchedCode.{segment, weight_segments, segments_of}
-use Rattle.codegen.proofs.Sizes.{length-tables, length-singletons}
-use Rattle.codegen.proofs.Placement.{HasPartSizes, length-weights_of, length-rules, element_count-le}
-use Rattle.codegen.proofs.steps.Memory.{SameHigh}
-use Rattle.codegen.proofs.phases.RuleFacts.{BlockFacts}
+use Rattle.eval_code.proofs.Algebra.{length-tables, length-singletons}
+use Rattle.eval_code.proofs.Algebra.{HasPartSizes, length-weights_of, length-rules, element_count-le}
+use Rattle.eval_code.proofs.Algebra.{SameHigh}
+use Rattle.eval_code.proofs.Algebra.{BlockFacts}
 use Rattle.codegen.proofs.watching.Adding.{AreSegments, sum_from, sum_in, count_in}
 use Rattle.codegen.proofs.watching.Segments.{Apart, Stand}
-
--- each part has a byte
-some_terms : (xs : List Input) → 1 ≤ length xs → All IsValidInput xs → 1 ≤ sum_by term_count xs
-some_terms [] some v = absurd (omega arith)
-some_terms (x ∷ xs) some v = let first = (v 0 x (omega arith)).some_term in omega (arith, sum_by-cons term_count x xs)
-
-some_singletons : (os : List Output) → 1 ≤ length os → All IsValidOutput os → 1 ≤ sum_by singleton_count os
-some_singletons [] some v = absurd (omega arith)
-some_singletons (o ∷ os) some v = let first = (v 0 o (omega arith)).some_term in omega (arith, sum_by-cons singleton_count o os)
-
-some_entries : (cs : List Conjunction) → 1 ≤ length cs → 1 ≤ sum_by entry_count cs
-some_entries [] some = absurd (omega arith)
-some_entries (c ∷ cs) some = omega (arith, sum_by-cons entry_count c cs)
 
 -- the segments behind the singletons
 later_segments : (f : Form) (ws rs : List ℕ) → 1 ≤ length ws → length ws ≤ 512 → 1 ≤ length rs → length rs ≤ 9984

@@ -1,12 +1,12 @@
 use Rattle.std.proofs.Common.{◌≡◌, Bool, List, refl, sym, ap, ◌∙◌, subst, arith, rules}
 use Rattle.cpu12_asm.specs.declared.items.Item.{Item}
-use Rattle.codegen.specs.declared.width.Width.{Width}
-use Rattle.codegen.specs.declared.width.Width.TheVariants.{Byte, Word}
-use Rattle.codegen.specs.Widths.{width_of, is_wide}
-use Rattle.codegen.specs.Layouts.{main_layout}
+use Rattle.eval_code.specs.declared.width.Width.{Width}
+use Rattle.eval_code.specs.declared.width.Width.TheVariants.{Byte, Word}
+use Rattle.eval_code.specs.Widths.{width_of, is_wide}
+use Rattle.eval_code.specs.Layouts.{main_layout}
 use Rattle.codegen.specs.Images.{firmware_items, IsImageOf}
-use Rattle.codegen.specs.Bounds.{instruction_bound, steps_by}
-use Rattle.codegen.proofs.Placement.{sizes_by, main_rises, length-main_items, element_count-le}
+use Rattle.eval_code.specs.Bounds.{instruction_bound, steps_by}
+use Rattle.eval_code.proofs.Algebra.{sizes_by, main_rises, length-main_items, element_count-le}
 use Rattle.codegen.proofs.firmware.compile_at.Goals as goal
 
 width_back : (w : Width) (wide : Bool) → wide ≡ is_wide w → w ≡ width_of wide

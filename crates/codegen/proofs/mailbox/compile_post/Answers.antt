@@ -2,10 +2,10 @@ use Rattle.std.proofs.Common.{◌≡◌, ◌<◌, ◌^◌, List, length, sym, ap
 use Rattle.fuzzy_meaning.specs.declared.block.Block.{Block}
 use Rattle.cpu12_asm.specs.declared.items.Item.{Item}
 use Rattle.cpu12_asm.specs.Items.{IsRising}
-use Rattle.codegen.specs.declared.layout.Layout.{Layout}
-use Rattle.codegen.specs.declared.width.Width.TheVariants.{Byte}
+use Rattle.eval_code.specs.declared.layout.Layout.{Layout}
+use Rattle.eval_code.specs.declared.width.Width.TheVariants.{Byte}
 use Rattle.codegen.specs.Mailboxes.{mailbox_layout, mailbox_items}
-use Rattle.codegen.proofs.Placement.{sizes_by, element_count-le}
+use Rattle.eval_code.proofs.Algebra.{sizes_by, element_count-le}
 use Rattle.codegen.proofs.turns.Founding.{length-mailbox_items, mailbox_rises}
 use Rattle.codegen.proofs.mailbox.compile_post.Goals as goal
 

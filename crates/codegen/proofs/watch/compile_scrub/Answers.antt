@@ -1,12 +1,12 @@
 use Rattle.std.proofs.Common.{◌≡◌, ◌+◌, ◌≤◌, ℕ, List, All, length, sum_by, refl, sym, ap, ap₂, ◌∙◌, subst, arith, rules}
 use Rattle.fuzzy_meaning.specs.declared.block.Output.{Output}
-use Rattle.codegen.specs.declared.layout.Layout.{Layout}
+use Rattle.eval_code.specs.declared.layout.Layout.{Layout}
 use Rattle.codegen.specs.declared.segments.Segment.{Segment}
-use Rattle.codegen.specs.Bounds.{steps_by}
-use Rattle.codegen.specs.Layouts.{main_layout}
+use Rattle.eval_code.specs.Bounds.{steps_by}
+use Rattle.eval_code.specs.Layouts.{main_layout}
 use Rattle.codegen.specs.Watched.{segment_bound}
 use Rattle.codegen.specs.WatchedCode.{AreSegments, code_length, watched_front, watched_front_over}
-use Rattle.codegen.proofs.Placement.{element_count-le}
+use Rattle.eval_code.proofs.Algebra.{element_count-le}
 use Rattle.codegen.proofs.watching.Answering.{short_front}
 use Rattle.codegen.proofs.watching.Emitting.{bound_made, segments_fit, segments_short}
 use Rattle.codegen.proofs.watching.Fronts.{length-le}

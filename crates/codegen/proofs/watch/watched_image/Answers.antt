@@ -1,6 +1,6 @@
 use Rattle.std.proofs.Common.{◌≡◌, true, false, List, sym, ◌∙◌, subst}
 use Rattle.cpu12_asm.specs.declared.items.Item.{Item}
-use Rattle.codegen.proofs.Placement.{sizes_by}
+use Rattle.eval_code.proofs.Algebra.{sizes_by}
 use Rattle.codegen.proofs.watching.Answering.{watched_rise, length-watched_items}
 use Rattle.cpu12_asm.specs.Items.{IsRising}
 use Rattle.std.proofs.Common.{length, ◌<◌, ◌^◌}

@@ -1,0 +1,4 @@
+-- Items that go up stand in the memory of their image.
+pub mod Standing
+pub mod GivenBytes
+pub mod Founding
