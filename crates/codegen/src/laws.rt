@@ -1,11 +1,8 @@
-//! Laws of the generated code.
+//! Laws of the forms of firmware.
 ghost use Rattle.codegen.specs.Alike.{FirmwaresAreOne, MailboxesAreOne, WatchedFirmwaresAreOne};
 ghost use Rattle.codegen.specs.Answers.{FirmwareAnswers, FirmwareAnswersBeside, FirmwareArrivesAlike};
-ghost use Rattle.eval_code.specs.Evaluation.{EvalAnswers};
 ghost use Rattle.codegen.specs.Checksums.{OneChangeIsSeen, TwoChangesMayPass, UnchangedSumIsZero};
-ghost use Rattle.eval_code.specs.Firing.{RulesGiveMasses};
 ghost use Rattle.codegen.specs.Mailboxes.{MailboxStepsAreFew};
-ghost use Rattle.eval_code.specs.Placed.{BlockGivesBytes, BlockIsShort, BlockRises, BlockStands, BlockStaysInside, GivesBehind};
 ghost use Rattle.codegen.specs.SampleTurns.{MailboxTakesSamples};
 ghost use Rattle.codegen.specs.Turns.{MailboxTakesPosts, MailboxIsUninterrupted};
 ghost use Rattle.codegen.specs.Watched.{WatchedAnswers};
@@ -16,44 +13,8 @@ use cpu12_asm::rising_items;
 use cpu12_emul::laws::holds_image;
 use cpu12_isa::laws::stays_fit;
 use cpu12_parts::executions::executions_are_one;
-use rule_layout::{layout_law, layouts_are_one, mass_law};
-
-/// The rules leave in the slots of the outputs' terms their masses.
-pub fn rules_give_masses()
-    ensures { RulesGiveMasses }
-{
-    layout_law();
-    mass_law();
-}
-
-/// EVAL answers a block over bytes, as bytes or in 16 bits, at the addresses of any layout whose
-/// regions are apart, wherever SP is and whether or not interrupts are masked. It leads from its
-/// first instruction to behind its last, and touches what its layout keeps for it alone.
-pub fn eval_answers()
-    ensures { EvalAnswers }
-{
-    layout_law();
-    nearest_is_byte();
-    stays_fit();
-    rules_give_masses();
-}
-
-/// A block's items at a layout, with code before and behind EVAL, go up, are few, and give bytes from
-/// the code to the rule list's end alone. In the memory of an image of items that go up, of which these
-/// are some, EVAL stands with its data between that code.
-pub fn blocks_are_placed()
-    ensures rises { BlockRises }
-    ensures short { BlockIsShort }
-    ensures inside { BlockStaysInside }
-    ensures behind { GivesBehind }
-    ensures bytes { BlockGivesBytes }
-    ensures stands { BlockStands }
-{
-    layout_law();
-    nearest_is_byte();
-    rising_items();
-    holds_image();
-}
+use eval_code::laws::{blocks_are_placed, bounds_are_few, eval_answers};
+use rule_layout::{layout_law, layouts_are_one};
 
 /// The firmware of a block answers every list of samples over bytes, whatever the open flags are,
 /// within its bounds; and at each instruction what an interrupt may change is not read, whichever
@@ -67,6 +28,7 @@ pub fn firmware_answers_beside()
     rising_items();
     holds_image();
     eval_answers();
+    blocks_are_placed();
 }
 
 /// The same where interrupts may change the free bytes.
@@ -87,6 +49,7 @@ pub fn firmware_arrives_alike()
     rising_items();
     holds_image();
     eval_answers();
+    blocks_are_placed();
 }
 
 /// The uninterrupted answers of the firmware of a block exist, and are the block's over bytes.
@@ -107,6 +70,7 @@ pub fn mailbox_takes_posts()
     rising_items();
     holds_image();
     eval_answers();
+    blocks_are_placed();
 }
 
 /// The mailbox firmware of a block answers each sample that is given where it waits in one turn without
@@ -129,7 +93,7 @@ pub fn mailbox_is_uninterrupted()
 pub fn mailbox_steps_are_few()
     ensures { MailboxStepsAreFew }
 {
-    layout_law();
+    bounds_are_few();
 }
 
 /// The answers of samples that whole instructions answer, on which interrupts may come, are the
@@ -186,4 +150,5 @@ pub fn watched_answers()
     rising_items();
     holds_image();
     eval_answers();
+    blocks_are_placed();
 }

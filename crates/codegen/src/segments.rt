@@ -7,8 +7,8 @@ ghost use Rattle.eval_code.specs.Data.{table_bytes, singleton_bytes_of, singleto
 ghost use Rattle.codegen.specs.Watched.{segment_bound};
 ghost use Rattle.codegen.specs.WatchedCode.{segment_bytes, segments_of, weight_segments};
 
-use crate::layout::Layout;
 use byte_scaling::near;
+use eval_code::Layout;
 use fuzzy_meaning::{Block, Output};
 use fz_list::List;
 use point_slope::table;

@@ -2,6 +2,7 @@
 -- the crates above use.
 pub use Rattle.eval_code.proofs.Joins.{block_then, block_items-then, form-flat_of, weights-flat_of, conjunctions-flat_of}
 pub use Rattle.eval_code.proofs.Sizes.{code_size, code_size-append, length-le-code_size}
+pub use Rattle.eval_code.proofs.Placed.{sized}
 pub use Rattle.eval_code.proofs.phases.Law.{length-code}
 pub use Rattle.eval_code.proofs.phases.Outputs.{places_few}
 pub use Rattle.eval_code.proofs.phases.RuleMemory.{Below, From, apart_by, below_front, below_back}

@@ -29,7 +29,7 @@ use Rattle.eval_code.proofs.placing.Standing.{Rises, given_append, image_given, 
 use Rattle.eval_code.proofs.placing.GivenBytes.{ItemsFit, block_fits_between, PairsFit, given_fit}
 use Rattle.eval_code.proofs.placing.Founding.{Stood, stood, around_eval}
 
-sized : (code : List Instr) → code_size code ≡ length (code_bytes code)
+pub sized : (code : List Instr) → code_size code ≡ length (code_bytes code)
 sized code = sym (length-code code ∙ sizes_is code)
 
 sizes_of : (b : Block) → BlockFacts b → IsWithinLimits b → HasSizes b

@@ -1,7 +1,7 @@
--- A firmware's code and data stand in its memory.
+-- A firmware's frame and its reset vector stand in its memory.
 use Rattle.std.proofs.Common.{◌≡◌, ◌⊎◌, ℕ, ◌+◌, ◌<◌, ◌≤◌, false, List, [], ◌∷◌, ◌++◌, length, sym, ap, ◌∙◌, subst, arith, append_assoc, append-nil}
-use Rattle.std.proofs.lemmas.Grind.{flat_map-append}
 use Rattle.fuzzy_meaning.specs.declared.block.Block.{Block}
+use Rattle.rule_layout.specs.Slots.{slots_of}
 use Rattle.cpu12_isa.specs.declared.instr.Instr.{Instr}
 use Rattle.cpu12_isa.specs.declared.instr.Instr.TheVariants.{LdaaExtended, LdsImmediate, ClrExtended, Beq, Bra, JsrExtended, Rts, Andcc, Rti}
 use Rattle.cpu12_isa.specs.Code.{encode_of, decode_at}
@@ -9,22 +9,19 @@ use Rattle.cpu12_asm.specs.declared.items.Item.{Item}
 use Rattle.cpu12_asm.specs.Items.{given_by, IsRising}
 use Rattle.eval_code.specs.declared.layout.Layout.{Layout}
 use Rattle.eval_code.specs.declared.width.Width.{Width}
+use Rattle.eval_code.specs.Code.{code_bytes}
+use Rattle.eval_code.specs.Data.{bytes_of_word}
+use Rattle.eval_code.specs.Items.{bytes_at, IsApart}
+use Rattle.eval_code.specs.Evaluation.{HasBytes, eval_bytes}
+use Rattle.eval_code.specs.Placed.{StandsBetween}
 use Rattle.codegen.specs.Code.{frame_code}
-use Rattle.eval_code.specs.Code.{eval_code, block_code}
-use Rattle.eval_code.specs.Data.{table_bytes, singleton_bytes, weight_bytes, rule_bytes, bytes_of_word}
-use Rattle.eval_code.specs.Items.{code_at, bytes_at, block_items, IsApart}
 use Rattle.codegen.specs.Images.{vector_items}
-use Rattle.eval_code.specs.Evaluation.{HasEval, eval_bytes}
-use Rattle.eval_code.proofs.Algebra.{block_items-then}
-use Rattle.eval_code.proofs.Algebra.{HasBytes, bytes_front, bytes_back}
+use Rattle.eval_code.proofs.Algebra.{Rises, HasGiven, bytes_stand, bytes_front, bytes_back, decode_here}
 use Rattle.codegen.proofs.runs.Stepping.{Ctx, Stands, stands_of}
 use Rattle.codegen.proofs.runs.Framing.{HasFrame}
-use Rattle.eval_code.proofs.Algebra.{sizes, code_bytes, decode_here}
-use Rattle.eval_code.proofs.Algebra.{length-code}
 use Rattle.codegen.proofs.runs.Calling.{HasRoutine, IsInCode}
-use Rattle.eval_code.proofs.Algebra.{Rises, HasGiven, bytes_stand, code_stands}
 
--- and the reset vector
+-- the reset vector stands
 pub start_stands : Rises → (image : List ℕ) (front : List Item) (l : Layout) → HasGiven image (given_by (front ++ vector_items l)) → IsRising (front ++ vector_items l)
     → HasBytes image 0xFFFE (bytes_of_word l.code)
 start_stands rises image front l h rise =
@@ -94,10 +91,13 @@ has_frame c shown f a h =
     }
 
 -- EVAL and a return behind it
-pub has_routine : (l : Layout) (b : Block) (w : Width) (before : List Instr) (image : List ℕ) → l.wait < l.eval → IsInCode l → AroundEval image l b w before (Rts ∷ []) → HasRoutine l b w image
-has_routine l b w before image above inside h = record {
+pub has_routine : (l : Layout) (b : Block) (w : Width) (before : List Instr) (image : List ℕ) → l.wait < l.eval → IsInCode l
+    → length (slots_of b) ≤ 300 → StandsBetween l b w before (Rts ∷ []) image → HasRoutine l b w image
+has_routine l b w before image above inside few h = record {
   above = above;
   inside = inside;
   eval = h.eval;
   back = bytes_front image (l.eval + length (eval_bytes l b w)) (encode_of Rts) [] h.back;
+  room = h.room;
+  few_slots = few;
 }

@@ -19,13 +19,12 @@ use Rattle.cpu12_parts.specs.Whole.{after_plain}
 use Rattle.eval_code.specs.declared.layout.Layout.{Layout}
 use Rattle.cpu12_isa.specs.Regions.{is_hidden}
 use Rattle.eval_code.specs.Masks.{interrupt_masks}
-use Rattle.eval_code.specs.Evaluation.{Reads, Writes}
+use Rattle.eval_code.specs.Evaluation.{Reads, Writes, HasBytes}
 use Rattle.codegen.specs.Interruptible.{is_idle, IsSteady, IsInterruptible, IsShownPlain, IsInterruptibleStep}
-use Rattle.eval_code.proofs.Algebra.{SameHigh, WriteBelow, below_more, high_writes, bytes_writes, HasBytes, bytes_front, bytes_back}
-use Rattle.eval_code.proofs.Algebra.{sizes, decode_same, UsedCode, code_bytes, decode_here}
 use Rattle.cpu12_isa.specs.declared.instr.Instr.TheVariants.{ClrExtended, Beq}
-use Rattle.eval_code.proofs.Algebra.{masked_four}
-use Rattle.eval_code.proofs.Algebra.{Bounded, bounded_one, bounded_on}
+use Rattle.eval_code.specs.Code.{code_bytes}
+use Rattle.eval_code.proofs.Algebra.{SameHigh, WriteBelow, below_more, high_writes, bytes_writes, bytes_front, bytes_back, sizes, decode_same}
+use Rattle.eval_code.proofs.Algebra.{UsedCode, decode_here, masked_four, Bounded, bounded_one, bounded_on}
 
 -- how many bytes the code of a form has at most, with those that are fetched behind it
 abbrev pub code_room : ℕ

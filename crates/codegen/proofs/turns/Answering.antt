@@ -25,8 +25,7 @@ use Rattle.codegen.specs.Uninterrupted.{Answer, values_in, AreAnswersTo, AreAnsw
 use Rattle.codegen.specs.Mailboxes.{is_postable, mailbox_layout}
 use Rattle.codegen.specs.Turns.{IsAt, IsMaskedStep, IsCopied, IsLook, IsChoice, TakesTurns, MailboxTakesPosts, MailboxIsUninterrupted, call_of}
 use Rattle.codegen.specs.SampleTurns.{IsSampleTurn, TakesSamples, MailboxTakesSamples}
-use Rattle.eval_code.proofs.Algebra.{execution_on, length_append}
-use Rattle.eval_code.proofs.Algebra.{length-put, has_put, bytes_by, bytes_put_out, bytes_set_out, same_bytes}
+use Rattle.eval_code.proofs.Algebra.{execution_on, length_append, length-put, has_put, bytes_by, bytes_put_out, bytes_set_out, same_bytes}
 use Rattle.codegen.proofs.runs.Stepping.{not_at}
 use Rattle.codegen.proofs.runs.Framing.{answer_room, not_ready, given_live, waits as idle}
 use Rattle.codegen.proofs.runs.Uninterrupted.{uninterrupted, waits, arrival, count_from, value_from}

@@ -15,8 +15,7 @@ use Rattle.eval_code.specs.Masks.{interrupt_masks}
 use Rattle.codegen.specs.WatchedCode.{segment_code, segments_code, IsSegment}
 pub use Rattle.codegen.specs.WatchedCode.{AreSegments}
 use Rattle.codegen.specs.Interruptible.{IsInterruptibleStep}
-use Rattle.eval_code.proofs.Algebra.{bounded_none}
-use Rattle.eval_code.proofs.Algebra.{masked_or, masked_and, masked_tested, masked_four, zero_four}
+use Rattle.eval_code.proofs.Algebra.{bounded_none, masked_or, masked_and, masked_tested, masked_four, zero_four}
 use Rattle.codegen.proofs.runs.Stepping.{Ctx, Here, Live, Stands, Next, next, Goes, goes_on, goes_one, high_shown, sp_high}
 
 -- H leaves I and X, and with the other flags Z

@@ -24,9 +24,8 @@ use Rattle.eval_code.specs.Evaluation.{put}
 use Rattle.codegen.specs.WatchedCode.{segment_bytes, fault_at, watched_front_over, code_length}
 use Rattle.codegen.specs.Checksums.{check_byte}
 use Rattle.codegen.specs.Watched.{Change, changed, is_upset, Watched, default_of, watched_answer, watched_fault, upset_given, restored, IsWatchAnswered, AreWatchAnswered}
+use Rattle.eval_code.specs.Code.{code_bytes}
 use Rattle.eval_code.proofs.Algebra.{SameHigh, bytes_set_out, bytes_after_set, bytes_put_out, has_put, length-put}
-use Rattle.eval_code.proofs.Algebra.{code_bytes}
-use Rattle.eval_code.proofs.Algebra.{BlockFacts}
 use Rattle.codegen.proofs.runs.Stepping.{Ctx, Live, interruptible_of}
 use Rattle.codegen.proofs.runs.Calling.{HasRoutine}
 use Rattle.codegen.proofs.runs.Framing.{Home, given_live, waits}
@@ -55,7 +54,6 @@ MayChange c gs (Some x) = IsTable c gs x
 -- what all samples stand on
 pub record Grounds (c : Ctx) (b : Block) (gs : List Segment) (most : ℕ) : Type 0 where
   pub valid : IsValid b
-  pub facts : BlockFacts b
   pub limits : IsWithinLimits b
   pub eval_answers : EvalAnswers
   pub layout : IsWatchedLayout c.layout b.outputs gs
@@ -84,7 +82,6 @@ watches : (c : Ctx) (b : Block) (gs : List Segment) (most : ℕ) (change : Optio
 watches c b gs most change h x = record {
   apart = h.layout.apart;
   valid = h.valid;
-  facts = h.facts;
   limits = h.limits;
   eval_answers = h.eval_answers;
   ready = h.layout.ready;

@@ -13,4 +13,12 @@ returns c = watched_answers (record {
   };
   holds_image = c.holds_image.ensures;
   eval_answers = c.eval_answers.ensures;
+  placed = record {
+    rises = c.blocks_are_placed.ensures.rises;
+    short = c.blocks_are_placed.ensures.short;
+    parts = c.blocks_are_placed.ensures.parts;
+    behind = c.blocks_are_placed.ensures.behind;
+    bytes = c.blocks_are_placed.ensures.bytes;
+    stands = c.blocks_are_placed.ensures.stands;
+  };
 })
