@@ -1,6 +1,7 @@
 pub mod Code
 pub mod Images
 pub mod Firmwares
+pub mod Laws
 pub mod Interruptible
 pub mod Alike
 pub mod Answers

@@ -2,6 +2,7 @@
 ghost use Rattle.codegen.specs.Alike.{FirmwaresAreOne, MailboxesAreOne, WatchedFirmwaresAreOne};
 ghost use Rattle.codegen.specs.Answers.{FirmwareAnswers, FirmwareAnswersBeside, FirmwareArrivesAlike};
 ghost use Rattle.codegen.specs.Checksums.{OneChangeIsSeen, TwoChangesMayPass, UnchangedSumIsZero};
+ghost use Rattle.codegen.specs.Laws.{LowerLaws};
 ghost use Rattle.codegen.specs.Mailboxes.{MailboxStepsAreFew};
 ghost use Rattle.codegen.specs.SampleTurns.{MailboxTakesSamples};
 ghost use Rattle.codegen.specs.Turns.{MailboxTakesPosts, MailboxIsUninterrupted};
@@ -16,11 +17,9 @@ use cpu12_parts::executions::executions_are_one;
 use eval_code::laws::{blocks_are_placed, bounds_are_few, eval_answers};
 use rule_layout::{layout_law, layouts_are_one};
 
-/// The firmware of a block answers every list of samples over bytes, whatever the open flags are,
-/// within its bounds; and at each instruction what an interrupt may change is not read, whichever
-/// bytes these are that leave its layout alone.
-pub fn firmware_answers_beside()
-    ensures { FirmwareAnswersBeside }
+/// What the laws on the forms of firmware rest on.
+fn lower_laws()
+    ensures { LowerLaws }
 {
     layout_law();
     nearest_is_byte();
@@ -29,6 +28,15 @@ pub fn firmware_answers_beside()
     holds_image();
     eval_answers();
     blocks_are_placed();
+}
+
+/// The firmware of a block answers every list of samples over bytes, whatever the open flags are,
+/// within its bounds; and at each instruction what an interrupt may change is not read, whichever
+/// bytes these are that leave its layout alone.
+pub fn firmware_answers_beside()
+    ensures { FirmwareAnswersBeside }
+{
+    lower_laws();
 }
 
 /// The same where interrupts may change the free bytes.
@@ -43,13 +51,7 @@ pub fn firmware_answers()
 pub fn firmware_arrives_alike()
     ensures { FirmwareArrivesAlike }
 {
-    layout_law();
-    nearest_is_byte();
-    stays_fit();
-    rising_items();
-    holds_image();
-    eval_answers();
-    blocks_are_placed();
+    lower_laws();
 }
 
 /// The uninterrupted answers of the firmware of a block exist, and are the block's over bytes.
@@ -64,13 +66,7 @@ pub fn firmware_is_uninterrupted()
 pub fn mailbox_takes_posts()
     ensures { MailboxTakesPosts }
 {
-    layout_law();
-    nearest_is_byte();
-    stays_fit();
-    rising_items();
-    holds_image();
-    eval_answers();
-    blocks_are_placed();
+    lower_laws();
 }
 
 /// The mailbox firmware of a block answers each sample that is given where it waits in one turn without
@@ -144,11 +140,5 @@ pub fn one_change_is_seen()
 pub fn watched_answers()
     ensures { WatchedAnswers }
 {
-    layout_law();
-    nearest_is_byte();
-    stays_fit();
-    rising_items();
-    holds_image();
-    eval_answers();
-    blocks_are_placed();
+    lower_laws();
 }

@@ -8,7 +8,7 @@ pub use Rattle.eval_code.proofs.phases.Outputs.{places_few}
 pub use Rattle.eval_code.proofs.phases.RuleMemory.{Below, From, apart_by, below_front, below_back}
 pub use Rattle.eval_code.proofs.phases.Used.{sizes_is}
 pub use Rattle.eval_code.proofs.placing.Founding.{bytes_append}
-pub use Rattle.eval_code.proofs.placing.GivenBytes.{code_below}
+pub use Rattle.eval_code.proofs.placing.MemoryBytes.{used_bytes, memory_fits}
 pub use Rattle.eval_code.proofs.placing.Standing.{Rises, HasGiven, image_given, none_below, bytes_stand}
 pub use Rattle.eval_code.proofs.placing.Standing.{given_bytes, given_code, none_placed_below}
 pub use Rattle.eval_code.proofs.steps.Decoding.{UsedCode, used_append, decode_here, decode_same, sizes, sizes_append}

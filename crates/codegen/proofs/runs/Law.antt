@@ -2,13 +2,11 @@
 use Rattle.std.proofs.Common.{◌≡◌, ◌⊎◌, inl, inr, Bool, false, ◌≤◌, ℕ, ◌^◌, ◌<◌, List, [], ◌∷◌, length, All, refl, sym, ap, ◌∙◌, subst, arith}
 use Rattle.fuzzy_meaning.specs.declared.block.Block.{Block}
 use Rattle.fuzzy_meaning.specs.Blocks.{IsValid}
-use Rattle.byte_scaling.specs.Cells.{NearestIsByte}
-use Rattle.rule_layout.specs.Layouts.{IsWithinLimits, LayoutLaw}
-use Rattle.cpu12_isa.specs.Fits.{StaysFit}
+use Rattle.rule_layout.specs.Layouts.{IsWithinLimits}
 use Rattle.cpu12_asm.specs.Bytes.{Holds}
 use Rattle.cpu12_asm.specs.Items.{given_by, IsRising}
 use Rattle.cpu12_parts.specs.State.{State}
-use Rattle.cpu12_emul.specs.Image.{image_memory, HoldsImage}
+use Rattle.cpu12_emul.specs.Image.{image_memory}
 use Rattle.eval_code.specs.declared.layout.Layout.{Layout}
 use Rattle.eval_code.specs.declared.width.Width.{Width}
 use Rattle.eval_code.specs.Widths.{width_of}
@@ -18,17 +16,18 @@ use Rattle.eval_code.specs.Bounds.{instruction_bound}
 use Rattle.codegen.specs.Images.{vector_items, firmware_items}
 use Rattle.eval_code.specs.Items.{block_items, IsApart}
 use Rattle.eval_code.specs.Firing.{AreInputBytes}
-use Rattle.eval_code.specs.Evaluation.{HasBytes, EvalAnswers, Reads, Writes}
+use Rattle.eval_code.specs.Evaluation.{HasBytes, Reads, Writes}
 use Rattle.eval_code.specs.Placed.{IsInOrder, BlockRises, BlockIsShort}
 use Rattle.codegen.specs.Answers.{IsArrivedBeside, AreAnsweredBeside, FirmwareAnswers, LeavesLayout, FirmwareAnswersBeside, ArrivesAlike, FirmwareArrivesAlike}
 use Rattle.eval_code.specs.Code.{code_bytes}
-use Rattle.eval_code.proofs.Algebra.{Rises, image_given, UsedCode}
+use Rattle.eval_code.proofs.Algebra.{image_given, UsedCode, memory_fits}
+use Rattle.codegen.specs.Laws.{LowerLaws}
 use Rattle.codegen.proofs.runs.Stepping.{IsShut, Ctx, interruptible_of}
 use Rattle.cpu12_isa.specs.Regions.{is_free}
 use Rattle.cpu12_isa.specs.Agreement.{Agree}
 use Rattle.std.proofs.lemmas.Bool.Decides.{nat_tests}
 use Rattle.codegen.proofs.runs.Founding.{IsStarted, IsFramed, start_code, start_stands, frame_bytes, has_frame, has_routine}
-use Rattle.codegen.proofs.runs.Placing.{PlacedLaws, few_slots, whole_rises, whole_is_short, whole_stands, whole_fits, memory_fits}
+use Rattle.codegen.proofs.runs.Placing.{rises_of, few_slots, whole_rises, whole_is_short, whole_stands, whole_fits}
 use Rattle.codegen.proofs.runs.Arriving.{Arrived, arrive, arrive_alike, zero_below}
 use Rattle.codegen.proofs.runs.Calling.{IsInCode}
 use Rattle.eval_code.specs.Data.{bytes_of_word}
@@ -36,32 +35,8 @@ use Rattle.codegen.proofs.runs.Framing.{HasFrame, Samples, waits}
 use Rattle.codegen.proofs.runs.Sampling.{are_answered}
 use Rattle.cpu12_isa.specs.declared.instr.Instr.TheVariants.{Rts}
 
--- the laws of other crates, and that on EVAL
-pub record FirmwareLaws : Type 0 where
-  pub layout_law : LayoutLaw
-  pub nearest_is_byte : NearestIsByte
-  pub stays_fit : StaysFit
-  pub rises : Rises
-  pub holds_image : HoldsImage
-  pub eval_answers : EvalAnswers
-  pub placed : PlacedLaws
-
 pub main_apart : IsApart main_layout
-main_apart = record {
-  inputs = omega arith;
-  outputs = omega arith;
-  slots = omega arith;
-  eval = omega arith;
-  eval_end = omega arith;
-  tables = omega arith;
-  tables_end = omega arith;
-  singletons = omega arith;
-  singletons_end = omega arith;
-  weights = omega arith;
-  weights_end = omega arith;
-  rules = omega arith;
-  rules_end = omega arith;
-}
+main_apart = search arith
 
 main_framed : IsFramed main_layout
 main_framed = record {
@@ -118,7 +93,7 @@ main_frame_used : UsedCode (frame_code main_layout)
 main_frame_used = (tt, omega arith, (tt, omega arith, (tt, omega arith, (tt, omega arith, (tt, omega arith, (tt, omega arith, (tt, omega arith, (tt, omega arith, (tt, tt, tt)))))))))
 
 -- what runs are under that are beside handlers to which these bytes are open
-abbrev over_main : FirmwareLaws → (open_to : ℕ → Bool) → LeavesLayout open_to main_layout → List ℕ → (flags : ℕ) → flags < 2 ^ 8 → Ctx
+abbrev over_main : LowerLaws → (open_to : ℕ → Bool) → LeavesLayout open_to main_layout → List ℕ → (flags : ℕ) → flags < 2 ^ 8 → Ctx
 over_main laws open_to leaves image flags fits =
     record { stays_fit = laws.stays_fit; open_to = open_to; layout = main_layout; shut = main_shut open_to leaves; image = image; flags = flags; fits = fits }
 
@@ -141,7 +116,7 @@ pub length-main_items : BlockIsShort → (b : Block) (w : Width) → IsValid b �
 length-main_items short b w v limits =
     whole_is_short short main_layout b w (frame_code main_layout) (Rts ∷ []) v limits (omega arith)
 
-founded : (laws : FirmwareLaws) → (open_to : ℕ → Bool) (leaves : LeavesLayout open_to main_layout) (b : Block) (w : Width) (image : List (ℕ × ℕ)) (flags : ℕ) (fits : flags < 2 ^ 8)
+founded : (laws : LowerLaws) → (open_to : ℕ → Bool) (leaves : LeavesLayout open_to main_layout) (b : Block) (w : Width) (image : List (ℕ × ℕ)) (flags : ℕ) (fits : flags < 2 ^ 8)
     → IsValid b → IsWithinLimits b → Holds image (given_by (firmware_items main_layout b w)) → Founded (over_main laws open_to leaves (image_memory image) flags fits) b w
 founded laws open_to leaves b w image flags fits v limits h =
     let frame = frame_code main_layout in
@@ -149,12 +124,12 @@ founded laws open_to leaves b w image flags fits v limits h =
     let items = firmware_items main_layout b w in
     let mem = image_memory image in
     let c : Ctx = over_main laws open_to leaves mem flags fits in
-    let rise = main_rises laws.placed.rises b w v limits in
+    let rise = main_rises laws.rises b w v limits in
     let g = image_given laws.holds_image image (given_by items) h in
-    let around = whole_stands laws.placed.stands image main_layout b w frame back main_in_order v limits h rise in
+    let around = whole_stands laws.stands image main_layout b w frame back main_in_order v limits h rise in
     let fb = frame_bytes mem main_layout around.front in
-    let vector = start_stands laws.rises mem (block_items main_layout b w frame back) main_layout g rise in
-    let fit = whole_fits laws.placed main_layout b w frame back main_apart v main_frame_used (tt, tt, tt) (omega arith) (omega arith) in
+    let vector = start_stands (rises_of laws) mem (block_items main_layout b w frame back) main_layout g rise in
+    let fit = whole_fits laws main_layout b w frame back main_apart v main_frame_used (tt, tt, tt) (omega arith) (omega arith) in
     record {
       samples = record {
         apart = main_apart;
@@ -167,7 +142,7 @@ founded laws open_to leaves b w image flags fits v limits h =
       vector = vector;
       start = fb.start;
       arrived = arrive c b w main_framed.started main_apart v.few_outputs vector fb.start g.size (memory_fits items mem fit g.size g.bytes)
-          (λ q lt. zero_below laws.rises mem main_layout b w frame back (vector_items main_layout) g rise q lt (omega arith));
+          (λ q lt. zero_below (rises_of laws) mem main_layout b w frame back (vector_items main_layout) g rise q lt (omega arith));
     }
 
 arrived_at : (c : Ctx) (b : Block) (w : Width) → HasFrame c → (a : Arrived c b w) → IsArrivedBeside c.open_to c.layout c.image c.flags a.t
@@ -188,7 +163,7 @@ from_arrival c b w samples h all =
     let a = h.arrived in
     (a.t, (arrived_at c b w h.samples.frame a, are_answered c b w samples (λ o. 0) a.t h.samples a.home all))
 
-pub firmware_answers_beside : FirmwareLaws → FirmwareAnswersBeside
+pub firmware_answers_beside : LowerLaws → FirmwareAnswersBeside
 firmware_answers_beside laws open_to b f leaves v limits h flags samples fits all =
     let w = width_of f.wide in
     let image = image_memory f.image.bytes in
@@ -218,7 +193,7 @@ alike c b w mem h started reset agree =
       open_bytes = r.open_bytes;
     }
 
-pub firmware_arrives_alike : FirmwareLaws → FirmwareArrivesAlike
+pub firmware_arrives_alike : LowerLaws → FirmwareArrivesAlike
 firmware_arrives_alike laws open_to b f mem flags fits leaves v limits h agree =
     let w = width_of f.wide in
     let image = image_memory f.image.bytes in

@@ -15,11 +15,11 @@ use Rattle.eval_code.specs.Items.{block_items}
 use Rattle.eval_code.specs.Placed.{StandsBetween}
 use Rattle.codegen.specs.Mailboxes.{mailbox_layout, mailbox_code, mailbox_items, mailbox_bound}
 use Rattle.codegen.specs.Turns.{TakesTurns, MailboxTakesPosts}
-use Rattle.eval_code.proofs.Algebra.{image_given}
+use Rattle.eval_code.proofs.Algebra.{image_given, memory_fits}
+use Rattle.codegen.specs.Laws.{LowerLaws}
 use Rattle.codegen.proofs.runs.Founding.{start_stands, has_routine}
-use Rattle.codegen.proofs.runs.Placing.{few_slots, whole_stands, whole_fits, memory_fits}
+use Rattle.codegen.proofs.runs.Placing.{rises_of, few_slots, whole_stands, whole_fits}
 use Rattle.codegen.proofs.runs.Arriving.{Arrived, arrive, zero_below}
-use Rattle.codegen.proofs.runs.Law.{FirmwareLaws}
 use Rattle.codegen.proofs.turns.Posting.{Post, HasTurn, post_ctx, at_of}
 use Rattle.codegen.proofs.turns.Looking.{look_run, choose_run}
 use Rattle.codegen.proofs.turns.Copying.{copies_run}
@@ -27,11 +27,11 @@ use Rattle.codegen.proofs.turns.Turning.{Turns, turn_run}
 use Rattle.codegen.proofs.turns.Founding.{mailbox_in_order, mailbox_apart, mailbox_started, mailbox_inside, mailbox_rises, used_mailbox, start_bytes, has_turn, has_call}
 
 -- what its runs are under
-abbrev post_of : FirmwareLaws → (b : Block) → length b.inputs ≤ 8 → List ℕ → (flags : ℕ) → flags < 2 ^ 8 → Post
+abbrev post_of : LowerLaws → (b : Block) → length b.inputs ≤ 8 → List ℕ → (flags : ℕ) → flags < 2 ^ 8 → Post
 post_of laws b few image flags fits = record { stays_fit = laws.stays_fit; n = length b.inputs; few = few; image = image; flags = flags; fits = fits }
 
 -- from what stands in memory
-with_code : (laws : FirmwareLaws) → (b : Block) (w : Width) (image : List ℕ) (flags : ℕ) (fits : flags < 2 ^ 8) → (v : IsValid b) → IsWithinLimits b
+with_code : (laws : LowerLaws) → (b : Block) (w : Width) (image : List ℕ) (flags : ℕ) (fits : flags < 2 ^ 8) → (v : IsValid b) → IsWithinLimits b
     → (let l = mailbox_layout (length b.inputs) in StandsBetween l b w (mailbox_code l (length b.inputs)) (Rts ∷ []) image)
     → (HasTurn (post_of laws b v.few_inputs image flags fits) → Arrived (post_ctx (post_of laws b v.few_inputs image flags fits)) b w)
     → TakesTurns (mailbox_layout (length b.inputs)) b w (mailbox_bound w b) image flags
@@ -54,7 +54,7 @@ with_code laws b w image flags fits v limits around arrive_by =
       evaluates = λ bytes before s i at hi ho. turn_run p b w bytes before s turns i at hi ho;
     }
 
-with_items : FirmwareLaws → (b : Block) (w : Width) (image : List (ℕ × ℕ)) (flags : ℕ) (fits : flags < 2 ^ 8) → IsValid b → IsWithinLimits b
+with_items : LowerLaws → (b : Block) (w : Width) (image : List (ℕ × ℕ)) (flags : ℕ) (fits : flags < 2 ^ 8) → IsValid b → IsWithinLimits b
     → Holds image (given_by (mailbox_items (mailbox_layout (length b.inputs)) b w))
     → TakesTurns (mailbox_layout (length b.inputs)) b w (mailbox_bound w b) (image_memory image) flags
 with_items laws b w image flags fits v limits h =
@@ -66,15 +66,15 @@ with_items laws b w image flags fits v limits h =
     let items = mailbox_items l b w in
     let mem = image_memory image in
     let p = post_of laws b few mem flags fits in
-    let rise = mailbox_rises laws.placed.rises b w v limits in
+    let rise = mailbox_rises laws.rises b w v limits in
     let g = image_given laws.holds_image image (given_by items) h in
-    let around = whole_stands laws.placed.stands image l b w before back (mailbox_in_order n few) v limits h rise in
-    let vector = start_stands laws.rises mem (block_items l b w before back) l g rise in
-    let fit = whole_fits laws.placed l b w before back (mailbox_apart n few) v (used_mailbox n few) (tt, tt, tt) (omega arith) (omega arith) in
+    let around = whole_stands laws.stands image l b w before back (mailbox_in_order n few) v limits h rise in
+    let vector = start_stands (rises_of laws) mem (block_items l b w before back) l g rise in
+    let fit = whole_fits laws l b w before back (mailbox_apart n few) v (used_mailbox n few) (tt, tt, tt) (omega arith) (omega arith) in
     with_code laws b w mem flags fits v limits around
-    (λ turn. arrive (post_ctx p) b w (mailbox_started n) (mailbox_apart n few) v.few_outputs vector (start_bytes p around.front) g.size (memory_fits items mem fit g.size g.bytes) (λ q lt. zero_below laws.rises mem l b w before back (vector_items l) g rise q lt (omega arith)))
+    (λ turn. arrive (post_ctx p) b w (mailbox_started n) (mailbox_apart n few) v.few_outputs vector (start_bytes p around.front) g.size (memory_fits items mem fit g.size g.bytes) (λ q lt. zero_below (rises_of laws) mem l b w before back (vector_items l) g rise q lt (omega arith)))
 
-pub mailbox_takes_posts : FirmwareLaws → MailboxTakesPosts
+pub mailbox_takes_posts : LowerLaws → MailboxTakesPosts
 mailbox_takes_posts laws b f v limits h flags fits =
     let l = mailbox_layout (length b.inputs) in
     let w = width_of f.wide in

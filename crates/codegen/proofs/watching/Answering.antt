@@ -22,13 +22,14 @@ use Rattle.codegen.specs.Images.{vector_items}
 use Rattle.codegen.specs.Answers.{IsArrived}
 use Rattle.codegen.specs.WatchedCode.{segments_of, watched_front, watched_layout, code_length}
 use Rattle.codegen.specs.Watched.{watched_items, watched_bound, Change, Watched, IsTableChange, IsGoodSample, AreWatchAnswered, WatchedAnswers}
-use Rattle.eval_code.proofs.Algebra.{UsedCode, HasGiven, image_given}
+use Rattle.eval_code.proofs.Algebra.{UsedCode, HasGiven, image_given, memory_fits}
+use Rattle.codegen.specs.Laws.{LowerLaws}
 use Rattle.codegen.proofs.runs.Stepping.{Ctx, IsShut, interruptible_of}
 use Rattle.codegen.proofs.runs.Framing.{waits}
 use Rattle.codegen.proofs.runs.Founding.{start_stands, has_routine, frame_bytes}
-use Rattle.codegen.proofs.runs.Placing.{few_slots, whole_rises, whole_is_short, whole_stands, whole_fits, memory_fits}
+use Rattle.codegen.proofs.runs.Placing.{rises_of, few_slots, whole_rises, whole_is_short, whole_stands, whole_fits}
 use Rattle.codegen.proofs.runs.Arriving.{Arrived, arrive, zero_below}
-use Rattle.codegen.proofs.runs.Law.{FirmwareLaws, not_free, free_leaves}
+use Rattle.codegen.proofs.runs.Law.{not_free, free_leaves}
 use Rattle.codegen.proofs.watching.Adding.{count_in}
 use Rattle.codegen.proofs.watching.Fronts.{IsWatchedLayout, length-more, length-bad, length-front, used_front, fit_defaults, front_bytes, calls}
 use Rattle.codegen.proofs.watching.Tables.{are_segments, are_apart, are_few, stand, counted}
@@ -92,37 +93,37 @@ length-watched_items brief b v limits =
     whole_is_short brief (watched_layout b) b Byte (watched_front main_layout b) (Rts ∷ []) v limits (omega arith)
 
 -- the image of a firmware, and what is known of its block
-record Founded (laws : FirmwareLaws) (b : Block) (image : List (ℕ × ℕ)) : Type 0 where
+record Founded (laws : LowerLaws) (b : Block) (image : List (ℕ × ℕ)) : Type 0 where
   valid : IsValid b
   limits : IsWithinLimits b
   holds : Holds image (given_by (watched_items b))
 
-rising : (laws : FirmwareLaws) (b : Block) (image : List (ℕ × ℕ)) → Founded laws b image → IsRising (watched_items b)
-rising laws b image h = watched_rise laws.placed.rises b h.valid h.limits
+rising : (laws : LowerLaws) (b : Block) (image : List (ℕ × ℕ)) → Founded laws b image → IsRising (watched_items b)
+rising laws b image h = watched_rise laws.rises b h.valid h.limits
 
-given_in : (laws : FirmwareLaws) (b : Block) (image : List (ℕ × ℕ)) → Founded laws b image → HasGiven (image_memory image) (given_by (watched_items b))
+given_in : (laws : LowerLaws) (b : Block) (image : List (ℕ × ℕ)) → Founded laws b image → HasGiven (image_memory image) (given_by (watched_items b))
 given_in laws b image h = image_given laws.holds_image image (given_by (watched_items b)) h.holds
 
-around : (laws : FirmwareLaws) (b : Block) (image : List (ℕ × ℕ)) → Founded laws b image
+around : (laws : LowerLaws) (b : Block) (image : List (ℕ × ℕ)) → Founded laws b image
     → StandsBetween (watched_layout b) b Byte (watched_front main_layout b) (Rts ∷ []) (image_memory image)
 around laws b image h =
-    whole_stands laws.placed.stands image (watched_layout b) b Byte (watched_front main_layout b) (Rts ∷ []) (watched_in_order b h.valid) h.valid h.limits h.holds
+    whole_stands laws.stands image (watched_layout b) b Byte (watched_front main_layout b) (Rts ∷ []) (watched_in_order b h.valid) h.valid h.limits h.holds
     (rising laws b image h)
 
-parts : (laws : FirmwareLaws) (b : Block) (image : List (ℕ × ℕ)) → Founded laws b image → HasParts main_layout b
-parts laws b image h = laws.placed.parts main_layout b h.valid h.limits
+parts : (laws : LowerLaws) (b : Block) (image : List (ℕ × ℕ)) → Founded laws b image → HasParts main_layout b
+parts laws b image h = laws.parts main_layout b h.valid h.limits
 
-used : (laws : FirmwareLaws) (b : Block) (image : List (ℕ × ℕ)) → Founded laws b image → UsedCode (watched_front main_layout b)
+used : (laws : LowerLaws) (b : Block) (image : List (ℕ × ℕ)) → Founded laws b image → UsedCode (watched_front main_layout b)
 used laws b image h =
     let few = h.valid.few_outputs in
     let bad = length-bad main_layout b.outputs few in
     used_front main_layout b.outputs (segments_of main_layout b) (omega arith) (omega arith) (fit_defaults laws.nearest_is_byte b.outputs h.valid.outputs) (omega arith) (are_segments b (parts laws b image h))
 
-memory_bytes : (laws : FirmwareLaws) (b : Block) (image : List (ℕ × ℕ)) → Founded laws b image → AreBytes (image_memory image)
+memory_bytes : (laws : LowerLaws) (b : Block) (image : List (ℕ × ℕ)) → Founded laws b image → AreBytes (image_memory image)
 memory_bytes laws b image h =
     let l = watched_layout b in
     let given = given_in laws b image h in
-    let fit = whole_fits laws.placed l b Byte (watched_front main_layout b) (Rts ∷ []) (watched_apart b h.valid) h.valid (used laws b image h) (tt, tt, tt) (omega arith) (omega arith) in
+    let fit = whole_fits laws l b Byte (watched_front main_layout b) (Rts ∷ []) (watched_apart b h.valid) h.valid (used laws b image h) (tt, tt, tt) (omega arith) (omega arith) in
     memory_fits (watched_items b) (image_memory image) fit given.size given.bytes
 
 bound_is : (b : Block) → instruction_bound Byte b + 4 + count_in (segments_of main_layout b) ≡ watched_bound b
@@ -140,10 +141,10 @@ shut b = record {
 }
 
 -- the run of its image
-abbrev over : FirmwareLaws → Block → List ℕ → (flags : ℕ) → flags < 2 ^ 8 → Ctx
+abbrev over : LowerLaws → Block → List ℕ → (flags : ℕ) → flags < 2 ^ 8 → Ctx
 over laws b image flags fits = record { stays_fit = laws.stays_fit; open_to = is_free; layout = watched_layout b; shut = shut b; image = image; flags = flags; fits = fits }
 
-grounds : (laws : FirmwareLaws) (b : Block) (image : List (ℕ × ℕ)) (flags : ℕ) (fits : flags < 2 ^ 8) → Founded laws b image
+grounds : (laws : LowerLaws) (b : Block) (image : List (ℕ × ℕ)) (flags : ℕ) (fits : flags < 2 ^ 8) → Founded laws b image
     → Grounds (over laws b (image_memory image) flags fits) b (segments_of main_layout b) (watched_bound b)
 grounds laws b image flags fits h =
     let mem = image_memory image in
@@ -174,7 +175,7 @@ grounds laws b image flags fits h =
       stands = stand mem b here.eval.tables here.eval.singletons here.eval.weights here.eval.rules;
     }
 
-arrived : (laws : FirmwareLaws) (b : Block) (image : List (ℕ × ℕ)) (flags : ℕ) (fits : flags < 2 ^ 8) → Founded laws b image → Arrived (over laws b (image_memory image) flags fits) b Byte
+arrived : (laws : LowerLaws) (b : Block) (image : List (ℕ × ℕ)) (flags : ℕ) (fits : flags < 2 ^ 8) → Founded laws b image → Arrived (over laws b (image_memory image) flags fits) b Byte
 arrived laws b image flags fits h =
     let l = watched_layout b in
     let mem = image_memory image in
@@ -184,12 +185,12 @@ arrived laws b image flags fits h =
     let rise = rising laws b image h in
     let here = around laws b image h in
     let frame = frame_bytes mem (calls l b.outputs) (front_bytes mem l b.outputs gs here.front).frame in
-    let vector = start_stands laws.rises mem (block_items l b Byte front (Rts ∷ [])) l given rise in
+    let vector = start_stands (rises_of laws) mem (block_items l b Byte front (Rts ∷ [])) l given rise in
     arrive (over laws b mem flags fits) b Byte (is_watched_layout b h.valid).started (watched_apart b h.valid) h.valid.few_outputs vector frame.start given.size (memory_bytes laws b image h)
-    (λ q lt. zero_below laws.rises mem l b Byte front (Rts ∷ []) (vector_items l) given rise q lt (omega arith))
+    (λ q lt. zero_below (rises_of laws) mem l b Byte front (Rts ∷ []) (vector_items l) given rise q lt (omega arith))
 
 -- the code ends below the tables
-code_end : (laws : FirmwareLaws) (b : Block) (image : List (ℕ × ℕ)) → Founded laws b image
+code_end : (laws : LowerLaws) (b : Block) (image : List (ℕ × ℕ)) → Founded laws b image
     → (let l = watched_layout b in l.code + length (code_bytes (block_code l b Byte (watched_front main_layout b) (Rts ∷ []))) ≤ l.tables)
 code_end laws b image h =
     let l = watched_layout b in
@@ -199,7 +200,7 @@ code_end laws b image h =
     omega (arith, short_front b h.valid, length-more front (eval ++ Rts ∷ []), length-more eval (Rts ∷ []), room)
 
 -- good samples of the definition
-may_change : (laws : FirmwareLaws) (b : Block) (image : List (ℕ × ℕ)) (flags : ℕ) (fits : flags < 2 ^ 8) (change : Option Change) → Founded laws b image
+may_change : (laws : LowerLaws) (b : Block) (image : List (ℕ × ℕ)) (flags : ℕ) (fits : flags < 2 ^ 8) (change : Option Change) → Founded laws b image
     → IsTableChange (watched_layout b) image change → MayChange (over laws b (image_memory image) flags fits) (segments_of main_layout b) change
 may_change laws b image flags fits None h x = tt
 may_change laws b image flags fits (Some c) h x =
@@ -219,7 +220,7 @@ may_change laws b image flags fits (Some c) h x =
 abbrev Answers : Layout → Block → ℕ → List ℕ → ℕ → List Watched → Type 0
 Answers l b most image flags samples = (s : State) × (IsArrived l image flags s × AreWatchAnswered l b most image flags (λ o. 0) samples s)
 
-from_arrival : (laws : FirmwareLaws) (b : Block) (image : List ℕ) (flags : ℕ) (fits : flags < 2 ^ 8) (samples : List Watched)
+from_arrival : (laws : LowerLaws) (b : Block) (image : List ℕ) (flags : ℕ) (fits : flags < 2 ^ 8) (samples : List Watched)
     → Grounds (over laws b image flags fits) b (segments_of main_layout b) (watched_bound b) → AreGood (over laws b image flags fits) b (segments_of main_layout b) samples
     → Arrived (over laws b image flags fits) b Byte → Answers (watched_layout b) b (watched_bound b) image flags samples
 from_arrival laws b image flags fits samples h all a =
@@ -232,7 +233,7 @@ from_arrival laws b image flags fits samples h all a =
       ),
     )
 
-main_answers : (laws : FirmwareLaws) (b : Block) (image : List (ℕ × ℕ)) (flags : ℕ) (samples : List Watched) → IsValid b → IsWithinLimits b
+main_answers : (laws : LowerLaws) (b : Block) (image : List (ℕ × ℕ)) (flags : ℕ) (samples : List Watched) → IsValid b → IsWithinLimits b
     → Holds image (given_by (watched_items b)) → flags < 2 ^ 8 → All (IsGoodSample b (watched_layout b) image) samples
     → Answers (watched_layout b) b (watched_bound b) (image_memory image) flags samples
 main_answers laws b image flags samples v limits h fits all =
@@ -241,7 +242,7 @@ main_answers laws b image flags samples v limits h fits all =
     (λ k d lt. (let good = all k d lt in (good.bytes, may_change laws b image flags fits _ founded good.change)))
     (arrived laws b image flags fits founded)
 
-pub watched_answers : FirmwareLaws → WatchedAnswers
+pub watched_answers : LowerLaws → WatchedAnswers
 watched_answers laws b f v limits h flags samples fits all =
     let image = f.image.bytes in
     let good : All (IsGoodSample b (watched_layout b) image) samples = subst (λ (l : Layout). All (IsGoodSample b l image) samples) h.layout all in
