@@ -4,9 +4,9 @@ use Rattle.std.specs.Prelude.{Result, Ok, Err, IfOk, IfErr}
 use Rattle.std.specs.Global.{Vec}
 use Rattle.fuzzy_meaning.specs.declared.block.Block.{Block}
 use Rattle.fuzzy_meaning.specs.Blocks.{IsValid}
-use Rattle.codegen.specs.Widths.{parts}
-use Rattle.codegen.specs.declared.width.Width.{Width}
-use Rattle.codegen.specs.declared.width.Width.TheVariants.{Byte, Word}
+use Rattle.eval_code.specs.Widths.{parts}
+use Rattle.eval_code.specs.declared.width.Width.{Width}
+use Rattle.eval_code.specs.declared.width.Width.TheVariants.{Byte, Word}
 use Rattle.box_tree.specs.Certificates.{HasFault, bad_version, no_version, bad_claims, no_claims, bad_node, left_open}
 use Rattle.box_tree.specs.Certificates.{late, many_leaves}
 use Rattle.box_tree.specs.declared.cert.CertFault.{CertFault}

@@ -3,7 +3,7 @@ use Rattle.std.proofs.Common.{◌≡◌, ℕ, List, ap₂, length, sym, subst}
 use Rattle.std.specs.Prelude.{IfErr, IfOk, Result, Ok, Err}
 use Rattle.cpu12_asm.specs.declared.image.Image.{Image}
 use Rattle.fuzzy_meaning.specs.declared.block.Block.{Block}
-use Rattle.codegen.specs.Bounds.{steps_by}
+use Rattle.eval_code.specs.Bounds.{steps_by}
 use Rattle.codegen.specs.declared.firmware.Firmware.{Firmware}
 use Rattle.fz_status.specs.declared.status.Status.{Status}
 use Rattle.fz_status.specs.declared.status.Status.TheVariants as status

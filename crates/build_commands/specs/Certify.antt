@@ -3,9 +3,9 @@ use Rattle.std.specs.Prelude.{◌≡◌, ◌≤◌, ℕ, List, [], ◌∷◌, �
 use Rattle.fuzzy_meaning.specs.Blocks.{IsValid}
 use Rattle.fuzzy_meaning.specs.SameBlocks.{IsSameBlock}
 use Rattle.fuzzy_meaning.specs.declared.block.Block.{Block}
-use Rattle.codegen.specs.Widths.{parts}
+use Rattle.eval_code.specs.Widths.{parts}
 use Rattle.codegen.specs.declared.firmware.Firmware.{Firmware}
-use Rattle.codegen.specs.declared.width.Width.{Width}
+use Rattle.eval_code.specs.declared.width.Width.{Width}
 use Rattle.box_tree.specs.Certificates.{CertText}
 use Rattle.box_tree.specs.Trees.{leaf_count}
 use Rattle.box_tree.specs.declared.cert.Cert.{Cert}

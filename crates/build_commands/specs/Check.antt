@@ -1,9 +1,9 @@
 -- The commands `check FCL CERT` and `check16 FCL CERT`.
 use Rattle.std.specs.Prelude.{◌≡◌, ℕ, List, [], ◌∷◌, ◌++◌, codes, None, Result, Ok, Err}
 use Rattle.fuzzy_meaning.specs.declared.block.Block.{Block}
-use Rattle.codegen.specs.Bounds.{instruction_bound}
+use Rattle.eval_code.specs.Bounds.{instruction_bound}
 use Rattle.codegen.specs.declared.firmware.Firmware.{Firmware}
-use Rattle.codegen.specs.declared.width.Width.{Width}
+use Rattle.eval_code.specs.declared.width.Width.{Width}
 use Rattle.build_commands.specs.Certs.{AcceptsCert, RefusesCert}
 use Rattle.build_commands.specs.Deeds.{Deed}
 use Rattle.build_commands.specs.Firmwares.{GivesFirmware, RefusesText}

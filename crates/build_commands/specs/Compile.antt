@@ -1,7 +1,7 @@
 -- The commands `compile FCL OUT` and `compile16 FCL OUT`.
 use Rattle.std.specs.Prelude.{ℕ, List, [], ◌∷◌, Result, Ok, Err}
-use Rattle.codegen.specs.Bounds.{instruction_bound}
-use Rattle.codegen.specs.declared.width.Width.{Width}
+use Rattle.eval_code.specs.Bounds.{instruction_bound}
+use Rattle.eval_code.specs.declared.width.Width.{Width}
 use Rattle.build_commands.specs.Deeds.{Deed}
 use Rattle.build_commands.specs.Firmwares.{GivesFirmware, text_refusals}
 use Rattle.build_commands.specs.Written.{WritesFirmware}

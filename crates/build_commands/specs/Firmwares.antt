@@ -6,8 +6,8 @@ use Rattle.codegen.specs.Firmwares.{IsFirmwareOf}
 use Rattle.codegen.specs.Mailboxes.{IsMailboxOf}
 use Rattle.codegen.specs.Watched.{IsWatchedFirmwareOf}
 use Rattle.codegen.specs.declared.firmware.Firmware.{Firmware}
-use Rattle.codegen.specs.declared.width.Width.{Width}
-use Rattle.codegen.specs.Widths.{is_wide}
+use Rattle.eval_code.specs.declared.width.Width.{Width}
+use Rattle.eval_code.specs.Widths.{is_wide}
 use Rattle.fcl_syntax.specs.Text.{IsFirstFault}
 use Rattle.fcl_check.specs.Texts.{SpellsBlock, HasLoadFault}
 use Rattle.fz_status.specs.Refusals.{CarriesNoMemory, Refusals}

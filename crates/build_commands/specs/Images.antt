@@ -5,7 +5,7 @@ use Rattle.cpu12_asm.specs.declared.image.Image.{Image}
 use Rattle.srecord.specs.Texts.{GivesImage, HasFault}
 use Rattle.fuzzy_meaning.specs.declared.block.Block.{Block}
 use Rattle.codegen.specs.declared.firmware.Firmware.{Firmware}
-use Rattle.codegen.specs.declared.width.Width.{Width}
+use Rattle.eval_code.specs.declared.width.Width.{Width}
 use Rattle.build_commands.specs.Firmwares.{GivesFirmware, GivesMailbox, GivesWatched}
 use Rattle.fz_status.specs.Refusals.{Refusals}
 use Rattle.fz_status.specs.declared.status.ImageFault.{ImageFault}

@@ -1,8 +1,8 @@
 -- The command `lcompile SLOW FAST OUT`.
 use Rattle.std.specs.Prelude.{ℕ, List, [], ◌∷◌, ◌++◌, length, codes, Result, Ok, Err}
 use Rattle.fuzzy_meaning.specs.declared.block.Block.{Block}
-use Rattle.codegen.specs.Bounds.{instruction_bound}
-use Rattle.codegen.specs.declared.width.Width.TheVariants.{Byte}
+use Rattle.eval_code.specs.Bounds.{instruction_bound}
+use Rattle.eval_code.specs.declared.width.Width.TheVariants.{Byte}
 use Rattle.two_level.specs.Images.{fast_most}
 use Rattle.two_level.specs.declared.two.Two.{Two}
 use Rattle.build_commands.specs.Deeds.{Deed}

@@ -1,7 +1,7 @@
 -- The command `mcompile FCL OUT`.
 use Rattle.std.specs.Prelude.{ℕ, List, Result, Ok, Err}
 use Rattle.codegen.specs.Mailboxes.{mailbox_bound}
-use Rattle.codegen.specs.declared.width.Width.TheVariants.{Byte}
+use Rattle.eval_code.specs.declared.width.Width.TheVariants.{Byte}
 use Rattle.build_commands.specs.Deeds.{Deed}
 use Rattle.build_commands.specs.Firmwares.{GivesMailbox, text_refusals}
 use Rattle.build_commands.specs.Written.{WritesFirmware}

@@ -1,7 +1,7 @@
 -- What commands write of firmware and images.
 use Rattle.std.specs.Prelude.{◌≡◌, ℕ, List, ◌++◌, length, codes, Some}
 use Rattle.fuzzy_meaning.specs.declared.block.Block.{Block}
-use Rattle.codegen.specs.Bounds.{steps_by}
+use Rattle.eval_code.specs.Bounds.{steps_by}
 use Rattle.codegen.specs.declared.firmware.Firmware.{Firmware}
 use Rattle.cpu12_asm.specs.declared.image.Image.{Image}
 use Rattle.srecord.specs.Images.{ImageText}

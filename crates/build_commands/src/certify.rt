@@ -1,7 +1,7 @@
 //! The commands `certify FCL TARGET OUT` and `certify16 FCL TARGET OUT`.
 ghost use Rattle.std.specs.Prelude.{◌≡◌, ◌≤◌, length, All, IfOk, IfErr, List, ℕ};
 ghost use Rattle.fuzzy_meaning.specs.Blocks.{IsValid};
-ghost use Rattle.codegen.specs.Widths.{parts};
+ghost use Rattle.eval_code.specs.Widths.{parts};
 ghost use Rattle.box_tree.specs.Certificates.{CertText, IsCert};
 ghost use Rattle.box_tree.specs.Trees.{leaf_count};
 ghost use Rattle.error_certifier.specs.Halving.{IsHalving};
@@ -19,8 +19,8 @@ use crate::lines::{labelled, push_errors};
 use crate::words::{Number, number_in};
 use crate::work::Work;
 use box_tree::{Cert, Node};
-use codegen::Width;
 use error_certifier::{NotReached, answers_are_one, same_blocks_stop_alike};
+use eval_code::Width;
 use fcl_check::spelled_blocks_are_one;
 use fuzzy_meaning::Block;
 use fz_status::{Status, word};

@@ -8,7 +8,7 @@ ghost use Rattle.fz_status.specs.Refusals.{IsRefusal};
 use cert_check::{
     TextFault as Refusal, check_text, check_text16, same_blocks_answer_alike, text_answers_are_one,
 };
-use codegen::Width;
+use eval_code::Width;
 use fcl_check::spelled_blocks_are_one;
 use fuzzy_meaning::Block;
 use fz_status::{CertRefusal, Status};

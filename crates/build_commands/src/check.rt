@@ -9,7 +9,7 @@ use crate::certs::{accepted_certs_have_no_fault, errors_under};
 use crate::firmware::{firmware_of, spelled_texts_have_no_fault};
 use crate::lines::{labelled, push_errors};
 use crate::work::Work;
-use codegen::Width;
+use eval_code::Width;
 use fz_status::Status;
 use std::alloc::{AllocError, Global};
 

@@ -7,7 +7,7 @@ ghost use Rattle.build_commands.specs.declared.compile.Compile.{Compile as TheCo
 use crate::firmware::{firmware_of, spelled_texts_have_no_fault};
 use crate::work::Work;
 use crate::written::written_firmware;
-use codegen::Width;
+use eval_code::Width;
 use fz_status::Status;
 use std::alloc::Global;
 

@@ -5,7 +5,8 @@ ghost use Rattle.build_commands.specs.Firmwares.{GivesBlock, GivesFirmware, Give
 ghost use Rattle.build_commands.specs.Firmwares.{SpelledTextsHaveNoFault};
 ghost use Rattle.fz_status.specs.Refusals.{IsRefusal};
 
-use codegen::{Firmware, Width, compile, compile_post, compile_scrub, compile16};
+use codegen::{Firmware, compile, compile_post, compile_scrub, compile16};
+use eval_code::Width;
 use fcl_check::{LoadFault, load, load_faults_are_one, spelled_blocks_are_one};
 use fcl_syntax::{SyntaxFault, first_faults_are_one, parse};
 use fuzzy_meaning::Block;

@@ -17,9 +17,9 @@ use Rattle.box_tree.specs.declared.cert.Cert.{Cert}
 use Rattle.cert_check.specs.Acceptance.{IsAccepted}
 use Rattle.cert_check.specs.Laws.{AcceptedAnswersAreNear, answer_to}
 use Rattle.codegen.specs.Uninterrupted.{Answer, AreAnswersOf}
-use Rattle.codegen.specs.Widths.{answer, parts, width_of}
-use Rattle.codegen.specs.declared.width.Width.{Width}
-use Rattle.codegen.specs.declared.width.Width.TheVariants.{Byte, Word}
+use Rattle.eval_code.specs.Widths.{answer, parts, width_of}
+use Rattle.eval_code.specs.declared.width.Width.{Width}
+use Rattle.eval_code.specs.declared.width.Width.TheVariants.{Byte, Word}
 use Rattle.trace_io.specs.Traces.{AreWithin, Fields, SpellSamples}
 use Rattle.trace_io.specs.declared.sample.Sample.{Sample}
 use Rattle.fz_run.specs.Answering.{answer_of_row}

@@ -11,7 +11,7 @@ use Rattle.byte_scaling.specs.Cells.{value_in}
 use Rattle.box_tree.specs.declared.cert.Cert.{Cert}
 use Rattle.cert_check.specs.Acceptance.{IsAccepted}
 use Rattle.codegen.specs.declared.firmware.Firmware.{Firmware}
-use Rattle.codegen.specs.Widths.{parts, width_of}
+use Rattle.eval_code.specs.Widths.{parts, width_of}
 use Rattle.trace_io.specs.Traces.{Spells}
 use Rattle.trace_io.specs.declared.sample.Sample.{Sample}
 use Rattle.run_law.specs.Forms.{RowSeen}

@@ -7,8 +7,8 @@ use Rattle.fuzzy_meaning.specs.Blocks.{IsValid}
 use Rattle.box_tree.specs.declared.cert.Cert.{Cert}
 use Rattle.cert_check.specs.Acceptance.{IsAccepted}
 use Rattle.codegen.specs.Uninterrupted.{Answer, AreAnswersOf}
-use Rattle.codegen.specs.Widths.{parts}
-use Rattle.codegen.specs.declared.width.Width.{Width}
+use Rattle.eval_code.specs.Widths.{parts}
+use Rattle.eval_code.specs.declared.width.Width.{Width}
 use Rattle.trace_io.specs.Traces.{Spells}
 use Rattle.trace_io.specs.declared.sample.Sample.{Sample}
 use Rattle.fz_run.specs.Rows.{input_bytes, bytes_of}

@@ -19,20 +19,22 @@ use Rattle.cpu12_asm.specs.Bytes.{byte_at, word_or_zero}
 use Rattle.cpu12_asm.specs.Items.{given_by}
 use Rattle.cpu12_asm.specs.declared.items.Item.{Item}
 use Rattle.codegen.specs.Alike.{FirmwaresAreOne, HaveOneImage, MailboxesAreOne, WatchedFirmwaresAreOne}
-use Rattle.codegen.specs.Code.{eval_code_over, frame_code}
-use Rattle.codegen.specs.Data.{rule_bytes_by, singleton_bytes_of, weight_bytes_by}
-use Rattle.codegen.specs.Images.{IsImageOf, bytes_at, code_at, block_items, firmware_items, vector_items}
-use Rattle.codegen.specs.Layouts.{main_layout}
+use Rattle.eval_code.specs.Code.{eval_code_over}
+use Rattle.codegen.specs.Code.{frame_code}
+use Rattle.eval_code.specs.Data.{rule_bytes_by, singleton_bytes_of, weight_bytes_by}
+use Rattle.codegen.specs.Images.{IsImageOf, firmware_items, vector_items}
+use Rattle.eval_code.specs.Items.{bytes_at, code_at, block_items}
+use Rattle.eval_code.specs.Layouts.{main_layout}
 use Rattle.codegen.specs.Mailboxes.{mailbox_code, mailbox_layout}
 use Rattle.codegen.specs.Watched.{watched_items}
 use Rattle.codegen.specs.WatchedCode.{segment, segments_of, watched_front, watched_front_over, watched_layout}
 use Rattle.codegen.specs.WatchedCode.{watched_layout_over, weight_segments}
-use Rattle.codegen.specs.Widths.{width_of}
+use Rattle.eval_code.specs.Widths.{width_of}
 use Rattle.codegen.specs.declared.firmware.Firmware.{Firmware}
-use Rattle.codegen.specs.declared.layout.Layout.{Layout}
+use Rattle.eval_code.specs.declared.layout.Layout.{Layout}
 use Rattle.codegen.specs.declared.segments.Segment.{Segment}
-use Rattle.codegen.specs.declared.width.Width.{Width}
-use Rattle.codegen.specs.declared.width.Width.TheVariants.{Byte}
+use Rattle.eval_code.specs.declared.width.Width.{Width}
+use Rattle.eval_code.specs.declared.width.Width.TheVariants.{Byte}
 
 -- a block's items by what they are made of
 abbrev items_of : Layout → Width → List Instr → List Instr → List Input → List Output → List Slot → List Conjunction → List ℕ → Form → List Item

@@ -1,12 +1,4 @@
-pub mod Joins
-pub mod Lists
-pub mod Sizes
-pub mod Placement
-pub mod steps
-pub mod phases
-pub mod masses
 pub mod runs
-pub mod Placed
 pub mod turns
 pub mod watching
 pub mod AlikeLemmas

@@ -2,9 +2,8 @@
 pub mod Stepping
 pub mod Calling
 pub mod Framing
-pub mod Standing
+pub mod Placing
 pub mod Founding
-pub mod GivenBytes
 pub mod Arriving
 pub mod Sampling
 pub mod Law

@@ -1,5 +1,5 @@
 -- What a firmware that stands alone answers, and what is known at each of its instructions.
-use Rattle.std.specs.Prelude.{◌≡◌, ℕ, ◌+◌, ◌^◌, ◌<◌, ◌≤◌, Bool, true, false, List, [], ◌∷◌, length, All, slice_index, slice_set}
+use Rattle.std.specs.Prelude.{◌≡◌, ℕ, ◌^◌, ◌<◌, ◌≤◌, Bool, true, false, List, [], ◌∷◌, length, All, slice_index, slice_set}
 use Rattle.fuzzy_meaning.specs.declared.block.Block.{Block}
 use Rattle.fuzzy_meaning.specs.Blocks.{IsValid}
 use Rattle.rule_layout.specs.Layouts.{IsWithinLimits}
@@ -10,20 +10,15 @@ use Rattle.cpu12_parts.specs.Whole.{PlainWay}
 use Rattle.cpu12_parts.specs.Executions.{Execution, all_steps}
 use Rattle.cpu12_emul.specs.Image.{image_memory}
 use Rattle.cpu12_emul.specs.Step.{reset_with}
-use Rattle.codegen.specs.declared.layout.Layout.{Layout}
-use Rattle.codegen.specs.declared.width.Width.{Width}
+use Rattle.eval_code.specs.declared.layout.Layout.{Layout}
+use Rattle.eval_code.specs.declared.width.Width.{Width}
 use Rattle.codegen.specs.declared.firmware.Firmware.{Firmware}
-use Rattle.codegen.specs.Widths.{width_of, answer}
-use Rattle.codegen.specs.Bounds.{steps_by}
-use Rattle.codegen.specs.Firing.{AreInputBytes}
-use Rattle.codegen.specs.Evaluation.{Reads, Writes, HasAnswers}
+use Rattle.eval_code.specs.Widths.{width_of, answer}
+use Rattle.eval_code.specs.Bounds.{steps_by}
+use Rattle.eval_code.specs.Firing.{AreInputBytes}
+use Rattle.eval_code.specs.Evaluation.{put, Reads, Writes, HasAnswers}
 use Rattle.codegen.specs.Interruptible.{is_idle, IsInterruptible, IsInterruptibleStep}
 use Rattle.codegen.specs.Firmwares.{IsFirmwareOf}
-
--- bytes put into memory one after another
-abbrev pub put : List ℕ → ℕ → List ℕ → List ℕ
-put mem at [] = mem
-put mem at (v ∷ vs) = put (slice_set mem at v) (at + 1) vs
 
 -- the first arrival where the code waits, by three plain instructions from reset, beside handlers to which these bytes
 -- are open

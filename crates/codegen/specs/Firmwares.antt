@@ -2,10 +2,10 @@
 use Rattle.std.specs.Prelude.{◌≡◌, length}
 use Rattle.fuzzy_meaning.specs.declared.block.Block.{Block}
 use Rattle.codegen.specs.declared.firmware.Firmware.{Firmware}
-use Rattle.codegen.specs.Layouts.{main_layout}
-use Rattle.codegen.specs.Widths.{width_of}
+use Rattle.eval_code.specs.Layouts.{main_layout}
+use Rattle.eval_code.specs.Widths.{width_of}
 use Rattle.codegen.specs.Images.{firmware_items, IsImageOf}
-use Rattle.codegen.specs.Bounds.{instruction_bound, step_bound}
+use Rattle.eval_code.specs.Bounds.{instruction_bound, step_bound}
 
 -- a firmware is a block's, and stands alone: its image has just the bytes of the block's items, its layout is
 -- theirs, and its counts and bounds are the block's

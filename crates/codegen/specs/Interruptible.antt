@@ -17,7 +17,7 @@ use Rattle.cpu12_parts.specs.Averages.{wav_read}
 use Rattle.cpu12_parts.specs.Laws.{addresses}
 use Rattle.cpu12_parts.specs.Touching.{Each}
 use Rattle.cpu12_parts.specs.Whole.{IsPlainStep, IsRulesStep, IsAverageStep}
-use Rattle.codegen.specs.declared.layout.Layout.{Layout}
+use Rattle.eval_code.specs.declared.layout.Layout.{Layout}
 
 -- PC is where the code waits, and READY is 0
 abbrev pub is_idle : Layout → State → Bool

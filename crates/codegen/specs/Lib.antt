@@ -1,14 +1,7 @@
-pub mod Layouts
-pub mod Widths
 pub mod Code
-pub mod Data
 pub mod Images
-pub mod Bounds
 pub mod Firmwares
-pub mod Firing
-pub mod Masks
-pub mod Evaluation
-pub mod Placed
+pub mod Laws
 pub mod Interruptible
 pub mod Alike
 pub mod Answers

@@ -8,12 +8,13 @@ use Rattle.cpu12_isa.specs.declared.instr.Instr.TheVariants.{LdaaExtended, LdsIm
 use Rattle.cpu12_isa.specs.Regions.{is_free}
 use Rattle.cpu12_asm.specs.declared.items.Item.{Item}
 use Rattle.codegen.specs.declared.firmware.Firmware.{Firmware}
-use Rattle.codegen.specs.declared.layout.Layout.{Layout}
-use Rattle.codegen.specs.declared.width.Width.{Width}
-use Rattle.codegen.specs.Layouts.{main_layout}
-use Rattle.codegen.specs.Widths.{width_of}
-use Rattle.codegen.specs.Images.{vector_items, block_items, IsImageOf}
-use Rattle.codegen.specs.Bounds.{instruction_bound, steps_by}
+use Rattle.eval_code.specs.declared.layout.Layout.{Layout}
+use Rattle.eval_code.specs.declared.width.Width.{Width}
+use Rattle.eval_code.specs.Layouts.{main_layout}
+use Rattle.eval_code.specs.Widths.{width_of}
+use Rattle.codegen.specs.Images.{vector_items, IsImageOf}
+use Rattle.eval_code.specs.Items.{block_items}
+use Rattle.eval_code.specs.Bounds.{instruction_bound, steps_by}
 
 -- the mailbox: MAIL, $1020 to $1027, where a handler puts a sample's bytes, and POSTED, $1028, which it sets
 abbrev pub is_mail : ℕ → Bool

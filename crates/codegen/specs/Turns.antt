@@ -13,12 +13,12 @@ use Rattle.cpu12_parts.specs.Executions.{Execution, all_steps}
 use Rattle.cpu12_emul.specs.Image.{image_memory}
 use Rattle.cpu12_emul.specs.Step.{reset_with}
 use Rattle.codegen.specs.declared.firmware.Firmware.{Firmware}
-use Rattle.codegen.specs.declared.layout.Layout.{Layout}
-use Rattle.codegen.specs.declared.width.Width.{Width}
-use Rattle.codegen.specs.Widths.{width_of, answer}
-use Rattle.codegen.specs.Bounds.{steps_by}
-use Rattle.codegen.specs.Firing.{AreInputBytes}
-use Rattle.codegen.specs.Evaluation.{HasBytes, HasAnswers}
+use Rattle.eval_code.specs.declared.layout.Layout.{Layout}
+use Rattle.eval_code.specs.declared.width.Width.{Width}
+use Rattle.eval_code.specs.Widths.{width_of, answer}
+use Rattle.eval_code.specs.Bounds.{steps_by}
+use Rattle.eval_code.specs.Firing.{AreInputBytes}
+use Rattle.eval_code.specs.Evaluation.{HasBytes, HasAnswers}
 use Rattle.codegen.specs.Interruptible.{IsSteady, IsShownPlain, IsInterruptibleStep}
 use Rattle.codegen.specs.Uninterrupted.{AnswersUninterrupted}
 use Rattle.codegen.specs.Mailboxes.{is_mail, is_postable, IsMailboxOf}

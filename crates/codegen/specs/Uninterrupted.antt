@@ -8,12 +8,12 @@ use Rattle.cpu12_parts.specs.State.{State}
 use Rattle.cpu12_parts.specs.Executions.{IsUntil}
 use Rattle.cpu12_emul.specs.Image.{image_memory}
 use Rattle.cpu12_emul.specs.Step.{reset_with}
-use Rattle.codegen.specs.declared.layout.Layout.{Layout}
-use Rattle.codegen.specs.declared.width.Width.{Width}
-use Rattle.codegen.specs.declared.width.Width.TheVariants.{Byte, Word}
+use Rattle.eval_code.specs.declared.layout.Layout.{Layout}
+use Rattle.eval_code.specs.declared.width.Width.{Width}
+use Rattle.eval_code.specs.declared.width.Width.TheVariants.{Byte, Word}
 use Rattle.codegen.specs.declared.firmware.Firmware.{Firmware}
-use Rattle.codegen.specs.Widths.{width_of, places, answer}
-use Rattle.codegen.specs.Firing.{AreInputBytes}
+use Rattle.eval_code.specs.Widths.{width_of, places, answer}
+use Rattle.eval_code.specs.Firing.{AreInputBytes}
 use Rattle.codegen.specs.Interruptible.{is_idle}
 use Rattle.codegen.specs.Answers.{given, IsArrived, AreAnswered}
 use Rattle.codegen.specs.Firmwares.{IsFirmwareOf}

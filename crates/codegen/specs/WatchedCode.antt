@@ -8,11 +8,12 @@ use Rattle.rule_layout.specs.declared.flat.Form.TheVariants as form
 use Rattle.rule_layout.specs.Layouts.{form_of, weights_of}
 use Rattle.cpu12_isa.specs.declared.instr.Instr.{Instr}
 use Rattle.cpu12_isa.specs.declared.instr.Instr.TheVariants.{LdabImmediate, LdxImmediate, StabExtended, ClrExtended, CpxImmediate, Bne, Rts, AddbImmediate, AddbPostIncrementX}
-use Rattle.codegen.specs.declared.layout.Layout.{Layout}
+use Rattle.eval_code.specs.declared.layout.Layout.{Layout}
 use Rattle.codegen.specs.declared.segments.Segment.{Segment}
-use Rattle.codegen.specs.Layouts.{main_layout}
-use Rattle.codegen.specs.Code.{code_bytes, frame_code}
-use Rattle.codegen.specs.Data.{table_bytes, singleton_bytes, rule_bytes}
+use Rattle.eval_code.specs.Layouts.{main_layout}
+use Rattle.eval_code.specs.Code.{code_bytes}
+use Rattle.codegen.specs.Code.{frame_code}
+use Rattle.eval_code.specs.Data.{table_bytes, singleton_bytes, rule_bytes}
 use Rattle.codegen.specs.Checksums.{check_byte}
 
 -- FAULT, which is 1 where the tables are not what they were, and else 0

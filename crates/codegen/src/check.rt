@@ -4,12 +4,12 @@ ghost use Rattle.fuzzy_meaning.specs.Blocks.{IsValidOutput};
 ghost use Rattle.cpu12_isa.specs.declared.instr.Instr.TheVariants as Instr;
 ghost use Rattle.codegen.specs.WatchedCode.{AreSegments, bad_code, check_code, code_length, defaults_code, segments_code, watched_front_over};
 
-use crate::code::frame_code;
-use crate::layout::Layout;
+use crate::items::frame_code;
 use crate::segments::{Segment, check_byte};
 use byte_scaling::near;
 use cpu12_isa::encode::encode;
 use cpu12_isa::instr::Instr;
+use eval_code::Layout;
 use fuzzy_meaning::Output;
 use std::alloc::{AllocError, Global};
 

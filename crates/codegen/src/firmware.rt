@@ -5,16 +5,14 @@ ghost use Rattle.rule_layout.specs.Layouts.{IsWithinLimits, IsFaultOf};
 ghost use Rattle.cpu12_asm.specs.Items.{IsRising};
 ghost use Rattle.codegen.specs.Images.{IsImageOf};
 ghost use Rattle.codegen.specs.Firmwares.{IsFirmwareOf};
-ghost use Rattle.codegen.specs.Widths.{is_wide};
+ghost use Rattle.eval_code.specs.Widths.{is_wide};
 ghost use Rattle.codegen.specs.Answers.{AnswersFrom};
 ghost use Rattle.codegen.specs.Uninterrupted.{AnswersUninterrupted};
 
-use crate::bounds::{instruction_bound, steps_by};
 use crate::items::firmware_items;
 use crate::laws::{firmware_answers, firmware_is_uninterrupted};
-use crate::layout::Layout;
-use crate::width::Width;
 use cpu12_asm::{AsmFault, Image, Item, assemble_items};
+use eval_code::{Layout, Width, blocks_are_placed, instruction_bound, steps_by};
 use fuzzy_meaning::Block;
 use rule_layout::{LayoutFault, spread};
 use std::alloc::{AllocError, Global};
@@ -105,6 +103,7 @@ fn compile_at(alloc: Global, width: Width, block: &Block) -> Result<Firmware, La
 {
     firmware_answers();
     firmware_is_uninterrupted();
+    blocks_are_placed();
     let flat = match spread(alloc, block) {
         Ok(flat) => flat,
         Err(fault) => return Err(fault),

@@ -1,11 +1,9 @@
-//! Laws of the generated code.
+//! Laws of the forms of firmware.
 ghost use Rattle.codegen.specs.Alike.{FirmwaresAreOne, MailboxesAreOne, WatchedFirmwaresAreOne};
 ghost use Rattle.codegen.specs.Answers.{FirmwareAnswers, FirmwareAnswersBeside, FirmwareArrivesAlike};
-ghost use Rattle.codegen.specs.Evaluation.{EvalAnswers};
 ghost use Rattle.codegen.specs.Checksums.{OneChangeIsSeen, TwoChangesMayPass, UnchangedSumIsZero};
-ghost use Rattle.codegen.specs.Firing.{RulesGiveMasses};
+ghost use Rattle.codegen.specs.Laws.{LowerLaws};
 ghost use Rattle.codegen.specs.Mailboxes.{MailboxStepsAreFew};
-ghost use Rattle.codegen.specs.Placed.{BlockGivesBytes, BlockIsShort, BlockRises, BlockStands, BlockStaysInside, GivesBehind};
 ghost use Rattle.codegen.specs.SampleTurns.{MailboxTakesSamples};
 ghost use Rattle.codegen.specs.Turns.{MailboxTakesPosts, MailboxIsUninterrupted};
 ghost use Rattle.codegen.specs.Watched.{WatchedAnswers};
@@ -16,43 +14,20 @@ use cpu12_asm::rising_items;
 use cpu12_emul::laws::holds_image;
 use cpu12_isa::laws::stays_fit;
 use cpu12_parts::executions::executions_are_one;
-use rule_layout::{layout_law, layouts_are_one, mass_law};
+use eval_code::laws::{blocks_are_placed, bounds_are_few, eval_answers};
+use rule_layout::{layout_law, layouts_are_one};
 
-/// The rules leave in the slots of the outputs' terms their masses.
-pub fn rules_give_masses()
-    ensures { RulesGiveMasses }
-{
-    layout_law();
-    mass_law();
-}
-
-/// EVAL answers a block over bytes, as bytes or in 16 bits, at the addresses of any layout whose
-/// regions are apart, wherever SP is and whether or not interrupts are masked. It leads from its
-/// first instruction to behind its last, and touches what its layout keeps for it alone.
-pub fn eval_answers()
-    ensures { EvalAnswers }
+/// What the laws on the forms of firmware rest on.
+fn lower_laws()
+    ensures { LowerLaws }
 {
     layout_law();
     nearest_is_byte();
     stays_fit();
-    rules_give_masses();
-}
-
-/// A block's items at a layout, with code before and behind EVAL, go up, are few, and give bytes from
-/// the code to the rule list's end alone. In the memory of an image of items that go up, of which these
-/// are some, EVAL stands with its data between that code.
-pub fn blocks_are_placed()
-    ensures rises { BlockRises }
-    ensures short { BlockIsShort }
-    ensures inside { BlockStaysInside }
-    ensures behind { GivesBehind }
-    ensures bytes { BlockGivesBytes }
-    ensures stands { BlockStands }
-{
-    layout_law();
-    nearest_is_byte();
     rising_items();
     holds_image();
+    eval_answers();
+    blocks_are_placed();
 }
 
 /// The firmware of a block answers every list of samples over bytes, whatever the open flags are,
@@ -61,12 +36,7 @@ pub fn blocks_are_placed()
 pub fn firmware_answers_beside()
     ensures { FirmwareAnswersBeside }
 {
-    layout_law();
-    nearest_is_byte();
-    stays_fit();
-    rising_items();
-    holds_image();
-    eval_answers();
+    lower_laws();
 }
 
 /// The same where interrupts may change the free bytes.
@@ -81,12 +51,7 @@ pub fn firmware_answers()
 pub fn firmware_arrives_alike()
     ensures { FirmwareArrivesAlike }
 {
-    layout_law();
-    nearest_is_byte();
-    stays_fit();
-    rising_items();
-    holds_image();
-    eval_answers();
+    lower_laws();
 }
 
 /// The uninterrupted answers of the firmware of a block exist, and are the block's over bytes.
@@ -101,12 +66,7 @@ pub fn firmware_is_uninterrupted()
 pub fn mailbox_takes_posts()
     ensures { MailboxTakesPosts }
 {
-    layout_law();
-    nearest_is_byte();
-    stays_fit();
-    rising_items();
-    holds_image();
-    eval_answers();
+    lower_laws();
 }
 
 /// The mailbox firmware of a block answers each sample that is given where it waits in one turn without
@@ -129,7 +89,7 @@ pub fn mailbox_is_uninterrupted()
 pub fn mailbox_steps_are_few()
     ensures { MailboxStepsAreFew }
 {
-    layout_law();
+    bounds_are_few();
 }
 
 /// The answers of samples that whole instructions answer, on which interrupts may come, are the
@@ -180,10 +140,5 @@ pub fn one_change_is_seen()
 pub fn watched_answers()
     ensures { WatchedAnswers }
 {
-    layout_law();
-    nearest_is_byte();
-    stays_fit();
-    rising_items();
-    holds_image();
-    eval_answers();
+    lower_laws();
 }

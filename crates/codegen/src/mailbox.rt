@@ -6,14 +6,12 @@ ghost use Rattle.codegen.specs.Mailboxes.{mailbox_layout, copy_code, mailbox_cod
 ghost use Rattle.codegen.specs.Turns.{TakesPosts};
 ghost use Rattle.codegen.specs.Uninterrupted.{AnswersUninterrupted};
 
-use crate::bounds::{instruction_bound, steps_by};
 use crate::firmware::{Firmware, image_of};
-use crate::items::{push_block, push_vectors};
+use crate::items::push_vectors;
 use crate::laws::{mailbox_is_uninterrupted, mailbox_takes_posts};
-use crate::layout::Layout;
-use crate::width::Width;
 use cpu12_asm::Item;
 use cpu12_isa::instr::Instr;
+use eval_code::{Layout, Width, blocks_are_placed, instruction_bound, push_block, steps_by};
 use fuzzy_meaning::Block;
 use rule_layout::{Flat, LayoutFault, spread};
 use std::alloc::{AllocError, Global};
@@ -122,6 +120,7 @@ pub fn compile_post(alloc: Global, block: &Block) -> Result<Firmware, LayoutFaul
 {
     mailbox_takes_posts();
     mailbox_is_uninterrupted();
+    blocks_are_placed();
     let flat = match spread(alloc, block) {
         Ok(flat) => flat,
         Err(fault) => return Err(fault),

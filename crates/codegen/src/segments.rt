@@ -3,12 +3,12 @@ ghost use Rattle.std.specs.Prelude.{◌≡◌, ◌+◌, ◌*◌, ◌%◌, ◌^�
 ghost use Rattle.fuzzy_meaning.specs.Blocks.{IsValid, IsValidOutput};
 ghost use Rattle.rule_layout.specs.Layouts.{flat_of, IsLaidOut};
 ghost use Rattle.codegen.specs.Checksums.{check_byte};
-ghost use Rattle.codegen.specs.Data.{table_bytes, singleton_bytes_of, singleton_bytes, bytes_of_word, rule_bytes_by};
+ghost use Rattle.eval_code.specs.Data.{table_bytes, singleton_bytes_of, singleton_bytes, bytes_of_word, rule_bytes_by};
 ghost use Rattle.codegen.specs.Watched.{segment_bound};
 ghost use Rattle.codegen.specs.WatchedCode.{segment_bytes, segments_of, weight_segments};
 
-use crate::layout::Layout;
 use byte_scaling::near;
+use eval_code::Layout;
 use fuzzy_meaning::{Block, Output};
 use fz_list::List;
 use point_slope::table;

@@ -2,24 +2,23 @@
 ghost use Rattle.std.specs.Prelude.{◌≡◌, IfOk, IfErr, OnOk};
 ghost use Rattle.fuzzy_meaning.specs.Blocks.{IsValid};
 ghost use Rattle.rule_layout.specs.Layouts.{IsWithinLimits, IsFaultOf, flat_of, IsLaidOut};
-ghost use Rattle.codegen.specs.Layouts.{main_layout};
+ghost use Rattle.eval_code.specs.Layouts.{main_layout};
 ghost use Rattle.rule_layout.specs.declared.flat.LayoutFault.TheVariants as LayoutFault;
-ghost use Rattle.codegen.specs.Images.{HasRoom, IsImageOf};
+ghost use Rattle.eval_code.specs.Items.{HasRoom};
+ghost use Rattle.codegen.specs.Images.{IsImageOf};
 ghost use Rattle.codegen.specs.Watched.{AnswersWatched, IsWatchedFirmwareOf, watched_items};
 ghost use Rattle.codegen.specs.WatchedCode.{watched_front, watched_layout};
 
-use crate::bounds::{instruction_bound, steps_by};
 use crate::check::{code_length, watched_front};
 use crate::firmware::Firmware;
-use crate::items::{push_block, push_vectors};
+use crate::items::push_vectors;
 use crate::laws::watched_answers;
-use crate::layout::Layout;
 use crate::segments::{segment_bounds, segments};
-use crate::width::Width;
 use cpu12_asm::{AsmFault, Image, Item, assemble_items};
 use cpu12_isa::instr::Instr;
+use eval_code::{Layout, Width, blocks_are_placed, instruction_bound, push_block, steps_by};
 use fuzzy_meaning::Block;
-use rule_layout::{Flat, LayoutFault, layout_law, spread};
+use rule_layout::{Flat, LayoutFault, spread};
 use std::alloc::{AllocError, Global};
 
 /// The items of the image of a firmware with watched tables, at its layout and with the code before EVAL.
@@ -70,6 +69,7 @@ fn watched_image(
     ensures image { IfOk result (IsImageOf (watched_items block.now)) }
     ensures fault { IfErr result (λ fault. fault ≡ LayoutFault.Memory) }
 {
+    blocks_are_placed();
     let Ok(items) = watched_items(alloc, layout, block, flat, front) else {
         return Err(LayoutFault::Memory);
     };
@@ -100,7 +100,7 @@ pub fn compile_scrub(alloc: Global, block: &Block) -> Result<Firmware, LayoutFau
     ensures limits { OnOk result (IsWithinLimits block.now) }
     ensures fault { IfErr result (IsFaultOf block.now) }
 {
-    layout_law();
+    blocks_are_placed();
     watched_answers();
     let flat = match spread(alloc, block) {
         Ok(flat) => flat,

@@ -13,17 +13,17 @@ use Rattle.cpu12_emul.specs.Step.{reset_with}
 use Rattle.interrupt_plan.specs.declared.Request.{Request}
 use Rattle.interrupt_plan.specs.Plans.{IsGood}
 use Rattle.codegen.specs.declared.firmware.Firmware.{Firmware}
-use Rattle.codegen.specs.declared.layout.Layout.{Layout}
-use Rattle.codegen.specs.declared.width.Width.{Width}
-use Rattle.codegen.specs.Layouts.{main_layout}
-use Rattle.codegen.specs.Widths.{width_of, answer}
-use Rattle.codegen.specs.Bounds.{instruction_bound, steps_by, step_bound}
+use Rattle.eval_code.specs.declared.layout.Layout.{Layout}
+use Rattle.eval_code.specs.declared.width.Width.{Width}
+use Rattle.eval_code.specs.Layouts.{main_layout}
+use Rattle.eval_code.specs.Widths.{width_of, answer}
+use Rattle.eval_code.specs.Bounds.{instruction_bound, steps_by, step_bound}
 use Rattle.codegen.specs.Interruptible.{is_idle, IsInterruptible}
 use Rattle.codegen.specs.Answers as answers
 use Rattle.cpu12_isa.specs.declared.instr.Regs.{Regs}
 use Rattle.cpu12_isa.specs.Agreement.{Agree}
 use Rattle.codegen.specs.Answers.{LeavesLayout, IsArrivedBeside, FirmwareAnswersBeside, ArrivesAlike, FirmwareArrivesAlike, IsArrived, AreAnswered, IsAnsweredBeside, AreAnsweredBeside}
-use Rattle.codegen.specs.Firing.{AreInputBytes}
+use Rattle.eval_code.specs.Firing.{AreInputBytes}
 use Rattle.codegen.specs.Firmwares.{IsFirmwareOf}
 use Rattle.codegen.specs.Uninterrupted.{Answer, values_from, values_in, answers_by, AreUninterrupted}
 use Rattle.codegen.specs.Uninterrupted.{AreAnswersOf}

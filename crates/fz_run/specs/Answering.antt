@@ -11,9 +11,9 @@ use Rattle.codegen.specs.Answers.{LeavesLayout}
 use Rattle.interrupt_plan.specs.declared.Request.{Request}
 use Rattle.interrupt_plan.specs.Plans.{IsGood}
 use Rattle.codegen.specs.declared.firmware.Firmware.{Firmware}
-use Rattle.codegen.specs.Widths.{width_of}
-use Rattle.codegen.specs.Bounds.{step_bound}
-use Rattle.codegen.specs.Firing.{AreInputBytes}
+use Rattle.eval_code.specs.Widths.{width_of}
+use Rattle.eval_code.specs.Bounds.{step_bound}
+use Rattle.eval_code.specs.Firing.{AreInputBytes}
 use Rattle.codegen.specs.Firmwares.{IsFirmwareOf}
 use Rattle.codegen.specs.Uninterrupted.{Answer, AreUninterrupted, AreAnswersOf}
 use Rattle.run_law.specs.Forms.{RowSeen}

@@ -6,9 +6,10 @@ ghost use Rattle.codegen.specs.Interruptible.{is_idle};
 ghost use Rattle.fz_run.specs.Forms.{given, answer_size, answer_at, answers_in};
 
 use arrayvec::ArrayVec;
-use codegen::{Firmware, Layout};
+use codegen::Firmware;
 use cpu12_emul::machine::Machine;
 use cpu12_isa::mem::{Mem, word_of};
+use eval_code::Layout;
 
 /// Whether the firmware waits for a sample: PC is where it waits, and READY is 0.
 pub fn is_idle<M: Mem>(layout: &Layout, m: &Machine<M>) -> bool

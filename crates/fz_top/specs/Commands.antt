@@ -3,7 +3,7 @@ use Rattle.std.specs.Prelude.{◌≡◌, ◌⊎◌, ℕ, List, [], ◌∷◌, co
 use Rattle.std.specs.Prelude.{option_map}
 use Rattle.fz_words.specs.App.{IsRefused}
 use Rattle.fz_words.specs.Table.{Row, row, command_in as command_by}
-use Rattle.codegen.specs.declared.width.Width.TheVariants.{Byte, Word}
+use Rattle.eval_code.specs.declared.width.Width.TheVariants.{Byte, Word}
 use Rattle.build_commands.specs.Asm.{AsmMakes, asm_inputs}
 use Rattle.build_commands.specs.Certify.{CertifyMakes, certify_in, certify_inputs}
 use Rattle.build_commands.specs.Check.{CheckMakes, check_in, check_inputs}

@@ -18,7 +18,7 @@ use build_commands::contents::content;
 use build_commands::exec::{self, Exec};
 use build_commands::work::Work;
 use build_commands::{asm, hcheck, lcompile, mcompile, scompile};
-use codegen::Width;
+use eval_code::Width;
 use fz_status::Status;
 use fz_words::Refusal;
 use run_commands::debug::{self, DebugRun};

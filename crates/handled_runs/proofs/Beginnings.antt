@@ -12,8 +12,8 @@ use Rattle.cpu12_emul.specs.Image.{byte_or_zero, image_memory, HoldsImage}
 use Rattle.handler_check.specs.Images.{IsWhole}
 use Rattle.handler_check.specs.Running.{HasImage}
 use Rattle.codegen.specs.declared.firmware.Firmware.{Firmware}
-use Rattle.codegen.specs.Layouts.{main_layout}
-use Rattle.codegen.specs.Evaluation.{Reads, Writes}
+use Rattle.eval_code.specs.Layouts.{main_layout}
+use Rattle.eval_code.specs.Evaluation.{Reads, Writes}
 use Rattle.codegen.specs.Answers.{LeavesLayout}
 use Rattle.fz_run.specs.Answering.{FirstAlike}
 use Rattle.handled_runs.specs.Open.{is_open_to_code}

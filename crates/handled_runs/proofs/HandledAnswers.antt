@@ -14,10 +14,10 @@ use Rattle.run_law.specs.Following.{Completes, AllComplete, RunsFollow, expected
 use Rattle.handler_check.specs.Images.{IsHandler}
 use Rattle.interrupt_plan.specs.declared.Request.{Request}
 use Rattle.interrupt_plan.specs.Plans.{IsGoodRequest, IsGood}
-use Rattle.codegen.specs.declared.layout.Layout.{Layout}
+use Rattle.eval_code.specs.declared.layout.Layout.{Layout}
 use Rattle.codegen.specs.declared.firmware.Firmware.{Firmware}
 use Rattle.codegen.specs.Answers.{LeavesLayout}
-use Rattle.codegen.specs.Firing.{AreInputBytes}
+use Rattle.eval_code.specs.Firing.{AreInputBytes}
 use Rattle.fz_run.specs.Forms.{given, with_writes}
 use Rattle.fz_run.specs.Showing.{RowsAreShown}
 use Rattle.fz_run.specs.Rows.{requests_of, first_state, tellings}

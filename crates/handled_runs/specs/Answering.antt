@@ -7,7 +7,7 @@ use Rattle.handler_check.specs.Images.{IsHandler}
 use Rattle.interrupt_plan.specs.declared.Request.{Request}
 use Rattle.interrupt_plan.specs.Plans.{IsGood}
 use Rattle.codegen.specs.declared.firmware.Firmware.{Firmware}
-use Rattle.codegen.specs.Firing.{AreInputBytes}
+use Rattle.eval_code.specs.Firing.{AreInputBytes}
 use Rattle.codegen.specs.Firmwares.{IsFirmwareOf}
 use Rattle.fz_run.specs.Rows.{firmware_rows, tellings}
 use Rattle.handled_runs.specs.Forms.{handled_rows, HandledSeen}

@@ -7,7 +7,7 @@ use Rattle.run_law.specs.Uninterrupted.{uninterrupted}
 use Rattle.interrupt_plan.specs.declared.Post.{Post}
 use Rattle.interrupt_plan.specs.Posts.{IsGoodPost}
 use Rattle.codegen.specs.declared.firmware.Firmware.{Firmware}
-use Rattle.codegen.specs.Widths.{width_of, places}
+use Rattle.eval_code.specs.Widths.{width_of, places}
 use Rattle.posted_runs.specs.Turns.{Turn, AreTurns, over, idle, answers, up_to, behind, waiting, taken_from}
 use Rattle.posted_runs.specs.Runs.{RunSeen, before_turns, turns_from}
 use Rattle.posted_runs.specs.Answering.{ended, answer_of, frames_in, resumed_in, run_of_turns}

@@ -23,11 +23,11 @@ use Rattle.run_law.specs.Soundness.{below_sums, Begins, Sound, WritesAreQuiet}
 use Rattle.interrupt_plan.specs.declared.Post.{Post}
 use Rattle.interrupt_plan.specs.Posts.{IsGoodPost}
 use Rattle.codegen.specs.declared.firmware.Firmware.{Firmware}
-use Rattle.codegen.specs.declared.width.Width.{Width}
-use Rattle.codegen.specs.declared.width.Width.TheVariants.{Byte, Word}
+use Rattle.eval_code.specs.declared.width.Width.{Width}
+use Rattle.eval_code.specs.declared.width.Width.TheVariants.{Byte, Word}
 use Rattle.codegen.specs.Mailboxes.{is_mail, is_postable}
 use Rattle.codegen.specs.Uninterrupted.{values_from}
-use Rattle.codegen.specs.Widths.{width_of, places}
+use Rattle.eval_code.specs.Widths.{width_of, places}
 use Rattle.fz_run.specs.Facts.{Facts, FactsBeside, IsStackOfOneCall}
 use Rattle.posted_runs.specs.Runs.{post_writes}
 use Rattle.posted_runs.specs.Postings.{mailed, last_of, IsBox, AreOfSize}

@@ -16,7 +16,7 @@ use Rattle.run_law.specs.Moments.{TakenAtFirstOpen}
 use Rattle.run_law.specs.Uninterrupted.{uninterrupted, counted, is_inside, stepped, state_by, kind_by, kind_at, first_open}
 use Rattle.run_law.proofs.Algebra.{uninterrupted_add}
 use Rattle.codegen.specs.declared.firmware.Firmware.{Firmware}
-use Rattle.codegen.specs.declared.layout.Layout.{Layout}
+use Rattle.eval_code.specs.declared.layout.Layout.{Layout}
 use Rattle.codegen.specs.Turns.{IsMaskedStep}
 use Rattle.posted_runs.specs.UninterruptedTurns.{IsAnswerRun}
 use Rattle.posted_runs.specs.UsedLaws.{StepLaws}

@@ -10,8 +10,9 @@ use Rattle.cpu12_isa.proofs.Algebra.{bit, bit_or_is, bit_and_is, same_ccr, fits_
 use Rattle.cpu12_parts.specs.declared.temps.Temps.{Temps}
 use Rattle.cpu12_parts.specs.State.{State}
 use Rattle.cpu12_parts.specs.Whole.{after_plain}
-use Rattle.codegen.specs.declared.layout.Layout.{Layout}
-use Rattle.codegen.specs.Answers.{given, put as put_bytes}
+use Rattle.eval_code.specs.declared.layout.Layout.{Layout}
+use Rattle.codegen.specs.Answers.{given}
+use Rattle.eval_code.specs.Evaluation.{put as put_bytes}
 use Rattle.codegen.specs.Turns.{IsLook, IsChoice}
 
 -- N, Z and V put twice

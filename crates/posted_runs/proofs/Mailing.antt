@@ -14,8 +14,8 @@ use Rattle.cpu12_parts.specs.State.{State}
 use Rattle.cpu12_emul.specs.Take.{pairs_of, framed}
 use Rattle.cpu12_emul.specs.Simulation.{AreOpen}
 use Rattle.interrupt_plan.specs.declared.Post.{Post}
-use Rattle.codegen.specs.declared.layout.Layout.{Layout}
-use Rattle.codegen.specs.Answers.{put}
+use Rattle.eval_code.specs.declared.layout.Layout.{Layout}
+use Rattle.eval_code.specs.Evaluation.{put}
 use Rattle.codegen.specs.Mailboxes.{is_postable}
 use Rattle.fz_run.specs.Rows.{bytes_of}
 use Rattle.posted_runs.specs.Runs.{writes_from, post_writes}

@@ -13,15 +13,15 @@ use Rattle.cpu12_emul.specs.Image.{image_memory}
 use Rattle.cpu12_emul.specs.Step.{reset_with}
 use Rattle.run_law.specs.Uninterrupted.{uninterrupted, state_by}
 use Rattle.codegen.specs.declared.firmware.Firmware.{Firmware}
-use Rattle.codegen.specs.declared.layout.Layout.{Layout}
-use Rattle.codegen.specs.declared.width.Width.{Width}
-use Rattle.codegen.specs.Bounds.{instruction_bound, steps_by}
-use Rattle.codegen.specs.Firing.{AreInputBytes}
+use Rattle.eval_code.specs.declared.layout.Layout.{Layout}
+use Rattle.eval_code.specs.declared.width.Width.{Width}
+use Rattle.eval_code.specs.Bounds.{instruction_bound, steps_by}
+use Rattle.eval_code.specs.Firing.{AreInputBytes}
 use Rattle.codegen.specs.Mailboxes.{mailbox_bound}
 use Rattle.codegen.specs.SampleTurns.{MailboxTakesSamples}
 use Rattle.codegen.specs.Turns.{MailboxTakesPosts, MailboxIsUninterrupted}
 use Rattle.codegen.specs.Uninterrupted.{is_waiting, AreUninterrupted, AreAnswersOf, UninterruptedAreOne}
-use Rattle.codegen.specs.Widths.{width_of}
+use Rattle.eval_code.specs.Widths.{width_of}
 use Rattle.fz_run.specs.Instructions.{AreSteps, InstructionsAreSteps, PlainIsOneStep}
 use Rattle.posted_runs.specs.Turns.{Turn, samples_of}
 use Rattle.fz_run.specs.Rows.{bytes_of}

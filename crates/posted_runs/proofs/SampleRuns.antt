@@ -12,14 +12,14 @@ use Rattle.run_law.specs.Uninterrupted.{state_by, uninterrupted}
 use Rattle.run_law.specs.Soundness.{Before}
 use Rattle.run_law.proofs.Algebra.{before_at, before_weaker, uninterrupted_add}
 use Rattle.codegen.specs.declared.firmware.Firmware.{Firmware}
-use Rattle.codegen.specs.declared.layout.Layout.{Layout}
+use Rattle.eval_code.specs.declared.layout.Layout.{Layout}
 use Rattle.codegen.specs.Answers.{given}
-use Rattle.codegen.specs.Bounds.{steps_by}
+use Rattle.eval_code.specs.Bounds.{steps_by}
 use Rattle.codegen.specs.Interruptible.{is_idle}
 use Rattle.codegen.specs.Mailboxes.{is_postable, IsMailboxOf}
 use Rattle.codegen.specs.SampleTurns.{IsSampleTurn}
 use Rattle.codegen.specs.Turns.{IsAt, IsLook, IsChoice, IsCopied, call_of}
-use Rattle.codegen.specs.Widths.{width_of}
+use Rattle.eval_code.specs.Widths.{width_of}
 use Rattle.fz_run.specs.Instructions.{AreSteps, IsServing, InstructionsAreSteps, PlainIsOneStep}
 use Rattle.posted_runs.specs.UninterruptedTurns.{IsAnswerRun}
 use Rattle.posted_runs.proofs.WholeTurns.{IsOnWay, one_step, steps_append, steps_on, masked_steps, masked_count}

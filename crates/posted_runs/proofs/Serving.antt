@@ -12,7 +12,7 @@ use Rattle.cpu12_emul.specs.Step.{Left, Next, applied, next_of}
 use Rattle.run_law.specs.Uninterrupted.{stepped, state_by}
 use Rattle.run_law.specs.Soundness.{Before}
 use Rattle.codegen.specs.declared.firmware.Firmware.{Firmware}
-use Rattle.codegen.specs.declared.layout.Layout.{Layout}
+use Rattle.eval_code.specs.declared.layout.Layout.{Layout}
 use Rattle.codegen.specs.Interruptible.{is_idle}
 use Rattle.codegen.specs.Mailboxes.{is_postable}
 use Rattle.fz_run.specs.Facts.{Facts, FactsBeside}

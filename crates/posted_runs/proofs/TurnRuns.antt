@@ -7,10 +7,10 @@ use Rattle.cpu12_parts.specs.State.{State}
 use Rattle.run_law.specs.Uninterrupted.{uninterrupted, counted}
 use Rattle.codegen.specs.declared.firmware.Firmware.{Firmware}
 use Rattle.codegen.specs.Answers.{given}
-use Rattle.codegen.specs.Firing.{AreInputBytes}
+use Rattle.eval_code.specs.Firing.{AreInputBytes}
 use Rattle.codegen.specs.Mailboxes.{is_postable}
 use Rattle.codegen.specs.Uninterrupted.{values_in, AreAnswersTo}
-use Rattle.codegen.specs.Widths.{width_of, answer}
+use Rattle.eval_code.specs.Widths.{width_of, answer}
 use Rattle.fz_run.specs.Facts.{FactsBeside}
 use Rattle.posted_runs.specs.Turns.{Turn, samples_of}
 use Rattle.fz_run.specs.Rows.{bytes_of}

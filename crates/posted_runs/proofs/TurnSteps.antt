@@ -14,14 +14,14 @@ use Rattle.run_law.specs.Forms.{one_if}
 use Rattle.run_law.specs.Uninterrupted.{state_by, kind_by, uninterrupted, counted}
 use Rattle.codegen.specs.declared.firmware.Firmware.{Firmware}
 use Rattle.codegen.specs.Answers.{given}
-use Rattle.codegen.specs.Evaluation.{HasAnswers}
-use Rattle.codegen.specs.Firing.{AreInputBytes}
+use Rattle.eval_code.specs.Evaluation.{HasAnswers}
+use Rattle.eval_code.specs.Firing.{AreInputBytes}
 use Rattle.codegen.specs.Interruptible.{is_idle}
 use Rattle.codegen.specs.Mailboxes.{IsMailboxOf}
 use Rattle.codegen.specs.SampleTurns.{TakesSamples}
 use Rattle.codegen.specs.Turns.{IsAt, IsLook, TakesTurns}
 use Rattle.codegen.specs.Uninterrupted.{values_in, IsAnswerTo}
-use Rattle.codegen.specs.Widths.{width_of, answer}
+use Rattle.eval_code.specs.Widths.{width_of, answer}
 use Rattle.fz_run.specs.Instructions.{InstructionsAreSteps, PlainIsOneStep}
 use Rattle.fz_run.specs.Rows.{bytes_of}
 use Rattle.posted_runs.specs.UninterruptedTurns.{answered_alone, IsIdleRun, IsAnswerRun}

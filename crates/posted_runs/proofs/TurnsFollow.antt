@@ -18,7 +18,7 @@ use Rattle.codegen.specs.declared.firmware.Firmware.{Firmware}
 use Rattle.codegen.specs.Answers.{given}
 use Rattle.codegen.specs.Turns.{IsAt}
 use Rattle.codegen.specs.Uninterrupted.{values_in}
-use Rattle.codegen.specs.Widths.{width_of, places}
+use Rattle.eval_code.specs.Widths.{width_of, places}
 use Rattle.posted_runs.specs.Turns.{Turn, up_to, behind, waiting, taken_from}
 use Rattle.fz_run.specs.Rows.{bytes_of}
 use Rattle.posted_runs.specs.Runs.{turn_form, AnswerSeen, RunSeen, no_turn, before_turns, answers_by, waits_by, then_turns, is_over, turns_from}

@@ -20,7 +20,7 @@ use Rattle.interrupt_plan.specs.declared.Post.{Post}
 use Rattle.interrupt_plan.specs.Posts.{IsGoodPost}
 use Rattle.codegen.specs.declared.firmware.Firmware.{Firmware}
 use Rattle.codegen.specs.Mailboxes.{is_mail, is_postable}
-use Rattle.codegen.specs.Answers.{put}
+use Rattle.eval_code.specs.Evaluation.{put}
 use Rattle.codegen.specs.Turns.{IsAt, IsLook, IsChoice}
 use Rattle.posted_runs.specs.Turns.{up_to, behind, waiting}
 use Rattle.fz_run.specs.Rows.{bytes_of}

@@ -8,13 +8,13 @@ use Rattle.run_law.specs.Soundness.{AllGood, Ascend}
 use Rattle.interrupt_plan.specs.declared.Post.{Post}
 use Rattle.interrupt_plan.specs.Plans as plans
 use Rattle.interrupt_plan.specs.Posts.{IsGoodPost, NoLater}
-use Rattle.codegen.specs.declared.layout.Layout.{Layout}
-use Rattle.codegen.specs.declared.width.Width.{Width}
-use Rattle.codegen.specs.declared.width.Width.TheVariants.{Byte, Word}
-use Rattle.codegen.specs.Firing.{AreInputBytes}
+use Rattle.eval_code.specs.declared.layout.Layout.{Layout}
+use Rattle.eval_code.specs.declared.width.Width.{Width}
+use Rattle.eval_code.specs.declared.width.Width.TheVariants.{Byte, Word}
+use Rattle.eval_code.specs.Firing.{AreInputBytes}
 use Rattle.codegen.specs.Mailboxes.{MailboxStepsAreFew}
 use Rattle.codegen.specs.Uninterrupted.{AreUninterrupted, AreAnswersOf}
-use Rattle.codegen.specs.Widths.{width_of, places}
+use Rattle.eval_code.specs.Widths.{width_of, places}
 use Rattle.fz_run.specs.Rows.{bytes_of}
 use Rattle.posted_runs.specs.Runs.{RunSeen, arrival, run_under_posts, last_boundary, most_turns}
 use Rattle.posted_runs.specs.Turns.{samples_of}

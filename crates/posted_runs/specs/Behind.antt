@@ -7,9 +7,9 @@ use Rattle.run_law.specs.Following.{RunFollows}
 use Rattle.interrupt_plan.specs.declared.Post.{Post}
 use Rattle.interrupt_plan.specs.Posts.{IsGoodPost}
 use Rattle.codegen.specs.declared.firmware.Firmware.{Firmware}
-use Rattle.codegen.specs.declared.layout.Layout.{Layout}
+use Rattle.eval_code.specs.declared.layout.Layout.{Layout}
 use Rattle.codegen.specs.Mailboxes.{is_mail, is_postable}
-use Rattle.codegen.specs.Widths.{width_of, places}
+use Rattle.eval_code.specs.Widths.{width_of, places}
 use Rattle.fz_run.specs.Facts.{FactsBeside}
 use Rattle.posted_runs.specs.Runs.{TurnForm, turn_form}
 use Rattle.posted_runs.specs.Shifts.{counted_from}

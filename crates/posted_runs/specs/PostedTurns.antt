@@ -17,7 +17,7 @@ use Rattle.interrupt_plan.specs.Posts.{IsGoodPost}
 use Rattle.codegen.specs.declared.firmware.Firmware.{Firmware}
 use Rattle.codegen.specs.Mailboxes.{is_postable}
 use Rattle.codegen.specs.Turns.{IsAt}
-use Rattle.codegen.specs.Widths.{width_of, places}
+use Rattle.eval_code.specs.Widths.{width_of, places}
 use Rattle.posted_runs.specs.Turns.{up_to, behind, waiting}
 use Rattle.posted_runs.specs.Runs.{turn_form}
 use Rattle.posted_runs.specs.Shifts.{frames_from}

@@ -1,8 +1,8 @@
 -- What posts leave in the mailbox.
 use Rattle.std.specs.Prelude.{◌≡◌, ℕ, ◌≤◌, ◌==◌, if◌then◌else◌, List, length, slice_set}
 use Rattle.cpu12_parts.specs.State.{State}
-use Rattle.codegen.specs.declared.layout.Layout.{Layout}
-use Rattle.codegen.specs.Answers.{put}
+use Rattle.eval_code.specs.declared.layout.Layout.{Layout}
+use Rattle.eval_code.specs.Evaluation.{put}
 use Rattle.fz_run.specs.Rows.{bytes_of}
 
 -- a memory with sample w posted, or none

@@ -13,7 +13,7 @@ use Rattle.run_law.specs.Following.{asked}
 use Rattle.interrupt_plan.specs.declared.Post.{Post}
 use Rattle.trace_io.specs.declared.sample.Sample.{Sample}
 use Rattle.codegen.specs.declared.firmware.Firmware.{Firmware}
-use Rattle.codegen.specs.declared.layout.Layout.{Layout}
+use Rattle.eval_code.specs.declared.layout.Layout.{Layout}
 use Rattle.codegen.specs.Uninterrupted.{is_waiting, values_in}
 use Rattle.fz_run.specs.Rows.{bytes_of}
 use Rattle.posted_runs.specs.declared.run.Answer as declared

@@ -12,11 +12,11 @@ use Rattle.interrupt_plan.specs.declared.Post.{Post}
 use Rattle.interrupt_plan.specs.Posts.{AreGoodPosts}
 use Rattle.codegen.specs.declared.firmware.Firmware.{Firmware}
 use Rattle.codegen.specs.Answers.{given}
-use Rattle.codegen.specs.Firing.{AreInputBytes}
+use Rattle.eval_code.specs.Firing.{AreInputBytes}
 use Rattle.codegen.specs.Mailboxes.{is_postable, IsMailboxOf}
 use Rattle.codegen.specs.Turns.{IsAt, IsLook, IsChoice, IsCopied}
 use Rattle.codegen.specs.Uninterrupted.{AreUninterrupted, AreAnswersOf}
-use Rattle.codegen.specs.Widths.{width_of}
+use Rattle.eval_code.specs.Widths.{width_of}
 use Rattle.fz_run.specs.Facts.{FactsBeside}
 use Rattle.posted_runs.specs.Turns.{Turn, AreTurns, samples_of}
 use Rattle.fz_run.specs.Rows.{bytes_of}

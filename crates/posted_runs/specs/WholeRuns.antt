@@ -7,7 +7,7 @@ use Rattle.run_law.specs.Soundness.{AllGood, Ascend}
 use Rattle.interrupt_plan.specs.declared.Post.{Post}
 use Rattle.interrupt_plan.specs.Posts.{IsGoodPost}
 use Rattle.codegen.specs.declared.firmware.Firmware.{Firmware}
-use Rattle.codegen.specs.Widths.{width_of, places}
+use Rattle.eval_code.specs.Widths.{width_of, places}
 use Rattle.posted_runs.specs.Turns.{Turn, AreTurns}
 use Rattle.posted_runs.specs.Runs.{turns_from}
 use Rattle.posted_runs.specs.Answering.{run_of_turns}

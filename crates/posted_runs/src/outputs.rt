@@ -1,12 +1,13 @@
 // Where answers are read.
 ghost use Rattle.std.specs.Prelude.{ℕ, ◌≡◌, ◌≤◌, ◌<◌, ◌+◌, ◌*◌, ◌^◌, length};
 ghost use Rattle.codegen.specs.Uninterrupted.{value_at, values_in};
-ghost use Rattle.codegen.specs.Widths.{width_of};
+ghost use Rattle.eval_code.specs.Widths.{width_of};
 
 use arrayvec::ArrayVec;
-use codegen::{Firmware, Width};
+use codegen::Firmware;
 use cpu12_emul::machine::Machine;
 use cpu12_isa::mem::{Mem, word_of};
+use eval_code::Width;
 
 /// The value of an answer that stands at an address.
 fn value_at<M: Mem>(m: &Machine<M>, wide: bool, at: u16) -> u16

@@ -6,10 +6,11 @@ ghost use Rattle.posted_runs.specs.Runs.{writes_from, post_writes, input_bytes, 
 ghost use Rattle.posted_runs.specs.Tallies.{form_of, is_due, with_frames};
 
 use crate::tally::Tally;
-use codegen::{Firmware, Layout};
+use codegen::Firmware;
 use cpu12_emul::machine::Machine;
 use cpu12_isa::instr::Write;
 use cpu12_isa::mem::Mem;
+use eval_code::Layout;
 use interrupt_plan::Post;
 use trace_io::Sample;
 

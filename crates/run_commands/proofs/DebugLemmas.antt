@@ -17,7 +17,7 @@ use Rattle.fz_shelf.specs.Lines.{text_of}
 use Rattle.debug_script.specs.Showing.{shown}
 use Rattle.debug_script.specs.declared.order.Order.{Order}
 use Rattle.debug_script.specs.declared.shown.Shown.{Shown}
-use Rattle.codegen.specs.declared.width.Width.TheVariants.{Byte}
+use Rattle.eval_code.specs.declared.width.Width.TheVariants.{Byte}
 use Rattle.srecord.specs.Texts.{GivesImage}
 use Rattle.fz_status.specs.declared.status.Status.{Status}
 use Rattle.fz_status.specs.declared.status.Status.TheVariants as status

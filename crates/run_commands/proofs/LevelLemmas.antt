@@ -8,11 +8,11 @@ use Rattle.fuzzy_meaning.specs.declared.block.Block.{Block}
 use Rattle.cpu12_parts.specs.State.{State}
 use Rattle.cpu12_emul.specs.Step.{Next, next_of, is_part}
 use Rattle.cpu12_emul.specs.Take.{frame_of, may_interrupt}
-use Rattle.codegen.specs.Bounds.{instruction_bound}
+use Rattle.eval_code.specs.Bounds.{instruction_bound}
 use Rattle.codegen.specs.Uninterrupted.{AreAnswersOf}
-use Rattle.codegen.specs.Widths.{width_of}
+use Rattle.eval_code.specs.Widths.{width_of}
 use Rattle.codegen.specs.declared.firmware.Firmware.{Firmware}
-use Rattle.codegen.specs.declared.width.Width.TheVariants.{Byte}
+use Rattle.eval_code.specs.declared.width.Width.TheVariants.{Byte}
 use Rattle.interrupt_plan.specs.Levels.{AreGoodLevels, IsGoodLevel, LevelNotAfter}
 use Rattle.interrupt_plan.specs.Plans.{Ascend, Ascends, IsGood, IsGoodRequest}
 use Rattle.interrupt_plan.specs.declared.Request.{Request}

@@ -11,10 +11,10 @@ use Rattle.cpu12_emul.specs.declared.ends.Frame.{Frame}
 use Rattle.cpu12_parts.specs.State.{State}
 use Rattle.codegen.specs.Mailboxes.{mailbox_bound}
 use Rattle.codegen.specs.Uninterrupted.{AreAnswersOf}
-use Rattle.codegen.specs.Widths.{width_of}
+use Rattle.eval_code.specs.Widths.{width_of}
 use Rattle.codegen.specs.declared.firmware.Firmware.{Firmware}
-use Rattle.codegen.specs.declared.width.Width.{Width}
-use Rattle.codegen.specs.declared.width.Width.TheVariants.{Byte}
+use Rattle.eval_code.specs.declared.width.Width.{Width}
+use Rattle.eval_code.specs.declared.width.Width.TheVariants.{Byte}
 use Rattle.srecord.specs.Texts.{GivesImage}
 use Rattle.interrupt_plan.specs.declared.Post.{Post}
 use Rattle.trace_io.specs.Traces.{Fields, SpellSamples, Spells as SpellsTrace}

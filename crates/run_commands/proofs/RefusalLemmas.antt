@@ -2,7 +2,7 @@
 use Rattle.std.proofs.Common.{ℕ, List, sym, subst}
 use Rattle.fuzzy_meaning.specs.declared.block.Block.{Block}
 use Rattle.fuzzy_meaning.specs.declared.block.Input.{Input}
-use Rattle.codegen.specs.declared.width.Width.{Width}
+use Rattle.eval_code.specs.declared.width.Width.{Width}
 use Rattle.fcl_check.specs.Texts.{SpellsBlock}
 use Rattle.fcl_check.specs.OneBlock.{SpelledBlocksAreOne}
 use Rattle.interrupt_plan.specs.OneReading.{SpelledPlansHaveNoFault}

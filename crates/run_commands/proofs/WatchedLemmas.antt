@@ -7,7 +7,7 @@ use Rattle.cpu12_asm.specs.Bytes.{byte_at}
 use Rattle.cpu12_emul.specs.Image.{image_memory}
 use Rattle.codegen.specs.Watched.{Watched, watched_answer}
 use Rattle.codegen.specs.declared.firmware.Firmware.{Firmware}
-use Rattle.codegen.specs.declared.width.Width.TheVariants.{Byte}
+use Rattle.eval_code.specs.declared.width.Width.TheVariants.{Byte}
 use Rattle.srecord.specs.Texts.{GivesImage}
 use Rattle.interrupt_plan.specs.UpsetTexts.{SpellsUpsets}
 use Rattle.interrupt_plan.specs.Upsets.{IsGoodUpset, is_there}

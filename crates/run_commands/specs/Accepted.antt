@@ -2,7 +2,7 @@
 use Rattle.std.specs.Prelude.{ℕ, List}
 use Rattle.fuzzy_meaning.specs.declared.block.Block.{Block}
 use Rattle.codegen.specs.declared.firmware.Firmware.{Firmware}
-use Rattle.codegen.specs.declared.width.Width.{Width}
+use Rattle.eval_code.specs.declared.width.Width.{Width}
 use Rattle.interrupt_plan.specs.PlanTexts.{HasFault as PlanHasFault, Spells as SpellsPlan}
 use Rattle.interrupt_plan.specs.declared.Request.{Request}
 use Rattle.srecord.specs.Texts.{GivesImage}

@@ -2,11 +2,11 @@
 use Rattle.std.specs.Prelude.{◌≡◌, ℕ, ◌-◌, ◌≤◌, List, All, drop, map, sum, take}
 use Rattle.cpu12_isa.specs.Regions.{free_start, stack_end}
 use Rattle.fuzzy_meaning.specs.declared.block.Block.{Block}
-use Rattle.codegen.specs.Bounds.{instruction_bound, step_bound}
+use Rattle.eval_code.specs.Bounds.{instruction_bound, step_bound}
 use Rattle.codegen.specs.Uninterrupted.{AreUninterrupted}
-use Rattle.codegen.specs.Widths.{parts}
+use Rattle.eval_code.specs.Widths.{parts}
 use Rattle.codegen.specs.declared.firmware.Firmware.{Firmware}
-use Rattle.codegen.specs.declared.width.Width.{Width}
+use Rattle.eval_code.specs.declared.width.Width.{Width}
 use Rattle.srecord.specs.Texts.{GivesImage}
 use Rattle.trace_io.specs.Traces.{Spells as SpellsTrace}
 use Rattle.trace_io.specs.declared.sample.Sample.{Sample}

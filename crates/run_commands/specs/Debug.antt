@@ -4,7 +4,7 @@ use Rattle.std.specs.Prelude.{Result, Ok, Err}
 use Rattle.std.specs.List.{flat_map}
 use Rattle.fuzzy_meaning.specs.declared.block.Block.{Block}
 use Rattle.codegen.specs.declared.firmware.Firmware.{Firmware}
-use Rattle.codegen.specs.declared.width.Width.TheVariants.{Byte}
+use Rattle.eval_code.specs.declared.width.Width.TheVariants.{Byte}
 use Rattle.fz_shelf.specs.Parts.{address_digits, byte_digits}
 use Rattle.interrupt_plan.specs.PlanTexts.{Spells as SpellsPlan}
 use Rattle.interrupt_plan.specs.declared.Request.{Request}

@@ -2,7 +2,7 @@
 use Rattle.std.specs.Prelude.{◌≡◌, ℕ, List, [], ◌∷◌, ◌++◌, codes, Option, None, option_map}
 use Rattle.std.specs.Prelude.{Result, Ok, Err}
 use Rattle.cpu12_asm.specs.declared.image.Image.{Image}
-use Rattle.codegen.specs.declared.width.Width.TheVariants.{Byte}
+use Rattle.eval_code.specs.declared.width.Width.TheVariants.{Byte}
 use Rattle.handled_runs.specs.Forms.{HandledSeen}
 use Rattle.build_commands.specs.Contents.{content_at}
 use Rattle.build_commands.specs.Deeds.{Deed}

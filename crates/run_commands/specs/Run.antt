@@ -4,7 +4,7 @@ use Rattle.std.specs.Prelude.{Result, Ok, Err}
 use Rattle.std.specs.List.{flat_map}
 use Rattle.fuzzy_meaning.specs.declared.block.Block.{Block}
 use Rattle.codegen.specs.declared.firmware.Firmware.{Firmware}
-use Rattle.codegen.specs.declared.width.Width.{Width}
+use Rattle.eval_code.specs.declared.width.Width.{Width}
 use Rattle.cpu12_emul.specs.Take.{FrameSeen}
 use Rattle.fz_shelf.specs.Parts.{address_digits}
 use Rattle.run_law.specs.Forms.{RowSeen}

@@ -15,8 +15,8 @@ use build_commands::firmware::{Compiled, firmware_of, spelled_texts_have_no_faul
 use build_commands::images::{firmware_images_have_no_fault, require_image};
 use build_commands::words::flags;
 use build_commands::work::Work;
-use codegen::Width;
 use debug_script::{Script, ScriptFault, debug, read_script};
+use eval_code::Width;
 use fcl_check::spelled_blocks_are_one;
 use fz_status::{Status, word};
 use interrupt_plan::{Plan, spelled_plans_have_no_fault};

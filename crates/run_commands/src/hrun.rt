@@ -22,7 +22,7 @@ use build_commands::hcheck::{AcceptedHandler, given_handlers_have_no_fault, hand
 use build_commands::words::flags;
 use build_commands::work::Work;
 use certified_run::answers_are_within_errors;
-use codegen::Width;
+use eval_code::Width;
 use fcl_check::spelled_blocks_are_one;
 use fz_run::laws::answers_under_plans;
 use fz_status::{Status, word};

@@ -22,7 +22,7 @@ use build_commands::twos::{CompiledTwo, two_images_have_no_fault, two_of};
 use build_commands::words::flags;
 use build_commands::work::Work;
 use certified_run::{answers_are_within_errors, posted_answers_are_near};
-use codegen::Width;
+use eval_code::Width;
 use fcl_check::spelled_blocks_are_one;
 use fuzzy_meaning::Block;
 use fz_rows::first_rows_are_one;

@@ -20,7 +20,7 @@ use build_commands::images::{mailbox_images_have_no_fault, require_image};
 use build_commands::words::flags;
 use build_commands::work::Work;
 use certified_run::posted_answers_are_near;
-use codegen::Width;
+use eval_code::Width;
 use fcl_check::spelled_blocks_are_one;
 use fz_rows::first_rows_are_one;
 use fz_status::{Status, word};

@@ -25,8 +25,8 @@ use build_commands::images::{require_image, watched_images_have_no_fault};
 use build_commands::words::flags;
 use build_commands::work::Work;
 use certified_run::faultless_answers_are_near;
-use codegen::Width;
 use cpu12_asm::Image;
+use eval_code::Width;
 use fcl_check::spelled_blocks_are_one;
 use fz_status::{Status, word};
 use interrupt_plan::{

@@ -12,12 +12,14 @@ use Rattle.cpu12_asm.specs.Bytes.{byte_at, word_or_zero}
 use Rattle.cpu12_asm.specs.Items.{given_by}
 use Rattle.cpu12_asm.specs.declared.image.Image.{Image}
 use Rattle.cpu12_asm.specs.declared.items.Item.{Item}
-use Rattle.codegen.specs.Code.{eval_code_over, frame_code}
-use Rattle.codegen.specs.Data.{rule_bytes_by, singleton_bytes_of, weight_bytes_by}
-use Rattle.codegen.specs.Images.{IsImageOf, block_items, bytes_at, code_at, vector_items}
-use Rattle.codegen.specs.Layouts.{main_layout}
-use Rattle.codegen.specs.declared.layout.Layout.{Layout}
-use Rattle.codegen.specs.declared.width.Width.TheVariants.{Byte}
+use Rattle.eval_code.specs.Code.{eval_code_over}
+use Rattle.codegen.specs.Code.{frame_code}
+use Rattle.eval_code.specs.Data.{rule_bytes_by, singleton_bytes_of, weight_bytes_by}
+use Rattle.codegen.specs.Images.{IsImageOf, vector_items}
+use Rattle.eval_code.specs.Items.{block_items, bytes_at, code_at}
+use Rattle.eval_code.specs.Layouts.{main_layout}
+use Rattle.eval_code.specs.declared.layout.Layout.{Layout}
+use Rattle.eval_code.specs.declared.width.Width.TheVariants.{Byte}
 use Rattle.two_level.specs.Alike.{AreOneImage, TwosAreOne}
 use Rattle.two_level.specs.Images.{two_items}
 use Rattle.two_level.specs.Layouts.{fast_back, fast_front, fast_layout, slow_layout}

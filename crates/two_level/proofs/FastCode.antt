@@ -4,8 +4,8 @@ use Rattle.fuzzy_meaning.specs.declared.block.Block.{Block}
 use Rattle.cpu12_isa.specs.declared.instr.Instr.TheVariants.{Andcc}
 use Rattle.cpu12_isa.specs.Code.{decode_at, DecodesEncoded}
 use Rattle.cpu12_emul.specs.Image.{image_memory}
-use Rattle.codegen.specs.declared.width.Width.TheVariants.{Byte}
-use Rattle.codegen.specs.Placed.{BlockRises, BlockStands, StandsBetween}
+use Rattle.eval_code.specs.declared.width.Width.TheVariants.{Byte}
+use Rattle.eval_code.specs.Placed.{BlockRises, BlockStands, StandsBetween}
 use Rattle.two_level.specs.declared.two.Two.{Two}
 use Rattle.two_level.specs.Layouts.{fast_front, fast_back, fast_layout}
 use Rattle.two_level.specs.Images.{slow_items, IsTwoOf}

@@ -5,11 +5,12 @@ use Rattle.fuzzy_meaning.specs.Blocks.{IsValid}
 use Rattle.rule_layout.specs.Layouts.{IsWithinLimits}
 use Rattle.cpu12_isa.specs.declared.instr.Instr.TheVariants.{Rts}
 use Rattle.cpu12_asm.specs.Items.{IsRisingFrom, IsRising}
-use Rattle.codegen.specs.declared.width.Width.TheVariants.{Byte}
-use Rattle.codegen.specs.Layouts.{main_layout}
+use Rattle.eval_code.specs.declared.width.Width.TheVariants.{Byte}
+use Rattle.eval_code.specs.Layouts.{main_layout}
 use Rattle.codegen.specs.Code.{frame_code}
-use Rattle.codegen.specs.Images.{vector_items, IsApart}
-use Rattle.codegen.specs.Placed.{IsInOrder, BlockRises}
+use Rattle.codegen.specs.Images.{vector_items}
+use Rattle.eval_code.specs.Items.{IsApart}
+use Rattle.eval_code.specs.Placed.{IsInOrder, BlockRises}
 use Rattle.two_level.specs.Layouts.{fast_front, fast_back, fast_layout, slow_layout}
 use Rattle.two_level.specs.Images.{slow_items, two_items}
 

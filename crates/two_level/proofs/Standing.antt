@@ -1,12 +1,12 @@
 -- Memory from the image of both blocks, beside that of the slow firmware alone.
-use Rattle.std.proofs.Common.{◌≡◌, ◌⊎◌, inl, inr, ℕ, ◌+◌, ◌-◌, ◌*◌, ◌^◌, ◌<◌, ◌≤◌, nat_lt, nat_le, ◌&&◌, ◌||◌, Bool, true, false, cond, List, [], ◌∷◌, ◌++◌, All, get_or, Option, Some, None, refl}
+use Rattle.std.proofs.Common.{◌≡◌, ◌⊎◌, inl, inr, ℕ, ◌+◌, ◌-◌, ◌*◌, ◌^◌, ◌<◌, ◌≤◌, nat_lt, nat_le, ◌&&◌, ◌||◌, Bool, true, false, List, [], ◌∷◌, ◌++◌, All, get_or, Option, None, refl}
 use Rattle.std.proofs.Common.{sym, ap, ap₂, ◌∙◌, subst, arith, nat_cmp}
 use Rattle.std.specs.BTreeMap.{is_at}
 use Rattle.std.specs.List.{list_all}
 use Rattle.std.proofs.lemmas.Bool.{cases_lt, and_parts, or_parts, ltb-true}
 use Rattle.std.proofs.lemmas.Bool.Decides.{nat_tests}
 use Rattle.std.proofs.lemmas.List.{get_or_past}
-use Rattle.std.proofs.lemmas.List.Elements.{All-nil, All-cons, All-head, All-tail, All-append}
+use Rattle.std.proofs.lemmas.List.Elements.{All-nil, All-cons, All-append}
 use Rattle.fuzzy_meaning.specs.declared.block.Block.{Block}
 use Rattle.cpu12_isa.specs.declared.instr.Instr.TheVariants.{Rts}
 use Rattle.cpu12_isa.specs.Agreement.{Agree}
@@ -19,15 +19,18 @@ use Rattle.cpu12_asm.specs.declared.items.Item.TheVariants.{Place}
 use Rattle.cpu12_asm.specs.Bytes.{byte_at}
 use Rattle.cpu12_asm.specs.Items.{given_by}
 use Rattle.cpu12_emul.specs.Image.{byte_or_zero, image_memory, HoldsImage}
-use Rattle.codegen.specs.declared.layout.Layout.{Layout}
-use Rattle.codegen.specs.declared.width.Width.TheVariants.{Byte}
-use Rattle.codegen.specs.Layouts.{main_layout}
-use Rattle.codegen.specs.Widths.{width_of}
-use Rattle.codegen.specs.Code.{code_bytes, frame_code}
-use Rattle.codegen.specs.Images.{block_items, vector_items, firmware_items}
-use Rattle.codegen.specs.Evaluation.{HasAnswers, Reads, Writes}
+use Rattle.eval_code.specs.declared.layout.Layout.{Layout}
+use Rattle.eval_code.specs.declared.width.Width.TheVariants.{Byte}
+use Rattle.eval_code.specs.Layouts.{main_layout}
+use Rattle.eval_code.specs.Widths.{width_of}
+use Rattle.eval_code.specs.Code.{code_bytes}
+use Rattle.codegen.specs.Code.{frame_code}
+use Rattle.eval_code.specs.Items.{block_items}
+use Rattle.codegen.specs.Images.{vector_items, firmware_items}
+use Rattle.eval_code.specs.Evaluation.{HasAnswers, Reads, Writes}
 use Rattle.codegen.specs.Answers.{LeavesLayout, FirmwareAnswersBeside, FirmwareArrivesAlike}
-use Rattle.codegen.specs.Placed.{BlockStaysInside, GivesBehind, GiveBytes, BlockGivesBytes}
+use Rattle.eval_code.specs.Placed.{BlockStaysInside, GivesBehind, GiveBytes, BlockGivesBytes}
+use Rattle.eval_code.proofs.Algebra.{memory_fits}
 use Rattle.two_level.specs.declared.two.Two.{Two}
 use Rattle.two_level.specs.Layouts.{fast_front, fast_back, fast_layout, slow_layout, is_fast_ram, is_fast_rom, is_open_to_fast}
 use Rattle.two_level.specs.Images.{fast_items, slow_items, two_items, IsTwoOf}
@@ -168,14 +171,6 @@ byte_alone holds slow fast two at h lt =
 abbrev Fits : ℕ × ℕ → Type 0
 Fits p = p.1 < 2 ^ 8
 
-found_fits : (given : List (ℕ × ℕ)) (q : ℕ) → GiveBytes given → byte_or_zero (byte_at given q) < 256
-found_fits [] q h = omega arith
-found_fits (p ∷ given) q h = chosen (is_at (nat_cmp q) p.0) (found_fits given q (All-tail Fits p given h))
-  where
-    chosen : (t : Bool) → byte_or_zero (byte_at given q) < 256 → byte_or_zero (cond t (Some p.1) (byte_at given q)) < 256
-    chosen true k = All-head Fits p given h
-    chosen false k = k
-
 -- bytes by a test
 bytes_by : (xs : List ℕ) → list_all (λ v. nat_lt v 256) xs ≡ true → All (λ v. v < 2 ^ 8) xs
 bytes_by [] h = All-nil (λ v. v < 2 ^ 8)
@@ -202,10 +197,9 @@ two_give laws slow fast h =
     subst GiveBytes (sym (given_two laws.behind slow fast)) (All-append Fits (given_by (fast_items fast)) rest f slow_all)
 
 two_bytes : StandingLaws → (slow fast : Block) (two : Two) → AreSound slow fast → IsTwoOf slow fast two → AreBytes (image_memory two.image.bytes)
-two_bytes laws slow fast two h is at = elim (cases_lt at 65536) [
-  | inl lt ↦ (let e = byte_in laws.holds_image slow fast two at is lt in let f = found_fits (given_by (two_items slow fast)) at (two_give laws slow fast h) in omega arith)
-  | inr le ↦ (let size = (laws.holds_image two.image.bytes).0 in let e = get_or_past (image_memory two.image.bytes) at 0 (omega arith) in omega arith)
-]
+two_bytes laws slow fast two h is =
+    memory_fits (two_items slow fast) (image_memory two.image.bytes) (two_give laws slow fast h) (laws.holds_image two.image.bytes).0
+    (λ at lt. byte_in laws.holds_image slow fast two at is lt)
 
 -- an interrupt enters the fast code
 vector_byte : StandingLaws → (slow fast : Block) (two : Two) (at : ℕ) → AreSound slow fast → IsTwoOf slow fast two → vector ≤ at → at < 65536

@@ -4,10 +4,11 @@ use Rattle.fuzzy_meaning.specs.declared.block.Block.{Block}
 use Rattle.cpu12_isa.specs.declared.instr.Instr.TheVariants.{Rts}
 use Rattle.cpu12_asm.specs.declared.items.Item.{Item}
 use Rattle.codegen.specs.declared.firmware.Firmware.{Firmware}
-use Rattle.codegen.specs.declared.width.Width.TheVariants.{Byte}
-use Rattle.codegen.specs.Layouts.{main_layout}
+use Rattle.eval_code.specs.declared.width.Width.TheVariants.{Byte}
+use Rattle.eval_code.specs.Layouts.{main_layout}
 use Rattle.codegen.specs.Code.{frame_code}
-use Rattle.codegen.specs.Images.{block_items, vector_items, IsImageOf}
+use Rattle.eval_code.specs.Items.{block_items}
+use Rattle.codegen.specs.Images.{vector_items, IsImageOf}
 use Rattle.codegen.specs.Firmwares.{IsFirmwareOf}
 use Rattle.two_level.specs.declared.two.Two.{Two}
 use Rattle.two_level.specs.Layouts.{fast_front, fast_back, fast_layout, slow_layout}

@@ -7,8 +7,8 @@ use Rattle.cpu12_isa.specs.Agreement.{Agree}
 use Rattle.cpu12_isa.specs.Fits.{AreBytes}
 use Rattle.cpu12_isa.specs.Regions.{vector_word}
 use Rattle.cpu12_emul.specs.Image.{image_memory}
-use Rattle.codegen.specs.declared.width.Width.TheVariants.{Byte}
-use Rattle.codegen.specs.Evaluation.{HasAnswers}
+use Rattle.eval_code.specs.declared.width.Width.TheVariants.{Byte}
+use Rattle.eval_code.specs.Evaluation.{HasAnswers}
 use Rattle.codegen.specs.Answers.{LeavesLayout, AnswersBeside, ArrivesAlike}
 use Rattle.two_level.specs.declared.two.Two.{Two}
 use Rattle.two_level.specs.Layouts.{fast_layout, is_open_to_fast}

@@ -6,9 +6,10 @@ ghost use Rattle.codegen.specs.Images.{IsImageOf};
 ghost use Rattle.two_level.specs.Images.{two_items};
 ghost use Rattle.two_level.specs.Layouts.{fast_layout, slow_layout};
 
-use codegen::{Layout, Width, blocks_are_placed, frame_code, image_of, push_block, push_vectors};
+use codegen::{frame_code, image_of, push_vectors};
 use cpu12_asm::{Image, Item};
 use cpu12_isa::instr::Instr;
+use eval_code::{Layout, Width, blocks_are_placed, push_block};
 use fuzzy_meaning::Block;
 use rule_layout::{Flat, spread};
 use std::alloc::{AllocError, Global};

@@ -8,8 +8,8 @@ use Rattle.cpu12_parts.specs.State.{State}
 use Rattle.run_law.specs.Forms.{Form, RowSeen, rows_from}
 use Rattle.run_law.specs.Following.{onto, all_onto}
 use Rattle.interrupt_plan.specs.declared.levels.Level.{Level}
-use Rattle.codegen.specs.declared.width.Width.TheVariants.{Byte}
-use Rattle.codegen.specs.Bounds.{step_bound}
+use Rattle.eval_code.specs.declared.width.Width.TheVariants.{Byte}
+use Rattle.eval_code.specs.Bounds.{step_bound}
 use Rattle.codegen.specs.Uninterrupted.{AreAnswersOf}
 use Rattle.two_level.specs.declared.two.Two.{Two}
 use Rattle.two_level.specs.Images.{fast_most}

@@ -19,7 +19,7 @@ use Rattle.cpu12_parts.specs.Touching.{IsInstructionOver, IsPlainOver}
 use Rattle.cpu12_parts.specs.Whole.{IsPlainStep}
 use Rattle.cpu12_emul.specs.declared.ends.Stepped.TheVariants.{Plain}
 use Rattle.cpu12_emul.specs.Step.{Left, Next, applied, next_of}
-use Rattle.codegen.specs.Evaluation.{Reads, Writes}
+use Rattle.eval_code.specs.Evaluation.{Reads, Writes}
 use Rattle.two_level.specs.Layouts.{fast_layout}
 use Rattle.two_level.specs.Running.{IsFastStack, IsInFast, IsFastStep}
 use Rattle.two_runs.specs.Steps.{is_foreign, is_kept}

@@ -7,9 +7,9 @@ use Rattle.run_law.specs.Forms.{RowSeen, Rows}
 use Rattle.run_law.specs.Following.{all_onto, AllFollow, RunsFollow}
 use Rattle.interrupt_plan.specs.declared.levels.Level.{Level}
 use Rattle.interrupt_plan.specs.Levels.{IsGoodLevel}
-use Rattle.codegen.specs.declared.width.Width.TheVariants.{Byte}
-use Rattle.codegen.specs.Widths.{width_of}
-use Rattle.codegen.specs.Bounds.{step_bound}
+use Rattle.eval_code.specs.declared.width.Width.TheVariants.{Byte}
+use Rattle.eval_code.specs.Widths.{width_of}
+use Rattle.eval_code.specs.Bounds.{step_bound}
 use Rattle.codegen.specs.Firmwares.{IsFirmwareOf}
 use Rattle.two_level.specs.Images.{fast_most}
 use Rattle.two_level.specs.Layouts.{is_open_to_fast}

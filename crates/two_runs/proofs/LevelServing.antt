@@ -22,10 +22,10 @@ use Rattle.run_law.specs.Uninterrupted.{counted}
 use Rattle.run_law.specs.Soundness.{below_sums, Begins, Quiet, Ascend}
 use Rattle.interrupt_plan.specs.declared.levels.Level.{Level}
 use Rattle.interrupt_plan.specs.Levels.{IsGoodLevel}
-use Rattle.codegen.specs.declared.width.Width.TheVariants.{Byte}
-use Rattle.codegen.specs.Widths.{width_of}
-use Rattle.codegen.specs.Bounds.{instruction_bound}
-use Rattle.codegen.specs.Firing.{AreInputBytes}
+use Rattle.eval_code.specs.declared.width.Width.TheVariants.{Byte}
+use Rattle.eval_code.specs.Widths.{width_of}
+use Rattle.eval_code.specs.Bounds.{instruction_bound}
+use Rattle.eval_code.specs.Firing.{AreInputBytes}
 use Rattle.two_level.specs.declared.two.Two.{Two}
 use Rattle.two_level.specs.Images.{fast_most, IsTwoOf}
 use Rattle.two_level.specs.Layouts.{is_fast_ram, is_open_to_fast}

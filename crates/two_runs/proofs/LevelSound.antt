@@ -9,9 +9,9 @@ use Rattle.run_law.specs.Uninterrupted.{stepped}
 use Rattle.run_law.specs.Soundness.{Sound, WritesAreQuiet}
 use Rattle.interrupt_plan.specs.declared.levels.Level.{Level}
 use Rattle.interrupt_plan.specs.Levels.{IsGoodLevel}
-use Rattle.codegen.specs.declared.layout.Layout.{Layout}
+use Rattle.eval_code.specs.declared.layout.Layout.{Layout}
 use Rattle.codegen.specs.Answers.{LeavesLayout}
-use Rattle.codegen.specs.Layouts.{main_layout}
+use Rattle.eval_code.specs.Layouts.{main_layout}
 use Rattle.two_level.specs.Layouts.{is_open_to_fast}
 use Rattle.fz_run.specs.Forms.{given, answer_size}
 use Rattle.fz_run.specs.Facts.{FactsBeside}

@@ -6,7 +6,7 @@ use Rattle.cpu12_isa.specs.Memory.{plus, from}
 use Rattle.cpu12_isa.specs.Regions.{is_hidden}
 use Rattle.cpu12_parts.specs.Laws.{addresses}
 use Rattle.cpu12_parts.specs.Touching.{IsIn, Each}
-use Rattle.codegen.specs.Evaluation.{Reads, Writes}
+use Rattle.eval_code.specs.Evaluation.{Reads, Writes}
 use Rattle.two_level.specs.Layouts.{fast_layout, is_fast_ram, is_fast_rom}
 use Rattle.two_level.specs.Running.{fast_code}
 use Rattle.two_runs.specs.Steps.{is_open_inside, is_foreign, is_kept}

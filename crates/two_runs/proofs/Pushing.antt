@@ -8,7 +8,7 @@ use Rattle.cpu12_isa.specs.Memory.{plus, from, placed, bytes_at}
 use Rattle.cpu12_isa.proofs.Algebra.{read_placed, bytes_unwritten}
 use Rattle.cpu12_isa.specs.Registers.{frame_bytes}
 use Rattle.cpu12_parts.specs.State.{State}
-use Rattle.codegen.specs.Evaluation.{HasBytes}
+use Rattle.eval_code.specs.Evaluation.{HasBytes}
 use Rattle.two_level.specs.Layouts.{fast_layout}
 use Rattle.fz_run.proofs.Algebra.{placed_in}
 

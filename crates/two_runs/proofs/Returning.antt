@@ -21,7 +21,7 @@ use Rattle.run_law.specs.Soundness.{Before}
 use Rattle.run_law.specs.Steps.{StepLaws}
 use Rattle.run_law.proofs.Algebra.{before_weaker, Stretch, joined, one_stretch}
 use Rattle.fuzzy_meaning.specs.declared.block.Block.{Block}
-use Rattle.codegen.specs.Evaluation.{Reads, Writes}
+use Rattle.eval_code.specs.Evaluation.{Reads, Writes}
 use Rattle.two_level.specs.Layouts.{fast_layout}
 use Rattle.two_level.specs.Running.{IsFastStack, fast_code, IsInFast, IsFastStep, IsFastAnswered}
 use Rattle.two_runs.specs.Steps.{is_foreign, is_kept, IsFastState, IsOpenState, IsFastRun, FastStepsReturn}

@@ -2,9 +2,9 @@
 use Rattle.std.proofs.Common.{◌≡◌, suc, ◌≤◌, ap, ◌∙◌, sym, subst, arith}
 use Rattle.fuzzy_meaning.specs.declared.block.Block.{Block}
 use Rattle.codegen.specs.declared.firmware.Firmware.{Firmware}
-use Rattle.codegen.specs.declared.width.Width.TheVariants.{Byte}
-use Rattle.codegen.specs.Bounds.{step_bound}
-use Rattle.codegen.specs.Widths.{width_of}
+use Rattle.eval_code.specs.declared.width.Width.TheVariants.{Byte}
+use Rattle.eval_code.specs.Bounds.{step_bound}
+use Rattle.eval_code.specs.Widths.{width_of}
 use Rattle.cpu12_emul.specs.Image.{image_memory}
 use Rattle.two_level.specs.Images.{fast_most, IsAlone}
 use Rattle.two_runs.specs.Runs.{entered}

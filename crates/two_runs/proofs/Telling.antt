@@ -8,9 +8,9 @@ use Rattle.cpu12_emul.specs.Image.{image_memory}
 use Rattle.run_law.specs.Forms.{Ran}
 use Rattle.run_law.specs.Uninterrupted.{counted, taken_at, resumed_of, frames_of}
 use Rattle.interrupt_plan.specs.declared.levels.Level.{Level}
-use Rattle.codegen.specs.declared.width.Width.TheVariants.{Byte}
-use Rattle.codegen.specs.Widths.{answer}
-use Rattle.codegen.specs.Evaluation.{HasAnswers}
+use Rattle.eval_code.specs.declared.width.Width.TheVariants.{Byte}
+use Rattle.eval_code.specs.Widths.{answer}
+use Rattle.eval_code.specs.Evaluation.{HasAnswers}
 use Rattle.codegen.specs.Uninterrupted.{IsAnswerOf}
 use Rattle.two_level.specs.declared.two.Two.{Two}
 use Rattle.two_level.specs.Layouts.{fast_layout}

@@ -11,8 +11,8 @@ use Rattle.run_law.specs.Following.{asked}
 use Rattle.interrupt_plan.specs.declared.Request.{Request}
 use Rattle.interrupt_plan.specs.declared.levels.Level.{Level}
 use Rattle.interrupt_plan.specs.Levels.{AreGoodLevels}
-use Rattle.codegen.specs.declared.width.Width.TheVariants.{Byte}
-use Rattle.codegen.specs.Firing.{AreInputBytes}
+use Rattle.eval_code.specs.declared.width.Width.TheVariants.{Byte}
+use Rattle.eval_code.specs.Firing.{AreInputBytes}
 use Rattle.codegen.specs.Uninterrupted.{Answer, AreAnswersOf}
 use Rattle.two_level.specs.declared.two.Two.{Two}
 use Rattle.two_level.specs.Images.{fast_most, IsTwoOf}

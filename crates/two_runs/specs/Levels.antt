@@ -9,9 +9,9 @@ use Rattle.run_law.specs.Forms.{Form}
 use Rattle.run_law.specs.Soundness.{Sound, WritesAreQuiet}
 use Rattle.interrupt_plan.specs.declared.levels.Level.{Level}
 use Rattle.interrupt_plan.specs.Levels.{IsGoodLevel}
-use Rattle.codegen.specs.declared.width.Width.TheVariants.{Byte}
-use Rattle.codegen.specs.Widths.{answer}
-use Rattle.codegen.specs.Evaluation.{HasAnswers}
+use Rattle.eval_code.specs.declared.width.Width.TheVariants.{Byte}
+use Rattle.eval_code.specs.Widths.{answer}
+use Rattle.eval_code.specs.Evaluation.{HasAnswers}
 use Rattle.codegen.specs.Uninterrupted.{IsAnswerOf}
 use Rattle.two_level.specs.declared.two.Two.{Two}
 use Rattle.two_level.specs.Images.{fast_most}

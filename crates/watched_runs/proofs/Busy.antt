@@ -4,7 +4,7 @@ use Rattle.std.specs.Prelude.{◌==◌, slice_index}
 use Rattle.std.proofs.lemmas.Bool.{and_right}
 use Rattle.cpu12_parts.specs.State.{State}
 use Rattle.cpu12_emul.specs.Run.{PlainlyTo}
-use Rattle.codegen.specs.declared.layout.Layout.{Layout}
+use Rattle.eval_code.specs.declared.layout.Layout.{Layout}
 use Rattle.codegen.specs.Interruptible.{is_idle}
 
 not_idle : (l : Layout) (mem : List ℕ) (u : State) → (slice_index mem l.ready == 0) ≡ false → u.mem ≡ mem

@@ -12,7 +12,7 @@ use Rattle.cpu12_emul.specs.Image.{image_memory}
 use Rattle.interrupt_plan.specs.declared.upsets.Upset.{Upset}
 use Rattle.interrupt_plan.specs.Upsets.{is_there, IsGoodUpset}
 use Rattle.codegen.specs.declared.firmware.Firmware.{Firmware}
-use Rattle.codegen.specs.declared.layout.Layout.{Layout}
+use Rattle.eval_code.specs.declared.layout.Layout.{Layout}
 use Rattle.codegen.specs.Interruptible.{IsInterruptible}
 use Rattle.codegen.specs.Watched.{Change, changed, restored, IsTableChange}
 use Rattle.fz_run.specs.Facts.{HasImageBytes, WaitsAlone}

@@ -4,7 +4,7 @@ use Rattle.std.specs.Prelude.{map, Option, slice_index}
 use Rattle.cpu12_parts.specs.State.{State}
 use Rattle.run_law.specs.Forms.{Form, RowSeen, row_of, rows_from, run_from}
 use Rattle.codegen.specs.declared.firmware.Firmware.{Firmware}
-use Rattle.codegen.specs.declared.layout.Layout.{Layout}
+use Rattle.eval_code.specs.declared.layout.Layout.{Layout}
 use Rattle.codegen.specs.Watched.{Change, Watched, changed}
 use Rattle.codegen.specs.WatchedCode.{fault_at}
 use Rattle.fz_run.specs.declared.sample.Tally.{Tally}

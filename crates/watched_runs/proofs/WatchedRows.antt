@@ -15,10 +15,10 @@ use Rattle.interrupt_plan.specs.declared.upsets.Upset.{Upset}
 use Rattle.interrupt_plan.specs.Plans.{IsGood}
 use Rattle.interrupt_plan.specs.Upsets.{IsGoodUpset}
 use Rattle.codegen.specs.declared.firmware.Firmware.{Firmware}
-use Rattle.codegen.specs.declared.layout.Layout.{Layout}
+use Rattle.eval_code.specs.declared.layout.Layout.{Layout}
 use Rattle.codegen.specs.Answers.{IsArrived}
-use Rattle.codegen.specs.Bounds.{steps_by, instruction_bound}
-use Rattle.codegen.specs.Firing.{AreInputBytes}
+use Rattle.eval_code.specs.Bounds.{steps_by, instruction_bound}
+use Rattle.eval_code.specs.Firing.{AreInputBytes}
 use Rattle.codegen.specs.Interruptible.{is_idle}
 use Rattle.codegen.specs.Watched.{Watched, changed, restored, upset_given, watched_answer, IsTableChange, IsGoodSample}
 use Rattle.codegen.specs.Watched.{IsWatchAnswered, AreWatchAnswered, IsWatchedFirmwareOf, watched_bound}

@@ -7,7 +7,7 @@ use Rattle.cpu12_emul.specs.Take.{framed}
 use Rattle.run_law.specs.Forms.{Form}
 use Rattle.interrupt_plan.specs.declared.Request.{Request}
 use Rattle.codegen.specs.declared.firmware.Firmware.{Firmware}
-use Rattle.codegen.specs.declared.layout.Layout.{Layout}
+use Rattle.eval_code.specs.declared.layout.Layout.{Layout}
 use Rattle.codegen.specs.Interruptible.{is_idle}
 use Rattle.codegen.specs.Watched.{Watched, changed, restored}
 use Rattle.codegen.specs.WatchedCode.{fault_at}

@@ -2,7 +2,8 @@
 ghost use Rattle.std.specs.Prelude.{◌≤◌};
 ghost use Rattle.fuzzy_meaning.specs.Blocks.{IsValid};
 
-use codegen::{Firmware, Width, compile, compile16};
+use codegen::{Firmware, compile, compile16};
+use eval_code::Width;
 use fcl_check::load;
 use fcl_syntax::parse;
 use fuzzy_meaning::Block;

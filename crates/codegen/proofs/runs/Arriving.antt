@@ -12,24 +12,23 @@ use Rattle.cpu12_parts.specs.State.{State}
 use Rattle.cpu12_parts.specs.Whole.{after_plain, PlainWay}
 use Rattle.cpu12_emul.specs.Image.{byte_or_zero}
 use Rattle.cpu12_emul.specs.Step.{reset_with}
-use Rattle.codegen.specs.declared.layout.Layout.{Layout}
-use Rattle.codegen.specs.declared.width.Width.{Width}
-use Rattle.codegen.specs.declared.width.Width.TheVariants.{Byte, Word}
-use Rattle.codegen.specs.Widths.{places, bytes_of}
-use Rattle.codegen.specs.Code.{block_code}
-use Rattle.codegen.specs.Data.{table_bytes, singleton_bytes, weight_bytes, rule_bytes, bytes_of_word}
-use Rattle.codegen.specs.Images.{bytes_at, block_items, IsApart}
+use Rattle.eval_code.specs.declared.layout.Layout.{Layout}
+use Rattle.eval_code.specs.declared.width.Width.{Width}
+use Rattle.eval_code.specs.declared.width.Width.TheVariants.{Byte, Word}
+use Rattle.eval_code.specs.Widths.{places, bytes_of}
+use Rattle.eval_code.specs.Code.{block_code, code_bytes}
+use Rattle.eval_code.specs.Data.{table_bytes, singleton_bytes, weight_bytes, rule_bytes, bytes_of_word}
+use Rattle.eval_code.specs.Items.{bytes_at, block_items, IsApart}
 use Rattle.cpu12_asm.specs.declared.items.Item.TheVariants.{Op}
-use Rattle.codegen.proofs.steps.Flags.{unmasked}
 use Rattle.cpu12_isa.specs.declared.instr.Regs.{Regs}
 use Rattle.cpu12_isa.specs.Agreement.{Agree}
 use Rattle.cpu12_parts.specs.declared.temps.Temps.TheVariants.{Free}
 use Rattle.std.proofs.lemmas.Bool.{cases_eq}
-use Rattle.codegen.proofs.steps.Memory.{HasBytes, same_bytes, SameHigh, high_set, bytes_set_out, bytes_after_set}
+use Rattle.eval_code.specs.Evaluation.{HasBytes}
+use Rattle.eval_code.proofs.Algebra.{unmasked, same_bytes, SameHigh, high_set, bytes_set_out, bytes_after_set, decode_same, decode_here, Rises}
+use Rattle.eval_code.proofs.Algebra.{HasGiven, none_below}
 use Rattle.codegen.proofs.runs.Stepping.{Ctx, Live}
-use Rattle.codegen.proofs.steps.Decoding.{code_bytes, decode_same, decode_here}
 use Rattle.codegen.proofs.runs.Framing.{Home, answer_room}
-use Rattle.codegen.proofs.runs.Standing.{Rises, HasGiven, none_below}
 use Rattle.codegen.proofs.runs.Founding.{IsStarted, start_code}
 
 -- memory below the code is 0

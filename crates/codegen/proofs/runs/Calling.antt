@@ -4,10 +4,10 @@ use Rattle.std.proofs.Common.{sym, ap, ap₂, ◌∙◌, subst, arith}
 use Rattle.std.proofs.lemmas.Bool.{or_parts}
 use Rattle.std.proofs.lemmas.Bool.Decides.{nat_tests}
 use Rattle.fuzzy_meaning.specs.declared.block.Block.{Block}
-use Rattle.codegen.specs.Bounds.{instruction_bound, step_bound}
+use Rattle.eval_code.specs.Bounds.{instruction_bound, step_bound}
 use Rattle.fuzzy_meaning.specs.Blocks.{IsValid}
 use Rattle.rule_layout.specs.Layouts.{IsWithinLimits}
-use Rattle.codegen.proofs.phases.RuleFacts.{BlockFacts}
+use Rattle.rule_layout.specs.Slots.{slots_of}
 use Rattle.cpu12_isa.specs.Memory.{plus}
 use Rattle.cpu12_isa.specs.declared.instr.Instr.{Instr}
 use Rattle.cpu12_isa.specs.declared.instr.Instr.TheVariants.{Rts, Rev, Revw}
@@ -21,27 +21,22 @@ use Rattle.cpu12_parts.specs.State.{State}
 use Rattle.cpu12_parts.specs.Laws.{addresses}
 use Rattle.cpu12_parts.specs.Rules.{Rule, Form, concluded, all_concluded, named, raised, rules_written, rules_target, strength}
 use Rattle.cpu12_parts.specs.Whole.{after_plain}
-use Rattle.codegen.specs.declared.layout.Layout.{Layout}
-use Rattle.codegen.specs.declared.width.Width.{Width}
-use Rattle.codegen.specs.Widths.{answer}
-use Rattle.codegen.specs.Data.{table_bytes, singleton_bytes, weight_bytes, rule_bytes}
-use Rattle.codegen.specs.Images.{IsApart}
-use Rattle.codegen.specs.Firing.{AreInputBytes}
+use Rattle.eval_code.specs.declared.layout.Layout.{Layout}
+use Rattle.eval_code.specs.declared.width.Width.{Width}
+use Rattle.eval_code.specs.Widths.{answer}
+use Rattle.eval_code.specs.Data.{table_bytes, singleton_bytes, weight_bytes, rule_bytes}
+use Rattle.eval_code.specs.Items.{IsApart}
+use Rattle.eval_code.specs.Firing.{AreInputBytes}
 use Rattle.cpu12_parts.specs.Executions.{Execution, all_steps}
 use Rattle.cpu12_isa.specs.Regions.{is_hidden}
 use Rattle.codegen.specs.Interruptible.{IsInterruptible, IsShownRules, IsShownInstruction, IsInterruptibleStep}
 use Rattle.cpu12_parts.specs.Touching.{IsIn, Each, IsRulesOver, IsInstructionOver}
-use Rattle.codegen.specs.Code.{eval_code}
-use Rattle.codegen.specs.Evaluation.{HasBytes, HasEval, HasAnswers, IsAtEval, IsEvaluated, EvalAnswers, eval_bytes, Reads, Writes, code_region, IsEvalStep}
-use Rattle.codegen.proofs.steps.Memory.{SameHigh, high_set, same_bytes, high_writes}
+use Rattle.eval_code.specs.Code.{eval_code, code_bytes}
+use Rattle.eval_code.specs.Placed.{eval_room}
+use Rattle.eval_code.specs.Evaluation.{HasBytes, HasEval, HasAnswers, IsAtEval, IsEvaluated, EvalAnswers, eval_bytes, Reads, Writes, code_region, IsEvalStep}
+use Rattle.eval_code.proofs.Algebra.{SameHigh, high_set, same_bytes, high_writes, execution_on, steps_append, length_append, decode_here, Below, From}
+use Rattle.eval_code.proofs.Algebra.{apart_by, below_front, below_back, written_low, writes_low, places_few}
 use Rattle.codegen.proofs.runs.Stepping.{code_room, IsShut, Ctx, Here, Live, Next, plain_next, low_shown, high_shown, not_at}
-use Rattle.codegen.proofs.steps.Executions.{execution_on, steps_append, length_append}
-use Rattle.codegen.proofs.steps.Decoding.{code_bytes, decode_here}
-use Rattle.codegen.proofs.phases.RuleMemory.{Below, From, apart_by, below_front, below_back}
-use Rattle.codegen.proofs.steps.Stepping.{written_low, writes_low}
-use Rattle.codegen.proofs.phases.Used.{answer_size}
-use Rattle.codegen.proofs.phases.Outputs.{places_few}
-use Rattle.codegen.proofs.phases.Law.{length-code}
 
 -- RTS with the return address on the stack
 less_hidden : (open_to : ℕ → Bool) (at : ℕ) → is_hidden open_to 0x2000 at ≡ false → is_hidden open_to 0x1FFE at ≡ false
@@ -206,12 +201,14 @@ interruptible_execution open_to l image flags (d ∷ ds) s t u a w c h e =
     let rest = interruptible_execution open_to l image flags ds e.0 t u a w c one.1 e.1.1 in
     ((e.0, (one.0, rest.0)), rest.1)
 
--- EVAL and its return stand in the image, above where the code waits
+-- EVAL and its return stand in the image, above where the code waits, and leave room behind them and behind the slots
 pub record HasRoutine (l : Layout) (b : Block) (w : Width) (image : List ℕ) : Type 0 where
   pub above : l.wait < l.eval
   pub inside : IsInCode l
   pub eval : HasEval l b w image
   pub back : HasBytes image (l.eval + length (eval_bytes l b w)) (encode_of Rts)
+  pub room : length (eval_bytes l b w) ≤ eval_room
+  pub few_slots : length (slots_of b) ≤ 300
 
 found : (l : Layout) (b : Block) (w : Width) (image mem : List ℕ) → IsApart l → HasEval l b w image → SameHigh image mem → HasEval l b w mem
 found l b w image mem a h same =
@@ -248,22 +245,21 @@ pub record Back (c : Ctx) (b : Block) (w : Width) (back : ℕ) (bytes : List ℕ
   pub instructions : length ds + 5 ≤ instruction_bound w b
   pub steps : all_steps ds + 5 ≤ step_bound w b
 
-returned : (c : Ctx) (b : Block) (w : Width) (back : ℕ) (bytes : List ℕ) (before : ℕ → ℕ) (s : State) → IsApart c.layout → IsValid b → BlockFacts b
+returned : (c : Ctx) (b : Block) (w : Width) (back : ℕ) (bytes : List ℕ) (before : ℕ → ℕ) (s : State) → IsApart c.layout → IsValid b
     → HasRoutine c.layout b w c.image → IsCalled c.open_to c.layout b w c.image back bytes before s
     → (t : State) → (g : IsEvaluated c.layout b w c.flags bytes before s t) → Execution (IsInterruptibleStep c.open_to c.layout c.image c.flags) g.ds s t
     → Alone c.image t → Back c b w back bytes before s
-returned c b w back bytes before s a v facts h k t g e alone =
+returned c b w back bytes before s a v h k t g e alone =
     let l = c.layout in
     let p = l.eval + length (code_bytes (eval_code l b w)) in
-    let size = answer_size l b w v facts in
-    let lc = length-code (eval_code l b w) in
+    let size = h.room in
     let high = a.eval_end in
     let low = a.eval in
     let above = h.above in
     let from = h.inside.from in
     let to = h.inside.to in
     let room = places_few w (length b.outputs) v.few_outputs in
-    let slots = facts.few_slots in
+    let slots = h.few_slots in
     let apart1 = a.slots in
     let apart2 = a.outputs in
     let live : Live c t = record { temps = alone.temps; size = g.between.size; bytes = g.between.bytes; fits = g.between.fits; stack = inl alone.stack; mask = alone.unmasked; same = alone.same } in
@@ -289,13 +285,13 @@ returned c b w back bytes before s a v facts h k t g e alone =
     }
 
 pub called : EvalAnswers → (c : Ctx) (b : Block) (w : Width) (back : ℕ) (bytes : List ℕ) (before : ℕ → ℕ) (s : State) → IsApart c.layout → IsValid b
-    → BlockFacts b → IsWithinLimits b → HasRoutine c.layout b w c.image → AreInputBytes b bytes → IsCalled c.open_to c.layout b w c.image back bytes before s
+    → IsWithinLimits b → HasRoutine c.layout b w c.image → AreInputBytes b bytes → IsCalled c.open_to c.layout b w c.image back bytes before s
     → Back c b w back bytes before s
-called go c b w back bytes before s a v facts limits h i k =
+called go c b w back bytes before s a v limits h i k =
     let l = c.layout in
     let state = k.interruptible in
     let at : IsAtEval l b w bytes before s = record { between = record { off = inl state.temps; size = state.size; bytes = state.bytes; fits = state.fits }; pc = k.pc; eval = found l b w c.image s.mem a h.eval state.same; inputs = k.inputs; outputs = k.outputs } in
     let alone : Alone c.image s = record { temps = state.temps; stack = k.sp; unmasked = state.mask; same = state.same } in
     let r = go l b w c.flags bytes before s a v limits c.fits i at in
     let e = interruptible_execution c.open_to l c.image c.flags r.1.ds s r.0 c.shut a h.above h.inside alone r.1.execution in
-    returned c b w back bytes before s a v facts h k r.0 r.1 e.0 e.1
+    returned c b w back bytes before s a v h k r.0 r.1 e.0 e.1

@@ -1,63 +1,27 @@
--- A firmware's code and data stand in its memory.
+-- A firmware's frame and its reset vector stand in its memory.
 use Rattle.std.proofs.Common.{◌≡◌, ◌⊎◌, ℕ, ◌+◌, ◌<◌, ◌≤◌, false, List, [], ◌∷◌, ◌++◌, length, sym, ap, ◌∙◌, subst, arith, append_assoc, append-nil}
-use Rattle.std.proofs.lemmas.Grind.{flat_map-append}
 use Rattle.fuzzy_meaning.specs.declared.block.Block.{Block}
+use Rattle.rule_layout.specs.Slots.{slots_of}
 use Rattle.cpu12_isa.specs.declared.instr.Instr.{Instr}
 use Rattle.cpu12_isa.specs.declared.instr.Instr.TheVariants.{LdaaExtended, LdsImmediate, ClrExtended, Beq, Bra, JsrExtended, Rts, Andcc, Rti}
 use Rattle.cpu12_isa.specs.Code.{encode_of, decode_at}
 use Rattle.cpu12_asm.specs.declared.items.Item.{Item}
 use Rattle.cpu12_asm.specs.Items.{given_by, IsRising}
-use Rattle.codegen.specs.declared.layout.Layout.{Layout}
-use Rattle.codegen.specs.declared.width.Width.{Width}
-use Rattle.codegen.specs.Code.{frame_code, eval_code, block_code}
-use Rattle.codegen.specs.Data.{table_bytes, singleton_bytes, weight_bytes, rule_bytes, bytes_of_word}
-use Rattle.codegen.specs.Images.{code_at, bytes_at, vector_items, block_items, IsApart}
-use Rattle.codegen.specs.Evaluation.{HasEval, eval_bytes}
-use Rattle.codegen.proofs.Joins.{block_items-then}
-use Rattle.codegen.proofs.steps.Memory.{HasBytes, bytes_front, bytes_back}
+use Rattle.eval_code.specs.declared.layout.Layout.{Layout}
+use Rattle.eval_code.specs.declared.width.Width.{Width}
+use Rattle.eval_code.specs.Code.{code_bytes}
+use Rattle.eval_code.specs.Data.{bytes_of_word}
+use Rattle.eval_code.specs.Items.{bytes_at, IsApart}
+use Rattle.eval_code.specs.Evaluation.{HasBytes, eval_bytes}
+use Rattle.eval_code.specs.Placed.{StandsBetween}
+use Rattle.codegen.specs.Code.{frame_code}
+use Rattle.codegen.specs.Images.{vector_items}
+use Rattle.eval_code.proofs.Algebra.{Rises, HasGiven, bytes_stand, bytes_front, bytes_back, decode_here}
 use Rattle.codegen.proofs.runs.Stepping.{Ctx, Stands, stands_of}
 use Rattle.codegen.proofs.runs.Framing.{HasFrame}
-use Rattle.codegen.proofs.steps.Decoding.{sizes, code_bytes, decode_here}
-use Rattle.codegen.proofs.phases.Law.{length-code}
 use Rattle.codegen.proofs.runs.Calling.{HasRoutine, IsInCode}
-use Rattle.codegen.proofs.runs.Standing.{Rises, HasGiven, bytes_stand, code_stands}
 
-pub bytes_append : (a b : List Instr) → code_bytes (a ++ b) ≡ code_bytes a ++ code_bytes b
-bytes_append a b = flat_map-append encode_of a b
-
--- the parts of a block stand
-pub record Stood (image : List ℕ) (l : Layout) (b : Block) (w : Width) (before behind : List Instr) : Type 0 where
-  pub code : HasBytes image l.code (code_bytes (block_code l b w before behind))
-  pub tables : HasBytes image l.tables (table_bytes b)
-  pub singletons : HasBytes image l.singletons (singleton_bytes b)
-  pub weights : HasBytes image l.weights (weight_bytes b)
-  pub rules : HasBytes image l.rules (rule_bytes l.slots b)
-
--- so they do among rising items
-pub stood : Rises → (image : List ℕ) (front rest : List Item) (l : Layout) (b : Block) (w : Width) (before behind : List Instr)
-    → HasGiven image (given_by (front ++ (block_items l b w before behind ++ rest))) → IsRising (front ++ (block_items l b w before behind ++ rest))
-    → Stood image l b w before behind
-stood rises image front rest l b w before behind h rise =
-    let items = front ++ (block_items l b w before behind ++ rest) in
-    let A = code_at l.code (block_code l b w before behind) in
-    let T = bytes_at l.tables (table_bytes b) in
-    let S = bytes_at l.singletons (singleton_bytes b) in
-    let W = bytes_at l.weights (weight_bytes b) in
-    let R = bytes_at l.rules (rule_bytes l.slots b) in
-    let e1 : items ≡ front ++ (A ++ (T ++ (S ++ (W ++ (R ++ rest))))) = ap (λ (x : List Item). front ++ x) (block_items-then l b w before behind rest) in
-    let e2 : items ≡ (front ++ A) ++ (T ++ (S ++ (W ++ (R ++ rest)))) = e1 ∙ sym (append_assoc front A (T ++ (S ++ (W ++ (R ++ rest))))) in
-    let e3 : items ≡ ((front ++ A) ++ T) ++ (S ++ (W ++ (R ++ rest))) = e2 ∙ sym (append_assoc (front ++ A) T (S ++ (W ++ (R ++ rest)))) in
-    let e4 : items ≡ (((front ++ A) ++ T) ++ S) ++ (W ++ (R ++ rest)) = e3 ∙ sym (append_assoc ((front ++ A) ++ T) S (W ++ (R ++ rest))) in
-    let e5 : items ≡ ((((front ++ A) ++ T) ++ S) ++ W) ++ (R ++ rest) = e4 ∙ sym (append_assoc (((front ++ A) ++ T) ++ S) W (R ++ rest)) in
-    record {
-      code = code_stands rises image items front (T ++ (S ++ (W ++ (R ++ rest)))) l.code (block_code l b w before behind) h rise e1;
-      tables = bytes_stand rises image items (front ++ A) (S ++ (W ++ (R ++ rest))) l.tables (table_bytes b) h rise e2;
-      singletons = bytes_stand rises image items ((front ++ A) ++ T) (W ++ (R ++ rest)) l.singletons (singleton_bytes b) h rise e3;
-      weights = bytes_stand rises image items (((front ++ A) ++ T) ++ S) (R ++ rest) l.weights (weight_bytes b) h rise e4;
-      rules = bytes_stand rises image items ((((front ++ A) ++ T) ++ S) ++ W) rest l.rules (rule_bytes l.slots b) h rise e5;
-    }
-
--- and the reset vector
+-- the reset vector stands
 pub start_stands : Rises → (image : List ℕ) (front : List Item) (l : Layout) → HasGiven image (given_by (front ++ vector_items l)) → IsRising (front ++ vector_items l)
     → HasBytes image 0xFFFE (bytes_of_word l.code)
 start_stands rises image front l h rise =
@@ -65,34 +29,6 @@ start_stands rises image front l h rise =
     let E = bytes_at 0xFFFE (bytes_of_word l.code) in
     let e : front ++ (V ++ E) ≡ (front ++ V) ++ (E ++ []) = sym (append_assoc front V E) ∙ ap (λ (x : List Item). (front ++ V) ++ x) (sym (append-nil E)) in
     bytes_stand rises image (front ++ vector_items l) (front ++ V) [] 0xFFFE (bytes_of_word l.code) h rise e
-
--- the code before EVAL, EVAL with its data, and the code behind it
-pub record AroundEval (image : List ℕ) (l : Layout) (b : Block) (w : Width) (before behind : List Instr) : Type 0 where
-  pub front : HasBytes image l.code (code_bytes before)
-  pub eval : HasEval l b w image
-  pub back : HasBytes image (l.eval + length (eval_bytes l b w)) (code_bytes behind)
-
-pub around_eval : (image : List ℕ) (l : Layout) (b : Block) (w : Width) (before behind : List Instr) → l.eval ≡ l.code + sizes before → Stood image l b w before behind
-    → AroundEval image l b w before behind
-around_eval image l b w before behind at h =
-    let eval = eval_code l b w in
-    let split : code_bytes (block_code l b w before behind) ≡ code_bytes before ++ (code_bytes eval ++ code_bytes behind) =
-    bytes_append before (eval ++ behind) ∙ ap (λ (x : List ℕ). code_bytes before ++ x) (bytes_append eval behind) in
-    let code : HasBytes image l.code (code_bytes before ++ (code_bytes eval ++ code_bytes behind)) = subst (HasBytes image l.code) split h.code in
-    let e : l.code + length (code_bytes before) ≡ l.eval = omega (arith, length-code before) in
-    let later : HasBytes image l.eval (code_bytes eval ++ code_bytes behind) =
-    subst (λ (p : ℕ). HasBytes image p (code_bytes eval ++ code_bytes behind)) e (bytes_back image l.code (code_bytes before) (code_bytes eval ++ code_bytes behind) code) in
-    record {
-      front = bytes_front image l.code (code_bytes before) (code_bytes eval ++ code_bytes behind) code;
-      eval = record {
-        code = bytes_front image l.eval (code_bytes eval) (code_bytes behind) later;
-        tables = h.tables;
-        singletons = h.singletons;
-        weights = h.weights;
-        rules = h.rules;
-      };
-      back = bytes_back image l.eval (code_bytes eval) (code_bytes behind) later;
-    }
 
 -- where the code of a form starts that sets up its stack, clears the byte by which samples come and lets interrupts in
 pub record IsStarted (l : Layout) : Type 0 where
@@ -155,10 +91,13 @@ has_frame c shown f a h =
     }
 
 -- EVAL and a return behind it
-pub has_routine : (l : Layout) (b : Block) (w : Width) (before : List Instr) (image : List ℕ) → l.wait < l.eval → IsInCode l → AroundEval image l b w before (Rts ∷ []) → HasRoutine l b w image
-has_routine l b w before image above inside h = record {
+pub has_routine : (l : Layout) (b : Block) (w : Width) (before : List Instr) (image : List ℕ) → l.wait < l.eval → IsInCode l
+    → length (slots_of b) ≤ 300 → StandsBetween l b w before (Rts ∷ []) image → HasRoutine l b w image
+has_routine l b w before image above inside few h = record {
   above = above;
   inside = inside;
   eval = h.eval;
   back = bytes_front image (l.eval + length (eval_bytes l b w)) (encode_of Rts) [] h.back;
+  room = h.room;
+  few_slots = few;
 }

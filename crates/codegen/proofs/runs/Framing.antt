@@ -14,24 +14,23 @@ use Rattle.cpu12_isa.specs.Flags.{has}
 use Rattle.cpu12_isa.specs.Memory.{plus}
 use Rattle.cpu12_parts.specs.State.{State}
 use Rattle.cpu12_parts.specs.Whole.{after_plain}
-use Rattle.codegen.specs.declared.layout.Layout.{Layout}
-use Rattle.codegen.specs.declared.width.Width.{Width}
-use Rattle.codegen.specs.declared.width.Width.TheVariants.{Byte, Word}
-use Rattle.codegen.specs.Widths.{places, bytes_of, answer}
-use Rattle.codegen.specs.Firing.{AreInputBytes}
-use Rattle.codegen.specs.Images.{IsApart}
-use Rattle.codegen.specs.Bounds.{instruction_bound, step_bound}
-use Rattle.codegen.specs.Evaluation.{HasAnswers, EvalAnswers}
-use Rattle.codegen.specs.Answers.{put, given}
+use Rattle.eval_code.specs.declared.layout.Layout.{Layout}
+use Rattle.eval_code.specs.declared.width.Width.{Width}
+use Rattle.eval_code.specs.declared.width.Width.TheVariants.{Byte, Word}
+use Rattle.eval_code.specs.Widths.{places, bytes_of, answer}
+use Rattle.eval_code.specs.Firing.{AreInputBytes}
+use Rattle.eval_code.specs.Items.{IsApart}
+use Rattle.eval_code.specs.Bounds.{instruction_bound, step_bound}
+use Rattle.eval_code.specs.Evaluation.{HasAnswers, EvalAnswers, HasBytes}
+use Rattle.eval_code.specs.Evaluation.{put}
+use Rattle.codegen.specs.Answers.{given}
 use Rattle.cpu12_parts.specs.Executions.{Execution, all_steps}
 use Rattle.cpu12_isa.specs.Regions.{is_hidden}
 use Rattle.codegen.specs.Interruptible.{is_idle, IsInterruptibleStep}
-use Rattle.codegen.proofs.steps.Flags.{masked_tested, zero_tested}
-use Rattle.codegen.proofs.steps.Memory.{HasBytes, length-put, has_put, bytes_put_out, bytes_set_out, bytes_after_set, bytes_after_put, high_set, high_put}
+use Rattle.eval_code.proofs.Algebra.{masked_tested, zero_tested, length-put, has_put, bytes_put_out, bytes_set_out, bytes_after_set, bytes_after_put}
+use Rattle.eval_code.proofs.Algebra.{high_set, high_put, execution_on, length_append, steps_append}
 use Rattle.codegen.proofs.runs.Stepping.{code_room, Ctx, Here, Live, Stands, Next, next, plain_next, Goes, goes_one, goes_on, interruptible_of, low_shown, high_shown}
 use Rattle.codegen.proofs.runs.Stepping.{not_at, clr, beq_on}
-use Rattle.codegen.proofs.steps.Executions.{execution_on, length_append, steps_append}
-use Rattle.codegen.proofs.phases.RuleFacts.{BlockFacts}
 use Rattle.codegen.proofs.runs.Calling.{HasRoutine, IsCalled, Back, called}
 
 -- the code around EVAL
@@ -184,7 +183,6 @@ pub record Sampled (c : Ctx) (b : Block) (w : Width) (bytes : List ℕ) (before 
 pub record Samples (c : Ctx) (b : Block) (w : Width) : Type 0 where
   pub apart : IsApart c.layout
   pub valid : IsValid b
-  pub facts : BlockFacts b
   pub limits : IsWithinLimits b
   pub eval_answers : EvalAnswers
   pub routine : HasRoutine c.layout b w c.image
@@ -257,7 +255,7 @@ evaluated c b w bytes before s0 h i l0 hi ho r =
     let pushed : get_or r.t.mem 0x1FFE 0 * 2 ^ 8 + get_or r.t.mem 0x1FFF 0 ≡ ret =
     ap (λ (x : List ℕ). get_or x 0x1FFE 0 * 2 ^ 8 + get_or x 0x1FFF 0) r.mem_is ∙ pushed_word s0.mem ret l0.size in
     let k : IsCalled c.open_to c.layout b w c.image ret bytes before r.t = record { interruptible = interruptible_of c r.t r.live (omega (arith, r.pc_is)) (omega (arith, r.pc_is)); pc = r.pc_is; sp = r.sp_is; back_is = pushed; inputs = keep; outputs = kept } in
-    let e = called h.eval_answers c b w ret bytes before r.t h.apart h.valid h.facts h.limits h.routine i k in
+    let e = called h.eval_answers c b w ret bytes before r.t h.apart h.valid h.limits h.routine i k in
     left c b w bytes before s0 h r e (leave_run c e.t h.frame (omega arith) e.live e.pc_is)
 
 pub sample_run : (c : Ctx) (b : Block) (w : Width) (bytes : List ℕ) (before : ℕ → ℕ) (s : State) → Samples c b w → AreInputBytes b bytes → Home c b w before s

@@ -1,68 +1,42 @@
 -- The firmware of a block answers every list of samples by the byte answer.
-use Rattle.std.proofs.Common.{◌≡◌, ◌⊎◌, inl, inr, Bool, false, ◌≤◌, ℕ, ◌^◌, ◌<◌, List, [], ◌∷◌, All, refl, sym, ap, ◌∙◌, subst, arith}
+use Rattle.std.proofs.Common.{◌≡◌, ◌⊎◌, inl, inr, Bool, false, ◌≤◌, ℕ, ◌^◌, ◌<◌, List, [], ◌∷◌, length, All, refl, sym, ap, ◌∙◌, subst, arith}
 use Rattle.fuzzy_meaning.specs.declared.block.Block.{Block}
 use Rattle.fuzzy_meaning.specs.Blocks.{IsValid}
-use Rattle.byte_scaling.specs.Cells.{NearestIsByte}
-use Rattle.rule_layout.specs.Layouts.{IsWithinLimits, LayoutLaw}
-use Rattle.cpu12_isa.specs.Fits.{StaysFit}
+use Rattle.rule_layout.specs.Layouts.{IsWithinLimits}
 use Rattle.cpu12_asm.specs.Bytes.{Holds}
 use Rattle.cpu12_asm.specs.Items.{given_by, IsRising}
 use Rattle.cpu12_parts.specs.State.{State}
-use Rattle.cpu12_emul.specs.Image.{byte_or_zero, image_memory, HoldsImage}
-use Rattle.codegen.specs.declared.layout.Layout.{Layout}
-use Rattle.codegen.specs.declared.width.Width.{Width}
-use Rattle.codegen.specs.Widths.{width_of}
-use Rattle.codegen.specs.Layouts.{main_layout}
+use Rattle.cpu12_emul.specs.Image.{image_memory}
+use Rattle.eval_code.specs.declared.layout.Layout.{Layout}
+use Rattle.eval_code.specs.declared.width.Width.{Width}
+use Rattle.eval_code.specs.Widths.{width_of}
+use Rattle.eval_code.specs.Layouts.{main_layout}
 use Rattle.codegen.specs.Code.{frame_code}
-use Rattle.codegen.specs.Bounds.{instruction_bound}
-use Rattle.codegen.specs.Images.{vector_items, block_items, firmware_items, IsApart}
-use Rattle.codegen.specs.Firing.{AreInputBytes}
-use Rattle.codegen.specs.Evaluation.{EvalAnswers}
-use Rattle.codegen.specs.Evaluation.{Reads, Writes}
+use Rattle.eval_code.specs.Bounds.{instruction_bound}
+use Rattle.codegen.specs.Images.{vector_items, firmware_items}
+use Rattle.eval_code.specs.Items.{block_items, IsApart}
+use Rattle.eval_code.specs.Firing.{AreInputBytes}
+use Rattle.eval_code.specs.Evaluation.{HasBytes, Reads, Writes}
+use Rattle.eval_code.specs.Placed.{IsInOrder, BlockRises, BlockIsShort}
 use Rattle.codegen.specs.Answers.{IsArrivedBeside, AreAnsweredBeside, FirmwareAnswers, LeavesLayout, FirmwareAnswersBeside, ArrivesAlike, FirmwareArrivesAlike}
-use Rattle.codegen.proofs.Placement.{HasSizes, main_rises}
-use Rattle.codegen.proofs.phases.RuleFacts.{BlockFacts, block_facts}
+use Rattle.eval_code.specs.Code.{code_bytes}
+use Rattle.eval_code.proofs.Algebra.{image_given, UsedCode, memory_fits}
+use Rattle.codegen.specs.Laws.{LowerLaws}
 use Rattle.codegen.proofs.runs.Stepping.{IsShut, Ctx, interruptible_of}
 use Rattle.cpu12_isa.specs.Regions.{is_free}
 use Rattle.cpu12_isa.specs.Agreement.{Agree}
 use Rattle.std.proofs.lemmas.Bool.Decides.{nat_tests}
-use Rattle.codegen.proofs.runs.Founding.{IsStarted, IsFramed, start_code, stood, start_stands, around_eval, frame_bytes, has_frame, has_routine}
+use Rattle.codegen.proofs.runs.Founding.{IsStarted, IsFramed, start_code, start_stands, frame_bytes, has_frame, has_routine}
+use Rattle.codegen.proofs.runs.Placing.{rises_of, few_slots, whole_rises, whole_is_short, whole_stands, whole_fits}
 use Rattle.codegen.proofs.runs.Arriving.{Arrived, arrive, arrive_alike, zero_below}
 use Rattle.codegen.proofs.runs.Calling.{IsInCode}
-use Rattle.codegen.proofs.steps.Memory.{HasBytes}
-use Rattle.codegen.specs.Data.{bytes_of_word}
+use Rattle.eval_code.specs.Data.{bytes_of_word}
 use Rattle.codegen.proofs.runs.Framing.{HasFrame, Samples, waits}
 use Rattle.codegen.proofs.runs.Sampling.{are_answered}
-use Rattle.codegen.proofs.runs.Standing.{Rises, HasGiven}
-use Rattle.codegen.proofs.runs.GivenBytes.{ItemsFit, block_fits, vectors_fit, memory_fits}
-use Rattle.codegen.proofs.steps.Decoding.{UsedCode, code_bytes}
 use Rattle.cpu12_isa.specs.declared.instr.Instr.TheVariants.{Rts}
 
--- the laws of other crates, and that on EVAL
-pub record FirmwareLaws : Type 0 where
-  pub layout_law : LayoutLaw
-  pub nearest_is_byte : NearestIsByte
-  pub stays_fit : StaysFit
-  pub rises : Rises
-  pub holds_image : HoldsImage
-  pub eval_answers : EvalAnswers
-
 pub main_apart : IsApart main_layout
-main_apart = record {
-  inputs = omega arith;
-  outputs = omega arith;
-  slots = omega arith;
-  eval = omega arith;
-  eval_end = omega arith;
-  tables = omega arith;
-  tables_end = omega arith;
-  singletons = omega arith;
-  singletons_end = omega arith;
-  weights = omega arith;
-  weights_end = omega arith;
-  rules = omega arith;
-  rules_end = omega arith;
-}
+main_apart = search arith
 
 main_framed : IsFramed main_layout
 main_framed = record {
@@ -118,11 +92,8 @@ main_inside = record { from = omega arith; to = omega arith }
 main_frame_used : UsedCode (frame_code main_layout)
 main_frame_used = (tt, omega arith, (tt, omega arith, (tt, omega arith, (tt, omega arith, (tt, omega arith, (tt, omega arith, (tt, omega arith, (tt, omega arith, (tt, tt, tt)))))))))
 
-pub sizes_of : (b : Block) → BlockFacts b → IsWithinLimits b → HasSizes b
-sizes_of b facts h = record { few_slots = facts.few_slots; few_conjunctions = h.few_conjunctions; short_list = h.short_list }
-
 -- what runs are under that are beside handlers to which these bytes are open
-abbrev over_main : FirmwareLaws → (open_to : ℕ → Bool) → LeavesLayout open_to main_layout → List ℕ → (flags : ℕ) → flags < 2 ^ 8 → Ctx
+abbrev over_main : LowerLaws → (open_to : ℕ → Bool) → LeavesLayout open_to main_layout → List ℕ → (flags : ℕ) → flags < 2 ^ 8 → Ctx
 over_main laws open_to leaves image flags fits =
     record { stays_fit = laws.stays_fit; open_to = open_to; layout = main_layout; shut = main_shut open_to leaves; image = image; flags = flags; fits = fits }
 
@@ -133,47 +104,46 @@ record Founded (c : Ctx) (b : Block) (w : Width) : Type 0 where
   start : HasBytes c.image c.layout.code (code_bytes (start_code c.layout))
   arrived : Arrived c b w
 
-founded : (laws : FirmwareLaws) → (open_to : ℕ → Bool) (leaves : LeavesLayout open_to main_layout) (b : Block) (w : Width) (image : List ℕ) (flags : ℕ) (fits : flags < 2 ^ 8)
-    → IsValid b → IsWithinLimits b → HasGiven image (given_by (firmware_items main_layout b w)) → IsRising (firmware_items main_layout b w)
-    → Founded (over_main laws open_to leaves image flags fits) b w
-founded laws open_to leaves b w image flags fits v limits g rise =
-    let facts = block_facts laws.layout_law b v in
+-- its items are in order, can be placed, and are few
+main_in_order : IsInOrder main_layout (frame_code main_layout) (Rts ∷ [])
+main_in_order = search arith
+
+pub main_rises : BlockRises → (b : Block) (w : Width) → IsValid b → IsWithinLimits b → IsRising (firmware_items main_layout b w)
+main_rises rises b w v limits =
+    whole_rises rises main_layout b w (frame_code main_layout) (Rts ∷ []) main_in_order v limits (omega arith)
+
+pub length-main_items : BlockIsShort → (b : Block) (w : Width) → IsValid b → IsWithinLimits b → length (firmware_items main_layout b w) < 2 ^ 32
+length-main_items short b w v limits =
+    whole_is_short short main_layout b w (frame_code main_layout) (Rts ∷ []) v limits (omega arith)
+
+founded : (laws : LowerLaws) → (open_to : ℕ → Bool) (leaves : LeavesLayout open_to main_layout) (b : Block) (w : Width) (image : List (ℕ × ℕ)) (flags : ℕ) (fits : flags < 2 ^ 8)
+    → IsValid b → IsWithinLimits b → Holds image (given_by (firmware_items main_layout b w)) → Founded (over_main laws open_to leaves (image_memory image) flags fits) b w
+founded laws open_to leaves b w image flags fits v limits h =
     let frame = frame_code main_layout in
     let back = Rts ∷ [] in
-    let c : Ctx = over_main laws open_to leaves image flags fits in
-    let around = around_eval image main_layout b w frame back refl (stood laws.rises image [] (vector_items main_layout) main_layout b w frame back g rise) in
-    let fb = frame_bytes image main_layout around.front in
-    let vector = start_stands laws.rises image (block_items main_layout b w frame back) main_layout g rise in
-    let fit : ItemsFit (firmware_items main_layout b w) =
-    block_fits laws.nearest_is_byte main_layout b w frame back (vector_items main_layout) v facts main_apart main_frame_used (tt, tt, tt) (vectors_fit main_layout (omega arith) (omega arith)) in
+    let items = firmware_items main_layout b w in
+    let mem = image_memory image in
+    let c : Ctx = over_main laws open_to leaves mem flags fits in
+    let rise = main_rises laws.rises b w v limits in
+    let g = image_given laws.holds_image image (given_by items) h in
+    let around = whole_stands laws.stands image main_layout b w frame back main_in_order v limits h rise in
+    let fb = frame_bytes mem main_layout around.front in
+    let vector = start_stands (rises_of laws) mem (block_items main_layout b w frame back) main_layout g rise in
+    let fit = whole_fits laws main_layout b w frame back main_apart v main_frame_used (tt, tt, tt) (omega arith) (omega arith) in
     record {
       samples = record {
         apart = main_apart;
         valid = v;
-        facts = facts;
         limits = limits;
         eval_answers = laws.eval_answers;
-        routine = has_routine main_layout b w frame image (omega arith) main_inside around;
+        routine = has_routine main_layout b w frame mem (omega arith) main_inside (few_slots laws.layout_law b v) around;
         frame = has_frame c leaves.ready main_framed main_apart fb;
       };
       vector = vector;
       start = fb.start;
-      arrived = arrive c b w main_framed.started main_apart v.few_outputs vector fb.start g.size (memory_fits (firmware_items main_layout b w) image fit g.size g.bytes)
-          (λ q lt. zero_below laws.rises image main_layout b w frame back (vector_items main_layout) g rise q lt (omega arith));
+      arrived = arrive c b w main_framed.started main_apart v.few_outputs vector fb.start g.size (memory_fits items mem fit g.size g.bytes)
+          (λ q lt. zero_below (rises_of laws) mem main_layout b w frame back (vector_items main_layout) g rise q lt (omega arith));
     }
-
--- the memory of an image that holds what items give
-pub image_given : HoldsImage → (image given : List (ℕ × ℕ)) → Holds image given → HasGiven (image_memory image) given
-image_given holds_image image given h =
-    let m = holds_image image in
-    record { size = m.0; bytes = λ at lt. m.1 at lt ∙ ap byte_or_zero (h.bytes at) }
-
-main_founded : (laws : FirmwareLaws) → (open_to : ℕ → Bool) (leaves : LeavesLayout open_to main_layout) (b : Block) (w : Width) (image : List (ℕ × ℕ)) (flags : ℕ) (fits : flags < 2 ^ 8)
-    → IsValid b → IsWithinLimits b → Holds image (given_by (firmware_items main_layout b w)) → Founded (over_main laws open_to leaves (image_memory image) flags fits) b w
-main_founded laws open_to leaves b w image flags fits v limits h =
-    let items = firmware_items main_layout b w in
-    let rise : IsRising items = main_rises b w items v (sizes_of b (block_facts laws.layout_law b v) limits) refl in
-    founded laws open_to leaves b w (image_memory image) flags fits v limits (image_given laws.holds_image image (given_by items) h) rise
 
 arrived_at : (c : Ctx) (b : Block) (w : Width) → HasFrame c → (a : Arrived c b w) → IsArrivedBeside c.open_to c.layout c.image c.flags a.t
 arrived_at c b w h a =
@@ -193,7 +163,7 @@ from_arrival c b w samples h all =
     let a = h.arrived in
     (a.t, (arrived_at c b w h.samples.frame a, are_answered c b w samples (λ o. 0) a.t h.samples a.home all))
 
-pub firmware_answers_beside : FirmwareLaws → FirmwareAnswersBeside
+pub firmware_answers_beside : LowerLaws → FirmwareAnswersBeside
 firmware_answers_beside laws open_to b f leaves v limits h flags samples fits all =
     let w = width_of f.wide in
     let image = image_memory f.image.bytes in
@@ -201,7 +171,7 @@ firmware_answers_beside laws open_to b f leaves v limits h flags samples fits al
     let c = over_main laws open_to mine image flags fits in
     subst (λ (l : Layout). Answers open_to l b w f.instr_bound image flags samples) (sym h.layout)
     (subst (λ (most : ℕ). Answers open_to main_layout b w most image flags samples) (sym h.instructions)
-    (from_arrival c b w samples (main_founded laws open_to mine b w f.image.bytes flags fits v limits h.image.bytes) all))
+    (from_arrival c b w samples (founded laws open_to mine b w f.image.bytes flags fits v limits h.image.bytes) all))
 
 pub firmware_answers : FirmwareAnswersBeside → FirmwareAnswers
 firmware_answers beside b f v limits h = beside is_free b f (subst (λ (l : Layout). LeavesLayout is_free l) (sym h.layout) free_leaves) v limits h
@@ -223,11 +193,11 @@ alike c b w mem h started reset agree =
       open_bytes = r.open_bytes;
     }
 
-pub firmware_arrives_alike : FirmwareLaws → FirmwareArrivesAlike
+pub firmware_arrives_alike : LowerLaws → FirmwareArrivesAlike
 firmware_arrives_alike laws open_to b f mem flags fits leaves v limits h agree =
     let w = width_of f.wide in
     let image = image_memory f.image.bytes in
     let mine : LeavesLayout open_to main_layout = subst (λ (l : Layout). LeavesLayout open_to l) h.layout leaves in
     let c = over_main laws open_to mine image flags fits in
     subst (λ (l : Layout). ArrivesAlike open_to l image mem flags) (sym h.layout)
-    (alike c b w mem (main_founded laws open_to mine b w f.image.bytes flags fits v limits h.image.bytes) main_framed.started mine.reset agree)
+    (alike c b w mem (founded laws open_to mine b w f.image.bytes flags fits v limits h.image.bytes) main_framed.started mine.reset agree)

@@ -2,10 +2,10 @@
 use Rattle.std.proofs.Common.{ℕ, suc, List, [], ◌∷◌, All, arith}
 use Rattle.fuzzy_meaning.specs.declared.block.Block.{Block}
 use Rattle.cpu12_parts.specs.State.{State}
-use Rattle.codegen.specs.declared.width.Width.{Width}
-use Rattle.codegen.specs.Widths.{answer}
-use Rattle.codegen.specs.Firing.{AreInputBytes}
-use Rattle.codegen.specs.Bounds.{instruction_bound}
+use Rattle.eval_code.specs.declared.width.Width.{Width}
+use Rattle.eval_code.specs.Widths.{answer}
+use Rattle.eval_code.specs.Firing.{AreInputBytes}
+use Rattle.eval_code.specs.Bounds.{instruction_bound}
 use Rattle.codegen.specs.Answers.{given, IsAnsweredBeside, AreAnsweredBeside}
 use Rattle.codegen.proofs.runs.Stepping.{Ctx, interruptible_of}
 use Rattle.codegen.proofs.runs.Framing.{Home, Samples, Sampled, sample_run, waits}

@@ -16,16 +16,15 @@ use Rattle.cpu12_parts.specs.declared.temps.Temps.TheVariants.{Free}
 use Rattle.cpu12_parts.specs.State.{State}
 use Rattle.cpu12_parts.specs.Laws.{addresses}
 use Rattle.cpu12_parts.specs.Whole.{after_plain}
-use Rattle.codegen.specs.declared.layout.Layout.{Layout}
+use Rattle.eval_code.specs.declared.layout.Layout.{Layout}
 use Rattle.cpu12_isa.specs.Regions.{is_hidden}
-use Rattle.codegen.specs.Masks.{interrupt_masks}
-use Rattle.codegen.specs.Evaluation.{Reads, Writes}
+use Rattle.eval_code.specs.Masks.{interrupt_masks}
+use Rattle.eval_code.specs.Evaluation.{Reads, Writes, HasBytes}
 use Rattle.codegen.specs.Interruptible.{is_idle, IsSteady, IsInterruptible, IsShownPlain, IsInterruptibleStep}
-use Rattle.codegen.proofs.steps.Memory.{SameHigh, WriteBelow, below_more, high_writes, bytes_writes, HasBytes, bytes_front, bytes_back}
-use Rattle.codegen.proofs.steps.Decoding.{sizes, decode_same, UsedCode, code_bytes, decode_here}
 use Rattle.cpu12_isa.specs.declared.instr.Instr.TheVariants.{ClrExtended, Beq}
-use Rattle.codegen.proofs.steps.Flags.{masked_four}
-use Rattle.codegen.proofs.steps.Executions.{Bounded, bounded_one, bounded_on}
+use Rattle.eval_code.specs.Code.{code_bytes}
+use Rattle.eval_code.proofs.Algebra.{SameHigh, WriteBelow, below_more, high_writes, bytes_writes, bytes_front, bytes_back, sizes, decode_same}
+use Rattle.eval_code.proofs.Algebra.{UsedCode, decode_here, masked_four, Bounded, bounded_one, bounded_on}
 
 -- how many bytes the code of a form has at most, with those that are fetched behind it
 abbrev pub code_room : ℕ

@@ -10,12 +10,12 @@ use Rattle.cpu12_parts.specs.Whole.{PlainWay, IsWholeStep}
 use Rattle.cpu12_parts.specs.Executions.{Execution, IsStepBefore, IsUntil, ExecutionsAreOne}
 use Rattle.cpu12_emul.specs.Image.{image_memory}
 use Rattle.cpu12_emul.specs.Step.{reset_with}
-use Rattle.codegen.specs.declared.layout.Layout.{Layout}
-use Rattle.codegen.specs.declared.width.Width.{Width}
-use Rattle.codegen.specs.declared.width.Width.TheVariants.{Byte, Word}
+use Rattle.eval_code.specs.declared.layout.Layout.{Layout}
+use Rattle.eval_code.specs.declared.width.Width.{Width}
+use Rattle.eval_code.specs.declared.width.Width.TheVariants.{Byte, Word}
 use Rattle.codegen.specs.declared.firmware.Firmware.{Firmware}
-use Rattle.codegen.specs.Widths.{width_of, places, bytes_of, answer}
-use Rattle.codegen.specs.Evaluation.{HasBytes}
+use Rattle.eval_code.specs.Widths.{width_of, places, bytes_of, answer}
+use Rattle.eval_code.specs.Evaluation.{HasBytes}
 use Rattle.codegen.specs.Interruptible.{is_idle, IsShownInstruction, IsInterruptibleStep}
 use Rattle.codegen.specs.Answers.{given, AreAnswered, FirmwareAnswers}
 use Rattle.codegen.specs.Uninterrupted.{Answer, value_at, values_from, values_in, is_waiting, AreAnswersTo, UninterruptedAreOne, AreAnswersOf, answers_by}

@@ -13,19 +13,19 @@ use Rattle.cpu12_parts.specs.Executions.{Execution, IsStepBefore}
 use Rattle.cpu12_emul.specs.Image.{image_memory}
 use Rattle.cpu12_emul.specs.Step.{reset_with}
 use Rattle.codegen.specs.declared.firmware.Firmware.{Firmware}
-use Rattle.codegen.specs.declared.layout.Layout.{Layout}
-use Rattle.codegen.specs.declared.width.Width.{Width}
-use Rattle.codegen.specs.Widths.{width_of, places, bytes_of, answer}
-use Rattle.codegen.specs.Firing.{AreInputBytes}
-use Rattle.codegen.specs.Evaluation.{HasBytes, HasAnswers}
+use Rattle.eval_code.specs.declared.layout.Layout.{Layout}
+use Rattle.eval_code.specs.declared.width.Width.{Width}
+use Rattle.eval_code.specs.Widths.{width_of, places, bytes_of, answer}
+use Rattle.eval_code.specs.Firing.{AreInputBytes}
+use Rattle.eval_code.specs.Evaluation.{HasBytes, HasAnswers}
 use Rattle.codegen.specs.Interruptible.{is_idle}
-use Rattle.codegen.specs.Answers.{put, given}
+use Rattle.eval_code.specs.Evaluation.{put}
+use Rattle.codegen.specs.Answers.{given}
 use Rattle.codegen.specs.Uninterrupted.{Answer, values_in, AreAnswersTo, AreAnswersOf}
 use Rattle.codegen.specs.Mailboxes.{is_postable, mailbox_layout}
 use Rattle.codegen.specs.Turns.{IsAt, IsMaskedStep, IsCopied, IsLook, IsChoice, TakesTurns, MailboxTakesPosts, MailboxIsUninterrupted, call_of}
 use Rattle.codegen.specs.SampleTurns.{IsSampleTurn, TakesSamples, MailboxTakesSamples}
-use Rattle.codegen.proofs.steps.Executions.{execution_on, length_append}
-use Rattle.codegen.proofs.steps.Memory.{length-put, has_put, bytes_by, bytes_put_out, bytes_set_out, same_bytes}
+use Rattle.eval_code.proofs.Algebra.{execution_on, length_append, length-put, has_put, bytes_by, bytes_put_out, bytes_set_out, same_bytes}
 use Rattle.codegen.proofs.runs.Stepping.{not_at}
 use Rattle.codegen.proofs.runs.Framing.{answer_room, not_ready, given_live, waits as idle}
 use Rattle.codegen.proofs.runs.Uninterrupted.{uninterrupted, waits, arrival, count_from, value_from}

@@ -10,8 +10,7 @@ use Rattle.cpu12_parts.specs.Whole.{after_plain}
 use Rattle.cpu12_parts.specs.Executions.{Execution}
 use Rattle.codegen.specs.Mailboxes.{is_postable, mailbox_layout, copy_code, call_code}
 use Rattle.codegen.specs.Turns.{IsAt, IsMaskedStep, IsCopied}
-use Rattle.codegen.proofs.steps.Flags.{masked_four, masked_on, unmasked}
-use Rattle.codegen.proofs.steps.Executions.{execution_on, length_append}
+use Rattle.eval_code.proofs.Algebra.{masked_four, masked_on, unmasked, execution_on, length_append}
 use Rattle.codegen.proofs.runs.Stepping.{Here, Lives, Stands, Went, low_shown, plain_went, steady_of}
 use Rattle.codegen.proofs.turns.Posting.{Post, HasTurn, free_ctx, post_ctx, lives_of, at_of}
 

@@ -1,55 +1,13 @@
 -- How many steps a sample takes the mailbox firmware at most.
-use Rattle.std.proofs.Common.{◌≡◌, ◌*◌, ◌≤◌, List, [], ◌∷◌, length, sum_by, Option, Some, None, refl, arith}
-use Rattle.std.proofs.lemmas.List.Sums.{sum_by-cons}
-use Rattle.fz_num.specs.declared.dec.Dec.{Dec}
-use Rattle.fuzzy_meaning.specs.declared.block.Block.{Block}
-use Rattle.fuzzy_meaning.specs.declared.block.Output.{Output}
-use Rattle.fuzzy_meaning.specs.Blocks.{IsValid}
-use Rattle.rule_layout.specs.declared.flat.Form.{Form}
-use Rattle.rule_layout.specs.declared.flat.Form.TheVariants as form
-use Rattle.rule_layout.specs.Layouts.{form_of, LayoutLaw, IsWithinLimits}
-use Rattle.codegen.specs.declared.firmware.Firmware.{Firmware}
-use Rattle.codegen.specs.declared.width.Width.{Width}
-use Rattle.codegen.specs.declared.width.Width.TheVariants.{Byte, Word}
-use Rattle.codegen.specs.Bounds.{output_bound, form_bound, instruction_bound, steps_by}
-use Rattle.codegen.specs.Mailboxes.{IsMailboxOf}
-use Rattle.codegen.specs.Widths.{width_of}
-use Rattle.codegen.proofs.Joins.{sum_by-term_count}
-use Rattle.codegen.proofs.Placement.{element_count-le, sum_by-singleton_count}
-use Rattle.codegen.proofs.phases.RuleFacts.{block_facts}
+use Rattle.std.proofs.Common.{arith}
+use Rattle.eval_code.specs.Bounds.{BoundsAreFew}
+use Rattle.eval_code.specs.Widths.{width_of}
+use Rattle.codegen.specs.Mailboxes.{mailbox_bound, MailboxStepsAreFew}
 
-output_bound-le : (w : Width) (o : Output) → output_bound w o ≤ 13
-output_bound-le w o = by_default w o.default refl
-  where
-    by_default : (v : Width) (d : Option Dec) → o.default ≡ d → output_bound v o ≤ 13
-    by_default Byte (Some d) h = rw h (omega arith)
-    by_default Byte None h = rw h (omega arith)
-    by_default Word (Some d) h = rw h (omega arith)
-    by_default Word None h = rw h (omega arith)
-
-outputs_bound : (w : Width) (os : List Output) → sum_by (output_bound w) os ≤ 13 * length os
-outputs_bound w [] = omega arith
-outputs_bound w (o ∷ os) =
-    omega (arith, sum_by-cons (output_bound w) o os, output_bound-le w o, outputs_bound w os)
-
-form_bound-le : (f : Form) → form_bound f ≤ 1
-form_bound-le form.Rev = omega arith
-form_bound-le form.Revw = omega arith
-
-pub steps_are_few : LayoutLaw → (b : Block) (f : Firmware) → IsValid b → IsWithinLimits b → IsMailboxOf b f
-    → (1 ≤ f.step_bound) × (f.step_bound ≤ 20000)
-unfolding instruction_bound steps_by
-steps_are_few law b f valid limits h =
+pub steps_are_few : BoundsAreFew → MailboxStepsAreFew
+steps_are_few few b f valid limits h =
     let w = width_of f.wide in
-    let facts = block_facts law b valid in
-    let terms = sum_by-term_count b.inputs valid.few_inputs valid.inputs in
-    let singletons = sum_by-singleton_count b.outputs valid.few_outputs valid.outputs in
-    let outputs = outputs_bound w b.outputs in
-    let form_is = form_bound-le (form_of b) in
-    let elements = element_count-le b in
-    let slots = facts.few_slots in
-    let few_inputs = valid.few_inputs in
-    let few_outputs = valid.few_outputs in
-    let list = limits.short_list in
+    let bound = few b w (mailbox_bound w b) valid limits in
     let steps = h.steps in
-    (omega (arith, steps, few_outputs), omega (arith, steps, terms, singletons, outputs, form_is, elements, slots, few_inputs, few_outputs, list))
+    let inputs = valid.few_inputs in
+    (omega (arith, bound.0, bound.2), omega (arith, bound.1, bound.3))

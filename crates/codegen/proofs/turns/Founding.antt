@@ -1,22 +1,23 @@
 -- The mailbox form's code stands in its memory.
-use Rattle.std.proofs.Common.{◌≡◌, inr, ℕ, zero, suc, ◌+◌, ◌-◌, ◌*◌, ◌^◌, ◌<◌, ◌≤◌, List, [], ◌∷◌, ◌++◌, length, refl, sym, ap, ap₂, ◌∙◌, subst, arith, length-append}
+use Rattle.std.proofs.Common.{◌≡◌, inr, ℕ, zero, suc, ◌+◌, ◌-◌, ◌*◌, ◌^◌, ◌<◌, ◌≤◌, List, [], ◌∷◌, ◌++◌, length, refl, ap, ap₂, ◌∙◌, subst, arith}
 use Rattle.fuzzy_meaning.specs.declared.block.Block.{Block}
 use Rattle.fuzzy_meaning.specs.Blocks.{IsValid}
+use Rattle.rule_layout.specs.Layouts.{IsWithinLimits}
 use Rattle.cpu12_isa.specs.declared.instr.Instr.{Instr}
 use Rattle.cpu12_isa.specs.declared.instr.Instr.TheVariants.{LdaaExtended, Beq, Bra, JsrExtended, MovbExtended, Orcc, Rts}
 use Rattle.cpu12_isa.specs.Code.{encode_of}
 use Rattle.cpu12_asm.specs.Items.{IsRising}
-use Rattle.codegen.specs.declared.width.Width.{Width}
-use Rattle.codegen.specs.Images.{vector_items, block_items, IsApart}
-use Rattle.codegen.specs.Evaluation.{HasBytes}
+use Rattle.eval_code.specs.declared.width.Width.{Width}
+use Rattle.eval_code.specs.Items.{IsApart}
+use Rattle.eval_code.specs.Evaluation.{HasBytes}
+use Rattle.eval_code.specs.Placed.{IsInOrder, BlockRises, BlockIsShort}
 use Rattle.codegen.specs.Mailboxes.{mailbox_layout, copy_code, call_code, mailbox_code, mailbox_items}
-use Rattle.codegen.proofs.Sizes.{code_size, code_size-append}
-use Rattle.codegen.proofs.Placement.{IsSpaced, HasSizes, part_sizes, length-block_items, with_vectors_rise}
-use Rattle.codegen.proofs.steps.Decoding.{sizes, sizes_append, UsedCode, used_append, code_bytes, decode_here}
-use Rattle.codegen.proofs.steps.Memory.{bytes_front, bytes_back}
-use Rattle.codegen.proofs.phases.Used.{sizes_is}
+use Rattle.eval_code.specs.Code.{code_bytes}
+use Rattle.eval_code.proofs.Algebra.{length-code, code_size, code_size-append, sizes, sizes_append, UsedCode, used_append, decode_here, bytes_front}
+use Rattle.eval_code.proofs.Algebra.{bytes_back, sizes_is}
 use Rattle.codegen.proofs.runs.Stepping.{Ctx, Here, Stands, stands_of}
 use Rattle.codegen.proofs.runs.Calling.{IsInCode}
+use Rattle.codegen.proofs.runs.Placing.{whole_rises, whole_is_short}
 use Rattle.codegen.proofs.runs.Founding.{IsStarted, start_code}
 use Rattle.codegen.proofs.turns.Posting.{Post, HasTurn, free_ctx, post_ctx}
 
@@ -64,28 +65,36 @@ mailbox_apart n few = record {
 pub mailbox_started : (n : ℕ) → IsStarted (mailbox_layout n)
 mailbox_started n = record { low = omega arith; high = omega arith; wait = refl; ready = omega arith; apart = inr (omega arith) }
 
-mailbox_spaced : (n : ℕ) → IsSpaced (mailbox_layout n)
-mailbox_spaced n = record { tables = omega arith; singletons = omega arith; weights = omega arith }
-
 pub mailbox_inside : (n : ℕ) → n ≤ 8 → IsInCode (mailbox_layout n)
 mailbox_inside n few = record { from = omega arith; to = omega arith }
 
--- its items can be placed
-pub mailbox_rises : (b : Block) (w : Width) (n : ℕ) → length b.inputs ≡ n → n ≤ 8 → IsValid b → HasSizes b → IsRising (mailbox_items (mailbox_layout n) b w)
-mailbox_rises b w n e few v h =
-    let l = mailbox_layout n in
-    let before = mailbox_code l (length b.inputs) in
-    let size : code_size before ≡ 26 + 6 * n = subst (λ (k : ℕ). code_size (mailbox_code l k) ≡ 26 + 6 * n) (sym e) (code_size-mailbox n) in
-    let room : l.code + (code_size before + 2416 + code_size (Rts ∷ [])) ≤ l.tables = omega arith in
-    with_vectors_rise l b w before (Rts ∷ []) (mailbox_spaced n) (part_sizes l b w before (Rts ∷ []) v h) room (omega arith)
+pub mailbox_in_order : (n : ℕ) → n ≤ 8 → IsInOrder (mailbox_layout n) (mailbox_code (mailbox_layout n) n) (Rts ∷ [])
+mailbox_in_order n few =
+    let size = length-code (mailbox_code (mailbox_layout n) n) ∙ sizes-mailbox n in
+    record {
+      eval = omega arith;
+      code = omega arith;
+      tables = omega arith;
+      singletons = omega arith;
+      weights = omega arith;
+      rules = omega arith;
+    }
 
-pub length-mailbox_items : (b : Block) (w : Width) (n : ℕ) → length b.inputs ≡ n → n ≤ 8 → IsValid b → HasSizes b
-    → length (mailbox_items (mailbox_layout n) b w) < 2 ^ 32
-length-mailbox_items b w n e few v h =
+-- its items can be placed, and are few
+pub mailbox_rises : BlockRises → (b : Block) (w : Width) → IsValid b → IsWithinLimits b → IsRising (mailbox_items (mailbox_layout (length b.inputs)) b w)
+mailbox_rises rises b w v limits =
+    let n = length b.inputs in
     let l = mailbox_layout n in
-    let before = mailbox_code l (length b.inputs) in
-    let size : code_size before ≡ 26 + 6 * n = subst (λ (k : ℕ). code_size (mailbox_code l k) ≡ 26 + 6 * n) (sym e) (code_size-mailbox n) in
-    omega (arith, length-append (block_items l b w before (Rts ∷ [])) (vector_items l), length-block_items l b w before (Rts ∷ []) (part_sizes l b w before (Rts ∷ []) v h))
+    whole_rises rises l b w (mailbox_code l n) (Rts ∷ []) (mailbox_in_order n v.few_inputs) v limits (omega arith)
+
+pub length-mailbox_items : BlockIsShort → (b : Block) (w : Width) → IsValid b → IsWithinLimits b
+    → length (mailbox_items (mailbox_layout (length b.inputs)) b w) < 2 ^ 32
+length-mailbox_items short b w v limits =
+    let n = length b.inputs in
+    let l = mailbox_layout n in
+    let few = v.few_inputs in
+    let size = length-code (mailbox_code l n) ∙ sizes-mailbox n in
+    whole_is_short short l b w (mailbox_code l n) (Rts ∷ []) v limits (omega arith)
 
 -- the operands fit
 used_copy : (from to n : ℕ) → from + n < 2 ^ 16 → to + n < 2 ^ 16 → UsedCode (copy_code from to n)

@@ -1,48 +1,49 @@
 -- The mailbox firmware of a block takes its turns.
-use Rattle.std.proofs.Common.{◌≡◌, ℕ, ◌+◌, ◌^◌, ◌<◌, ◌≤◌, List, [], ◌∷◌, length, refl, sym, subst, arith}
+use Rattle.std.proofs.Common.{ℕ, ◌^◌, ◌<◌, ◌≤◌, List, [], ◌∷◌, length, refl, sym, subst, arith}
 use Rattle.fuzzy_meaning.specs.declared.block.Block.{Block}
 use Rattle.fuzzy_meaning.specs.Blocks.{IsValid}
 use Rattle.rule_layout.specs.Layouts.{IsWithinLimits}
 use Rattle.cpu12_isa.specs.declared.instr.Instr.TheVariants.{Rts}
-use Rattle.cpu12_asm.specs.Items.{given_by, IsRising}
+use Rattle.cpu12_asm.specs.Bytes.{Holds}
+use Rattle.cpu12_asm.specs.Items.{given_by}
 use Rattle.cpu12_emul.specs.Image.{image_memory}
-use Rattle.codegen.specs.declared.layout.Layout.{Layout}
-use Rattle.codegen.specs.declared.width.Width.{Width}
-use Rattle.codegen.specs.Widths.{width_of}
-use Rattle.codegen.specs.Images.{vector_items, block_items}
+use Rattle.eval_code.specs.declared.layout.Layout.{Layout}
+use Rattle.eval_code.specs.declared.width.Width.{Width}
+use Rattle.eval_code.specs.Widths.{width_of}
+use Rattle.codegen.specs.Images.{vector_items}
+use Rattle.eval_code.specs.Items.{block_items}
+use Rattle.eval_code.specs.Placed.{StandsBetween}
 use Rattle.codegen.specs.Mailboxes.{mailbox_layout, mailbox_code, mailbox_items, mailbox_bound}
 use Rattle.codegen.specs.Turns.{TakesTurns, MailboxTakesPosts}
-use Rattle.codegen.proofs.phases.RuleFacts.{BlockFacts, block_facts}
-use Rattle.codegen.proofs.runs.Standing.{HasGiven}
-use Rattle.codegen.proofs.runs.Founding.{stood, start_stands, AroundEval, around_eval, has_routine}
-use Rattle.codegen.proofs.runs.GivenBytes.{ItemsFit, block_fits, vectors_fit, memory_fits}
+use Rattle.eval_code.proofs.Algebra.{image_given, memory_fits}
+use Rattle.codegen.specs.Laws.{LowerLaws}
+use Rattle.codegen.proofs.runs.Founding.{start_stands, has_routine}
+use Rattle.codegen.proofs.runs.Placing.{rises_of, few_slots, whole_stands, whole_fits}
 use Rattle.codegen.proofs.runs.Arriving.{Arrived, arrive, zero_below}
-use Rattle.codegen.proofs.runs.Law.{FirmwareLaws, image_given, sizes_of}
 use Rattle.codegen.proofs.turns.Posting.{Post, HasTurn, post_ctx, at_of}
 use Rattle.codegen.proofs.turns.Looking.{look_run, choose_run}
 use Rattle.codegen.proofs.turns.Copying.{copies_run}
-use Rattle.codegen.proofs.steps.Decoding.{sizes}
 use Rattle.codegen.proofs.turns.Turning.{Turns, turn_run}
-use Rattle.codegen.proofs.turns.Founding.{sizes-mailbox, mailbox_apart, mailbox_started, mailbox_inside, mailbox_rises, used_mailbox, start_bytes, has_turn, has_call}
+use Rattle.codegen.proofs.turns.Founding.{mailbox_in_order, mailbox_apart, mailbox_started, mailbox_inside, mailbox_rises, used_mailbox, start_bytes, has_turn, has_call}
 
 -- what its runs are under
-abbrev post_of : FirmwareLaws → (b : Block) → length b.inputs ≤ 8 → List ℕ → (flags : ℕ) → flags < 2 ^ 8 → Post
+abbrev post_of : LowerLaws → (b : Block) → length b.inputs ≤ 8 → List ℕ → (flags : ℕ) → flags < 2 ^ 8 → Post
 post_of laws b few image flags fits = record { stays_fit = laws.stays_fit; n = length b.inputs; few = few; image = image; flags = flags; fits = fits }
 
 -- from what stands in memory
-with_code : (laws : FirmwareLaws) → (b : Block) (w : Width) (image : List ℕ) (flags : ℕ) (fits : flags < 2 ^ 8) → (v : IsValid b) → IsWithinLimits b → BlockFacts b
-    → (let l = mailbox_layout (length b.inputs) in AroundEval image l b w (mailbox_code l (length b.inputs)) (Rts ∷ []))
+with_code : (laws : LowerLaws) → (b : Block) (w : Width) (image : List ℕ) (flags : ℕ) (fits : flags < 2 ^ 8) → (v : IsValid b) → IsWithinLimits b
+    → (let l = mailbox_layout (length b.inputs) in StandsBetween l b w (mailbox_code l (length b.inputs)) (Rts ∷ []) image)
     → (HasTurn (post_of laws b v.few_inputs image flags fits) → Arrived (post_ctx (post_of laws b v.few_inputs image flags fits)) b w)
     → TakesTurns (mailbox_layout (length b.inputs)) b w (mailbox_bound w b) image flags
-with_code laws b w image flags fits v limits facts around arrive_by =
+with_code laws b w image flags fits v limits around arrive_by =
     let n = length b.inputs in
     let few = v.few_inputs in
     let l = mailbox_layout n in
     let p = post_of laws b few image flags fits in
     let turn = has_turn p around.front in
     let call = has_call p turn in
-    let routine = has_routine l b w (mailbox_code l n) image (omega arith) (mailbox_inside n few) around in
-    let turns : Turns p b w = record { apart = mailbox_apart n few; inputs = refl; valid = v; facts = facts; limits = limits; eval_answers = laws.eval_answers; routine = routine; call = call.call; back = call.back } in
+    let routine = has_routine l b w (mailbox_code l n) image (omega arith) (mailbox_inside n few) (few_slots laws.layout_law b v) around in
+    let turns : Turns p b w = record { apart = mailbox_apart n few; inputs = refl; valid = v; limits = limits; eval_answers = laws.eval_answers; routine = routine; call = call.call; back = call.back } in
     let arrived = arrive_by turn in
     let home = arrived.home in
     record {
@@ -53,32 +54,31 @@ with_code laws b w image flags fits v limits facts around arrive_by =
       evaluates = λ bytes before s i at hi ho. turn_run p b w bytes before s turns i at hi ho;
     }
 
-with_items : FirmwareLaws → (b : Block) (w : Width) (image : List ℕ) (flags : ℕ) (fits : flags < 2 ^ 8) → IsValid b → IsWithinLimits b
-    → HasGiven image (given_by (mailbox_items (mailbox_layout (length b.inputs)) b w)) → IsRising (mailbox_items (mailbox_layout (length b.inputs)) b w)
-    → TakesTurns (mailbox_layout (length b.inputs)) b w (mailbox_bound w b) image flags
-with_items laws b w image flags fits v limits g rise =
+with_items : LowerLaws → (b : Block) (w : Width) (image : List (ℕ × ℕ)) (flags : ℕ) (fits : flags < 2 ^ 8) → IsValid b → IsWithinLimits b
+    → Holds image (given_by (mailbox_items (mailbox_layout (length b.inputs)) b w))
+    → TakesTurns (mailbox_layout (length b.inputs)) b w (mailbox_bound w b) (image_memory image) flags
+with_items laws b w image flags fits v limits h =
     let n = length b.inputs in
     let few = v.few_inputs in
     let l = mailbox_layout n in
     let before = mailbox_code l n in
     let back = Rts ∷ [] in
-    let facts = block_facts laws.layout_law b v in
-    let p = post_of laws b few image flags fits in
-    let eval_at : l.eval ≡ l.code + sizes before = omega (arith, sizes-mailbox n) in
-    let around = around_eval image l b w before back eval_at (stood laws.rises image [] (vector_items l) l b w before back g rise) in
-    let vector = start_stands laws.rises image (block_items l b w before back) l g rise in
-    let fit : ItemsFit (mailbox_items l b w) = block_fits laws.nearest_is_byte l b w before back (vector_items l) v facts (mailbox_apart n few) (used_mailbox n few) (tt, tt, tt) (vectors_fit l (omega arith) (omega arith)) in
-    with_code laws b w image flags fits v limits facts around
-    (λ turn. arrive (post_ctx p) b w (mailbox_started n) (mailbox_apart n few) v.few_outputs vector (start_bytes p around.front) g.size (memory_fits (mailbox_items l b w) image fit g.size g.bytes) (λ q lt. zero_below laws.rises image l b w before back (vector_items l) g rise q lt (omega arith)))
+    let items = mailbox_items l b w in
+    let mem = image_memory image in
+    let p = post_of laws b few mem flags fits in
+    let rise = mailbox_rises laws.rises b w v limits in
+    let g = image_given laws.holds_image image (given_by items) h in
+    let around = whole_stands laws.stands image l b w before back (mailbox_in_order n few) v limits h rise in
+    let vector = start_stands (rises_of laws) mem (block_items l b w before back) l g rise in
+    let fit = whole_fits laws l b w before back (mailbox_apart n few) v (used_mailbox n few) (tt, tt, tt) (omega arith) (omega arith) in
+    with_code laws b w mem flags fits v limits around
+    (λ turn. arrive (post_ctx p) b w (mailbox_started n) (mailbox_apart n few) v.few_outputs vector (start_bytes p around.front) g.size (memory_fits items mem fit g.size g.bytes) (λ q lt. zero_below (rises_of laws) mem l b w before back (vector_items l) g rise q lt (omega arith)))
 
-pub mailbox_takes_posts : FirmwareLaws → MailboxTakesPosts
+pub mailbox_takes_posts : LowerLaws → MailboxTakesPosts
 mailbox_takes_posts laws b f v limits h flags fits =
-    let n = length b.inputs in
-    let l = mailbox_layout n in
+    let l = mailbox_layout (length b.inputs) in
     let w = width_of f.wide in
     let image = image_memory f.image.bytes in
-    let items = mailbox_items l b w in
-    let rise = mailbox_rises b w n refl v.few_inputs v (sizes_of b (block_facts laws.layout_law b v) limits) in
-    let takes = with_items laws b w image flags fits v limits (image_given laws.holds_image f.image.bytes (given_by items) h.image.bytes) rise in
+    let takes = with_items laws b w f.image.bytes flags fits v limits h.image.bytes in
     subst (λ (k : Layout). TakesTurns k b w f.instr_bound image flags) (sym h.layout)
     (subst (λ (most : ℕ). TakesTurns l b w most image flags) (sym h.instructions) takes)

@@ -9,7 +9,7 @@ use Rattle.cpu12_parts.specs.State.{State}
 use Rattle.cpu12_parts.specs.Whole.{after_plain}
 use Rattle.codegen.specs.Mailboxes.{is_postable, mailbox_layout}
 use Rattle.codegen.specs.Turns.{IsAt, IsLook, IsChoice}
-use Rattle.codegen.proofs.steps.Flags.{masked_tested, zero_tested}
+use Rattle.eval_code.proofs.Algebra.{masked_tested, zero_tested}
 use Rattle.codegen.proofs.runs.Stepping.{low_shown, plain_went}
 use Rattle.codegen.proofs.turns.Posting.{Post, HasTurn, free_ctx, lives_of, at_of}
 

@@ -6,7 +6,7 @@ use Rattle.cpu12_isa.specs.Code.{decode_at}
 use Rattle.cpu12_isa.specs.Fits.{StaysFit}
 use Rattle.cpu12_isa.specs.Regions.{is_free}
 use Rattle.cpu12_parts.specs.State.{State}
-use Rattle.codegen.specs.Evaluation.{Reads, Writes}
+use Rattle.eval_code.specs.Evaluation.{Reads, Writes}
 use Rattle.codegen.specs.Interruptible.{IsSteady}
 use Rattle.codegen.specs.Mailboxes.{is_postable, mailbox_layout, copy_code, call_code}
 use Rattle.codegen.specs.Turns.{IsAt}

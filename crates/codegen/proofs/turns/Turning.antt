@@ -10,18 +10,16 @@ use Rattle.cpu12_isa.specs.declared.instr.Instr.TheVariants.{JsrExtended, Bra}
 use Rattle.cpu12_isa.specs.Memory.{plus}
 use Rattle.cpu12_parts.specs.State.{State}
 use Rattle.cpu12_parts.specs.Whole.{after_plain}
-use Rattle.codegen.specs.declared.width.Width.{Width}
-use Rattle.codegen.specs.Widths.{places, bytes_of}
-use Rattle.codegen.specs.Bounds.{instruction_bound, steps_by}
-use Rattle.codegen.specs.Firing.{AreInputBytes}
-use Rattle.codegen.specs.Images.{IsApart}
-use Rattle.codegen.specs.Evaluation.{HasBytes, HasAnswers, EvalAnswers}
+use Rattle.eval_code.specs.declared.width.Width.{Width}
+use Rattle.eval_code.specs.Widths.{places, bytes_of}
+use Rattle.eval_code.specs.Bounds.{instruction_bound, steps_by}
+use Rattle.eval_code.specs.Firing.{AreInputBytes}
+use Rattle.eval_code.specs.Items.{IsApart}
+use Rattle.eval_code.specs.Evaluation.{HasBytes, HasAnswers, EvalAnswers}
 use Rattle.codegen.specs.Interruptible.{IsInterruptibleStep}
 use Rattle.codegen.specs.Mailboxes.{is_postable, mailbox_layout, mailbox_bound}
 use Rattle.codegen.specs.Turns.{IsAt, IsTurned}
-use Rattle.codegen.proofs.phases.RuleFacts.{BlockFacts}
-use Rattle.codegen.proofs.steps.Executions.{execution_on, length_append, steps_append}
-use Rattle.codegen.proofs.steps.Memory.{bytes_set_out}
+use Rattle.eval_code.proofs.Algebra.{execution_on, length_append, steps_append, bytes_set_out}
 use Rattle.codegen.proofs.runs.Stepping.{Here, Live, Next, next, interruptible_of}
 use Rattle.codegen.proofs.runs.Calling.{HasRoutine, IsCalled, Back, called}
 use Rattle.codegen.proofs.runs.Framing.{answer_room, pushed_word, jsr_run}
@@ -32,7 +30,6 @@ pub record Turns (p : Post) (b : Block) (w : Width) : Type 0 where
   pub apart : IsApart (mailbox_layout p.n)
   pub inputs : length b.inputs ≡ p.n
   pub valid : IsValid b
-  pub facts : BlockFacts b
   pub limits : IsWithinLimits b
   pub eval_answers : EvalAnswers
   pub routine : HasRoutine (mailbox_layout p.n) b w p.image
@@ -145,4 +142,4 @@ turn_run p b w bytes before s h i at hi ho =
       inputs = keep;
       outputs = kept;
     } in
-    left p b w bytes before s h at r (called h.eval_answers (post_ctx p) b w ret bytes before r.t h.apart h.valid h.facts h.limits h.routine i k)
+    left p b w bytes before s h at r (called h.eval_answers (post_ctx p) b w ret bytes before r.t h.apart h.valid h.limits h.routine i k)

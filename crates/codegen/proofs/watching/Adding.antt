@@ -11,12 +11,11 @@ use Rattle.cpu12_isa.specs.Memory.{plus}
 use Rattle.cpu12_parts.specs.State.{State}
 use Rattle.cpu12_parts.specs.Whole.{after_plain}
 use Rattle.codegen.specs.declared.segments.Segment.{Segment}
-use Rattle.codegen.specs.Masks.{interrupt_masks}
+use Rattle.eval_code.specs.Masks.{interrupt_masks}
 use Rattle.codegen.specs.WatchedCode.{segment_code, segments_code, IsSegment}
 pub use Rattle.codegen.specs.WatchedCode.{AreSegments}
 use Rattle.codegen.specs.Interruptible.{IsInterruptibleStep}
-use Rattle.codegen.proofs.steps.Executions.{bounded_none}
-use Rattle.codegen.proofs.steps.Flags.{masked_or, masked_and, masked_tested, masked_four, zero_four}
+use Rattle.eval_code.proofs.Algebra.{bounded_none, masked_or, masked_and, masked_tested, masked_four, zero_four}
 use Rattle.codegen.proofs.runs.Stepping.{Ctx, Here, Live, Stands, Next, next, Goes, goes_on, goes_one, high_shown, sp_high}
 
 -- H leaves I and X, and with the other flags Z

@@ -1,5 +1,5 @@
 -- From the image of a firmware with watched tables to its answers.
-use Rattle.std.proofs.Common.{inr, ◌≡◌, inl, ℕ, ◌+◌, ◌^◌, ◌<◌, ◌≤◌, List, [], ◌∷◌, length, All, refl, sym, ap, ◌∙◌, subst, arith, length-append}
+use Rattle.std.proofs.Common.{inr, ◌≡◌, inl, ℕ, ◌+◌, ◌^◌, ◌<◌, ◌≤◌, List, [], ◌∷◌, ◌++◌, length, All, refl, sym, ap, ◌∙◌, subst, arith}
 use Rattle.std.specs.Prelude.{Option, Some, None}
 use Rattle.fuzzy_meaning.specs.declared.block.Block.{Block}
 use Rattle.fuzzy_meaning.specs.Blocks.{IsValid}
@@ -11,29 +11,27 @@ use Rattle.cpu12_asm.specs.Bytes.{Holds}
 use Rattle.cpu12_asm.specs.Items.{given_by, IsRising}
 use Rattle.cpu12_parts.specs.State.{State}
 use Rattle.cpu12_emul.specs.Image.{image_memory}
-use Rattle.codegen.specs.declared.layout.Layout.{Layout}
-use Rattle.codegen.specs.declared.width.Width.TheVariants.{Byte}
-use Rattle.codegen.specs.Layouts.{main_layout}
-use Rattle.codegen.specs.Code.{block_code}
-use Rattle.codegen.specs.Bounds.{instruction_bound}
-use Rattle.codegen.specs.Images.{IsApart, block_items, vector_items}
+use Rattle.eval_code.specs.declared.layout.Layout.{Layout}
+use Rattle.eval_code.specs.declared.width.Width.TheVariants.{Byte}
+use Rattle.eval_code.specs.Layouts.{main_layout}
+use Rattle.eval_code.specs.Code.{code_bytes, eval_code, block_code}
+use Rattle.eval_code.specs.Placed.{IsInOrder, HasParts, StandsBetween, BlockRises, BlockIsShort}
+use Rattle.eval_code.specs.Bounds.{instruction_bound}
+use Rattle.eval_code.specs.Items.{IsApart, block_items}
+use Rattle.codegen.specs.Images.{vector_items}
 use Rattle.codegen.specs.Answers.{IsArrived}
 use Rattle.codegen.specs.WatchedCode.{segments_of, watched_front, watched_layout, code_length}
 use Rattle.codegen.specs.Watched.{watched_items, watched_bound, Change, Watched, IsTableChange, IsGoodSample, AreWatchAnswered, WatchedAnswers}
-use Rattle.codegen.proofs.Placement.{HasSizes, HasPartSizes, part_sizes, with_vectors_rise, length-block_items, IsSpaced}
-use Rattle.codegen.proofs.Sizes.{code_size}
-use Rattle.codegen.proofs.steps.Decoding.{UsedCode, sizes}
-use Rattle.codegen.proofs.phases.RuleFacts.{BlockFacts, block_facts}
-use Rattle.codegen.proofs.phases.Law.{length-code}
+use Rattle.eval_code.proofs.Algebra.{UsedCode, HasGiven, image_given, memory_fits}
+use Rattle.codegen.specs.Laws.{LowerLaws}
 use Rattle.codegen.proofs.runs.Stepping.{Ctx, IsShut, interruptible_of}
 use Rattle.codegen.proofs.runs.Framing.{waits}
-use Rattle.codegen.proofs.runs.Founding.{AroundEval, stood, start_stands, around_eval, has_routine, frame_bytes}
-use Rattle.codegen.proofs.runs.GivenBytes.{ItemsFit, block_fits, vectors_fit, memory_fits}
+use Rattle.codegen.proofs.runs.Founding.{start_stands, has_routine, frame_bytes}
+use Rattle.codegen.proofs.runs.Placing.{rises_of, few_slots, whole_rises, whole_is_short, whole_stands, whole_fits}
 use Rattle.codegen.proofs.runs.Arriving.{Arrived, arrive, zero_below}
-use Rattle.codegen.proofs.runs.Standing.{HasGiven}
-use Rattle.codegen.proofs.runs.Law.{FirmwareLaws, sizes_of, image_given, not_free, free_leaves}
+use Rattle.codegen.proofs.runs.Law.{not_free, free_leaves}
 use Rattle.codegen.proofs.watching.Adding.{count_in}
-use Rattle.codegen.proofs.watching.Fronts.{IsWatchedLayout, sized, length-bad, length-front, used_front, fit_defaults, front_bytes, calls}
+use Rattle.codegen.proofs.watching.Fronts.{IsWatchedLayout, length-more, length-bad, length-front, used_front, fit_defaults, front_bytes, calls}
 use Rattle.codegen.proofs.watching.Tables.{are_segments, are_apart, are_few, stand, counted}
 use Rattle.codegen.proofs.watching.Located.{located}
 use Rattle.codegen.proofs.watching.Law.{Grounds, MayChange, AreGood, are_answered}
@@ -72,59 +70,61 @@ is_watched_layout b v = record {
   few_segments = are_few b;
 }
 
-watched_spaced : (b : Block) → IsSpaced (watched_layout b)
-watched_spaced b = record { tables = omega arith; singletons = omega arith; weights = omega arith }
-
-watched_sizes : (b : Block) → IsValid b → HasSizes b → HasPartSizes (watched_layout b) b Byte (watched_front main_layout b) (Rts ∷ [])
-watched_sizes b v h = part_sizes (watched_layout b) b Byte (watched_front main_layout b) (Rts ∷ []) v h
+watched_in_order : (b : Block) → IsValid b → IsInOrder (watched_layout b) (watched_front main_layout b) (Rts ∷ [])
+watched_in_order b v =
+    let short = short_front b v in
+    record {
+      eval = refl;
+      code = omega arith;
+      tables = omega arith;
+      singletons = omega arith;
+      weights = omega arith;
+      rules = omega arith;
+    }
 
 -- its items can be placed, and are few
-pub watched_rise : (b : Block) → IsValid b → HasSizes b → IsRising (watched_items b)
-watched_rise b v h =
-    let front = watched_front main_layout b in
-    let short = short_front b v in
-    let size = sized front in
-    let room : 0xC000 + (code_size front + 2416 + code_size (Rts ∷ [])) ≤ 0xD000 = omega arith in
-    with_vectors_rise (watched_layout b) b Byte front (Rts ∷ []) (watched_spaced b) (watched_sizes b v h) room (omega arith)
+pub watched_rise : BlockRises → (b : Block) → IsValid b → IsWithinLimits b → IsRising (watched_items b)
+watched_rise rises b v limits =
+    whole_rises rises (watched_layout b) b Byte (watched_front main_layout b) (Rts ∷ []) (watched_in_order b v) v limits (omega arith)
 
-pub length-watched_items : (b : Block) → IsValid b → HasSizes b → length (watched_items b) < 2 ^ 32
-length-watched_items b v h =
-    let front = watched_front main_layout b in
+pub length-watched_items : BlockIsShort → (b : Block) → IsValid b → IsWithinLimits b → length (watched_items b) < 2 ^ 32
+length-watched_items brief b v limits =
     let short = short_front b v in
-    let size = sized front in
-    let l = watched_layout b in
-    omega (arith, length-append (block_items l b Byte front (Rts ∷ [])) (vector_items l), length-block_items l b Byte front (Rts ∷ []) (watched_sizes b v h))
+    whole_is_short brief (watched_layout b) b Byte (watched_front main_layout b) (Rts ∷ []) v limits (omega arith)
 
 -- the image of a firmware, and what is known of its block
-record Founded (laws : FirmwareLaws) (b : Block) (image : List ℕ) : Type 0 where
+record Founded (laws : LowerLaws) (b : Block) (image : List (ℕ × ℕ)) : Type 0 where
   valid : IsValid b
   limits : IsWithinLimits b
-  given : HasGiven image (given_by (watched_items b))
-  rising : IsRising (watched_items b)
+  holds : Holds image (given_by (watched_items b))
 
-around : (laws : FirmwareLaws) (b : Block) (image : List ℕ) → Founded laws b image → AroundEval image (watched_layout b) b Byte (watched_front main_layout b) (Rts ∷ [])
+rising : (laws : LowerLaws) (b : Block) (image : List (ℕ × ℕ)) → Founded laws b image → IsRising (watched_items b)
+rising laws b image h = watched_rise laws.rises b h.valid h.limits
+
+given_in : (laws : LowerLaws) (b : Block) (image : List (ℕ × ℕ)) → Founded laws b image → HasGiven (image_memory image) (given_by (watched_items b))
+given_in laws b image h = image_given laws.holds_image image (given_by (watched_items b)) h.holds
+
+around : (laws : LowerLaws) (b : Block) (image : List (ℕ × ℕ)) → Founded laws b image
+    → StandsBetween (watched_layout b) b Byte (watched_front main_layout b) (Rts ∷ []) (image_memory image)
 around laws b image h =
-    let l = watched_layout b in
-    let front = watched_front main_layout b in
-    let size = length-code front in
-    let at : l.eval ≡ l.code + sizes front = omega arith in
-    around_eval image l b Byte front (Rts ∷ []) at (stood laws.rises image [] (vector_items l) l b Byte front (Rts ∷ []) h.given h.rising)
+    whole_stands laws.stands image (watched_layout b) b Byte (watched_front main_layout b) (Rts ∷ []) (watched_in_order b h.valid) h.valid h.limits h.holds
+    (rising laws b image h)
 
-used : (laws : FirmwareLaws) (b : Block) → IsValid b → BlockFacts b → HasSizes b → IsWithinLimits b → UsedCode (watched_front main_layout b)
-used laws b v facts sizes limits =
-    let few = v.few_outputs in
-    let bad = length-bad main_layout b.outputs v.few_outputs in
-    let parts = part_sizes main_layout b Byte [] [] v sizes in
-    used_front main_layout b.outputs (segments_of main_layout b) (omega arith) (omega arith) (fit_defaults laws.nearest_is_byte b.outputs v.outputs) (omega arith) (are_segments b [] [] v facts limits parts)
+parts : (laws : LowerLaws) (b : Block) (image : List (ℕ × ℕ)) → Founded laws b image → HasParts main_layout b
+parts laws b image h = laws.parts main_layout b h.valid h.limits
 
-memory_bytes : (laws : FirmwareLaws) (b : Block) (image : List ℕ) → Founded laws b image → AreBytes image
+used : (laws : LowerLaws) (b : Block) (image : List (ℕ × ℕ)) → Founded laws b image → UsedCode (watched_front main_layout b)
+used laws b image h =
+    let few = h.valid.few_outputs in
+    let bad = length-bad main_layout b.outputs few in
+    used_front main_layout b.outputs (segments_of main_layout b) (omega arith) (omega arith) (fit_defaults laws.nearest_is_byte b.outputs h.valid.outputs) (omega arith) (are_segments b (parts laws b image h))
+
+memory_bytes : (laws : LowerLaws) (b : Block) (image : List (ℕ × ℕ)) → Founded laws b image → AreBytes (image_memory image)
 memory_bytes laws b image h =
     let l = watched_layout b in
-    let facts = block_facts laws.layout_law b h.valid in
-    let fit : ItemsFit (watched_items b) =
-    block_fits laws.nearest_is_byte l b Byte (watched_front main_layout b) (Rts ∷ []) (vector_items l) h.valid facts (watched_apart b h.valid)
-    (used laws b h.valid facts (sizes_of b facts h.limits) h.limits) (tt, tt, tt) (vectors_fit l (omega arith) (omega arith)) in
-    memory_fits (watched_items b) image fit h.given.size h.given.bytes
+    let given = given_in laws b image h in
+    let fit = whole_fits laws l b Byte (watched_front main_layout b) (Rts ∷ []) (watched_apart b h.valid) h.valid (used laws b image h) (tt, tt, tt) (omega arith) (omega arith) in
+    memory_fits (watched_items b) (image_memory image) fit given.size given.bytes
 
 bound_is : (b : Block) → instruction_bound Byte b + 4 + count_in (segments_of main_layout b) ≡ watched_bound b
 unfolding watched_bound
@@ -141,19 +141,19 @@ shut b = record {
 }
 
 -- the run of its image
-abbrev over : FirmwareLaws → Block → List ℕ → (flags : ℕ) → flags < 2 ^ 8 → Ctx
+abbrev over : LowerLaws → Block → List ℕ → (flags : ℕ) → flags < 2 ^ 8 → Ctx
 over laws b image flags fits = record { stays_fit = laws.stays_fit; open_to = is_free; layout = watched_layout b; shut = shut b; image = image; flags = flags; fits = fits }
 
-grounds : (laws : FirmwareLaws) (b : Block) (image : List ℕ) (flags : ℕ) (fits : flags < 2 ^ 8) → Founded laws b image
-    → Grounds (over laws b image flags fits) b (segments_of main_layout b) (watched_bound b)
+grounds : (laws : LowerLaws) (b : Block) (image : List (ℕ × ℕ)) (flags : ℕ) (fits : flags < 2 ^ 8) → Founded laws b image
+    → Grounds (over laws b (image_memory image) flags fits) b (segments_of main_layout b) (watched_bound b)
 grounds laws b image flags fits h =
-    let facts = block_facts laws.layout_law b h.valid in
-    let parts = part_sizes main_layout b Byte [] [] h.valid (sizes_of b facts h.limits) in
+    let mem = image_memory image in
+    let data_parts = parts laws b image h in
     let here = around laws b image h in
     let short = short_front b h.valid in
+    let given = given_in laws b image h in
     record {
       valid = h.valid;
-      facts = facts;
       limits = h.limits;
       eval_answers = laws.eval_answers;
       layout = is_watched_layout b h.valid;
@@ -164,46 +164,55 @@ grounds laws b image flags fits h =
       ready_shown = refl;
       fault_shown = refl;
       defaults = fit_defaults laws.nearest_is_byte b.outputs h.valid.outputs;
-      are = are_segments b [] [] h.valid facts h.limits parts;
-      apart = are_apart b [] [] h.valid facts h.limits parts;
+      are = are_segments b data_parts;
+      apart = are_apart b data_parts;
       most_is = bound_is b;
-      size = h.given.size;
+      size = given.size;
       bytes = memory_bytes laws b image h;
       front = here.front;
-      front_end = (let size = length-code (watched_front main_layout b) in omega arith);
-      routine = has_routine (watched_layout b) b Byte (watched_front main_layout b) image (omega arith) (record { from = omega arith; to = omega arith }) here;
-      stands = stand image b here.eval.tables here.eval.singletons here.eval.weights here.eval.rules;
+      front_end = omega arith;
+      routine = has_routine (watched_layout b) b Byte (watched_front main_layout b) mem (omega arith) (record { from = omega arith; to = omega arith }) (few_slots laws.layout_law b h.valid) here;
+      stands = stand mem b here.eval.tables here.eval.singletons here.eval.weights here.eval.rules;
     }
 
-arrived : (laws : FirmwareLaws) (b : Block) (image : List ℕ) (flags : ℕ) (fits : flags < 2 ^ 8) → Founded laws b image → Arrived (over laws b image flags fits) b Byte
+arrived : (laws : LowerLaws) (b : Block) (image : List (ℕ × ℕ)) (flags : ℕ) (fits : flags < 2 ^ 8) → Founded laws b image → Arrived (over laws b (image_memory image) flags fits) b Byte
 arrived laws b image flags fits h =
     let l = watched_layout b in
+    let mem = image_memory image in
     let front = watched_front main_layout b in
     let gs = segments_of main_layout b in
+    let given = given_in laws b image h in
+    let rise = rising laws b image h in
     let here = around laws b image h in
-    let frame = frame_bytes image (calls l b.outputs) (front_bytes image l b.outputs gs here.front).frame in
-    let vector = start_stands laws.rises image (block_items l b Byte front (Rts ∷ [])) l h.given h.rising in
-    arrive (over laws b image flags fits) b Byte (is_watched_layout b h.valid).started (watched_apart b h.valid) h.valid.few_outputs vector frame.start h.given.size (memory_bytes laws b image h)
-    (λ q lt. zero_below laws.rises image l b Byte front (Rts ∷ []) (vector_items l) h.given h.rising q lt (omega arith))
+    let frame = frame_bytes mem (calls l b.outputs) (front_bytes mem l b.outputs gs here.front).frame in
+    let vector = start_stands (rises_of laws) mem (block_items l b Byte front (Rts ∷ [])) l given rise in
+    arrive (over laws b mem flags fits) b Byte (is_watched_layout b h.valid).started (watched_apart b h.valid) h.valid.few_outputs vector frame.start given.size (memory_bytes laws b image h)
+    (λ q lt. zero_below (rises_of laws) mem l b Byte front (Rts ∷ []) (vector_items l) given rise q lt (omega arith))
 
--- good samples of the definition
-may_change : (laws : FirmwareLaws) (b : Block) (image : List (ℕ × ℕ)) (flags : ℕ) (fits : flags < 2 ^ 8) (change : Option Change) → IsValid b → HasSizes b
-    → Holds image (given_by (watched_items b)) → IsTableChange (watched_layout b) image change → MayChange (over laws b (image_memory image) flags fits) (segments_of main_layout b) change
-may_change laws b image flags fits None v sizes h x = tt
-may_change laws b image flags fits (Some c) v sizes h x =
+-- the code ends below the tables
+code_end : (laws : LowerLaws) (b : Block) (image : List (ℕ × ℕ)) → Founded laws b image
+    → (let l = watched_layout b in l.code + length (code_bytes (block_code l b Byte (watched_front main_layout b) (Rts ∷ []))) ≤ l.tables)
+code_end laws b image h =
     let l = watched_layout b in
     let front = watched_front main_layout b in
-    let short = short_front b v in
-    let size = sized front in
-    let code = sized (block_code l b Byte front (Rts ∷ [])) in
-    let parts = watched_sizes b v sizes in
-    let most = parts.code in
+    let eval = eval_code l b Byte in
+    let room = (around laws b image h).room in
+    omega (arith, short_front b h.valid, length-more front (eval ++ Rts ∷ []), length-more eval (Rts ∷ []), room)
+
+-- good samples of the definition
+may_change : (laws : LowerLaws) (b : Block) (image : List (ℕ × ℕ)) (flags : ℕ) (fits : flags < 2 ^ 8) (change : Option Change) → Founded laws b image
+    → IsTableChange (watched_layout b) image change → MayChange (over laws b (image_memory image) flags fits) (segments_of main_layout b) change
+may_change laws b image flags fits None h x = tt
+may_change laws b image flags fits (Some c) h x =
+    let l = watched_layout b in
+    let front = watched_front main_layout b in
+    let end = code_end laws b image h in
     let low = x.0 in
     let high = x.1 in
     record {
       low = x.0;
       high = omega arith;
-      within = located c.0 l b Byte front (Rts ∷ []) (omega arith) x.1 (λ e. x.2 (h.bytes c.0 ∙ e));
+      within = located c.0 l b Byte front (Rts ∷ []) (omega arith) x.1 (λ e. x.2 (h.holds.bytes c.0 ∙ e));
       fits = x.3;
     }
 
@@ -211,7 +220,7 @@ may_change laws b image flags fits (Some c) v sizes h x =
 abbrev Answers : Layout → Block → ℕ → List ℕ → ℕ → List Watched → Type 0
 Answers l b most image flags samples = (s : State) × (IsArrived l image flags s × AreWatchAnswered l b most image flags (λ o. 0) samples s)
 
-from_arrival : (laws : FirmwareLaws) (b : Block) (image : List ℕ) (flags : ℕ) (fits : flags < 2 ^ 8) (samples : List Watched)
+from_arrival : (laws : LowerLaws) (b : Block) (image : List ℕ) (flags : ℕ) (fits : flags < 2 ^ 8) (samples : List Watched)
     → Grounds (over laws b image flags fits) b (segments_of main_layout b) (watched_bound b) → AreGood (over laws b image flags fits) b (segments_of main_layout b) samples
     → Arrived (over laws b image flags fits) b Byte → Answers (watched_layout b) b (watched_bound b) image flags samples
 from_arrival laws b image flags fits samples h all a =
@@ -224,17 +233,16 @@ from_arrival laws b image flags fits samples h all a =
       ),
     )
 
-main_answers : (laws : FirmwareLaws) (b : Block) (image : List (ℕ × ℕ)) (flags : ℕ) (samples : List Watched) → IsValid b → IsWithinLimits b
+main_answers : (laws : LowerLaws) (b : Block) (image : List (ℕ × ℕ)) (flags : ℕ) (samples : List Watched) → IsValid b → IsWithinLimits b
     → Holds image (given_by (watched_items b)) → flags < 2 ^ 8 → All (IsGoodSample b (watched_layout b) image) samples
     → Answers (watched_layout b) b (watched_bound b) (image_memory image) flags samples
 main_answers laws b image flags samples v limits h fits all =
-    let sizes = sizes_of b (block_facts laws.layout_law b v) limits in
-    let founded : Founded laws b (image_memory image) = record { valid = v; limits = limits; given = image_given laws.holds_image image (given_by (watched_items b)) h; rising = watched_rise b v sizes } in
-    from_arrival laws b (image_memory image) flags fits samples (grounds laws b (image_memory image) flags fits founded)
-    (λ k d lt. (let good = all k d lt in (good.bytes, may_change laws b image flags fits _ v sizes h good.change)))
-    (arrived laws b (image_memory image) flags fits founded)
+    let founded : Founded laws b image = record { valid = v; limits = limits; holds = h } in
+    from_arrival laws b (image_memory image) flags fits samples (grounds laws b image flags fits founded)
+    (λ k d lt. (let good = all k d lt in (good.bytes, may_change laws b image flags fits _ founded good.change)))
+    (arrived laws b image flags fits founded)
 
-pub watched_answers : FirmwareLaws → WatchedAnswers
+pub watched_answers : LowerLaws → WatchedAnswers
 watched_answers laws b f v limits h flags samples fits all =
     let image = f.image.bytes in
     let good : All (IsGoodSample b (watched_layout b) image) samples = subst (λ (l : Layout). All (IsGoodSample b l image) samples) h.layout all in

@@ -11,7 +11,7 @@ use Rattle.cpu12_parts.specs.Whole.{after_plain}
 use Rattle.codegen.specs.Interruptible.{IsInterruptibleStep}
 use Rattle.codegen.specs.WatchedCode.{default_code, defaults_code}
 use Rattle.codegen.specs.Watched.{default_or, default_of}
-use Rattle.codegen.proofs.steps.Executions.{bounded_none, bounded_more}
+use Rattle.eval_code.proofs.Algebra.{bounded_none, bounded_more}
 use Rattle.codegen.proofs.runs.Stepping.{Ctx, Live, Stands, Goes, goes_on, goes_one}
 use Rattle.codegen.proofs.watching.Adding.{ldab, stab}
 

@@ -4,22 +4,18 @@ use Rattle.fuzzy_meaning.specs.declared.block.Block.{Block}
 use Rattle.rule_layout.specs.declared.flat.Flat.{Flat}
 use Rattle.rule_layout.specs.declared.flat.Form.{Form}
 use Rattle.rule_layout.specs.declared.flat.Form.TheVariants as form
-use Rattle.rule_layout.specs.Layouts.{flat_of, form_of, weights_of, IsWithinLimits, LayoutLaw}
-use Rattle.codegen.specs.declared.layout.Layout.{Layout}
+use Rattle.rule_layout.specs.Layouts.{flat_of, form_of, weights_of}
+use Rattle.eval_code.specs.declared.layout.Layout.{Layout}
 use Rattle.codegen.specs.declared.segments.Segment.{Segment}
-use Rattle.codegen.specs.declared.width.Width.TheVariants.{Byte}
-use Rattle.codegen.specs.Layouts.{main_layout}
-use Rattle.codegen.specs.Data.{table_bytes, singleton_bytes, rule_bytes_by, rule_bytes}
-use Rattle.codegen.specs.Bounds.{instruction_bound}
+use Rattle.eval_code.specs.declared.width.Width.TheVariants.{Byte}
+use Rattle.eval_code.specs.Layouts.{main_layout}
+use Rattle.eval_code.specs.Data.{table_bytes, singleton_bytes, rule_bytes_by, rule_bytes}
+use Rattle.eval_code.specs.Bounds.{instruction_bound}
+use Rattle.eval_code.specs.Placed.{HasParts}
 use Rattle.codegen.specs.Watched.{segment_bound, watched_bound}
 use Rattle.codegen.specs.WatchedCode.{IsSegment, AreSegments, segment, weight_segments, segments_of}
 use Rattle.std.proofs.lemmas.List.Elements.{All-cons, All-nil}
-use Rattle.codegen.proofs.Placement.{HasPartSizes, part_sizes}
-use Rattle.codegen.proofs.phases.RuleFacts.{block_facts}
-use Rattle.codegen.proofs.runs.Law.{sizes_of}
-use Rattle.codegen.proofs.watching.Tables.{are_segments, few_weights}
-use Rattle.fuzzy_meaning.specs.Blocks.{IsValid}
-use Rattle.codegen.proofs.Joins.{form-flat_of, weights-flat_of, conjunctions-flat_of}
+use Rattle.eval_code.proofs.Algebra.{form-flat_of, weights-flat_of, conjunctions-flat_of}
 
 segment_at : (gs : List Segment) (i : ℕ) (g : Segment) → i < length gs → AreSegments gs → IsSegment (get_or gs i g)
 segment_at [] i g lt h = absurd (omega arith)
@@ -50,24 +46,13 @@ later_short : (f : Form) (at to : ℕ) (ws rs : List ℕ) → length ws ≤ 512 
 later_short form.Rev at to ws rs a b = All-cons IsShort (segment to rs) [] b (All-nil IsShort)
 later_short form.Revw at to ws rs a b = All-cons IsShort (segment at ws) (segment to rs ∷ []) (omega arith) (All-cons IsShort (segment to rs) [] b (All-nil IsShort))
 
-pub are_short : (b : Block) → HasPartSizes main_layout b Byte [] [] → length (weights_of b) ≤ 512 → All (λ g. length g.bytes ≤ 9984) (segments_of main_layout b)
-are_short b h few =
+pub are_short : (b : Block) → HasParts main_layout b → All (λ g. length g.bytes ≤ 9984) (segments_of main_layout b)
+are_short b h =
     let t = h.tables in
     let s = h.singletons in
     let later = weight_segments 0xD300 (form_of b) (weights_of b) ++ segment 0xD800 (rule_bytes 0x1100 b) ∷ [] in
     All-cons IsShort (segment 0xD000 (table_bytes b)) (segment 0xD200 (singleton_bytes b) ∷ later) (omega arith)
-    (All-cons IsShort (segment 0xD200 (singleton_bytes b)) later (omega arith) (later_short (form_of b) 0xD300 0xD800 (weights_of b) (rule_bytes 0x1100 b) few h.rules))
-
-pub segments_fit : LayoutLaw → (b : Block) → IsValid b → IsWithinLimits b → AreSegments (segments_of main_layout b)
-segments_fit law b v limits =
-    let facts = block_facts law b v in
-    are_segments b [] [] v facts limits (part_sizes main_layout b Byte [] [] v (sizes_of b facts limits))
-
-pub segments_short : LayoutLaw → (b : Block) → IsValid b → IsWithinLimits b → All (λ g. length g.bytes ≤ 9984) (segments_of main_layout b)
-segments_short law b v limits =
-    let facts = block_facts law b v in
-    let parts = part_sizes main_layout b Byte [] [] v (sizes_of b facts limits) in
-    are_short b parts (few_weights b [] [] v facts limits parts)
+    (All-cons IsShort (segment 0xD200 (singleton_bytes b)) later (omega arith) (later_short (form_of b) 0xD300 0xD800 (weights_of b) (rule_bytes 0x1100 b) h.weights.1 h.rules.1))
 
 -- the bound, from its parts
 pub bound_made : (b : Block) (n s : ℕ) → n ≡ instruction_bound Byte b → s ≡ sum_by segment_bound (segments_of main_layout b) → n + 4 + s ≡ watched_bound b

@@ -9,28 +9,23 @@ use Rattle.byte_scaling.specs.Cells.{nearest_byte, NearestIsByte}
 use Rattle.cpu12_isa.specs.declared.instr.Instr.{Instr}
 use Rattle.cpu12_isa.specs.declared.instr.Instr.TheVariants.{LdabImmediate, Rts}
 use Rattle.cpu12_isa.specs.Code.{encode_of}
-use Rattle.codegen.specs.declared.layout.Layout.{Layout}
+use Rattle.eval_code.specs.declared.layout.Layout.{Layout}
 use Rattle.codegen.specs.declared.segments.Segment.{Segment}
 use Rattle.codegen.specs.Checksums.{check_byte}
 use Rattle.codegen.specs.Code.{frame_code}
-use Rattle.codegen.specs.Images.{IsApart}
+use Rattle.eval_code.specs.Items.{IsApart}
 use Rattle.codegen.specs.WatchedCode.{segment_bytes, code_length, default_code, defaults_code, bad_code, segment_code, segments_code, back_to_bad, check_code, bad_at, check_at, watched_front_over, fault_at}
-use Rattle.codegen.proofs.Sizes.{code_size, length-le-code_size}
-use Rattle.codegen.proofs.steps.Memory.{HasBytes, bytes_front, bytes_back}
-use Rattle.codegen.proofs.steps.Decoding.{UsedCode, used_append, code_bytes}
-use Rattle.codegen.proofs.phases.Law.{length-code}
+use Rattle.eval_code.specs.Evaluation.{HasBytes}
+use Rattle.eval_code.specs.Code.{code_bytes}
+use Rattle.eval_code.proofs.Algebra.{length-le-code_size, sized, bytes_front, bytes_back, UsedCode, used_append, length-code, bytes_append}
 use Rattle.codegen.proofs.runs.Stepping.{Ctx, Stands, stands_of}
-use Rattle.codegen.proofs.runs.Founding.{IsStarted, IsFramed, bytes_append, frame_bytes, has_frame}
+use Rattle.codegen.proofs.runs.Founding.{IsStarted, IsFramed, frame_bytes, has_frame}
 use Rattle.codegen.proofs.watching.Adding.{IsShutAbove, AreSegments}
 use Rattle.codegen.proofs.watching.Checking.{HasCheck, decision}
 use Rattle.codegen.proofs.watching.Defaults.{FitDefault, FitDefaults, default_byte}
 use Rattle.codegen.proofs.watching.Sampling.{calling, HasFront}
 
 -- lengths
-pub sized : (code : List Instr) → code_size code ≡ code_length code
-sized [] = refl
-sized (i ∷ is) = omega (arith, length-append (encode_of i) (code_bytes is), sized is)
-
 pub length-more : (a b : List Instr) → code_length (a ++ b) ≡ code_length a + code_length b
 length-more a b = ap length (flat_map-append encode_of a b) ∙ length-append (code_bytes a) (code_bytes b)
 

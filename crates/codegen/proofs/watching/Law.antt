@@ -13,19 +13,19 @@ use Rattle.cpu12_parts.specs.State.{State}
 use Rattle.cpu12_parts.specs.Executions.{Execution}
 use Rattle.codegen.specs.Interruptible.{IsInterruptible, IsInterruptibleStep}
 use Rattle.codegen.specs.declared.segments.Segment.{Segment}
-use Rattle.codegen.specs.declared.width.Width.TheVariants.{Byte}
-use Rattle.codegen.specs.Widths.{answer}
-use Rattle.codegen.specs.Bounds.{instruction_bound}
-use Rattle.codegen.specs.Images.{IsApart}
-use Rattle.codegen.specs.Firing.{AreInputBytes}
-use Rattle.codegen.specs.Evaluation.{HasBytes, EvalAnswers}
-use Rattle.codegen.specs.Answers.{given, put}
+use Rattle.eval_code.specs.declared.width.Width.TheVariants.{Byte}
+use Rattle.eval_code.specs.Widths.{answer}
+use Rattle.eval_code.specs.Bounds.{instruction_bound}
+use Rattle.eval_code.specs.Items.{IsApart}
+use Rattle.eval_code.specs.Firing.{AreInputBytes}
+use Rattle.eval_code.specs.Evaluation.{HasBytes, EvalAnswers}
+use Rattle.codegen.specs.Answers.{given}
+use Rattle.eval_code.specs.Evaluation.{put}
 use Rattle.codegen.specs.WatchedCode.{segment_bytes, fault_at, watched_front_over, code_length}
 use Rattle.codegen.specs.Checksums.{check_byte}
 use Rattle.codegen.specs.Watched.{Change, changed, is_upset, Watched, default_of, watched_answer, watched_fault, upset_given, restored, IsWatchAnswered, AreWatchAnswered}
-use Rattle.codegen.proofs.steps.Memory.{SameHigh, bytes_set_out, bytes_after_set, bytes_put_out, has_put, length-put}
-use Rattle.codegen.proofs.steps.Decoding.{code_bytes}
-use Rattle.codegen.proofs.phases.RuleFacts.{BlockFacts}
+use Rattle.eval_code.specs.Code.{code_bytes}
+use Rattle.eval_code.proofs.Algebra.{SameHigh, bytes_set_out, bytes_after_set, bytes_put_out, has_put, length-put}
 use Rattle.codegen.proofs.runs.Stepping.{Ctx, Live, interruptible_of}
 use Rattle.codegen.proofs.runs.Calling.{HasRoutine}
 use Rattle.codegen.proofs.runs.Framing.{Home, given_live, waits}
@@ -54,7 +54,6 @@ MayChange c gs (Some x) = IsTable c gs x
 -- what all samples stand on
 pub record Grounds (c : Ctx) (b : Block) (gs : List Segment) (most : ℕ) : Type 0 where
   pub valid : IsValid b
-  pub facts : BlockFacts b
   pub limits : IsWithinLimits b
   pub eval_answers : EvalAnswers
   pub layout : IsWatchedLayout c.layout b.outputs gs
@@ -83,7 +82,6 @@ watches : (c : Ctx) (b : Block) (gs : List Segment) (most : ℕ) (change : Optio
 watches c b gs most change h x = record {
   apart = h.layout.apart;
   valid = h.valid;
-  facts = h.facts;
   limits = h.limits;
   eval_answers = h.eval_answers;
   ready = h.layout.ready;

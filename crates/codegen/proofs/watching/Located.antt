@@ -11,16 +11,15 @@ use Rattle.cpu12_asm.specs.declared.items.Item.TheVariants.{Byte, Op}
 use Rattle.cpu12_asm.specs.Bytes.{byte_at, placed}
 use Rattle.cpu12_asm.specs.Items.{given_from, given_by}
 use Rattle.cpu12_asm.proofs.Algebra.{or_else, byte_at-append, byte_at-placed}
-use Rattle.codegen.specs.declared.layout.Layout.{Layout}
+use Rattle.eval_code.specs.declared.layout.Layout.{Layout}
 use Rattle.codegen.specs.declared.segments.Segment.{Segment}
-use Rattle.codegen.specs.declared.width.Width.{Width}
-use Rattle.codegen.specs.Code.{block_code}
-use Rattle.codegen.specs.Data.{table_bytes, singleton_bytes, weight_bytes_by, weight_bytes, rule_bytes, bytes_of_word}
-use Rattle.codegen.specs.Images.{bytes_at, vector_items, block_items}
+use Rattle.eval_code.specs.declared.width.Width.{Width}
+use Rattle.eval_code.specs.Code.{block_code, code_bytes}
+use Rattle.eval_code.specs.Data.{table_bytes, singleton_bytes, weight_bytes_by, weight_bytes, rule_bytes, bytes_of_word}
+use Rattle.eval_code.specs.Items.{bytes_at, block_items}
+use Rattle.codegen.specs.Images.{vector_items}
 use Rattle.codegen.specs.WatchedCode.{segment, weight_segments, segments_of}
-use Rattle.codegen.proofs.Joins.{block_then, block_items-then}
-use Rattle.codegen.proofs.steps.Decoding.{code_bytes}
-use Rattle.codegen.proofs.runs.Standing.{given_bytes, given_code, none_placed_below}
+use Rattle.eval_code.proofs.Algebra.{block_then, block_items-then, given_bytes, given_code, none_placed_below}
 use Rattle.codegen.proofs.watching.Segments.{Within, In}
 
 -- not among bytes that are placed, so behind them

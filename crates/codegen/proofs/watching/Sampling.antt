@@ -13,21 +13,19 @@ use Rattle.cpu12_parts.specs.State.{State}
 use Rattle.cpu12_parts.specs.Rules.{Rule, Form}
 use Rattle.cpu12_parts.specs.Whole.{after_plain}
 use Rattle.cpu12_parts.specs.Executions.{Execution, all_steps}
-use Rattle.codegen.specs.declared.layout.Layout.{Layout}
+use Rattle.eval_code.specs.declared.layout.Layout.{Layout}
 use Rattle.codegen.specs.declared.segments.Segment.{Segment}
-use Rattle.codegen.specs.declared.width.Width.TheVariants.{Byte}
-use Rattle.codegen.specs.Widths.{answer}
-use Rattle.codegen.specs.Bounds.{output_bound, instruction_bound, steps_by}
-use Rattle.codegen.specs.Images.{IsApart}
-use Rattle.codegen.specs.Firing.{AreInputBytes}
-use Rattle.codegen.specs.Evaluation.{HasBytes, HasAnswers, EvalAnswers}
+use Rattle.eval_code.specs.declared.width.Width.TheVariants.{Byte}
+use Rattle.eval_code.specs.Widths.{answer}
+use Rattle.eval_code.specs.Bounds.{output_bound, instruction_bound, steps_by}
+use Rattle.eval_code.specs.Items.{IsApart}
+use Rattle.eval_code.specs.Firing.{AreInputBytes}
+use Rattle.eval_code.specs.Evaluation.{HasBytes, HasAnswers, EvalAnswers}
 use Rattle.codegen.specs.Interruptible.{IsShownInstruction, IsShownRules, IsInterruptibleStep}
 use Rattle.codegen.specs.WatchedCode.{bad_code, defaults_code, fault_at, segment_bytes}
 use Rattle.codegen.specs.Checksums.{check_byte}
 use Rattle.codegen.specs.Watched.{default_of}
-use Rattle.codegen.proofs.steps.Executions.{execution_on, length_append, steps_append}
-use Rattle.codegen.proofs.steps.Memory.{bytes_set_out}
-use Rattle.codegen.proofs.phases.RuleFacts.{BlockFacts}
+use Rattle.eval_code.proofs.Algebra.{execution_on, length_append, steps_append, bytes_set_out}
 use Rattle.codegen.proofs.runs.Stepping.{Ctx, Live, Stands, Goes, goes_on, goes_one, interruptible_of}
 use Rattle.codegen.proofs.runs.Calling.{HasRoutine, IsInCode, IsCalled, Back, called, rts_run}
 use Rattle.codegen.proofs.runs.Framing.{HasFrame, Home, Called, Left, call_run, leave_run, pushed_word}
@@ -88,7 +86,6 @@ pub record HasFront (c : Ctx) (outputs : List Output) (gs : List Segment) : Type
 pub record Watches (c : Ctx) (b : Block) (gs : List Segment) (most : ℕ) : Type 0 where
   pub apart : IsApart c.layout
   pub valid : IsValid b
-  pub facts : BlockFacts b
   pub limits : IsWithinLimits b
   pub eval_answers : EvalAnswers
   pub ready : c.layout.ready < c.layout.inputs
@@ -211,7 +208,7 @@ ended_well c b gs most back bytes before s h routine i k fine =
     let r : Leads c (4 + count_in gs) s c.layout.eval (set s.mem fault_at 0) =
     record { t = p.t; goes = p.goes; live = p.live; pc_is = p.pc_is ∙ f.behind; sp_is = p.sp_is; mem_is = p.mem_is } in
     evaluated_by c b gs most back bytes before s h k.live.size r
-    (called h.eval_answers c b Byte back bytes before r.t h.apart h.valid h.facts h.limits routine i (eval_called c b gs most f.at back (4 + count_in gs) bytes before s h routine.inside i k r))
+    (called h.eval_answers c b Byte back bytes before r.t h.apart h.valid h.limits routine i (eval_called c b gs most f.at back (4 + count_in gs) bytes before s h routine.inside i k r))
 
 -- ---- they are not: BAD
 

@@ -4,7 +4,7 @@ use Rattle.std.specs.Prelude.{◌==◌, sum}
 use Rattle.std.proofs.lemmas.Bool.{cases_eq}
 use Rattle.std.proofs.lemmas.Bool.Decides.{nat_tests}
 use Rattle.std.proofs.lemmas.List.Sums.{sum_by-cons, sum_by-append}
-use Rattle.codegen.specs.Evaluation.{HasBytes}
+use Rattle.eval_code.specs.Evaluation.{HasBytes}
 use Rattle.codegen.specs.Checksums.{check_byte}
 use Rattle.codegen.specs.declared.segments.Segment.{Segment}
 use Rattle.codegen.specs.WatchedCode.{segment_bytes}

@@ -1,43 +1,20 @@
 -- The segments of a block's image: where they lie, and that they stand.
-use Rattle.std.proofs.Common.{◌≡◌, ℕ, zero, suc, ◌+◌, ◌≤◌, List, [], ◌∷◌, ◌++◌, length, sum_by, All, refl, ap₂, arith}
+use Rattle.std.proofs.Common.{◌≡◌, ℕ, zero, suc, ◌+◌, ◌≤◌, List, [], ◌∷◌, ◌++◌, length, sum_by, refl, ap₂, arith}
 use Rattle.std.proofs.lemmas.List.Sums.{sum_by-cons}
 use Rattle.fuzzy_meaning.specs.declared.block.Block.{Block}
-use Rattle.fuzzy_meaning.specs.declared.block.Input.{Input}
-use Rattle.fuzzy_meaning.specs.declared.block.Output.{Output}
-use Rattle.fuzzy_meaning.specs.Blocks.{IsValid, IsValidInput, IsValidOutput}
-use Rattle.rule_layout.specs.declared.flat.Conjunction.{Conjunction}
 use Rattle.rule_layout.specs.declared.flat.Form.{Form}
 use Rattle.rule_layout.specs.declared.flat.Form.TheVariants as form
-use Rattle.rule_layout.specs.Slots.{term_count, singleton_count}
-use Rattle.rule_layout.specs.Layouts.{form_of, weights_of, conjunctions_of, IsWithinLimits}
-use Rattle.cpu12_isa.specs.declared.instr.Instr.{Instr}
+use Rattle.rule_layout.specs.Layouts.{form_of, weights_of}
 use Rattle.codegen.specs.declared.segments.Segment.{Segment}
-use Rattle.codegen.specs.declared.width.Width.TheVariants.{Byte}
-use Rattle.codegen.specs.Layouts.{main_layout}
-use Rattle.codegen.specs.Data.{table_bytes, singleton_bytes, weight_bytes_by, weight_bytes, rule_bytes}
-use Rattle.codegen.specs.Bounds.{entry_count}
-use Rattle.codegen.specs.Evaluation.{HasBytes}
+use Rattle.eval_code.specs.Layouts.{main_layout}
+use Rattle.eval_code.specs.Data.{table_bytes, singleton_bytes, weight_bytes_by, weight_bytes, rule_bytes}
+use Rattle.eval_code.specs.Evaluation.{HasBytes}
+use Rattle.eval_code.specs.Placed.{HasParts}
 use Rattle.codegen.specs.Watched.{segment_bound}
 use Rattle.codegen.specs.WatchedCode.{segment, weight_segments, segments_of}
-use Rattle.codegen.proofs.Sizes.{length-tables, length-singletons}
-use Rattle.codegen.proofs.Placement.{HasPartSizes, length-weights_of, length-rules, element_count-le}
-use Rattle.codegen.proofs.steps.Memory.{SameHigh}
-use Rattle.codegen.proofs.phases.RuleFacts.{BlockFacts}
+use Rattle.eval_code.proofs.Algebra.{SameHigh}
 use Rattle.codegen.proofs.watching.Adding.{AreSegments, sum_from, sum_in, count_in}
 use Rattle.codegen.proofs.watching.Segments.{Apart, Stand}
-
--- each part has a byte
-some_terms : (xs : List Input) → 1 ≤ length xs → All IsValidInput xs → 1 ≤ sum_by term_count xs
-some_terms [] some v = absurd (omega arith)
-some_terms (x ∷ xs) some v = let first = (v 0 x (omega arith)).some_term in omega (arith, sum_by-cons term_count x xs)
-
-some_singletons : (os : List Output) → 1 ≤ length os → All IsValidOutput os → 1 ≤ sum_by singleton_count os
-some_singletons [] some v = absurd (omega arith)
-some_singletons (o ∷ os) some v = let first = (v 0 o (omega arith)).some_term in omega (arith, sum_by-cons singleton_count o os)
-
-some_entries : (cs : List Conjunction) → 1 ≤ length cs → 1 ≤ sum_by entry_count cs
-some_entries [] some = absurd (omega arith)
-some_entries (c ∷ cs) some = omega (arith, sum_by-cons entry_count c cs)
 
 -- the segments behind the singletons
 later_segments : (f : Form) (ws rs : List ℕ) → 1 ≤ length ws → length ws ≤ 512 → 1 ≤ length rs → length rs ≤ 9984
@@ -58,28 +35,15 @@ later_few : (f : Form) (ws rs : List ℕ) → length (weight_segments 0xD300 f w
 later_few form.Rev ws rs = omega arith
 later_few form.Revw ws rs = omega arith
 
-module _ (b : Block) (before behind : List Instr) (v : IsValid b) (facts : BlockFacts b) (limits : IsWithinLimits b) (h : HasPartSizes main_layout b Byte before behind) where
-  pub few_weights : length (weights_of b) ≤ 512
-  few_weights = let n = length-weights_of b in let most = limits.few_conjunctions in omega arith
-
-  some_weights : 1 ≤ length (weights_of b)
-  some_weights = let n = facts.weighed in let some = facts.some_conjunction in omega arith
-
-  some_rules : 1 ≤ length (rule_bytes 0x1100 b)
-  some_rules = let n = length-rules 0x1100 b in let e = element_count-le b in let some = some_entries (conjunctions_of b) facts.some_conjunction in omega arith
-
+module _ (b : Block) (h : HasParts main_layout b) where
   pub are_segments : AreSegments (segments_of main_layout b)
   are_segments =
-      let t = length-tables b.inputs in
-      let terms = some_terms b.inputs v.some_input v.inputs in
-      let s = length-singletons b.outputs in
-      let singletons = some_singletons b.outputs v.some_output v.outputs in
-      let most = h.tables in
-      let most_too = h.singletons in
-      ((omega arith, omega arith, omega arith), ((omega arith, omega arith, omega arith), later_segments (form_of b) (weights_of b) (rule_bytes 0x1100 b) some_weights few_weights some_rules h.rules))
+      let t = h.tables in
+      let s = h.singletons in
+      ((omega arith, t.0, omega arith), ((omega arith, s.0, omega arith), later_segments (form_of b) (weights_of b) (rule_bytes 0x1100 b) h.weights.0 h.weights.1 h.rules.0 h.rules.1))
 
   pub are_apart : Apart 0x2000 (segments_of main_layout b)
-  are_apart = let t = h.tables in let s = h.singletons in (omega arith, (omega arith, later_apart (form_of b) (0xD200 + length (singleton_bytes b)) (weights_of b) (rule_bytes 0x1100 b) (omega arith) few_weights))
+  are_apart = let t = h.tables in let s = h.singletons in (omega arith, (omega arith, later_apart (form_of b) (0xD200 + length (singleton_bytes b)) (weights_of b) (rule_bytes 0x1100 b) (omega arith) h.weights.1))
 
 pub are_few : (b : Block) → length (segments_of main_layout b) ≤ 4
 are_few b = let n = later_few (form_of b) (weights_of b) (rule_bytes 0x1100 b) in omega arith

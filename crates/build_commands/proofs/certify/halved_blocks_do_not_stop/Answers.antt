@@ -1,7 +1,7 @@
 use Rattle.std.proofs.Common.{◌≡◌}
 use Rattle.std.specs.Prelude.{Result, Ok, Err}
 use Rattle.box_tree.specs.declared.cert.Cert.{Cert}
-use Rattle.codegen.specs.Widths.{parts}
+use Rattle.eval_code.specs.Widths.{parts}
 use Rattle.error_certifier.specs.declared.certifier.NotReached.{NotReached}
 use Rattle.build_commands.proofs.certify.halved_blocks_do_not_stop.Goals as goal
 

@@ -1,4 +1,4 @@
-use Rattle.codegen.specs.declared.width.Width.TheVariants.{Byte, Word}
+use Rattle.eval_code.specs.declared.width.Width.TheVariants.{Byte, Word}
 use Rattle.build_commands.proofs.CertLemmas.{as_status}
 use Rattle.build_commands.proofs.certs.errors_under.Goals as goal
 

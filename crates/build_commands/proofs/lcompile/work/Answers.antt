@@ -1,10 +1,10 @@
 use Rattle.std.proofs.Common.{◌≡◌, ◌∙◌, ℕ, Bool, List, ap, ap₂, length, subst}
 use Rattle.fz_shelf.specs.Lines.{text_of}
 use Rattle.fuzzy_meaning.specs.declared.block.Block.{Block}
-use Rattle.codegen.specs.Bounds.{instruction_bound}
-use Rattle.codegen.specs.Widths.{width_of}
+use Rattle.eval_code.specs.Bounds.{instruction_bound}
+use Rattle.eval_code.specs.Widths.{width_of}
 use Rattle.codegen.specs.declared.firmware.Firmware.{Firmware}
-use Rattle.codegen.specs.declared.width.Width.TheVariants.{Byte}
+use Rattle.eval_code.specs.declared.width.Width.TheVariants.{Byte}
 use Rattle.two_level.specs.Images.{IsAlone, fast_most}
 use Rattle.build_commands.specs.Lcompile.{LcompileMakes, lcompile_lines}
 use Rattle.build_commands.specs.Written.{WritesImage}

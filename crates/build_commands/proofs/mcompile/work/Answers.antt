@@ -1,6 +1,6 @@
 use Rattle.std.proofs.Common.{rules}
 use Rattle.codegen.specs.Mailboxes.{mailbox_bound}
-use Rattle.codegen.specs.declared.width.Width.TheVariants.{Byte}
+use Rattle.eval_code.specs.declared.width.Width.TheVariants.{Byte}
 use Rattle.build_commands.specs.Firmwares.{GivesMailbox}
 use Rattle.build_commands.specs.Mcompile.{McompileMakes}
 use Rattle.build_commands.proofs.WrittenLemmas.{firmware_makes}

@@ -1,12 +1,13 @@
-use Rattle.std.proofs.Common.{◌≡◌, Bool, List, refl, sym, ap, ◌∙◌, subst, arith, rules}
+use Rattle.std.proofs.Common.{◌≡◌, ◌<◌, ◌^◌, Bool, List, length, refl, sym, ap, ◌∙◌, subst, rules}
 use Rattle.cpu12_asm.specs.declared.items.Item.{Item}
-use Rattle.codegen.specs.declared.width.Width.{Width}
-use Rattle.codegen.specs.declared.width.Width.TheVariants.{Byte, Word}
-use Rattle.codegen.specs.Widths.{width_of, is_wide}
-use Rattle.codegen.specs.Layouts.{main_layout}
+use Rattle.cpu12_asm.specs.Items.{IsRising}
+use Rattle.eval_code.specs.declared.width.Width.{Width}
+use Rattle.eval_code.specs.declared.width.Width.TheVariants.{Byte, Word}
+use Rattle.eval_code.specs.Widths.{width_of, is_wide}
+use Rattle.eval_code.specs.Layouts.{main_layout}
 use Rattle.codegen.specs.Images.{firmware_items, IsImageOf}
-use Rattle.codegen.specs.Bounds.{instruction_bound, steps_by}
-use Rattle.codegen.proofs.Placement.{sizes_by, main_rises, length-main_items, element_count-le}
+use Rattle.eval_code.specs.Bounds.{instruction_bound, steps_by}
+use Rattle.codegen.proofs.runs.Law.{main_rises, length-main_items}
 use Rattle.codegen.proofs.firmware.compile_at.Goals as goal
 
 width_back : (w : Width) (wide : Bool) → wide ≡ is_wide w → w ≡ width_of wide
@@ -16,17 +17,14 @@ width_back Word wide e = ap width_of (sym e)
 pub image_of-requires-clause-few : goal.image_of-requires-clause-few
 image_of-requires-clause-few c =
     let b = c.args.block.now in
-    let sizes = sizes_by b c.in-Ok.flat c.in-Ok.ensures.value c.in-Ok.ensures.laid_out c.in-Ok.ensures.limits in
-    length-main_items b c.args.width _ c.requires sizes (c.as_slice.ensures.value ∙ c.in-Ok-firmware_items.ensures)
+    subst (λ (xs : List Item). length xs < 2 ^ 32) (sym (c.as_slice.ensures.value ∙ c.in-Ok-firmware_items.ensures))
+    (length-main_items c.blocks_are_placed.ensures.short b c.args.width c.requires c.in-Ok.ensures.limits)
 
 pub image_of-requires-clause-rising : goal.image_of-requires-clause-rising
 image_of-requires-clause-rising c =
     let b = c.args.block.now in
-    let sizes = sizes_by b c.in-Ok.flat c.in-Ok.ensures.value c.in-Ok.ensures.laid_out c.in-Ok.ensures.limits in
-    main_rises b c.args.width _ c.requires sizes (c.as_slice.ensures.value ∙ c.in-Ok-firmware_items.ensures)
-
-pub steps_by-step_bound-requires-clause-short : goal.steps_by-step_bound-requires-clause-short
-steps_by-step_bound-requires-clause-short c = omega (arith, element_count-le c.args.block.now, c.in-Ok.ensures.limits.short_list)
+    subst (λ (xs : List Item). IsRising xs) (sym (c.as_slice.ensures.value ∙ c.in-Ok-firmware_items.ensures))
+    (main_rises c.blocks_are_placed.ensures.rises b c.args.width c.requires c.in-Ok.ensures.limits)
 
 pub returns-clause-firmware : goal.returns-clause-firmware
 returns-clause-firmware c =

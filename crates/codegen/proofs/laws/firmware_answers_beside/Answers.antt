@@ -2,15 +2,4 @@ use Rattle.codegen.proofs.runs.Law.{firmware_answers_beside}
 use Rattle.codegen.proofs.laws.firmware_answers_beside.Goals as goal
 
 pub returns : goal.returns
-returns c = firmware_answers_beside (record {
-  layout_law = c.layout_law.ensures;
-  nearest_is_byte = c.nearest_is_byte.ensures;
-  stays_fit = c.stays_fit.ensures;
-  rises = record {
-    first = c.rising_items.ensures.first;
-    end = c.rising_items.ensures.end;
-    part = c.rising_items.ensures.part;
-  };
-  holds_image = c.holds_image.ensures;
-  eval_answers = c.eval_answers.ensures;
-})
+returns c = firmware_answers_beside c.lower_laws.ensures

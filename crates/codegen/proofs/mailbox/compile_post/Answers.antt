@@ -1,11 +1,10 @@
-use Rattle.std.proofs.Common.{◌≡◌, ◌<◌, ◌^◌, List, length, sym, ap, ◌∙◌, subst, arith, refl, rules}
+use Rattle.std.proofs.Common.{◌≡◌, ◌<◌, ◌^◌, List, length, sym, ap, ◌∙◌, subst, rules}
 use Rattle.fuzzy_meaning.specs.declared.block.Block.{Block}
 use Rattle.cpu12_asm.specs.declared.items.Item.{Item}
 use Rattle.cpu12_asm.specs.Items.{IsRising}
-use Rattle.codegen.specs.declared.layout.Layout.{Layout}
-use Rattle.codegen.specs.declared.width.Width.TheVariants.{Byte}
+use Rattle.eval_code.specs.declared.layout.Layout.{Layout}
+use Rattle.eval_code.specs.declared.width.Width.TheVariants.{Byte}
 use Rattle.codegen.specs.Mailboxes.{mailbox_layout, mailbox_items}
-use Rattle.codegen.proofs.Placement.{sizes_by, element_count-le}
 use Rattle.codegen.proofs.turns.Founding.{length-mailbox_items, mailbox_rises}
 use Rattle.codegen.proofs.mailbox.compile_post.Goals as goal
 
@@ -17,21 +16,16 @@ same_items b xs items l e f g = sym (e ∙ f ∙ ap (λ (k : Layout). mailbox_it
 pub image_of-requires-clause-few : goal.image_of-requires-clause-few
 image_of-requires-clause-few c =
     let b = c.args.block.now in
-    let sizes = sizes_by b c.in-Ok.flat c.in-Ok.ensures.value c.in-Ok.ensures.laid_out c.in-Ok.ensures.limits in
     let layout : c.mailbox_layout-layout.result ≡ mailbox_layout (length b.inputs) = search rules in
     subst (λ (xs : List Item). length xs < 2 ^ 32) (same_items b _ _ _ c.as_slice.ensures.value c.in-Ok-mailbox_items.ensures layout)
-    (length-mailbox_items b Byte (length b.inputs) refl c.requires.few_inputs c.requires sizes)
+    (length-mailbox_items c.blocks_are_placed.ensures.short b Byte c.requires c.in-Ok.ensures.limits)
 
 pub image_of-requires-clause-rising : goal.image_of-requires-clause-rising
 image_of-requires-clause-rising c =
     let b = c.args.block.now in
-    let sizes = sizes_by b c.in-Ok.flat c.in-Ok.ensures.value c.in-Ok.ensures.laid_out c.in-Ok.ensures.limits in
     let layout : c.mailbox_layout-layout.result ≡ mailbox_layout (length b.inputs) = search rules in
     subst (λ (xs : List Item). IsRising xs) (same_items b _ _ _ c.as_slice.ensures.value c.in-Ok-mailbox_items.ensures layout)
-    (mailbox_rises b Byte (length b.inputs) refl c.requires.few_inputs c.requires sizes)
-
-pub steps_by-step_bound-requires-clause-short : goal.steps_by-step_bound-requires-clause-short
-steps_by-step_bound-requires-clause-short c = omega (arith, element_count-le c.args.block.now, c.in-Ok.ensures.limits.short_list)
+    (mailbox_rises c.blocks_are_placed.ensures.rises b Byte c.requires c.in-Ok.ensures.limits)
 
 pub returns-clause-firmware : goal.returns-clause-firmware
 returns-clause-firmware c = search rules

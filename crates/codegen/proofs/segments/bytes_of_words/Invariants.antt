@@ -1,5 +1,5 @@
 use Rattle.std.proofs.Common.{◌≡◌, take, flat_map}
-use Rattle.codegen.specs.Data.{bytes_of_word}
+use Rattle.eval_code.specs.Data.{bytes_of_word}
 use Rattle.codegen.proofs.segments.bytes_of_words.Given as goal
 
 abbrev pub invariant-loop-word : goal.invariant-loop-word

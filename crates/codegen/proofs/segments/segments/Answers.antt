@@ -1,5 +1,5 @@
 use Rattle.std.proofs.Common.{flat_map, ap, ◌∙◌}
-use Rattle.codegen.specs.Data.{singleton_bytes_of}
+use Rattle.eval_code.specs.Data.{singleton_bytes_of}
 use Rattle.codegen.proofs.watching.Emitting.{segments_made}
 use Rattle.codegen.proofs.segments.segments.Goals as goal
 

@@ -1,5 +1,5 @@
 use Rattle.std.proofs.Common.{◌≡◌, take, flat_map}
-use Rattle.codegen.specs.Data.{singleton_bytes_of}
+use Rattle.eval_code.specs.Data.{singleton_bytes_of}
 use Rattle.codegen.proofs.segments.singletons.Given as goal
 
 abbrev pub invariant-loop-output : goal.invariant-loop-output

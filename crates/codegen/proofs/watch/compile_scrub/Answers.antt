@@ -1,21 +1,21 @@
 use Rattle.std.proofs.Common.{◌≡◌, ◌+◌, ◌≤◌, ℕ, List, All, length, sum_by, refl, sym, ap, ap₂, ◌∙◌, subst, arith, rules}
 use Rattle.fuzzy_meaning.specs.declared.block.Output.{Output}
-use Rattle.codegen.specs.declared.layout.Layout.{Layout}
+use Rattle.eval_code.specs.declared.layout.Layout.{Layout}
 use Rattle.codegen.specs.declared.segments.Segment.{Segment}
-use Rattle.codegen.specs.Bounds.{steps_by}
-use Rattle.codegen.specs.Layouts.{main_layout}
+use Rattle.eval_code.specs.Bounds.{steps_by}
+use Rattle.eval_code.specs.Layouts.{main_layout}
 use Rattle.codegen.specs.Watched.{segment_bound}
 use Rattle.codegen.specs.WatchedCode.{AreSegments, code_length, watched_front, watched_front_over}
-use Rattle.codegen.proofs.Placement.{element_count-le}
 use Rattle.codegen.proofs.watching.Answering.{short_front}
-use Rattle.codegen.proofs.watching.Emitting.{bound_made, segments_fit, segments_short}
+use Rattle.codegen.proofs.watching.Emitting.{bound_made, are_short}
+use Rattle.codegen.proofs.watching.Tables.{are_segments}
 use Rattle.codegen.proofs.watching.Fronts.{length-le}
 use Rattle.codegen.proofs.watch.compile_scrub.Goals as goal
 
 pub watched_front-requires-clause-fit : goal.watched_front-requires-clause-fit
 watched_front-requires-clause-fit c =
     subst (λ (gs : List Segment). AreSegments gs) (sym (c.deref.ensures.value ∙ c.in-Ok-segments.ensures))
-    (segments_fit c.layout_law.ensures c.args.block.now c.requires c.in-Ok.ensures.limits)
+    (are_segments c.args.block.now (c.blocks_are_placed.ensures.parts main_layout c.args.block.now c.requires c.in-Ok.ensures.limits))
 
 pub code_length-requires : goal.code_length-requires
 code_length-requires c =
@@ -36,10 +36,7 @@ overflow_add-layout c =
 pub segment_bounds-requires-clause-short : goal.segment_bounds-requires-clause-short
 segment_bounds-requires-clause-short c =
     subst (λ (gs : List Segment). All (λ g. length g.bytes ≤ 9984) gs) (sym (c.deref-4.ensures.value ∙ c.in-Ok-segments.ensures))
-    (segments_short c.layout_law.ensures c.args.block.now c.requires c.in-Ok.ensures.limits)
-
-pub steps_by-step_bound-requires-clause-short : goal.steps_by-step_bound-requires-clause-short
-steps_by-step_bound-requires-clause-short c = omega (arith, element_count-le c.args.block.now, c.in-Ok.ensures.limits.short_list)
+    (are_short c.args.block.now (c.blocks_are_placed.ensures.parts main_layout c.args.block.now c.requires c.in-Ok.ensures.limits))
 
 pub returns-clause-firmware : goal.returns-clause-firmware
 returns-clause-firmware c =

@@ -1,6 +1,6 @@
 use Rattle.std.proofs.Common.{◌∙◌, ◌++◌, ◌∷◌, [], ◌+◌, ◌-◌, arith, ap, ap₂, List, ℕ}
 use Rattle.codegen.specs.Uninterrupted.{values_from}
-use Rattle.codegen.specs.Widths.{width_of}
+use Rattle.eval_code.specs.Widths.{width_of}
 use Rattle.posted_runs.proofs.OutputValues.{values_more}
 use Rattle.posted_runs.proofs.outputs.values_in.Goals as goal
 

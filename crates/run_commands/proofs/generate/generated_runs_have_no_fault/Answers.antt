@@ -1,4 +1,4 @@
-use Rattle.codegen.specs.declared.width.Width.TheVariants.{Byte}
+use Rattle.eval_code.specs.declared.width.Width.TheVariants.{Byte}
 use Rattle.workload.specs.Draws.{draw}
 use Rattle.run_commands.specs.Generate.{generated_target}
 use Rattle.fz_status.specs.declared.status.Status.TheVariants as status

@@ -2,7 +2,7 @@ use Rattle.std.proofs.Common.{ℕ, List, sym, subst}
 use Rattle.fuzzy_meaning.specs.declared.block.Input.{Input}
 use Rattle.trace_io.specs.Traces.{Spells}
 use Rattle.interrupt_plan.specs.Posts.{PostsHaveFault}
-use Rattle.codegen.specs.declared.width.Width.TheVariants.{Byte}
+use Rattle.eval_code.specs.declared.width.Width.TheVariants.{Byte}
 use Rattle.fz_status.specs.declared.status.Status.TheVariants as status
 use Rattle.run_commands.proofs.PostedLemmas.{same_count}
 use Rattle.run_commands.proofs.mrun.posted_runs_have_no_fault.Goals as goal

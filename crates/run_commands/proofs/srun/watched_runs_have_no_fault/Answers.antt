@@ -1,4 +1,4 @@
-use Rattle.codegen.specs.declared.width.Width.TheVariants.{Byte}
+use Rattle.eval_code.specs.declared.width.Width.TheVariants.{Byte}
 use Rattle.fz_status.specs.declared.status.Status.TheVariants as status
 use Rattle.run_commands.proofs.RefusalLemmas.{inputs_stand}
 use Rattle.run_commands.proofs.WatchedLemmas.{spelled_there}

@@ -1,5 +1,5 @@
 use Rattle.std.proofs.Common.{rules}
-use Rattle.codegen.specs.Bounds.{instruction_bound}
+use Rattle.eval_code.specs.Bounds.{instruction_bound}
 use Rattle.build_commands.specs.Compile.{CompileMakes}
 use Rattle.build_commands.specs.Firmwares.{GivesFirmware}
 use Rattle.build_commands.proofs.WrittenLemmas.{firmware_makes}

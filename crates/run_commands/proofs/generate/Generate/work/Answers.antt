@@ -1,6 +1,6 @@
 use Rattle.std.proofs.Common.{ℕ, List, ap, ap₂, ◌∙◌, map, refl}
 use Rattle.std.specs.Prelude.{None}
-use Rattle.codegen.specs.declared.width.Width.TheVariants.{Byte}
+use Rattle.eval_code.specs.declared.width.Width.TheVariants.{Byte}
 use Rattle.fz_run.specs.Rows.{row_seen}
 use Rattle.fz_run.specs.declared.rows.Row.{Row}
 use Rattle.workload.specs.Draws.{draw}

@@ -1,4 +1,4 @@
-use Rattle.codegen.specs.declared.width.Width.TheVariants.{Byte}
+use Rattle.eval_code.specs.declared.width.Width.TheVariants.{Byte}
 use Rattle.build_commands.specs.Contents.{bytes_of}
 use Rattle.run_commands.specs.Accepted.{input_refusals}
 use Rattle.run_commands.specs.Hrun.{handled_files, hrun_refusals}

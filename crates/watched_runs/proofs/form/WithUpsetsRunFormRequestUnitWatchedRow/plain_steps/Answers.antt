@@ -2,7 +2,7 @@ use Rattle.std.proofs.Common.{◌≡◌, false, arith}
 use Rattle.std.specs.Prelude.{◌==◌, slice_index}
 use Rattle.std.proofs.lemmas.Bool.Decides.{nat_tests}
 use Rattle.cpu12_parts.specs.State.{State}
-use Rattle.codegen.specs.declared.layout.Layout.{Layout}
+use Rattle.eval_code.specs.declared.layout.Layout.{Layout}
 use Rattle.watched_runs.proofs.Busy.{stays_busy}
 use Rattle.watched_runs.proofs.form.WithUpsetsRunFormRequestUnitWatchedRow.plain_steps.Goals as goal
 

@@ -1,6 +1,0 @@
-use Rattle.std.proofs.Common.{◌≡◌, ◌*◌, ◌≤◌, take, sum_by}
-use Rattle.codegen.specs.Bounds.{output_bound}
-use Rattle.codegen.proofs.bounds.output_bounds.Given as goal
-
-abbrev pub invariant-loop-output : goal.invariant-loop-output
-invariant-loop-output l = (l.bound ≡ sum_by (output_bound l.width) (take l.output-index l.outputs)) × (l.bound ≤ 13 * l.output-index)

@@ -1,6 +1,0 @@
-use Rattle.std.proofs.Common.{◌≡◌, take, sum_by}
-use Rattle.rule_layout.specs.Slots.{term_count}
-use Rattle.codegen.proofs.code.terms_before.Given as goal
-
-abbrev pub invariant-loop-input : goal.invariant-loop-input
-invariant-loop-input l = l.terms ≡ sum_by term_count (take l.input-index l.inputs)

@@ -1,7 +1,0 @@
-use Rattle.std.proofs.Common.{◌≡◌, ◌++◌, map, take, flat_map}
-use Rattle.cpu12_asm.specs.declared.items.Item.TheVariants.{Byte}
-use Rattle.codegen.specs.Data.{singleton_bytes_of}
-use Rattle.codegen.proofs.data.push_singletons.Given as goal
-
-abbrev pub invariant-loop-output : goal.invariant-loop-output
-invariant-loop-output l = l.items.items ≡ l.fn.items.items ++ map Byte (flat_map singleton_bytes_of (take l.output-index l.outputs))

@@ -1,0 +1,47 @@
+-- How many instructions and steps a sample takes at least and at most.
+use Rattle.std.proofs.Common.{◌≡◌, ◌*◌, ◌≤◌, List, [], ◌∷◌, length, sum_by, Option, Some, None, refl, arith}
+use Rattle.std.proofs.lemmas.List.Sums.{sum_by-cons}
+use Rattle.fz_num.specs.declared.dec.Dec.{Dec}
+use Rattle.fuzzy_meaning.specs.declared.block.Output.{Output}
+use Rattle.rule_layout.specs.declared.flat.Form.{Form}
+use Rattle.rule_layout.specs.declared.flat.Form.TheVariants as form
+use Rattle.rule_layout.specs.Layouts.{form_of, LayoutLaw}
+use Rattle.eval_code.specs.declared.width.Width.{Width}
+use Rattle.eval_code.specs.declared.width.Width.TheVariants.{Byte, Word}
+use Rattle.eval_code.specs.Bounds.{output_bound, form_bound, instruction_bound, steps_by, BoundsAreFew}
+use Rattle.eval_code.proofs.Joins.{sum_by-term_count}
+use Rattle.eval_code.proofs.Placement.{element_count-le, sum_by-singleton_count}
+use Rattle.eval_code.proofs.phases.RuleFacts.{block_facts}
+
+output_bound-le : (w : Width) (o : Output) → output_bound w o ≤ 13
+output_bound-le w o = by_default w o.default refl
+  where
+    by_default : (v : Width) (d : Option Dec) → o.default ≡ d → output_bound v o ≤ 13
+    by_default Byte (Some d) h = rw h (omega arith)
+    by_default Byte None h = rw h (omega arith)
+    by_default Word (Some d) h = rw h (omega arith)
+    by_default Word None h = rw h (omega arith)
+
+outputs_bound : (w : Width) (os : List Output) → sum_by (output_bound w) os ≤ 13 * length os
+outputs_bound w [] = omega arith
+outputs_bound w (o ∷ os) =
+    omega (arith, sum_by-cons (output_bound w) o os, output_bound-le w o, outputs_bound w os)
+
+form_bound-le : (f : Form) → form_bound f ≤ 1
+form_bound-le form.Rev = omega arith
+form_bound-le form.Revw = omega arith
+
+pub bounds_are_few : LayoutLaw → BoundsAreFew
+unfolding instruction_bound steps_by
+bounds_are_few law b w most valid limits =
+    let facts = block_facts law b valid in
+    let terms = sum_by-term_count b.inputs valid.few_inputs valid.inputs in
+    let singletons = sum_by-singleton_count b.outputs valid.few_outputs valid.outputs in
+    let outputs = outputs_bound w b.outputs in
+    let form_is = form_bound-le (form_of b) in
+    let elements = element_count-le b in
+    let slots = facts.few_slots in
+    let few_inputs = valid.few_inputs in
+    let few_outputs = valid.few_outputs in
+    let list = limits.short_list in
+    (omega arith, omega arith, omega arith, omega arith)

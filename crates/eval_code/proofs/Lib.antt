@@ -1,0 +1,12 @@
+pub mod Joins
+pub mod Lists
+pub mod Sizes
+pub mod Placement
+pub mod steps
+pub mod phases
+pub mod masses
+pub mod placing
+pub mod Placed
+pub mod Parts
+pub mod Few
+pub mod Algebra

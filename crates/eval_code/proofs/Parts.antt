@@ -1,0 +1,44 @@
+-- Each part of a block's data has a byte, and so many at most.
+use Rattle.std.proofs.Common.{◌≤◌, List, [], ◌∷◌, length, sum_by, All, arith}
+use Rattle.std.proofs.lemmas.List.Sums.{sum_by-cons}
+use Rattle.fuzzy_meaning.specs.declared.block.Input.{Input}
+use Rattle.fuzzy_meaning.specs.declared.block.Output.{Output}
+use Rattle.fuzzy_meaning.specs.Blocks.{IsValidInput, IsValidOutput}
+use Rattle.rule_layout.specs.declared.flat.Conjunction.{Conjunction}
+use Rattle.rule_layout.specs.Slots.{term_count, singleton_count}
+use Rattle.rule_layout.specs.Layouts.{conjunctions_of, LayoutLaw}
+use Rattle.eval_code.specs.declared.width.Width.TheVariants.{Byte}
+use Rattle.eval_code.specs.Bounds.{entry_count}
+use Rattle.eval_code.specs.Placed.{BlockHasParts}
+use Rattle.eval_code.proofs.Sizes.{length-tables, length-singletons}
+use Rattle.eval_code.proofs.Placement.{length-weights_of, length-rules, element_count-le}
+use Rattle.eval_code.proofs.Placed.{parts}
+use Rattle.eval_code.proofs.phases.RuleFacts.{block_facts}
+
+-- each part has a byte
+some_terms : (xs : List Input) → 1 ≤ length xs → All IsValidInput xs → 1 ≤ sum_by term_count xs
+some_terms [] some v = absurd (omega arith)
+some_terms (x ∷ xs) some v = let first = (v 0 x (omega arith)).some_term in omega (arith, sum_by-cons term_count x xs)
+
+some_singletons : (os : List Output) → 1 ≤ length os → All IsValidOutput os → 1 ≤ sum_by singleton_count os
+some_singletons [] some v = absurd (omega arith)
+some_singletons (o ∷ os) some v = let first = (v 0 o (omega arith)).some_term in omega (arith, sum_by-cons singleton_count o os)
+
+some_entries : (cs : List Conjunction) → 1 ≤ length cs → 1 ≤ sum_by entry_count cs
+some_entries [] some = absurd (omega arith)
+some_entries (c ∷ cs) some = omega (arith, sum_by-cons entry_count c cs)
+
+pub has_parts : LayoutLaw → BlockHasParts
+has_parts law l b v limits =
+    let h = parts law l b Byte [] [] v limits in
+    let facts = block_facts law b v in
+    let conjunctions = facts.some_conjunction in
+    let terms = some_terms b.inputs v.some_input v.inputs in
+    let singletons = some_singletons b.outputs v.some_output v.outputs in
+    let entries = some_entries (conjunctions_of b) conjunctions in
+    record {
+      tables = (omega (arith, length-tables b.inputs, terms), h.tables);
+      singletons = (omega (arith, length-singletons b.outputs, singletons), h.singletons);
+      weights = (omega (arith, facts.weighed, conjunctions), omega (arith, length-weights_of b, limits.few_conjunctions));
+      rules = (omega (arith, length-rules l.slots b, element_count-le b, entries), h.rules);
+    }

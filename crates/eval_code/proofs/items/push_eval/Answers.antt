@@ -1,0 +1,22 @@
+use Rattle.std.proofs.Common.{◌≡◌, ◌+◌, [], ◌∷◌, ◌++◌, map, ap, ◌∙◌, arith}
+use Rattle.cpu12_asm.specs.declared.items.Item.TheVariants.{Op}
+use Rattle.cpu12_isa.specs.declared.instr.Instr.TheVariants.{LdxImmediate, LdyImmediate}
+use Rattle.eval_code.specs.Code.{fuzzify_code, slots_code, rules_code, outputs_code, input_slots}
+use Rattle.eval_code.proofs.Joins.{five_pieces, sum_by-term_count}
+use Rattle.eval_code.proofs.items.push_eval.Goals as goal
+
+pub push_slots-requires-clause-few : goal.push_slots-requires-clause-few
+push_slots-requires-clause-few c = sum_by-term_count c.args.inputs.now c.requires.few_inputs c.requires.inputs
+
+pub returns : goal.returns
+returns c =
+    let l = c.args.layout.now in
+    let inputs = c.args.inputs.now in
+    let outputs = c.args.outputs.now in
+    let slots = c.args.slots.now in
+    let w = c.args.width in
+    let first : l.slots + c.saturating_sub.result ≡ l.slots + input_slots slots outputs = omega (arith, c.saturating_sub.ensures, c.output_terms.ensures.value) in
+    let answers = c.in_ok-push_outputs.ensures ∙ ap (λ n. c.push_rules.new.items.items ++ map Op (outputs_code w l.singletons n l.outputs outputs)) first in
+    five_pieces _ _ _ _ _ _
+    (LdxImmediate l.tables ∷ LdyImmediate l.slots ∷ []) (fuzzify_code l.inputs inputs) (slots_code l.slots inputs l.slots slots) (rules_code l c.args.form) (outputs_code w l.singletons (l.slots + input_slots slots outputs) l.outputs outputs)
+    c.in_ok-push_code.ensures c.in_ok-push_fuzzify.ensures c.in_ok-push_slots.ensures c.in_ok-push_rules.ensures answers

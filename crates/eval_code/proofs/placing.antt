@@ -1,0 +1,5 @@
+-- Items that go up stand in the memory of their image.
+pub mod Standing
+pub mod GivenBytes
+pub mod MemoryBytes
+pub mod Founding

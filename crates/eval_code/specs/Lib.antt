@@ -1,0 +1,10 @@
+pub mod Layouts
+pub mod Widths
+pub mod Code
+pub mod Data
+pub mod Items
+pub mod Bounds
+pub mod Firing
+pub mod Masks
+pub mod Evaluation
+pub mod Placed
