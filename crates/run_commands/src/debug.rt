@@ -8,7 +8,6 @@ ghost use Rattle.run_commands.specs.Debug.{DebugFiles, DebugMakes, Debugs, debug
 ghost use Rattle.build_commands.specs.Deeds.{DeedHasNoFault, IsResultOf};
 ghost use Rattle.run_commands.specs.declared.debug.DebugRun.{DebugRun as TheDebug};
 
-use crate::run::samples_and_plan;
 use crate::shown_lines::lines;
 use build_commands::contents::content;
 use build_commands::firmware::{Compiled, firmware_of, spelled_texts_have_no_fault};
@@ -17,11 +16,14 @@ use build_commands::words::flags;
 use build_commands::work::Work;
 use codegen::Width;
 use debug_script::{Script, ScriptFault, debug, read_script};
-use fcl_check::spelled_blocks_are_one;
 use fz_status::{Status, word};
-use interrupt_plan::{Plan, spelled_plans_have_no_fault};
+use interrupt_plan::Plan;
+use run_reports::inputs::samples_and_plan;
+use run_reports::laws::{
+    spelled_bytes_fit, spelled_samples_have_no_fault, spelled_traces_are_short,
+};
 use std::alloc::Global;
-use trace_io::{Sample, spelled_traces_have_no_fault};
+use trace_io::Sample;
 
 /// `debug FCL IMAGE TRACE PLAN FLAGS SCRIPT`
 #[derive(Clone, Copy, Debug, PartialEq, Eq)]
@@ -59,6 +61,8 @@ impl DebugRun {
         requires { All (λ c. length c.items ≤ 1048576) contents.now }
         ensures { IsResultOf (DebugMakes self (debug_files (bytes_of contents.now))) result }
     {
+        spelled_bytes_fit();
+        spelled_traces_are_short();
         let accepted = match DebugRun::accepted(alloc, contents) {
             Ok(accepted) => accepted,
             Err(status) => return Err(status),
@@ -124,7 +128,5 @@ pub fn debugged_runs_have_no_fault()
 {
     spelled_texts_have_no_fault();
     firmware_images_have_no_fault();
-    spelled_blocks_are_one();
-    spelled_traces_have_no_fault();
-    spelled_plans_have_no_fault()
+    spelled_samples_have_no_fault()
 }

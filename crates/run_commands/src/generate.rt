@@ -16,12 +16,12 @@ use build_commands::certify::{halved, halved_blocks_do_not_stop};
 use build_commands::lines::{labelled, push_errors};
 use build_commands::words::number32_in;
 use build_commands::work::Work;
-use certified_run::answers_are_within_errors;
 use codegen::{Firmware, Width, compile};
 use fuzzy_meaning::Block;
 use fz_run::{Row, run};
 use fz_status::{Status, word};
 use rule_layout::{LayoutFault, limits_have_no_fault};
+use run_reports::laws::answers_are_reported;
 use std::alloc::{AllocError, Global};
 use workload::{drawn_blocks_are_one, drawn_blocks_are_within_limits};
 
@@ -64,7 +64,7 @@ impl Generate {
     pub fn work(self, alloc: Global) -> Result<Work, Status>
         ensures { IsResultOf (GenerateMakes self) result }
     {
-        answers_are_within_errors();
+        answers_are_reported();
         drawn_blocks_are_within_limits();
         let Ok(workload) = workload::generate(alloc, self.number) else {
             return Err(Status::Memory);

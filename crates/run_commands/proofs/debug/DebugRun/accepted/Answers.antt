@@ -1,8 +1,8 @@
 use Rattle.build_commands.specs.Contents.{bytes_of}
-use Rattle.run_commands.specs.Accepted.{sample_refusals}
+use Rattle.run_reports.specs.Inputs.{sample_refusals}
 use Rattle.run_commands.specs.Debug.{debug_files, debug_refusals}
 use Rattle.run_commands.proofs.DebugLemmas.{debug_refused}
-use Rattle.run_commands.proofs.RefusalLemmas.{refused}
+use Rattle.build_commands.proofs.Algebra.{refused}
 use Rattle.run_commands.proofs.debug.DebugRun.accepted.Goals as goal
 
 pub returns-in-Err-inputs-clause-fault : goal.returns-in-Err-inputs-clause-fault

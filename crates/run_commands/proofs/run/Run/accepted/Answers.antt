@@ -1,8 +1,8 @@
 use Rattle.build_commands.specs.Contents.{bytes_of}
-use Rattle.run_commands.specs.Accepted.{input_refusals}
+use Rattle.run_reports.specs.Inputs.{input_refusals}
 use Rattle.run_commands.specs.Run.{files_in, run_refusals}
 use Rattle.run_commands.proofs.AnswerLemmas.{run_refused}
-use Rattle.run_commands.proofs.RefusalLemmas.{refused}
+use Rattle.build_commands.proofs.Algebra.{refused}
 use Rattle.run_commands.proofs.run.Run.accepted.Goals as goal
 
 pub returns-in-Err-inputs_of-clause-fault : goal.returns-in-Err-inputs_of-clause-fault

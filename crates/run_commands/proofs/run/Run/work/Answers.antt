@@ -4,7 +4,8 @@ use Rattle.fz_run.specs.Rows.{row_seen}
 use Rattle.fz_run.specs.declared.rows.Row.{Row}
 use Rattle.run_commands.specs.CertifiedRun.{left_of}
 use Rattle.build_commands.specs.Deeds.{Deed}
-use Rattle.run_commands.specs.Run.{files_in, report_of, run_lines}
+use Rattle.run_commands.specs.Run.{files_in, run_lines}
+use Rattle.run_reports.specs.Reports.{report_of}
 use Rattle.build_commands.specs.Contents.{bytes_of}
 use Rattle.run_commands.proofs.AnswerLemmas.{certifies}
 use Rattle.run_commands.proofs.run.Run.work.Goals as goal
@@ -19,7 +20,7 @@ returns-in-Ok-lines c =
     let lines_of = λ (es : List ℕ) (rs : List Row). run_lines (report_of es bound (map row_seen rs)) c.left_in.result in
     record {
       report = report_of a.inputs.errors.items bound (map row_seen c.in-Ok-ran.rows.items);
-      certified = certifies c.answers_are_within_errors.ensures c.args.self (files_in (bytes_of c.args.contents.now))
+      certified = certifies c.answers_are_reported.ensures c.args.self (files_in (bytes_of c.args.contents.now))
           a.compiled.block a.compiled.firmware a.inputs.errors.items a.inputs.samples.items c.deref.result.now a.inputs.plan
           (map row_seen c.in-Ok-ran.rows.items) c.left_in.result c.in-Ok.ensures.accepted c.deref.ensures.value
           c.in-Ok-ran.ensures.rows c.in-Ok-ran.ensures.answers (c.left_in.ensures ∙ ap left_of c.in-Ok-ran.ensures.memory);
