@@ -65,10 +65,7 @@ impl Hrun {
         answers_are_reported();
         answers_under_plans();
         spelled_bytes_fit();
-        let accepted = match Hrun::accepted(alloc, contents) {
-            Ok(accepted) => accepted,
-            Err(status) => return Err(status),
-        };
+        let accepted = Hrun::accepted(alloc, contents)?;
         let firmware = &accepted.compiled.firmware;
         let ran = run_handler(
             alloc,
@@ -96,22 +93,14 @@ impl Hrun {
             a.inputs.samples.items a.inputs.plan) }
         ensures fault { IfErr result (IsRefusal (hrun_refusals (handled_files (bytes_of contents.now)))) }
     {
-        let compiled = match firmware_of(alloc, Width::Byte, content(contents, 0)) {
-            Ok(compiled) => compiled,
-            Err(status) => return Err(status),
-        };
-        let handler = match handler_of(alloc, content(contents, 1)) {
-            Ok(handler) => handler,
-            Err(status) => return Err(status),
-        };
-        match inputs_of(alloc, Width::Byte, &compiled.block, contents) {
-            Ok(inputs) => Ok(Accepted {
-                compiled,
-                handler,
-                inputs,
-            }),
-            Err(status) => Err(status),
-        }
+        let compiled = firmware_of(alloc, Width::Byte, content(contents, 0))?;
+        let handler = handler_of(alloc, content(contents, 1))?;
+        let inputs = inputs_of(alloc, Width::Byte, &compiled.block, contents)?;
+        Ok(Accepted {
+            compiled,
+            handler,
+            inputs,
+        })
     }
 }
 

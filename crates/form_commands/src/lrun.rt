@@ -79,31 +79,17 @@ impl Accepted {
         ensures fault { IfErr result (IsRefusal (lrun_refusals (level_files (bytes_of contents.now)))) }
     {
         spelled_traces_are_short();
-        let compiled = match two_of(alloc, content(contents, 0), content(contents, 1)) {
-            Ok(compiled) => compiled,
-            Err(status) => return Err(status),
-        };
-        match require_image(alloc, content(contents, 2), &compiled.two.image) {
-            Ok(()) => {}
-            Err(status) => return Err(status),
-        }
-        let errors = match errors_of(alloc, &compiled.slow, &compiled.fast, contents) {
-            Ok(errors) => errors,
-            Err(status) => return Err(status),
-        };
-        let traces = match traces_of(alloc, &compiled.slow, &compiled.fast, contents) {
-            Ok(traces) => traces,
-            Err(status) => return Err(status),
-        };
-        match levels_of(alloc, content(contents, 7), &traces.fast) {
-            Ok(levels) => Ok(Accepted {
-                compiled,
-                errors,
-                traces,
-                levels,
-            }),
-            Err(status) => Err(status),
-        }
+        let compiled = two_of(alloc, content(contents, 0), content(contents, 1))?;
+        require_image(alloc, content(contents, 2), &compiled.two.image)?;
+        let errors = errors_of(alloc, &compiled.slow, &compiled.fast, contents)?;
+        let traces = traces_of(alloc, &compiled.slow, &compiled.fast, contents)?;
+        let levels = levels_of(alloc, content(contents, 7), &traces.fast)?;
+        Ok(Accepted {
+            compiled,
+            errors,
+            traces,
+            levels,
+        })
     }
 }
 
@@ -129,10 +115,7 @@ impl Lrun {
         posted_answers_are_near();
         answers_under_plans();
         spelled_bytes_fit();
-        let accepted = match Accepted::of(alloc, contents) {
-            Ok(accepted) => accepted,
-            Err(status) => return Err(status),
-        };
+        let accepted = Accepted::of(alloc, contents)?;
         let two = &accepted.compiled.two;
         let ran = run_two(
             alloc,
@@ -173,10 +156,7 @@ fn errors_of(
     ensures fault { IfErr result (IsRefusal
         (certs_refusals (level_files (bytes_of contents.now)) slow.now fast.now)) }
 {
-    let slow_errors = match errors_under(alloc, Width::Byte, slow, content(contents, 3)) {
-        Ok(errors) => errors,
-        Err(status) => return Err(status),
-    };
+    let slow_errors = errors_under(alloc, Width::Byte, slow, content(contents, 3))?;
     match errors_under(alloc, Width::Byte, fast, content(contents, 4)) {
         Ok(errors) => Ok(Errors {
             slow: slow_errors,
@@ -201,10 +181,7 @@ fn traces_of(
     ensures fault { IfErr result (IsRefusal
         (traces_refusals (level_files (bytes_of contents.now)) slow.now fast.now)) }
 {
-    let slow_samples = match samples_of(alloc, slow, content(contents, 5)) {
-        Ok(samples) => samples,
-        Err(status) => return Err(status),
-    };
+    let slow_samples = samples_of(alloc, slow, content(contents, 5))?;
     match samples_of(alloc, fast, content(contents, 6)) {
         Ok(samples) => Ok(Traces {
             slow: slow_samples,

@@ -60,31 +60,17 @@ impl Accepted {
         ensures fault { IfErr result (IsRefusal (mrun_refusals (posted_files (bytes_of contents.now)))) }
     {
         spelled_traces_are_short();
-        let compiled = match mailbox_of(alloc, content(contents, 0)) {
-            Ok(compiled) => compiled,
-            Err(status) => return Err(status),
-        };
-        match require_image(alloc, content(contents, 1), &compiled.firmware.image) {
-            Ok(()) => {}
-            Err(status) => return Err(status),
-        }
-        let errors = match errors_under(alloc, Width::Byte, &compiled.block, content(contents, 2)) {
-            Ok(errors) => errors,
-            Err(status) => return Err(status),
-        };
-        let samples = match samples_of(alloc, &compiled.block, content(contents, 3)) {
-            Ok(samples) => samples,
-            Err(status) => return Err(status),
-        };
-        match posts_of(alloc, content(contents, 4), &samples) {
-            Ok(posts) => Ok(Accepted {
-                compiled,
-                errors,
-                samples,
-                posts,
-            }),
-            Err(status) => Err(status),
-        }
+        let compiled = mailbox_of(alloc, content(contents, 0))?;
+        require_image(alloc, content(contents, 1), &compiled.firmware.image)?;
+        let errors = errors_under(alloc, Width::Byte, &compiled.block, content(contents, 2))?;
+        let samples = samples_of(alloc, &compiled.block, content(contents, 3))?;
+        let posts = posts_of(alloc, content(contents, 4), &samples)?;
+        Ok(Accepted {
+            compiled,
+            errors,
+            samples,
+            posts,
+        })
     }
 }
 
@@ -108,10 +94,7 @@ impl Mrun {
         spelled_bytes_fit();
         posted_answers_are_near();
         last_is_answered();
-        let accepted = match Accepted::of(alloc, contents) {
-            Ok(accepted) => accepted,
-            Err(status) => return Err(status),
-        };
+        let accepted = Accepted::of(alloc, contents)?;
         let firmware = &accepted.compiled.firmware;
         let ran = run_posts(
             alloc,

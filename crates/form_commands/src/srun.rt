@@ -59,26 +59,15 @@ impl Accepted {
             a.compiled.block a.compiled.firmware a.inputs.errors.items a.inputs.samples.items a.inputs.plan a.upsets) }
         ensures fault { IfErr result (IsRefusal (srun_refusals (watched_files (bytes_of contents.now)))) }
     {
-        let compiled = match watched_firmware_of(alloc, content(contents, 0)) {
-            Ok(compiled) => compiled,
-            Err(status) => return Err(status),
-        };
-        match require_image(alloc, content(contents, 1), &compiled.firmware.image) {
-            Ok(()) => {}
-            Err(status) => return Err(status),
-        }
-        let inputs = match inputs_of(alloc, Width::Byte, &compiled.block, contents) {
-            Ok(inputs) => inputs,
-            Err(status) => return Err(status),
-        };
-        match upsets_of(alloc, content(contents, 5), &compiled.firmware.image) {
-            Ok(upsets) => Ok(Accepted {
-                compiled,
-                inputs,
-                upsets,
-            }),
-            Err(status) => Err(status),
-        }
+        let compiled = watched_firmware_of(alloc, content(contents, 0))?;
+        require_image(alloc, content(contents, 1), &compiled.firmware.image)?;
+        let inputs = inputs_of(alloc, Width::Byte, &compiled.block, contents)?;
+        let upsets = upsets_of(alloc, content(contents, 5), &compiled.firmware.image)?;
+        Ok(Accepted {
+            compiled,
+            inputs,
+            upsets,
+        })
     }
 }
 
@@ -101,10 +90,7 @@ impl Srun {
     {
         faultless_answers_are_near();
         spelled_bytes_fit();
-        let accepted = match Accepted::of(alloc, contents) {
-            Ok(accepted) => accepted,
-            Err(status) => return Err(status),
-        };
+        let accepted = Accepted::of(alloc, contents)?;
         let firmware = &accepted.compiled.firmware;
         let ran = run_upsets(
             alloc,

@@ -1,5 +1,5 @@
 -- The lines of a run and of a workload.
-use Rattle.std.proofs.Common.{◌≡◌, ◌+◌, ℕ, List, [], ◌∷◌, ◌++◌, length, ◌∙◌, ap, ap₂}
+use Rattle.std.proofs.Common.{◌≡◌, ℕ, List, [], ◌∷◌, ◌++◌, length, ◌∙◌, ap, ap₂}
 use Rattle.std.proofs.Common.{append_assoc}
 use Rattle.std.specs.Prelude.{codes, map, String, string_bytes}
 use Rattle.std.specs.declared.alloc.Global.{Global}

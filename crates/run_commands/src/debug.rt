@@ -63,10 +63,7 @@ impl DebugRun {
     {
         spelled_bytes_fit();
         spelled_traces_are_short();
-        let accepted = match DebugRun::accepted(alloc, contents) {
-            Ok(accepted) => accepted,
-            Err(status) => return Err(status),
-        };
+        let accepted = DebugRun::accepted(alloc, contents)?;
         let ran = debug(
             alloc,
             &accepted.compiled.firmware,
@@ -91,24 +88,14 @@ impl DebugRun {
             a.compiled.block a.compiled.firmware a.samples.items a.plan a.script) }
         ensures fault { IfErr result (IsRefusal (debug_refusals (debug_files (bytes_of contents.now)))) }
     {
-        let compiled = match firmware_of(alloc, Width::Byte, content(contents, 0)) {
-            Ok(compiled) => compiled,
-            Err(status) => return Err(status),
-        };
-        match require_image(alloc, content(contents, 1), &compiled.firmware.image) {
-            Ok(()) => {}
-            Err(status) => return Err(status),
-        }
-        let inputs = samples_and_plan(
+        let compiled = firmware_of(alloc, Width::Byte, content(contents, 0))?;
+        require_image(alloc, content(contents, 1), &compiled.firmware.image)?;
+        let (samples, plan) = samples_and_plan(
             alloc,
             &compiled.block,
             content(contents, 2),
             content(contents, 3),
-        );
-        let (samples, plan) = match inputs {
-            Ok(inputs) => inputs,
-            Err(status) => return Err(status),
-        };
+        )?;
         match read_script(alloc, content(contents, 4)) {
             Ok(script) => Ok(Accepted {
                 compiled,

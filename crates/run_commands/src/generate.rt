@@ -73,10 +73,7 @@ impl Generate {
         let Ok(firmware) = compiled(alloc, block) else {
             return Err(Status::Memory);
         };
-        let cert = match halved(alloc, Width::Byte, TARGET, block) {
-            Ok(cert) => cert,
-            Err(status) => return Err(status),
-        };
+        let cert = halved(alloc, Width::Byte, TARGET, block)?;
         let samples = workload.samples.as_slice();
         let Ok(rows) = run(alloc, &firmware, samples, &workload.requests, FLAGS) else {
             return Err(Status::Memory);

@@ -65,10 +65,7 @@ impl Run {
         ensures { IsResultOf (RunMakes self (files_in (bytes_of contents.now))) result }
     {
         answers_are_reported();
-        let accepted = match self.accepted(alloc, contents) {
-            Ok(accepted) => accepted,
-            Err(status) => return Err(status),
-        };
+        let accepted = self.accepted(alloc, contents)?;
         let firmware = &accepted.compiled.firmware;
         let ran = run_on::<PageMem>(
             alloc,
@@ -100,18 +97,10 @@ impl Run {
             a.compiled.block a.compiled.firmware a.inputs.errors.items a.inputs.samples.items a.inputs.plan) }
         ensures fault { IfErr result (IsRefusal (run_refusals self (files_in (bytes_of contents.now)))) }
     {
-        let compiled = match firmware_of(alloc, self.width, content(contents, 0)) {
-            Ok(compiled) => compiled,
-            Err(status) => return Err(status),
-        };
-        match require_image(alloc, content(contents, 1), &compiled.firmware.image) {
-            Ok(()) => {}
-            Err(status) => return Err(status),
-        }
-        match inputs_of(alloc, self.width, &compiled.block, contents) {
-            Ok(inputs) => Ok(Accepted { compiled, inputs }),
-            Err(status) => Err(status),
-        }
+        let compiled = firmware_of(alloc, self.width, content(contents, 0))?;
+        require_image(alloc, content(contents, 1), &compiled.firmware.image)?;
+        let inputs = inputs_of(alloc, self.width, &compiled.block, contents)?;
+        Ok(Accepted { compiled, inputs })
     }
 }
 

@@ -44,18 +44,18 @@ pub fn inputs_of(
     ensures fault { IfErr result (IsRefusal (input_refusals width block.now (content_at (bytes_of contents.now) 2)
         (content_at (bytes_of contents.now) 3) (content_at (bytes_of contents.now) 4))) }
 {
-    let errors = match errors_under(alloc, width, block, content(contents, 2)) {
-        Ok(errors) => errors,
-        Err(status) => return Err(status),
-    };
-    match samples_and_plan(alloc, block, content(contents, 3), content(contents, 4)) {
-        Ok((samples, plan)) => Ok(Inputs {
-            errors,
-            samples,
-            plan,
-        }),
-        Err(status) => Err(status),
-    }
+    let errors = errors_under(alloc, width, block, content(contents, 2))?;
+    let (samples, plan) = samples_and_plan(
+        alloc,
+        block,
+        content(contents, 3),
+        content(contents, 4),
+    )?;
+    Ok(Inputs {
+        errors,
+        samples,
+        plan,
+    })
 }
 
 /// The samples that a trace spells for a block, and the plan that a text spells.
@@ -72,14 +72,9 @@ pub fn samples_and_plan(
     ensures plan { IfOk result (λ r. SpellsPlan plan.now r.1) }
     ensures fault { IfErr result (IsRefusal (sample_refusals block.now trace.now plan.now)) }
 {
-    let samples = match samples_of(alloc, block, trace) {
-        Ok(samples) => samples,
-        Err(status) => return Err(status),
-    };
-    match plan_of(alloc, plan) {
-        Ok(plan) => Ok((samples, plan)),
-        Err(status) => Err(status),
-    }
+    let samples = samples_of(alloc, block, trace)?;
+    let plan = plan_of(alloc, plan)?;
+    Ok((samples, plan))
 }
 
 /// The samples that a trace spells for a block.

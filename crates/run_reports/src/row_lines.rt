@@ -1,9 +1,9 @@
 //! The lines that all runs tell of samples, answers and frames.
-ghost use Rattle.std.specs.Prelude.{ℕ, List, ◌≡◌, ◌++◌, decimal, map, string_bytes, IfOk, OnOk};
+ghost use Rattle.std.specs.Prelude.{ℕ, List, ◌≡◌, ◌++◌, decimal, string_bytes, IfOk, OnOk};
 ghost use Rattle.std.specs.List.{flat_map};
 ghost use Rattle.fz_shelf.specs.Lines.{text_of};
 ghost use Rattle.cpu12_emul.specs.Take.{frame_seen};
-ghost use Rattle.fz_run.specs.Rows.{boundary_seen, frames_seen, row_seen};
+ghost use Rattle.fz_run.specs.Rows.{boundary_seen, row_seen};
 ghost use Rattle.build_commands.specs.Lines.{counted};
 ghost use Rattle.run_reports.specs.RowLines.{answered, answers_told, begun_lines, frame_line, frame_told};
 ghost use Rattle.run_reports.specs.RowLines.{labelled_row_lines, numbers, row_lines, row_lines_with};

@@ -12,8 +12,8 @@ only_text t = record { text = t; file = None }
 
 pub returns-in-Ok-lines : goal.returns-in-Ok-lines
 returns-in-Ok-lines c =
-    let a = c.in-Ok.accepted in
-    let run = c.in-Ok-ran.told in
+    let a = c.in_ok-accepted.accepted in
+    let run = c.in-Ok.told in
     let answers = map answer_seen run.answers.items in
     let frames = frames_seen run.frames.items in
     let bound = a.compiled.firmware.instr_bound in
@@ -22,9 +22,9 @@ returns-in-Ok-lines c =
       report = posted_report a.errors.items bound answers frames run.resumed;
       posted = posts_run c.answers_keep_the_bound.ensures c.spelled_bytes_fit.ensures c.posted_answers_are_near.ensures c.last_is_answered.ensures c.args.self.flags
           (posted_files (bytes_of c.args.contents.now)) a.compiled.block a.compiled.firmware a.errors.items a.samples.items
-          a.posts c.in-Ok.ensures.accepted answers frames run.resumed
-          (rw c.deref.ensures.value at c.in-Ok-ran.ensures.answers) (rw c.deref.ensures.value at c.in-Ok-ran.ensures.frames)
-          (rw c.deref.ensures.value at c.in-Ok-ran.ensures.resumed)
-          (rw c.deref.ensures.value at c.in-Ok-ran.ensures.by_turns);
+          a.posts c.in_ok-accepted.ensures.accepted answers frames run.resumed
+          (rw c.deref.ensures.value at c.in-Ok.ensures.answers) (rw c.deref.ensures.value at c.in-Ok.ensures.frames)
+          (rw c.deref.ensures.value at c.in-Ok.ensures.resumed)
+          (rw c.deref.ensures.value at c.in-Ok.ensures.by_turns);
       deed_is = ap only_text (c.in-Ok-lines.ensures ∙ ap lines_of c.deref-2.ensures.value);
     }
