@@ -1,11 +1,15 @@
--- Texts that are written line by line, and of items one by one.
+-- Texts that are written line by line, and of items one by one; and refusals.
 use Rattle.std.proofs.Common.{refl, ◌≡◌, ◌<◌, ◌+◌, ℕ, List, [], ◌∷◌, ◌++◌, length, take, get_or, sym, ◌∙◌, ap, ap₂}
 use Rattle.std.proofs.Common.{arith, append_assoc, add-one}
-use Rattle.std.specs.Prelude.{flat_map, map, String, string_bytes}
+use Rattle.std.specs.Prelude.{All, flat_map, map, String, string_bytes}
 use Rattle.std.specs.declared.alloc.Global.{Global}
 use Rattle.std.proofs.Math.Seq.{take-suc}
 use Rattle.std.proofs.lemmas.List.{append-nil, length-take-le}
+use Rattle.std.proofs.lemmas.List.Elements.{All-cons, All-head, All-nil, All-tail}
 use Rattle.fz_shelf.specs.Lines.{text_of}
+use Rattle.fz_status.specs.Refusals.{IsRefusal, Refusals}
+use Rattle.fz_status.specs.declared.status.Status.{Status}
+use Rattle.fz_status.specs.declared.status.Status.TheVariants as status
 use Rattle.build_commands.specs.Lines.{counted}
 
 pub text_of-snoc : (lines : List (String Global)) (l : String Global)
@@ -56,3 +60,40 @@ pub text_more : (before items_text more_text next_text now next : List ℕ) → 
 text_more before items_text more_text next_text now next so_far step whole =
     step ∙ ap (λ (l : List ℕ). l ++ more_text) so_far ∙ append_assoc before items_text more_text
     ∙ ap (λ (l : List ℕ). before ++ l) (sym whole)
+
+-- a text so far, whose last line is told
+pub pushed : (before now : List (String Global)) (last : String Global) (last_text rest text : List ℕ)
+    → now ≡ before ++ last ∷ [] → string_bytes last ≡ last_text → text ≡ text_of now ++ rest
+    → text ≡ text_of before ++ (last_text ++ rest)
+pushed before now last last_text rest text added is so_far =
+    so_far
+    ∙ ap (λ (l : List ℕ). l ++ rest) (ap text_of added ∙ text_of-snoc before last ∙ ap (λ (l : List ℕ). text_of before ++ l) is)
+    ∙ append_assoc (text_of before) last_text rest
+
+-- a text with what it was made of, and more behind it
+pub made_with : (t x more u : List ℕ) → u ≡ t ++ x → u ++ more ≡ t ++ (x ++ more)
+made_with t x more u e = ap (λ (l : List ℕ). l ++ more) e ∙ append_assoc t x more
+
+pub made_next : (t x y more u : List ℕ) → u ≡ t ++ (x ++ y) → u ++ more ≡ t ++ (x ++ (y ++ more))
+made_next t x y more u e = made_with t (x ++ y) more u e ∙ ap (λ (l : List ℕ). t ++ l) (append_assoc x y more)
+
+-- what a text begins with, and each item behind it
+pub begun_items : {X Y : Type 0} (lines_of : ℕ → Y → List ℕ) (seen : X → Y) (begun items : List (String Global))
+    (start : List ℕ) (xs : List X)
+    → text_of begun ≡ start → text_of items ≡ text_of begun ++ counted (λ k x. lines_of k (seen x)) 1 xs
+    → text_of items ≡ start ++ counted lines_of 1 (map seen xs)
+begun_items lines_of seen begun items start xs begun_so items_so =
+    items_so ∙ ap₂ (λ (x y : List ℕ). x ++ y) begun_so (sym (counted-map lines_of seen 1 xs))
+
+-- what holds of each item as it is seen
+pub of_seen : {X Y : Type 0} (P : Y → Type 0) (seen : X → Y) (xs : List X) → All P (map seen xs) → All (λ x. P (seen x)) xs
+of_seen P seen [] each = All-nil _
+of_seen P seen (x ∷ xs) each =
+    All-cons (λ y. P (seen y)) x xs (All-head P (seen x) (map seen xs) each)
+    (of_seen P seen xs (All-tail P (seen x) (map seen xs) each))
+
+-- what refuses in one way refuses in another
+pub refused : (inner outer : Refusals) → ((s : Status) → inner s → outer s) → (s : Status)
+    → IsRefusal inner s → IsRefusal outer s
+refused inner outer all status.Memory r = tt
+refused inner outer all s r = (r.0, all s r.1)

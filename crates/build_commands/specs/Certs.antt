@@ -2,14 +2,13 @@
 use Rattle.std.specs.Prelude.{ℕ, List}
 use Rattle.fuzzy_meaning.specs.declared.block.Block.{Block}
 use Rattle.eval_code.specs.Widths.{parts}
-use Rattle.codegen.specs.declared.firmware.Firmware.{Firmware}
 use Rattle.eval_code.specs.declared.width.Width.{Width}
 use Rattle.eval_code.specs.declared.width.Width.TheVariants.{Byte, Word}
 use Rattle.cert_check.specs.TextFaults.{IsAcceptedText, HasTextFault}
 use Rattle.cert_check.specs.declared.text.TextFault.{TextFault as TheRefusal}
 use Rattle.cert_check.specs.declared.text.TextFault.TheVariants as refusal
 use Rattle.fcl_check.specs.Texts.{SpellsBlock}
-use Rattle.build_commands.specs.Firmwares.{GivesFirmware}
+use Rattle.build_commands.specs.Firmwares.{OfFirmware}
 use Rattle.fz_status.specs.Refusals.{Refusals}
 use Rattle.fz_status.specs.declared.status.CertRefusal.{CertRefusal}
 use Rattle.fz_status.specs.declared.status.CertRefusal.TheVariants as told
@@ -36,8 +35,7 @@ cert_refusals width block cert s = ⊥
 
 -- why CERT is refused, the text giving firmware
 abbrev pub RefusesCert : Width → List ℕ → List ℕ → CertRefusal → Type 0
-RefusesCert width text cert f =
-    (block : Block) × (firmware : Firmware) × GivesFirmware width text block firmware × HasCertFault width block cert f
+RefusesCert width text cert f = OfFirmware width text (λ block firmware. HasCertFault width block cert f)
 
 -- the status that tells a refusal
 abbrev pub status_of : TheRefusal → Status

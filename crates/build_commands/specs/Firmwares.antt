@@ -40,6 +40,11 @@ pub record GivesWatched (text : List ℕ) (block : Block) (firmware : Firmware) 
   pub limits : IsWithinLimits block
   pub compiled : IsWatchedFirmwareOf block firmware
 
+-- the text gives firmware, with answers of this width, of which this holds
+abbrev pub OfFirmware : Width → List ℕ → (Block → Firmware → Type 0) → Type 0
+OfFirmware width text holds =
+    (block : Block) × (firmware : Firmware) × GivesFirmware width text block firmware × holds block firmware
+
 -- why a text gives no firmware, in any form
 abbrev pub RefusesText : List ℕ → FclFault → Type 0
 RefusesText text (fcl.Syntax f) = IsFirstFault text f

@@ -9,9 +9,9 @@ ghost use Rattle.codegen.specs.Images.{vector_items, firmware_items};
 use cpu12_asm::Item;
 use cpu12_isa::instr::Instr;
 use cpu12_isa::mem::VECTOR;
-use fuzzy_meaning::{Block, Input, Output};
-use point_slope::table;
-use rule_layout::{Flat, Form, Slot};
+use eval_code::{Layout, Width, push_block, push_word};
+use fuzzy_meaning::Block;
+use rule_layout::Flat;
 use std::alloc::{AllocError, Global};
 
 /// The code before EVAL of a firmware that stands alone.

@@ -46,7 +46,8 @@ fn revw_goes_on<M: Mem>(m: &M, r: Regs) -> bool
 /// The registers after the part of REV at X, where it is of an antecedent.
 #[inline(always)]
 fn antecedent<M: Mem>(m: &M, regs: Regs, flags: u8) -> Option<Regs>
-    ensures { IfSome result (λ next. (slice_index (M.bytes m.now) regs.x < 254) × (next ≡ met_by_rev flags (M.bytes m.now) regs)) }
+    ensures { IfSome result (λ next. (slice_index (M.bytes m.now) regs.x < 254)
+        × (next ≡ met_by_rev flags (M.bytes m.now) regs)) }
 {
     let e = m.read(regs.x);
     if e >= 0xFE {
@@ -89,7 +90,8 @@ fn antecedents<M: Mem>(m: &M, regs: Regs, flags: u8, most: u32) -> (Regs, u32)
 fn rev_parts<M: Mem>(m: &mut M, regs: Regs, temps: Temps, flags: u8, most: u32) -> (Regs, u32)
     requires off { IsOff temps }
     requires stands { Stands 0x3A regs.pc (M.bytes m.old) }
-    ensures parts { Ruled 0x3A flags (state_of regs temps (M.bytes m.old)) (state_of result.0 temps (M.bytes m.new)) result.1 }
+    ensures parts { Ruled 0x3A flags (state_of regs temps (M.bytes m.old))
+        (state_of result.0 temps (M.bytes m.new)) result.1 }
     ensures most { result.1 ≤ most }
 {
     rev_stays();
@@ -112,7 +114,8 @@ fn rev_parts<M: Mem>(m: &mut M, regs: Regs, temps: Temps, flags: u8, most: u32) 
 fn revw_parts<M: Mem>(m: &mut M, regs: Regs, temps: Temps, flags: u8, most: u32) -> (Regs, u32)
     requires off { IsOff temps }
     requires stands { Stands 0x3B regs.pc (M.bytes m.old) }
-    ensures parts { Ruled 0x3B flags (state_of regs temps (M.bytes m.old)) (state_of result.0 temps (M.bytes m.new)) result.1 }
+    ensures parts { Ruled 0x3B flags (state_of regs temps (M.bytes m.old))
+        (state_of result.0 temps (M.bytes m.new)) result.1 }
     ensures most { result.1 ≤ most }
 {
     revw_stays();
@@ -133,7 +136,8 @@ impl<M: Mem> Machine<M> {
     /// how many, 0 where neither stands there; the next step is done by `step`. PC and SP stay.
     #[inline(never)]
     pub fn rule_parts(&mut self, most: u32) -> u32
-        ensures steps { PartsTo (λ s. (s.regs.pc ≡ self.old.state.regs.pc) × (s.regs.sp ≡ self.old.state.regs.sp)) self.old.flags result self.old.state self.new.state }
+        ensures steps { PartsTo (λ s. (s.regs.pc ≡ self.old.state.regs.pc) × (s.regs.sp ≡ self.old.state.regs.sp))
+            self.old.flags result self.old.state self.new.state }
         ensures most { result ≤ most }
         ensures flags { self.new.flags ≡ self.old.flags }
     {

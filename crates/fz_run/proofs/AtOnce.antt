@@ -6,9 +6,9 @@ use Rattle.std.proofs.lemmas.Bool.Decides.{nat_tests}
 use Rattle.cpu12_parts.specs.State.{State}
 use Rattle.cpu12_emul.specs.declared.ends.Stepped.{Stepped}
 use Rattle.cpu12_emul.specs.Run.{StepsOf}
-use Rattle.cpu12_emul.specs.Step.{next_of}
+use Rattle.cpu12_emul.specs.Step.{next_of, is_part}
 use Rattle.cpu12_emul.specs.Take.{may_interrupt}
-use Rattle.run_law.specs.Forms.{is_part, one_if}
+use Rattle.run_law.specs.Forms.{one_if}
 use Rattle.fz_run.specs.declared.boundary.Stand.{Stand}
 use Rattle.fz_run.specs.declared.progress.Progress.{Progress}
 use Rattle.fz_run.specs.Forms.{Harness, moment_in, plan_form}

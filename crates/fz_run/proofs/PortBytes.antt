@@ -5,7 +5,7 @@ use Rattle.std.proofs.Math.ListN.{set}
 use Rattle.cpu12_isa.specs.Act.{write_all}
 use Rattle.cpu12_isa.specs.Memory.{plus, placed}
 use Rattle.cpu12_parts.specs.State.{State}
-use Rattle.codegen.specs.Answers as answers
+use Rattle.eval_code.specs.Evaluation as evaluation
 use Rattle.fz_run.specs.Forms.{answer_size, answer_at, answers_at}
 use Rattle.fz_run.specs.Given.{GivenIsPut}
 
@@ -19,7 +19,7 @@ answer_more wide m at zero vs h = absurd (omega arith)
 answer_more wide m at (suc n) vs h = let e : suc n - 1 ≡ n = omega arith in rw e (append_assoc vs (answer_at wide at m ∷ []) (answers_at wide n (plus at (answer_size wide)) m))
 
 same_put : (at : ℕ) (bytes m : List ℕ) → at + length bytes ≤ 65535
-    → write_all (placed at bytes) m ≡ answers.put m at bytes
+    → write_all (placed at bytes) m ≡ evaluation.put m at bytes
 same_put at [] m l = refl
 same_put at (v ∷ bytes) m l =
     let e : plus at 1 ≡ at + 1 = omega arith in

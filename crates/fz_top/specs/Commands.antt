@@ -13,19 +13,20 @@ use Rattle.build_commands.specs.Deeds.{Deed}
 use Rattle.build_commands.specs.Exec.{ExecMakes, exec_in, exec_inputs}
 use Rattle.run_commands.specs.Generate.{GenerateMakes, generate_in, generate_inputs}
 use Rattle.build_commands.specs.Hcheck.{HcheckMakes, hcheck_inputs}
-use Rattle.run_commands.specs.Hrun.{HrunMakes, handled_files, hrun_in, hrun_inputs}
+use Rattle.form_commands.specs.Hrun.{HrunMakes, handled_files, hrun_in, hrun_inputs}
 use Rattle.build_commands.specs.Lcompile.{LcompileMakes, lcompile_inputs}
-use Rattle.run_commands.specs.Lrun.{LrunMakes, level_files, lrun_in, lrun_inputs}
+use Rattle.form_commands.specs.Lrun.{LrunMakes, level_files, lrun_in, lrun_inputs}
 use Rattle.build_commands.specs.Mcompile.{McompileMakes}
-use Rattle.run_commands.specs.Mrun.{MrunMakes, mrun_in, mrun_inputs, posted_files}
+use Rattle.form_commands.specs.Mrun.{MrunMakes, mrun_in, mrun_inputs, posted_files}
 use Rattle.run_commands.specs.Run.{RunMakes, files_in, run_in, run_inputs}
 use Rattle.build_commands.specs.Scompile.{ScompileMakes, scompile_inputs}
-use Rattle.run_commands.specs.Srun.{SrunMakes, srun_in, srun_inputs, watched_files}
+use Rattle.form_commands.specs.Srun.{SrunMakes, srun_in, srun_inputs, watched_files}
 use Rattle.fz_status.specs.Words.{Text}
 use Rattle.build_commands.specs.Contents.{content_at}
 use Rattle.fz_top.specs.declared.command.Command.{Command}
 use Rattle.fz_top.specs.declared.command.Command.TheVariants.{Asm, Certify, Check, Compile, Debug, Exec, Generate}
-use Rattle.fz_top.specs.declared.command.Command.TheVariants.{Hcheck, Hrun, Lcompile, Lrun, Mcompile, Mrun, Run, Scompile, Srun}
+use Rattle.fz_top.specs.declared.command.Command.TheVariants.{Hcheck, Hrun, Lcompile, Lrun, Mcompile, Mrun}
+use Rattle.fz_top.specs.declared.command.Command.TheVariants.{Run, Scompile, Srun}
 use Rattle.fz_top.specs.declared.command.Name.{Name}
 use Rattle.fz_top.specs.declared.command.Name.TheVariants as name
 use Rattle.fz_status.specs.declared.status.Status.{Status}

@@ -1,6 +1,6 @@
 //! The commands: the one table of them, and every match on which command it is.
 //!
-//! A command is a file of its own in build_commands or run_commands, with the form of its words, the
+//! A command is a file of its own in build_commands, run_commands or form_commands, with the form of its words, the
 //! files that it reads and what it makes of them; the file of the same name in `specs/` there defines
 //! these. Here each has a row of the table and an arm of each match.
 ghost use Rattle.std.specs.Prelude.{◌≡◌, ◌↔◌, ◌≤◌, length, IfOk, IsErrOf, Some, None};
@@ -19,15 +19,15 @@ use build_commands::exec::{self, Exec};
 use build_commands::work::Work;
 use build_commands::{asm, hcheck, lcompile, mcompile, scompile};
 use eval_code::Width;
+use form_commands::hrun::{self, Hrun};
+use form_commands::lrun::{self, Lrun};
+use form_commands::mrun::{self, Mrun};
+use form_commands::srun::{self, Srun};
 use fz_status::Status;
 use fz_words::Refusal;
 use run_commands::debug::{self, DebugRun};
 use run_commands::generate::{self, Generate};
-use run_commands::hrun::{self, Hrun};
-use run_commands::lrun::{self, Lrun};
-use run_commands::mrun::{self, Mrun};
 use run_commands::run::{self, Run};
-use run_commands::srun::{self, Srun};
 use std::alloc::Global;
 
 /// A command by its name alone.

@@ -10,13 +10,13 @@ use build_commands::hcheck::checked_handlers_have_no_fault;
 use build_commands::lcompile::two_texts_have_no_fault;
 use build_commands::mcompile::mailbox_texts_have_no_fault;
 use build_commands::scompile::watched_texts_have_no_fault;
+use form_commands::hrun::handled_runs_have_no_fault;
+use form_commands::lrun::level_runs_have_no_fault;
+use form_commands::mrun::posted_runs_have_no_fault;
+use form_commands::srun::watched_runs_have_no_fault;
 use run_commands::debug::debugged_runs_have_no_fault;
 use run_commands::generate::generated_runs_have_no_fault;
-use run_commands::hrun::handled_runs_have_no_fault;
-use run_commands::lrun::level_runs_have_no_fault;
-use run_commands::mrun::posted_runs_have_no_fault;
 use run_commands::run::certified_runs_have_no_fault;
-use run_commands::srun::watched_runs_have_no_fault;
 
 /// Contents that make a deed make no fault.
 pub(crate) fn deeds_have_no_fault()

@@ -1,8 +1,8 @@
 //! The program's one call, [`fuzz12`]: words to a command, files to its contents, contents to
 //! lines, and one line on err where something is wrong.
 //!
-//! It is generic in the shelf and in both sinks. Each command is one file of build_commands or of
-//! run_commands, with the form of its words, the files that it reads and what it makes of them;
+//! It is generic in the shelf and in both sinks. Each command is one file of build_commands, run_commands
+//! or form_commands, with the form of its words, the files that it reads and what it makes of them;
 //! [`Command`] has a case for each, and the call itself knows none of them.
 //!
 //! The contract, in short: each [`Status`] comes only from its cause, nothing is written or put
@@ -21,11 +21,11 @@ pub use build_commands::compile::Compile;
 pub use build_commands::exec::Exec;
 pub use command::Command;
 pub use error_certifier::NotReached;
+pub use form_commands::hrun::Hrun;
+pub use form_commands::lrun::Lrun;
+pub use form_commands::srun::Srun;
 pub use fz_status::{CertRefusal, FclFault, ImageFault, Status};
 pub use program::fuzz12;
 pub use run_commands::debug::DebugRun;
 pub use run_commands::generate::Generate;
-pub use run_commands::hrun::Hrun;
-pub use run_commands::lrun::Lrun;
 pub use run_commands::run::Run;
-pub use run_commands::srun::Srun;

@@ -8,7 +8,7 @@ use Rattle.run_law.specs.Forms.{one_if}
 use Rattle.run_law.specs.Uninterrupted.{state_by, kind_by, uninterrupted, counted}
 use Rattle.run_law.specs.Soundness.{Before}
 use Rattle.run_law.proofs.Algebra.{uninterrupted_add, counted_add, before_add}
-use Rattle.codegen.specs.declared.layout.Layout.{Layout}
+use Rattle.eval_code.specs.declared.layout.Layout.{Layout}
 use Rattle.codegen.specs.Turns.{IsMaskedStep}
 use Rattle.fz_run.specs.Instructions.{AreSteps, PlainIsOneStep}
 

@@ -1,13 +1,11 @@
 -- What a debugged run gives.
-use Rattle.std.proofs.Common.{◌≡◌, ◌≤◌, ◌∙◌, ℕ, suc, List, [], ◌∷◌, ◌++◌, length, refl, ap, ap₂, sym, subst, arith}
+use Rattle.std.proofs.Common.{◌≡◌, ◌∙◌, ℕ, List, [], ◌++◌, ap, ap₂, sym, subst}
 use Rattle.std.specs.Prelude.{None, String, map}
 use Rattle.std.specs.List.{flat_map}
 use Rattle.std.specs.declared.alloc.Global.{Global}
 use Rattle.fuzzy_meaning.specs.declared.block.Block.{Block}
-use Rattle.fuzzy_meaning.specs.declared.block.Input.{Input}
 use Rattle.codegen.specs.declared.firmware.Firmware.{Firmware}
 use Rattle.interrupt_plan.specs.declared.Request.{Request}
-use Rattle.trace_io.specs.Traces.{Fields, SpellSamples, Spells}
 use Rattle.trace_io.specs.declared.sample.Sample.{Sample}
 use Rattle.run_law.specs.Forms.{RowSeen}
 use Rattle.fz_run.specs.Answering.{AnswersItsBlock}
@@ -22,35 +20,21 @@ use Rattle.srecord.specs.Texts.{GivesImage}
 use Rattle.fz_status.specs.declared.status.Status.{Status}
 use Rattle.fz_status.specs.declared.status.Status.TheVariants as status
 use Rattle.build_commands.specs.Firmwares.{GivesFirmware}
-use Rattle.run_commands.specs.Accepted.{sample_refusals}
+use Rattle.run_reports.specs.Inputs.{sample_refusals}
 use Rattle.run_commands.specs.Debug.{DebugFiles, DebugGives, Debugs, debug_lines, debug_refusals, run_positions}
 use Rattle.run_commands.specs.Debug.{shown_line}
 use Rattle.build_commands.specs.Deeds.{Deed}
 use Rattle.build_commands.specs.Lines.{counted}
-use Rattle.run_commands.specs.Run.{row_lines}
+use Rattle.run_reports.specs.RowLines.{row_lines}
 use Rattle.run_commands.specs.declared.debug.DebugRun.{DebugRun}
-use Rattle.run_commands.proofs.AnswerLemmas.{input_bytes_fit}
+use Rattle.run_reports.specs.Laws.{SpelledBytesFit}
 use Rattle.build_commands.proofs.Algebra.{counted-map}
-
-row_each : (inputs : List Input) (rows : List Fields) (samples : List Sample) → SpellSamples inputs rows samples
-    → length samples ≡ length rows
-row_each inputs [] [] h = refl
-row_each inputs [] (s ∷ ss) h = absurd h
-row_each inputs (r ∷ rs) [] h = absurd h
-row_each inputs (r ∷ rs) (s ∷ ss) h = ap suc (row_each inputs rs ss h.1)
-
-pub few_samples : (inputs : List Input) (text : List ℕ) (samples slice : List Sample) → Spells inputs text samples
-    → slice ≡ samples → length slice ≤ 4294967295
-few_samples inputs text samples slice s same =
-    let n = row_each inputs s.rows samples s.spelled in
-    let k = ap (λ (ss : List Sample). length ss) same in
-    omega (arith, n, k, s.few)
 
 abbrev pub only_text : List ℕ → Deed
 only_text t = record { text = t; file = None }
 
 -- what the debugger answers of accepted files, and its lines
-pub gives : (debug : DebugRun) (files : DebugFiles) (block : Block) (firmware : Firmware) (samples slice : List Sample)
+pub gives : (fit : SpelledBytesFit) (debug : DebugRun) (files : DebugFiles) (block : Block) (firmware : Firmware) (samples slice : List Sample)
     (plan : List Request) (script orders : List Order) (items items' : List Shown) (rows rows' : List (RowSeen (List ℕ)))
     (text : List ℕ)
     → Debugs files block firmware samples plan script → slice ≡ samples → orders ≡ script
@@ -59,7 +43,7 @@ pub gives : (debug : DebugRun) (files : DebugFiles) (block : Block) (firmware : 
     → AnswersItsBlock firmware debug.flags (map input_bytes slice) plan rows
     → text ≡ debug_lines items' rows' → items' ≡ items → rows' ≡ rows
     → DebugGives debug files (only_text text)
-gives debug files block firmware samples slice plan script orders items items' rows rows' text a same obeyed is ran answers
+gives fit debug files block firmware samples slice plan script orders items items' rows rows' text a same obeyed is ran answers
     written same_items same_rows =
     let all : AnswersItsBlock firmware debug.flags (map input_bytes samples) plan rows =
     subst (λ (ss : List Sample). AnswersItsBlock firmware debug.flags (map input_bytes ss) plan rows) same answers in
@@ -75,7 +59,7 @@ gives debug files block firmware samples slice plan script orders items items' r
       rows = rows;
       ran = subst (λ (ss : List Sample). rows ≡ (firmware_rows firmware (map input_bytes ss) plan debug.flags).rows) same ran;
       follows = all block a.compiled.spelled.valid a.compiled.limits a.compiled.compiled
-          (input_bytes_fit block a.in_range.rows samples a.in_range.spelled);
+          (fit block files.trace samples a.in_range);
       deed_is = ap only_text (written ∙ ap₂ debug_lines shown_is same_rows);
     }
 

@@ -1,11 +1,4 @@
 pub mod AnswerLemmas
 pub mod DebugLemmas
-pub mod HandledLemmas
-pub mod LevelLemmas
-pub mod LevelLines
-pub mod LevelRefusals
 pub mod LineLemmas
-pub mod PostedLemmas
-pub mod RefusalLemmas
 pub mod SumLemmas
-pub mod WatchedLemmas

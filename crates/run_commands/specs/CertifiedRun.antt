@@ -1,10 +1,7 @@
 -- The certified run: what the program's answer to `run` and `run16` says.
-use Rattle.std.specs.Prelude.{◌≡◌, ℕ, ◌-◌, ◌≤◌, List, All, drop, map, sum, take}
+use Rattle.std.specs.Prelude.{◌≡◌, ℕ, ◌-◌, List, drop, map, sum, take}
 use Rattle.cpu12_isa.specs.Regions.{free_start, stack_end}
 use Rattle.fuzzy_meaning.specs.declared.block.Block.{Block}
-use Rattle.eval_code.specs.Bounds.{instruction_bound, step_bound}
-use Rattle.codegen.specs.Uninterrupted.{AreUninterrupted}
-use Rattle.eval_code.specs.Widths.{parts}
 use Rattle.codegen.specs.declared.firmware.Firmware.{Firmware}
 use Rattle.eval_code.specs.declared.width.Width.{Width}
 use Rattle.srecord.specs.Texts.{GivesImage}
@@ -12,12 +9,10 @@ use Rattle.trace_io.specs.Traces.{Spells as SpellsTrace}
 use Rattle.trace_io.specs.declared.sample.Sample.{Sample}
 use Rattle.interrupt_plan.specs.PlanTexts.{Spells as SpellsPlan}
 use Rattle.interrupt_plan.specs.declared.Request.{Request}
-use Rattle.run_law.specs.Forms.{RowSeen}
-use Rattle.fz_run.specs.Answering.{AnswersUnder, answer_of_row}
 use Rattle.fz_run.specs.Rows.{firmware_rows, input_bytes}
-use Rattle.certified_run.specs.Nearness.{AreWithinErrors}
 use Rattle.build_commands.specs.Certs.{AcceptsCert}
 use Rattle.build_commands.specs.Firmwares.{GivesFirmware}
+use Rattle.run_reports.specs.Reports.{IsReportOf, Report}
 
 -- the contents of the five files
 pub record Files : Type 0 where
@@ -27,30 +22,9 @@ pub record Files : Type 0 where
   pub trace : List ℕ
   pub plan : List ℕ
 
--- what is told of a run: an error for each output, in millionths of its range, the bound on instructions, and a row for
--- each sample
-pub record Report : Type 0 where
-  pub errors : List ℕ
-  pub bound : ℕ
-  pub rows : List (RowSeen (List ℕ))
-
 -- the sum of the bytes from the first free one to the end of the stack
 abbrev pub left_of : List ℕ → ℕ
 left_of memory = sum (take (stack_end - free_start) (drop free_start memory))
-
--- What a block's firmware does to samples under a plan, where a certificate is accepted with the report's errors: the
--- emulated image answers each sample as it does without interrupts, within the printed error of FCL's exact fraction,
--- in at most the printed number of instructions; and its steps, the boundaries inside REV, REVW and WAV at which it
--- goes on once interrupted, and its frames are read off its run without interrupts.
-pub record IsReportOf (width : Width) (flags : ℕ) (block : Block) (firmware : Firmware) (samples : List Sample)
-    (plan : List Request) (report : Report) : Type 0 where
-  pub ran : report.rows ≡ (firmware_rows firmware (map input_bytes samples) plan flags).rows
-  pub uninterrupted : AreUninterrupted firmware flags (map input_bytes samples) (map answer_of_row report.rows)
-  pub within : AreWithinErrors (parts width) block report.errors samples report.rows
-  pub bound : report.bound ≡ instruction_bound width block
-  pub instructions : All (λ row. row.instrs ≤ report.bound) report.rows
-  pub steps : All (λ row. row.steps ≤ step_bound width block) report.rows
-  pub follows : AnswersUnder block firmware flags (map input_bytes samples) plan report.rows
 
 -- Compile accepts the FCL text, IMAGE holds exactly its firmware's image, the checker accepts the certificate, the
 -- trace spells samples within their inputs' ranges, and the plan interrupts that write only free bytes. The report is

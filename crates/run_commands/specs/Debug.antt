@@ -22,11 +22,11 @@ use Rattle.debug_script.specs.declared.shown.Shown.{Shown}
 use Rattle.debug_script.specs.declared.shown.Shown.TheVariants.{Stop, Registers, Bytes}
 use Rattle.build_commands.specs.Contents.{content_at}
 use Rattle.build_commands.specs.Deeds.{Deed}
-use Rattle.build_commands.specs.Firmwares.{GivesFirmware, RefusesText}
+use Rattle.build_commands.specs.Firmwares.{GivesFirmware, OfFirmware, RefusesText}
 use Rattle.build_commands.specs.Images.{RefusesImage}
 use Rattle.build_commands.specs.Lines.{counted, with_registers}
-use Rattle.run_commands.specs.Accepted.{sample_refusals}
-use Rattle.run_commands.specs.Run.{OfFirmware, row_lines}
+use Rattle.run_reports.specs.Inputs.{sample_refusals}
+use Rattle.run_reports.specs.RowLines.{row_lines}
 use Rattle.build_commands.specs.Words.{flags_of}
 use Rattle.run_commands.specs.declared.debug.DebugRun.{DebugRun}
 use Rattle.fz_status.specs.FaultLines.{newline}

@@ -17,7 +17,7 @@ use Rattle.fz_status.specs.Refusals.{Refusals, Refuses}
 use Rattle.fz_status.specs.Words.{Text, word_at}
 use Rattle.fz_status.specs.declared.status.Status.{Status}
 use Rattle.fz_status.specs.declared.status.Status.TheVariants as status
-use Rattle.run_commands.specs.CertifiedRun.{IsReportOf, Report}
+use Rattle.run_reports.specs.Reports.{IsReportOf, Report}
 use Rattle.build_commands.specs.Certify.{StopsHalving}
 use Rattle.build_commands.specs.Deeds.{Deed}
 use Rattle.build_commands.specs.Firmwares.{GivesFirmware}

@@ -1,13 +1,4 @@
-pub mod Accepted
 pub mod CertifiedRun
 pub mod Debug
 pub mod Generate
-pub mod HandledRun
-pub mod Hrun
-pub mod LevelRun
-pub mod Lrun
-pub mod Mrun
-pub mod PostedRun
 pub mod Run
-pub mod Srun
-pub mod WatchedRun

@@ -8,7 +8,6 @@ ghost use Rattle.run_commands.specs.Debug.{DebugFiles, DebugMakes, Debugs, debug
 ghost use Rattle.build_commands.specs.Deeds.{DeedHasNoFault, IsResultOf};
 ghost use Rattle.run_commands.specs.declared.debug.DebugRun.{DebugRun as TheDebug};
 
-use crate::run::samples_and_plan;
 use crate::shown_lines::lines;
 use build_commands::contents::content;
 use build_commands::firmware::{Compiled, firmware_of, spelled_texts_have_no_fault};
@@ -17,11 +16,14 @@ use build_commands::words::flags;
 use build_commands::work::Work;
 use debug_script::{Script, ScriptFault, debug, read_script};
 use eval_code::Width;
-use fcl_check::spelled_blocks_are_one;
 use fz_status::{Status, word};
-use interrupt_plan::{Plan, spelled_plans_have_no_fault};
+use interrupt_plan::Plan;
+use run_reports::inputs::samples_and_plan;
+use run_reports::laws::{
+    spelled_bytes_fit, spelled_samples_have_no_fault, spelled_traces_are_short,
+};
 use std::alloc::Global;
-use trace_io::{Sample, spelled_traces_have_no_fault};
+use trace_io::Sample;
 
 /// `debug FCL IMAGE TRACE PLAN FLAGS SCRIPT`
 #[derive(Clone, Copy, Debug, PartialEq, Eq)]
@@ -59,10 +61,9 @@ impl DebugRun {
         requires { All (λ c. length c.items ≤ 1048576) contents.now }
         ensures { IsResultOf (DebugMakes self (debug_files (bytes_of contents.now))) result }
     {
-        let accepted = match DebugRun::accepted(alloc, contents) {
-            Ok(accepted) => accepted,
-            Err(status) => return Err(status),
-        };
+        spelled_bytes_fit();
+        spelled_traces_are_short();
+        let accepted = DebugRun::accepted(alloc, contents)?;
         let ran = debug(
             alloc,
             &accepted.compiled.firmware,
@@ -87,24 +88,14 @@ impl DebugRun {
             a.compiled.block a.compiled.firmware a.samples.items a.plan a.script) }
         ensures fault { IfErr result (IsRefusal (debug_refusals (debug_files (bytes_of contents.now)))) }
     {
-        let compiled = match firmware_of(alloc, Width::Byte, content(contents, 0)) {
-            Ok(compiled) => compiled,
-            Err(status) => return Err(status),
-        };
-        match require_image(alloc, content(contents, 1), &compiled.firmware.image) {
-            Ok(()) => {}
-            Err(status) => return Err(status),
-        }
-        let inputs = samples_and_plan(
+        let compiled = firmware_of(alloc, Width::Byte, content(contents, 0))?;
+        require_image(alloc, content(contents, 1), &compiled.firmware.image)?;
+        let (samples, plan) = samples_and_plan(
             alloc,
             &compiled.block,
             content(contents, 2),
             content(contents, 3),
-        );
-        let (samples, plan) = match inputs {
-            Ok(inputs) => inputs,
-            Err(status) => return Err(status),
-        };
+        )?;
         match read_script(alloc, content(contents, 4)) {
             Ok(script) => Ok(Accepted {
                 compiled,
@@ -124,7 +115,5 @@ pub fn debugged_runs_have_no_fault()
 {
     spelled_texts_have_no_fault();
     firmware_images_have_no_fault();
-    spelled_blocks_are_one();
-    spelled_traces_have_no_fault();
-    spelled_plans_have_no_fault()
+    spelled_samples_have_no_fault()
 }

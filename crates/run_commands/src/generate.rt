@@ -16,13 +16,13 @@ use build_commands::certify::{halved, halved_blocks_do_not_stop};
 use build_commands::lines::{labelled, push_errors};
 use build_commands::words::number32_in;
 use build_commands::work::Work;
-use certified_run::answers_are_within_errors;
 use codegen::{Firmware, compile};
 use eval_code::Width;
 use fuzzy_meaning::Block;
 use fz_run::{Row, run};
 use fz_status::{Status, word};
 use rule_layout::{LayoutFault, limits_have_no_fault};
+use run_reports::laws::answers_are_reported;
 use std::alloc::{AllocError, Global};
 use workload::{drawn_blocks_are_one, drawn_blocks_are_within_limits};
 
@@ -65,7 +65,7 @@ impl Generate {
     pub fn work(self, alloc: Global) -> Result<Work, Status>
         ensures { IsResultOf (GenerateMakes self) result }
     {
-        answers_are_within_errors();
+        answers_are_reported();
         drawn_blocks_are_within_limits();
         let Ok(workload) = workload::generate(alloc, self.number) else {
             return Err(Status::Memory);
@@ -74,10 +74,7 @@ impl Generate {
         let Ok(firmware) = compiled(alloc, block) else {
             return Err(Status::Memory);
         };
-        let cert = match halved(alloc, Width::Byte, TARGET, block) {
-            Ok(cert) => cert,
-            Err(status) => return Err(status),
-        };
+        let cert = halved(alloc, Width::Byte, TARGET, block)?;
         let samples = workload.samples.as_slice();
         let Ok(rows) = run(alloc, &firmware, samples, &workload.requests, FLAGS) else {
             return Err(Status::Memory);

@@ -6,10 +6,10 @@ ghost use Rattle.fz_run.specs.Rows.{row_seen};
 ghost use Rattle.debug_script.specs.declared.shown.Shown.TheVariants as seen;
 ghost use Rattle.run_commands.specs.Debug.{behind_blank, debug_lines, shown_line};
 
-use crate::run_lines::push_rows;
 use build_commands::lines::{line_of_registers, push_address, push_byte};
 use debug_script::Shown;
 use fz_run::Row;
+use run_reports::row_lines::push_rows;
 use std::alloc::{AllocError, Global};
 use std::fmt::Write;
 

@@ -14,9 +14,9 @@ use Rattle.cpu12_parts.specs.Touching.{IsIn, Each}
 use Rattle.cpu12_parts.specs.Executions.{Execution}
 use Rattle.cpu12_parts.specs.Whole.{after_plain}
 use Rattle.cpu12_emul.specs.Image.{image_memory}
-use Rattle.codegen.specs.declared.width.Width.TheVariants.{Byte}
-use Rattle.codegen.specs.Evaluation.{Writes, code_region, IsEvalStep, IsAtEval, IsEvaluated, EvalAnswers}
-use Rattle.codegen.specs.Placed.{StandsBetween}
+use Rattle.eval_code.specs.declared.width.Width.TheVariants.{Byte}
+use Rattle.eval_code.specs.Evaluation.{Writes, code_region, IsEvalStep, IsAtEval, IsEvaluated, EvalAnswers}
+use Rattle.eval_code.specs.Placed.{StandsBetween}
 use Rattle.two_level.specs.declared.two.Two.{Two}
 use Rattle.two_level.specs.Layouts.{fast_front, fast_back, fast_layout}
 use Rattle.two_level.specs.Images.{IsTwoOf}

@@ -3,8 +3,8 @@ use Rattle.std.specs.Prelude.{ℕ, ◌+◌, ◌-◌, List, [], ◌∷◌, nat_le
 use Rattle.cpu12_isa.specs.declared.instr.Instr.{Instr}
 use Rattle.cpu12_isa.specs.declared.instr.Instr.TheVariants.{Andcc, Rti}
 use Rattle.cpu12_isa.specs.Regions.{is_free, is_vector}
-use Rattle.codegen.specs.declared.layout.Layout.{Layout}
-use Rattle.codegen.specs.Layouts.{main_layout}
+use Rattle.eval_code.specs.declared.layout.Layout.{Layout}
+use Rattle.eval_code.specs.Layouts.{main_layout}
 
 -- a place in ROM, and one in RAM, of a firmware that stands alone: where the fast block has it
 abbrev pub lowered : ℕ → ℕ

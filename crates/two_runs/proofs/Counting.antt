@@ -5,6 +5,8 @@ use Rattle.std.specs.Int.{from_bool}
 use Rattle.arrayvec.specs.ArrayVec.{array_vec_len}
 use Rattle.cpu12_parts.specs.State.{State}
 use Rattle.cpu12_emul.specs.declared.ends.Stepped.{Stepped}
+use Rattle.cpu12_emul.specs.declared.ends.Stepped.TheVariants.{Part}
+use Rattle.cpu12_emul.specs.Run.{PartsTo}
 use Rattle.cpu12_emul.specs.Step.{Next, next_of, is_part}
 use Rattle.cpu12_parts.specs.Cuts.{suspended, wav}
 use Rattle.cpu12_emul.specs.Take.{FrameSeen, frame_of, framed}

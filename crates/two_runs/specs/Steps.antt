@@ -18,11 +18,11 @@ use Rattle.cpu12_emul.specs.Simulation.{IsShownStep}
 use Rattle.cpu12_emul.specs.Step.{step_act}
 use Rattle.cpu12_emul.specs.Take.{may_interrupt}
 use Rattle.cpu12_emul.specs.Image.{image_memory}
-use Rattle.codegen.specs.declared.width.Width.TheVariants.{Byte}
-use Rattle.codegen.specs.Widths.{answer}
-use Rattle.codegen.specs.Bounds.{instruction_bound, step_bound}
-use Rattle.codegen.specs.Firing.{AreInputBytes}
-use Rattle.codegen.specs.Evaluation.{HasAnswers}
+use Rattle.eval_code.specs.declared.width.Width.TheVariants.{Byte}
+use Rattle.eval_code.specs.Widths.{answer}
+use Rattle.eval_code.specs.Bounds.{instruction_bound, step_bound}
+use Rattle.eval_code.specs.Firing.{AreInputBytes}
+use Rattle.eval_code.specs.Evaluation.{HasAnswers}
 use Rattle.run_law.specs.Uninterrupted.{stepped, uninterrupted, counted}
 use Rattle.run_law.specs.Soundness.{Before}
 use Rattle.two_level.specs.Layouts.{fast_layout, is_fast_ram, is_fast_rom}

@@ -11,8 +11,8 @@ passes : (g : Over) (c : After-count_steps g) → PassesTo c.args.m.now.flags (g
 passes g c =
     let a = c.args in
     let h = g.F.RunForm.harness a.form.now in
-    passes_to Part (λ (s : State). s.regs.pc ≡ a.m.now.state.regs.pc) a.m.now.flags h a.requests.now c.steps_alone-most.result c.rule_parts-done.result
-    a.st.now c.count_steps.new.st a.m.now.state c.rule_parts-done.new.self.state (c.goes_on_here.ensures c.if-not-goes_on_here.false) c.requires.on c.requires.steady
+    passes_to Part (λ (s : State). (s.regs.pc ≡ a.m.now.state.regs.pc) × (s.regs.sp ≡ a.m.now.state.regs.sp)) a.m.now.flags h a.requests.now c.steps_alone-most.result c.rule_parts-done.result
+    a.st.now c.count_steps.new.st a.m.now.state c.rule_parts-done.new.self.state (λ s stays. c.goes_on_here.ensures c.if-not-goes_on_here.false s stays.0) c.requires.on c.requires.steady
     c.steps_alone-most.ensures.left c.steps_alone-most.ensures.none c.rule_parts-done.ensures.most c.rule_parts-done.ensures.steps
     c.count_steps.ensures
 

@@ -2,7 +2,6 @@ use Rattle.std.proofs.Common.{◌≡◌, Err}
 use Rattle.eval_code.specs.declared.width.Width.TheVariants.{Byte}
 use Rattle.debug_script.specs.Scripts.{script_of}
 use Rattle.fz_status.specs.declared.status.Status.TheVariants as status
-use Rattle.run_commands.proofs.RefusalLemmas.{samples_stand}
 use Rattle.run_commands.proofs.debug.debugged_runs_have_no_fault.Goals as goal
 
 pub returns : goal.returns
@@ -19,6 +18,5 @@ returns c debug files deed (status.Script n) gives (carries, (other, others, giv
     cc
 returns c debug files deed s gives (carries, (other, others, gives_other, refuses)) =
     let a = gives.accepts in
-    samples_stand c.spelled_blocks_are_one.ensures c.spelled_traces_have_no_fault.ensures
-    c.spelled_plans_have_no_fault.ensures files.fcl gives.block other a.compiled.spelled gives_other.spelled files.trace
-    files.plan gives.samples gives.plan a.in_range a.good_plan s refuses.1
+    c.spelled_samples_have_no_fault.ensures files.fcl files.trace files.plan gives.block other gives.samples gives.plan s
+    a.compiled.spelled gives_other.spelled a.in_range a.good_plan refuses.1

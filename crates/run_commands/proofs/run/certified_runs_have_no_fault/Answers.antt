@@ -1,5 +1,4 @@
 use Rattle.fz_status.specs.declared.status.Status.TheVariants as status
-use Rattle.run_commands.proofs.RefusalLemmas.{inputs_stand}
 use Rattle.run_commands.proofs.run.certified_runs_have_no_fault.Goals as goal
 
 pub returns : goal.returns
@@ -12,7 +11,6 @@ returns c run files deed (status.Image f) gives (carries, (other, others, gives_
     gives_other r.image refuses
 returns c run files deed s gives (carries, (other, others, gives_other, refuses)) =
     let r = gives.certified in
-    inputs_stand c.accepted_certs_have_no_fault.ensures c.spelled_blocks_are_one.ensures
-    c.spelled_traces_have_no_fault.ensures c.spelled_plans_have_no_fault.ensures run.width files.fcl r.block other
-    r.compiled.spelled gives_other.spelled files.cert files.trace files.plan gives.report.errors r.samples r.plan
-    r.accepted r.in_range r.good_plan s refuses.1
+    c.accepted_inputs_have_no_fault.ensures run.width files.fcl files.cert files.trace files.plan r.block other
+    gives.report.errors r.samples r.plan s r.compiled.spelled gives_other.spelled
+    (record { accepted = r.accepted; in_range = r.in_range; good_plan = r.good_plan }) refuses.1

@@ -1,20 +1,24 @@
-use Rattle.std.proofs.Common.{ap}
-use Rattle.std.specs.Prelude.{map}
+use Rattle.std.proofs.Common.{ap, arith, length}
+use Rattle.std.specs.Prelude.{List, map}
+use Rattle.trace_io.specs.declared.sample.Sample.{Sample}
 use Rattle.fz_run.specs.Rows.{row_seen}
 use Rattle.build_commands.specs.Contents.{bytes_of}
 use Rattle.run_commands.specs.Debug.{debug_files}
-use Rattle.run_commands.proofs.DebugLemmas.{few_samples, gives}
+use Rattle.run_commands.proofs.DebugLemmas.{gives}
 use Rattle.run_commands.proofs.debug.DebugRun.work.Goals as goal
 
 pub returns-in-Ok-lines : goal.returns-in-Ok-lines
 returns-in-Ok-lines c =
-    let a = c.in-Ok.accepted in
-    gives c.args.self (debug_files (bytes_of c.args.contents.now)) a.compiled.block a.compiled.firmware a.samples.items
-    c.deref.result.now a.plan a.script c.as_slice.result.now c.in-Ok-ran.shown.items c.deref-2.result.now
-    (map row_seen c.in-Ok-ran.rows.items) (map row_seen c.deref-3.result.now) _ c.in-Ok.ensures.accepted
-    c.deref.ensures.value c.as_slice.ensures c.in-Ok-ran.ensures.shown c.in-Ok-ran.ensures.rows c.in-Ok-ran.ensures.answers
+    let a = c.in_ok-accepted.accepted in
+    gives c.spelled_bytes_fit.ensures c.args.self (debug_files (bytes_of c.args.contents.now)) a.compiled.block a.compiled.firmware a.samples.items
+    c.deref.result.now a.plan a.script c.as_slice.result.now c.in-Ok.shown.items c.deref-2.result.now
+    (map row_seen c.in-Ok.rows.items) (map row_seen c.deref-3.result.now) _ c.in_ok-accepted.ensures.accepted
+    c.deref.ensures.value c.as_slice.ensures c.in-Ok.ensures.shown c.in-Ok.ensures.rows c.in-Ok.ensures.answers
     c.in-Ok-lines.ensures c.deref-2.ensures.value (ap (map row_seen) c.deref-3.ensures.value)
 
 pub debug-ran-requires-clause-samples : goal.debug-ran-requires-clause-samples
 debug-ran-requires-clause-samples c =
-    few_samples _ _ c.in-Ok.accepted.samples.items c.deref.result.now c.in-Ok.ensures.accepted.in_range c.deref.ensures.value
+    let samples = c.in_ok-accepted.accepted.samples.items in
+    let few = c.spelled_traces_are_short.ensures _ _ samples c.in_ok-accepted.ensures.accepted.in_range in
+    let same = ap (λ (ss : List Sample). length ss) c.deref.ensures.value in
+    omega (arith, few, same)

@@ -7,8 +7,7 @@ use Rattle.workload.specs.Draws.{draw}
 use Rattle.build_commands.specs.Deeds.{Deed}
 use Rattle.build_commands.specs.Firmwares.{GivesFirmware}
 use Rattle.run_commands.specs.Generate.{generate_lines}
-use Rattle.run_commands.specs.Run.{report_of}
-use Rattle.run_commands.proofs.AnswerLemmas.{reports}
+use Rattle.run_reports.specs.Reports.{report_of}
 use Rattle.run_commands.proofs.generate.Generate.work.Goals as goal
 
 abbrev only_text : List ℕ → Deed
@@ -26,9 +25,8 @@ returns-in-Ok-lines c =
     let drawn = c.in-Ok.ensures.workload in
     let firmware = c.in-Ok-compiled.firmware in
     let bound = firmware.instr_bound in
-    let cert = c.in-Ok-halved.cert in
-    let halving = c.in-Ok-halved.ensures.halving in
-    let samples = c.as_slice-samples.result.now in
+    let cert = c.in_ok-cert.cert in
+    let halving = c.in_ok-cert.ensures.halving in
     let rows = map row_seen c.in-Ok-run.rows.items in
     let gives : GivesFirmware Byte w.text.items w.block firmware = record {
       spelled = drawn.spelled;
@@ -51,8 +49,9 @@ returns-in-Ok-lines c =
       halving = halving;
       report = report_of cert.claims bound rows;
       errors = refl;
-      reported = reports c.answers_are_within_errors.ensures Byte 0 w.text.items w.block firmware gives cert cert.claims
-          halving.claims w.trace.items w.samples.items samples drawn.in_trace c.as_slice-samples.ensures.value w.requests
-          rows c.in-Ok-run.ensures.rows c.in-Ok-run.ensures.answers;
+      reported = c.answers_are_reported.ensures Byte 0 w.text.items w.block firmware cert cert.claims w.trace.items
+          w.samples.items w.requests rows gives halving.claims drawn.in_trace
+          (rw c.as_slice-samples.ensures.value at c.in-Ok-run.ensures.rows)
+          (rw c.as_slice-samples.ensures.value at c.in-Ok-run.ensures.answers);
       deed_is = ap only_text (c.in-Ok-lines.ensures ∙ ap₂ lines_of c.as_slice-errors.ensures c.deref.ensures.value);
     }

@@ -1,16 +1,18 @@
+use Rattle.std.proofs.Common.{◌≡◌, Err, rules}
 use Rattle.build_commands.specs.Contents.{bytes_of}
-use Rattle.run_commands.specs.Accepted.{input_refusals}
+use Rattle.run_reports.specs.Inputs.{input_refusals}
 use Rattle.run_commands.specs.Run.{files_in, run_refusals}
 use Rattle.run_commands.proofs.AnswerLemmas.{run_refused}
-use Rattle.run_commands.proofs.RefusalLemmas.{refused}
+use Rattle.build_commands.proofs.Algebra.{refused}
 use Rattle.run_commands.proofs.run.Run.accepted.Goals as goal
 
-pub returns-in-Err-inputs_of-clause-fault : goal.returns-in-Err-inputs_of-clause-fault
-returns-in-Err-inputs_of-clause-fault c =
+pub returns-in_err-inputs-clause-fault : goal.returns-in_err-inputs-clause-fault
+returns-in_err-inputs-clause-fault c =
     let files = files_in (bytes_of c.args.contents.now) in
-    let compiled = c.in-Ok.compiled in
-    refused (input_refusals c.args.self.width compiled.block files.cert files.trace files.plan)
+    let compiled = c.in_ok-compiled.compiled in
+    let passed : c.from_residual-in_err-inputs.result ≡ Err c.in_err-inputs.field-0.0 = search rules in
+    rw passed (refused (input_refusals c.args.self.width compiled.block files.cert files.trace files.plan)
     (run_refusals c.args.self files)
-    (run_refused c.args.self files compiled.block compiled.firmware (rw c.content.ensures.value at c.in-Ok.ensures.gives)
-    (rw c.content-2.ensures.value at c.in-Ok-require_image.ensures.image))
-    c.in-Err-inputs_of.status c.in-Err-inputs_of.ensures.fault
+    (run_refused c.args.self files compiled.block compiled.firmware (rw c.content.ensures.value at c.in_ok-compiled.ensures.gives)
+    (rw c.content-2.ensures.value at c.in_ok-require_image.ensures.image))
+    c.in_err-inputs.field-0.0 c.in_err-inputs.ensures.fault)

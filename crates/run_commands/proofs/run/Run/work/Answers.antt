@@ -4,7 +4,8 @@ use Rattle.fz_run.specs.Rows.{row_seen}
 use Rattle.fz_run.specs.declared.rows.Row.{Row}
 use Rattle.run_commands.specs.CertifiedRun.{left_of}
 use Rattle.build_commands.specs.Deeds.{Deed}
-use Rattle.run_commands.specs.Run.{files_in, report_of, run_lines}
+use Rattle.run_commands.specs.Run.{files_in, run_lines}
+use Rattle.run_reports.specs.Reports.{report_of}
 use Rattle.build_commands.specs.Contents.{bytes_of}
 use Rattle.run_commands.proofs.AnswerLemmas.{certifies}
 use Rattle.run_commands.proofs.run.Run.work.Goals as goal
@@ -14,14 +15,14 @@ only_text t = record { text = t; file = None }
 
 pub returns-in-Ok-lines : goal.returns-in-Ok-lines
 returns-in-Ok-lines c =
-    let a = c.in-Ok.accepted in
+    let a = c.in_ok-accepted.accepted in
     let bound = a.compiled.firmware.instr_bound in
     let lines_of = λ (es : List ℕ) (rs : List Row). run_lines (report_of es bound (map row_seen rs)) c.left_in.result in
     record {
-      report = report_of a.inputs.errors.items bound (map row_seen c.in-Ok-ran.rows.items);
-      certified = certifies c.answers_are_within_errors.ensures c.args.self (files_in (bytes_of c.args.contents.now))
+      report = report_of a.inputs.errors.items bound (map row_seen c.in-Ok.rows.items);
+      certified = certifies c.answers_are_reported.ensures c.args.self (files_in (bytes_of c.args.contents.now))
           a.compiled.block a.compiled.firmware a.inputs.errors.items a.inputs.samples.items c.deref.result.now a.inputs.plan
-          (map row_seen c.in-Ok-ran.rows.items) c.left_in.result c.in-Ok.ensures.accepted c.deref.ensures.value
-          c.in-Ok-ran.ensures.rows c.in-Ok-ran.ensures.answers (c.left_in.ensures ∙ ap left_of c.in-Ok-ran.ensures.memory);
+          (map row_seen c.in-Ok.rows.items) c.left_in.result c.in_ok-accepted.ensures.accepted c.deref.ensures.value
+          c.in-Ok.ensures.rows c.in-Ok.ensures.answers (c.left_in.ensures ∙ ap left_of c.in-Ok.ensures.memory);
       deed_is = ap only_text (c.in-Ok-lines.ensures ∙ ap₂ lines_of c.deref-2.ensures.value c.deref-3.ensures.value);
     }

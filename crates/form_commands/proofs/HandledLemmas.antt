@@ -1,0 +1,77 @@
+-- What a run gives whose interrupts run a handler's code.
+use Rattle.std.proofs.Common.{◌≡◌, ◌<◌, ◌^◌, ℕ, List, sym, subst}
+use Rattle.std.specs.Prelude.{map}
+use Rattle.cpu12_asm.specs.declared.image.Image.{Image}
+use Rattle.fuzzy_meaning.specs.declared.block.Block.{Block}
+use Rattle.codegen.specs.declared.firmware.Firmware.{Firmware}
+use Rattle.eval_code.specs.declared.width.Width.TheVariants.{Byte}
+use Rattle.interrupt_plan.specs.declared.Request.{Request}
+use Rattle.trace_io.specs.declared.sample.Sample.{Sample}
+use Rattle.run_law.specs.Forms.{RowSeen}
+use Rattle.fz_run.specs.Answering.{AnswersItsBlock, AnswersUnderPlans}
+use Rattle.fz_run.specs.Rows.{input_bytes}
+use Rattle.handled_runs.specs.Answering.{AreListedRows, HandlesItsBlock}
+use Rattle.handled_runs.specs.Forms.{HandledSeen, handled_seen}
+use Rattle.fz_status.specs.declared.status.Status.{Status}
+use Rattle.fz_status.specs.declared.status.Status.TheVariants as status
+use Rattle.build_commands.specs.Firmwares.{GivesFirmware}
+use Rattle.build_commands.specs.Hcheck.{GivesHandler}
+use Rattle.run_reports.specs.Inputs.{input_refusals}
+use Rattle.form_commands.specs.HandledRun.{AcceptsHandled, HandledFiles, HandledRun}
+use Rattle.form_commands.specs.Hrun.{handled_report, hrun_refusals}
+use Rattle.run_reports.specs.Laws.{AnswersAreReported, SpelledBytesFit}
+
+-- what it answers of accepted files is the run of them
+module _ (reported : AnswersAreReported) (fit : SpelledBytesFit) (all : AnswersUnderPlans) (flags : ℕ) (byte : flags < 2 ^ 8)
+    (files : HandledFiles) (block : Block) (firmware : Firmware) (handler : Image) (instrs : ℕ) (errors : List ℕ)
+    (samples slice : List Sample) (plan : List Request) (rows : List HandledSeen)
+    (a : AcceptsHandled files block firmware handler instrs errors samples plan)
+    (same : slice ≡ samples)
+    (ran : rows ≡ handled_seen firmware handler.bytes instrs (map input_bytes slice) plan flags)
+    (answers : HandlesItsBlock firmware handler.bytes instrs flags (map input_bytes slice) plan rows) where
+  there : HandlesItsBlock firmware handler.bytes instrs flags (map input_bytes samples) plan rows
+  there = subst (λ (ss : List Sample). HandlesItsBlock firmware handler.bytes instrs flags (map input_bytes ss) plan rows)
+      same answers
+
+  handled : AreListedRows firmware handler.bytes instrs flags (map input_bytes samples) plan rows
+  handled = there block a.compiled.spelled.valid a.compiled.limits a.compiled.compiled
+      (fit block files.trace samples a.inputs.in_range)
+
+  abbrev plain : List (RowSeen (List ℕ))
+  plain = map (λ r. r.row) rows
+
+  under : AnswersItsBlock firmware flags (map input_bytes samples) plan plain
+  under = subst (λ (rs : List (RowSeen (List ℕ))). AnswersItsBlock firmware flags (map input_bytes samples) plan rs)
+      (sym handled.listed) (all firmware flags (map input_bytes samples) plan byte a.inputs.good_plan.good)
+
+  pub handles : HandledRun flags files (handled_report errors firmware.instr_bound rows)
+  handles = record {
+    block = block;
+    firmware = firmware;
+    compiled = a.compiled;
+    handler = handler;
+    instrs = instrs;
+    handles = a.handles;
+    accepted = a.inputs.accepted;
+    samples = samples;
+    in_range = a.inputs.in_range;
+    plan = plan;
+    good_plan = a.inputs.good_plan;
+    ran = subst
+        (λ (ss : List Sample). rows ≡ handled_seen firmware handler.bytes instrs (map input_bytes ss) plan flags)
+        same ran;
+    interrupts = handled.run;
+    reported = reported Byte flags files.fcl block firmware a.inputs.accepted.cert errors files.trace samples plan plain
+        a.compiled a.inputs.accepted.accepted a.inputs.in_range handled.listed under;
+  }
+
+-- what refuses the files behind HANDLER refuses the run
+pub hrun_refused : (files : HandledFiles) (block : Block) (firmware : Firmware)
+    → GivesFirmware Byte files.fcl block firmware → (handler : Image) (instrs : ℕ)
+    → GivesHandler files.handler handler instrs → (s : Status)
+    → input_refusals Byte block files.cert files.trace files.plan s → hrun_refusals files s
+hrun_refused files block firmware gives handler instrs given (status.Fcl f) r = absurd r.2
+hrun_refused files block firmware gives handler instrs given (status.Image f) r = absurd r.2
+hrun_refused files block firmware gives handler instrs given (status.Handler f) r = absurd r.2
+hrun_refused files block firmware gives handler instrs given s r =
+    (block, firmware, gives, (handler, instrs, given, r))

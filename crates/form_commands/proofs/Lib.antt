@@ -1,0 +1,6 @@
+pub mod HandledLemmas
+pub mod LevelLemmas
+pub mod LevelLines
+pub mod LevelRefusals
+pub mod PostedLemmas
+pub mod WatchedLemmas

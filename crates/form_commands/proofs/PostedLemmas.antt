@@ -1,0 +1,232 @@
+-- What a run under posts gives.
+use Rattle.std.proofs.Common.{◌≡◌, ◌≢◌, ◌≤◌, ◌+◌, ◌-◌, ◌∙◌, ℕ, Bool, true, false, List, [], ◌∷◌, ◌++◌, length, ap, ap₂, append_assoc, refl, sym, subst, arith}
+use Rattle.std.specs.Prelude.{All, String, codes, flat_map, if◌then◌else◌, map, nat_le, string_bytes, ◌==◌}
+use Rattle.std.proofs.lemmas.List.Elements.{All-cons, All-head, All-tail}
+use Rattle.std.proofs.lemmas.Bool.Decides.{nat_tests}
+use Rattle.std.specs.declared.alloc.Global.{Global}
+use Rattle.fuzzy_meaning.specs.declared.block.Block.{Block}
+use Rattle.cpu12_emul.specs.Take.{FrameSeen}
+use Rattle.cpu12_emul.specs.declared.ends.Frame.{Frame}
+use Rattle.cpu12_parts.specs.State.{State}
+use Rattle.codegen.specs.Mailboxes.{mailbox_bound}
+use Rattle.codegen.specs.Uninterrupted.{AreAnswersOf}
+use Rattle.eval_code.specs.Widths.{width_of}
+use Rattle.codegen.specs.declared.firmware.Firmware.{Firmware}
+use Rattle.eval_code.specs.declared.width.Width.{Width}
+use Rattle.eval_code.specs.declared.width.Width.TheVariants.{Byte}
+use Rattle.srecord.specs.Texts.{GivesImage}
+use Rattle.interrupt_plan.specs.declared.Post.{Post}
+use Rattle.trace_io.specs.Traces.{Spells as SpellsTrace}
+use Rattle.trace_io.specs.declared.sample.Sample.{Sample}
+use Rattle.fz_run.specs.Rows.{input_bytes, bytes_of}
+use Rattle.posted_runs.specs.Answering.{AnswersItsPosts, AnswersUnderPosts, answer_in, ended, run_of_turns}
+use Rattle.posted_runs.specs.Runs.{AnswerSeen, RunSeen, answer_seen, arrival, boundary_seen, frames_seen, run_under_posts}
+use Rattle.posted_runs.specs.Turns.{AreTurns, LastIsAnswered, Turn, behind, over, idle, answers, samples_of, up_to, waiting}
+use Rattle.posted_runs.specs.declared.run.Answer as declared
+use Rattle.certified_run.specs.Posted.{IsOneOf, PostedAnswersAreNear}
+use Rattle.fz_shelf.specs.Lines.{text_of}
+use Rattle.fz_status.specs.Refusals.{IsRefusal}
+use Rattle.fz_status.specs.declared.status.Status.{Status}
+use Rattle.fz_status.specs.declared.status.Status.TheVariants as status
+use Rattle.build_commands.specs.Certs.{AcceptsCert}
+use Rattle.build_commands.specs.Firmwares.{GivesMailbox}
+use Rattle.build_commands.specs.Lines.{counted, line}
+use Rattle.build_commands.proofs.Algebra.{flat-map, of_seen, text_of-snoc}
+use Rattle.form_commands.specs.Mrun.{answer_line, mrun_lines, mrun_refusals, posted_report, posts_refusals, taken_line}
+use Rattle.run_reports.specs.RowLines.{begun_lines}
+use Rattle.form_commands.specs.PostedRun.{AcceptsPosted, PostedFiles, PostedReport, PostedRun, answered_samples, run_of}
+use Rattle.run_reports.specs.Laws.{AnswersKeepTheBound, SpelledBytesFit}
+use Rattle.build_commands.proofs.Algebra.{begun_items}
+
+-- ---- the samples that turns answer are among those that are posted
+
+module _ (m : ℕ) where
+  abbrev IsOf : Post → Type 0
+  IsOf p = p.sample ≤ m
+
+  up_to_of : (g : ℕ) (ps : List Post) → All IsOf ps → All IsOf (up_to g ps)
+  up_to_of g [] each = each
+  up_to_of g (p ∷ ps) each = go (nat_le p.moment g) (up_to_of g ps (All-tail IsOf p ps each))
+    where
+      go : (b : Bool) → All IsOf (up_to g ps) → All IsOf (if b then p ∷ up_to g ps else [])
+      go true rest = All-cons IsOf p (up_to g ps) (All-head IsOf p ps each) rest
+      go false rest = λ d k lt. absurd (omega arith)
+
+  behind_of : (g : ℕ) (ps : List Post) → All IsOf ps → All IsOf (behind g ps)
+  behind_of g [] each = each
+  behind_of g (p ∷ ps) each = go (nat_le p.moment g) (behind_of g ps (All-tail IsOf p ps each))
+    where
+      go : (b : Bool) → All IsOf (behind g ps) → All IsOf (if b then behind g ps else p ∷ ps)
+      go true rest = rest
+      go false rest = each
+
+  waiting_of : (w : ℕ) (ps : List Post) → w ≤ m → All IsOf ps → waiting w ps ≤ m
+  waiting_of w [] one each = one
+  waiting_of w (p ∷ ps) one each =
+      waiting_of (if p.sample == 0 then w else p.sample) ps (go (p.sample == 0)) (All-tail IsOf p ps each)
+    where
+      go : (b : Bool) → (if b then w else p.sample) ≤ m
+      go true = one
+      go false = All-head IsOf p ps each
+
+  -- a turn's sample, where it has one, beside those of the turns behind it
+  with_sample : (k : ℕ) (ks : List ℕ) → k ≤ m → All (IsOneOf m) ks → All (IsOneOf m) (if k == 0 then ks else k ∷ ks)
+  with_sample k ks to rest = go (k == 0) refl
+    where
+      go : (b : Bool) → (k == 0) ≡ b → All (IsOneOf m) (if b then ks else k ∷ ks)
+      go true is = rest
+      go false is = All-cons (IsOneOf m) k ks (record { from = grind (arith, nat_tests); to = to }) rest
+
+  pub answered_of : (n : ℕ) (steps : List ℕ → ℕ) (g w : ℕ) (done : List ℕ) (posts : List Post) (turns : List Turn)
+      → AreTurns n steps g w done posts turns → w ≤ m → All IsOf posts → All (IsOneOf m) (samples_of turns)
+  answered_of n steps _ _ _ _ _ (over g w done posts turns none left is) one each =
+      subst (λ (ts : List Turn). All (IsOneOf m) (samples_of ts)) (sym is) (λ d k lt. absurd (omega arith))
+  answered_of n steps _ _ _ _ _ (idle g w done posts turns later none left rest is) one each =
+      subst (λ (ts : List Turn). All (IsOneOf m) (samples_of ts)) (sym is)
+      (answered_of n steps (g + 2) (waiting w (up_to (g + 1) posts)) done (behind (g + 1) posts) later rest
+      (waiting_of w (up_to (g + 1) posts) one (up_to_of (g + 1) posts each)) (behind_of (g + 1) posts each))
+  answered_of n steps _ _ _ _ _ (answers g w done posts turns later s end some s_is end_is rest is) one each =
+      let left = behind (g + 2) posts in
+      let left_of = behind_of (g + 2) posts each in
+      let own : s ≤ m =
+      subst (λ (k : ℕ). k ≤ m) (sym s_is) (waiting_of w (up_to (g + 2) posts) one (up_to_of (g + 2) posts each)) in
+      subst (λ (ts : List Turn). All (IsOneOf m) (samples_of ts)) (sym is)
+      (with_sample s (samples_of later) own
+      (answered_of n steps end (waiting 0 (up_to (end - 1) left)) (done ++ s ∷ []) (behind (end - 1) left) later rest
+      (waiting_of 0 (up_to (end - 1) left) (omega arith) (up_to_of (end - 1) left left_of))
+      (behind_of (end - 1) left left_of)))
+
+-- ---- a run by its turns
+
+with_answer : (b : Bool) (x : AnswerSeen) (later : List AnswerSeen) (k : ℕ) (ks : List ℕ) → x.sample ≡ k
+    → map (λ a. a.sample) later ≡ ks
+    → map (λ a. a.sample) ((if b then [] else x ∷ []) ++ later) ≡ (if b then ks else k ∷ ks)
+with_answer true x later k ks own rest = rest
+with_answer false x later k ks own rest = ap₂ (λ (n : ℕ) (ns : List ℕ). n ∷ ns) own rest
+
+module _ (flags : ℕ) (f : Firmware) (bytes : List (List ℕ)) where
+  comes_to_end : (ts : List Turn) (s : State) → (run_of_turns flags f bytes ts s).arrived ≡ true
+  comes_to_end [] s = refl
+  comes_to_end (t ∷ ts) s = comes_to_end ts (ended flags f bytes t s)
+
+  -- its answers are those to the turns' samples
+  answers_turns : (ts : List Turn) (s : State)
+      → map (λ a. a.sample) (run_of_turns flags f bytes ts s).answers ≡ samples_of ts
+  answers_turns [] s = refl
+  answers_turns (t ∷ ts) s =
+      with_answer (t.sample == 0) _ (run_of_turns flags f bytes ts (ended flags f bytes t s)).answers t.sample
+      (samples_of ts) refl (answers_turns ts (ended flags f bytes t s))
+
+-- what it answers of accepted files is the run of them
+module _ (keep : AnswersKeepTheBound) (fit : SpelledBytesFit) (near : PostedAnswersAreNear) (lasts : LastIsAnswered) (flags : ℕ) (files : PostedFiles) (block : Block)
+    (firmware : Firmware) (errors : List ℕ) (samples : List Sample) (posts : List Post)
+    (a : AcceptsPosted files block firmware errors samples posts) (told : List AnswerSeen)
+    (frames : List (ℕ × FrameSeen)) (resumed : ℕ)
+    (told_are : told ≡ (run_under_posts firmware (map input_bytes samples) posts flags).answers)
+    (frames_are : frames ≡ (run_under_posts firmware (map input_bytes samples) posts flags).frames)
+    (resumed_is : resumed ≡ (run_under_posts firmware (map input_bytes samples) posts flags).resumed)
+    (all : AnswersItsPosts firmware flags (map input_bytes samples) posts
+    (run_under_posts firmware (map input_bytes samples) posts flags)) where
+  abbrev bytes : List (List ℕ)
+  bytes = map input_bytes samples
+
+  abbrev report : PostedReport
+  report = posted_report errors firmware.instr_bound told frames resumed
+
+  defined : AnswersUnderPosts block firmware flags bytes posts (run_under_posts firmware bytes posts flags)
+  defined = all block a.compiled.spelled.valid a.compiled.limits a.compiled.compiled
+      (fit block files.trace samples a.in_range)
+
+  ran : run_of report ≡ run_under_posts firmware bytes posts flags
+  ran =
+      let arrived : (run_under_posts firmware bytes posts flags).arrived ≡ true =
+      ap (λ (r : RunSeen). r.arrived) defined.run_is
+      ∙ comes_to_end flags firmware bytes defined.turns (arrival firmware bytes flags).state in
+      (λ i. record {
+        arrived = (sym arrived) i;
+        answers = told_are i;
+        frames = frames_are i;
+        resumed = resumed_is i;
+      })
+
+  under : AnswersUnderPosts block firmware flags bytes posts (run_of report)
+  under = subst (λ (r : RunSeen). AnswersUnderPosts block firmware flags bytes posts r) (sym ran) defined
+
+  width : width_of firmware.wide ≡ Byte
+  width = ap width_of a.compiled.narrow
+
+  of_turns : answered_samples report ≡ samples_of under.turns
+  of_turns =
+      ap (λ (r : RunSeen). map (λ (x : AnswerSeen). x.sample) r.answers) under.run_is
+      ∙ answers_turns flags firmware bytes under.turns (arrival firmware bytes flags).state
+
+  last : waiting 0 posts ≢ 0 → (before : List ℕ) × (answered_samples report ≡ before ++ waiting 0 posts ∷ [])
+  last some =
+      let at_end = lasts firmware.inputs under.steps 0 0 [] posts under.turns under.turns_are some in
+      (at_end.0, of_turns ∙ at_end.1)
+
+  of_block : AreAnswersOf Byte block firmware.instr_bound (λ o. 0) (map (bytes_of bytes) (answered_samples report))
+      (map answer_in told)
+  of_block =
+      subst (λ (ks : List ℕ). AreAnswersOf Byte block firmware.instr_bound (λ o. 0) (map (bytes_of bytes) ks)
+      (map answer_in told)) (sym of_turns)
+      (subst (λ (w : Width). AreAnswersOf w block firmware.instr_bound (λ o. 0)
+      (map (bytes_of bytes) (samples_of under.turns)) (map answer_in told)) width under.of_block)
+
+  posted : All (IsOneOf (length samples)) (answered_samples report)
+  posted =
+      let good = a.good_posts.good.posts_are in
+      subst (λ (ks : List ℕ). All (IsOneOf (length samples)) ks) (sym of_turns)
+      (answered_of (length samples) firmware.inputs under.steps 0 0 [] posts under.turns under.turns_are (omega arith)
+      (λ d k lt. (good d k lt).sample_to))
+
+  pub posts_run : PostedRun flags files report
+  posts_run = record {
+    block = block;
+    firmware = firmware;
+    samples = samples;
+    posts = posts;
+    accepts = a;
+    ran = ran;
+    follows = under;
+    last = last;
+    bound = a.compiled.compiled.instructions ∙ ap (λ (w : Width). mailbox_bound w block) width;
+    instructions = of_seen (λ q. q.instructions ≤ firmware.instr_bound) answer_in told
+        (keep Byte block firmware.instr_bound (λ o. 0) (map (bytes_of bytes) (answered_samples report))
+        (map answer_in told) of_block);
+    within = near Byte block firmware.instr_bound a.accepted.cert errors files.trace samples (answered_samples report)
+        (map answer_in told) a.compiled.spelled.valid a.in_range posted of_block a.accepted.accepted;
+  }
+
+-- ---- its refusals
+
+-- why posts are refused, all files before them being accepted
+pub refused_posts : (files : PostedFiles) (block : Block) (firmware : Firmware) (errors : List ℕ)
+    (samples : List Sample) (s : Status)
+    → GivesMailbox files.fcl block firmware → GivesImage files.image firmware.image
+    → AcceptsCert Byte block files.cert errors → SpellsTrace block.inputs files.trace samples
+    → IsRefusal (posts_refusals (length samples) files.posts) s → IsRefusal (mrun_refusals files) s
+refused_posts files block firmware errors samples status.Memory compiled image accepted in_range refused = tt
+refused_posts files block firmware errors samples (status.Plan f) compiled image accepted in_range refused =
+    (refused.0, (block, firmware, compiled, (image, errors, accepted, samples, in_range, refused.1)))
+refused_posts files block firmware errors samples s compiled image accepted in_range refused = absurd refused.1
+
+-- ---- its lines
+
+pub posted_written : (begun told taken lines : List (String Global)) (final : String Global) (es : List ℕ)
+    (bound resumed : ℕ) (xs : List declared.Answer) (frames : List (ℕ × Frame))
+    → text_of begun ≡ begun_lines es bound
+    → text_of told ≡ text_of begun ++ counted (λ k x. answer_line k (answer_seen x)) 1 xs
+    → text_of taken ≡ text_of told ++ flat_map (λ f. taken_line (boundary_seen f)) frames
+    → lines ≡ taken ++ final ∷ [] → string_bytes final ≡ line (codes "resumed ") resumed
+    → text_of lines ≡ mrun_lines (posted_report es bound (map answer_seen xs) (frames_seen frames) resumed)
+posted_written begun told taken lines final es bound resumed xs frames begun_so told_so taken_so added is =
+    let b = begun_lines es bound in
+    let c = counted answer_line 1 (map answer_seen xs) in
+    let d = flat_map taken_line (frames_seen frames) in
+    let r = line (codes "resumed ") resumed in
+    ap text_of added ∙ text_of-snoc taken final
+    ∙ ap₂ (λ (x y : List ℕ). x ++ y)
+    (taken_so ∙ ap₂ (λ (x y : List ℕ). x ++ y) (begun_items answer_line answer_seen begun told b xs begun_so told_so)
+    (sym (flat-map taken_line boundary_seen frames))) is
+    ∙ append_assoc (b ++ c) d r ∙ append_assoc b c (d ++ r)

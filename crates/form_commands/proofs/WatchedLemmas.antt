@@ -1,0 +1,114 @@
+-- What a run under upsets gives.
+use Rattle.std.proofs.Common.{◌≡◌, ◌≤◌, ◌∙◌, ℕ, Bool, List, [], ◌∷◌, ap, sym, subst}
+use Rattle.std.specs.Prelude.{◌&&◌, All, map, nat_le}
+use Rattle.std.proofs.lemmas.List.Elements.{All-cons, All-nil}
+use Rattle.fuzzy_meaning.specs.declared.block.Block.{Block}
+use Rattle.cpu12_asm.specs.Bytes.{byte_at}
+use Rattle.cpu12_emul.specs.Image.{image_memory}
+use Rattle.codegen.specs.Watched.{Watched, watched_answer}
+use Rattle.codegen.specs.declared.firmware.Firmware.{Firmware}
+use Rattle.eval_code.specs.declared.width.Width.TheVariants.{Byte}
+use Rattle.srecord.specs.Texts.{GivesImage}
+use Rattle.interrupt_plan.specs.UpsetTexts.{SpellsUpsets}
+use Rattle.interrupt_plan.specs.Upsets.{IsGoodUpset, is_there}
+use Rattle.interrupt_plan.specs.declared.Request.{Request}
+use Rattle.interrupt_plan.specs.declared.upsets.Upset.{Upset}
+use Rattle.trace_io.specs.declared.sample.Sample.{Sample}
+use Rattle.fz_run.specs.Rows.{input_bytes}
+use Rattle.watched_runs.specs.Answering.{AnswersItsSamples, AnswersUnderUpsets, AreWatchedRows}
+use Rattle.watched_runs.specs.Rows.{FaultSeen, faults_of, upset_rows}
+use Rattle.watched_runs.specs.Samples.{with_upsets}
+use Rattle.certified_run.specs.Faultless.{FaultlessAnswersAreNear}
+use Rattle.fz_status.specs.declared.status.Status.{Status}
+use Rattle.fz_status.specs.declared.status.Status.TheVariants as status
+use Rattle.build_commands.specs.Firmwares.{GivesWatched}
+use Rattle.run_reports.specs.Inputs.{AcceptsInputs, input_refusals}
+use Rattle.form_commands.specs.Srun.{AcceptsWatched, srun_refusals, upset_refusals, watched_report}
+use Rattle.form_commands.specs.WatchedRun.{WatchedFiles, WatchedRun}
+use Rattle.run_reports.specs.Laws.{SpelledBytesFit}
+
+instructions_within : (b : Block) (f : Firmware) (before : ℕ → ℕ) (xs : List Watched) (rs : List FaultSeen)
+    → AreWatchedRows b f before xs rs → All (λ r. r.row.instrs ≤ f.instr_bound) rs
+instructions_within b f before [] [] rows = All-nil _
+instructions_within b f before [] (r ∷ rs) rows = absurd rows
+instructions_within b f before (x ∷ xs) [] rows = absurd rows
+instructions_within b f before (x ∷ xs) (r ∷ rs) rows =
+    All-cons (λ q. q.row.instrs ≤ f.instr_bound) r rs rows.0.instructions
+    (instructions_within b f (λ o. watched_answer b (image_memory f.image.bytes) x o (before o)) xs rs rows.1)
+
+-- what it answers of accepted files is the run of them
+pub watches : (near : FaultlessAnswersAreNear) (fit : SpelledBytesFit) (flags : ℕ) (files : WatchedFiles) (block : Block) (firmware : Firmware)
+    (errors : List ℕ) (samples slice : List Sample) (plan : List Request) (upsets : List Upset) (rows : List FaultSeen)
+    → AcceptsWatched files block firmware errors samples plan upsets → slice ≡ samples
+    → rows ≡ faults_of firmware (upset_rows firmware (map input_bytes slice) plan upsets flags)
+    → AnswersItsSamples firmware flags (map input_bytes slice) plan upsets rows
+    → WatchedRun flags files (watched_report errors firmware.instr_bound rows)
+watches near fit flags files block firmware errors samples slice plan upsets rows a same ran answers = record {
+  block = block;
+  firmware = firmware;
+  compiled = a.compiled;
+  image = a.image;
+  accepted = a.inputs.accepted;
+  samples = samples;
+  in_range = a.inputs.in_range;
+  plan = plan;
+  good_plan = a.inputs.good_plan;
+  upsets = upsets;
+  good_upsets = a.good_upsets;
+  ran = subst (λ (ss : List Sample). rows ≡ faults_of firmware (upset_rows firmware (map input_bytes ss) plan upsets flags))
+      same ran;
+  answers = under;
+  bound = a.compiled.compiled.instructions;
+  instructions = instructions_within block firmware (λ o. 0) (with_upsets upsets (map input_bytes samples)) rows
+      under.answers;
+  within = near block firmware a.inputs.accepted.cert errors files.trace samples upsets rows a.compiled.spelled.valid
+      a.inputs.in_range under.answers a.inputs.accepted.accepted;
+}
+  where
+    all : AnswersItsSamples firmware flags (map input_bytes samples) plan upsets rows
+    all = subst (λ (ss : List Sample). AnswersItsSamples firmware flags (map input_bytes ss) plan upsets rows) same answers
+
+    under : AnswersUnderUpsets block firmware flags (map input_bytes samples) plan upsets rows
+    under = all block a.compiled.spelled.valid a.compiled.limits a.compiled.compiled
+        (fit block files.trace samples a.inputs.in_range)
+
+module _ (files : WatchedFiles) (block : Block) (firmware : Firmware) (gives : GivesWatched files.fcl block firmware)
+    (image : GivesImage files.image firmware.image) where
+  -- what refuses the files behind IMAGE refuses the run
+  pub srun_refused : (s : Status) → input_refusals Byte block files.cert files.trace files.plan s → srun_refusals files s
+  srun_refused (status.Fcl f) r = absurd r.2
+  srun_refused (status.Image f) r = absurd r.2
+  srun_refused (status.Upset f) r = absurd r.2
+  srun_refused s r = (block, firmware, gives, (image, r))
+
+  -- and so does what refuses UPSETS
+  pub upsets_refused : (errors : List ℕ) (samples : List Sample) (plan : List Request)
+      → AcceptsInputs Byte block files.cert files.trace files.plan errors samples plan → (s : Status)
+      → upset_refusals firmware.image.bytes files.upsets s → srun_refusals files s
+  upsets_refused errors samples plan inputs (status.Upset f) r =
+      (block, firmware, gives, (image, errors, samples, plan, inputs, r))
+  upsets_refused errors samples plan inputs s r = absurd r
+
+-- ---- upsets of images that are one
+
+module _ (a b : List (ℕ × ℕ)) (one : (at : ℕ) → byte_at a at ≡ byte_at b at) where
+  good_there : (u : Upset) → IsGoodUpset a u → IsGoodUpset b u
+  good_there u good = record {
+    sample_from = good.sample_from;
+    sample_to = good.sample_to;
+    table = ap (λ (o : Bool). nat_le 0xD000 u.at && nat_le u.at 0xFEFF && o) (ap is_there (sym (one u.at))) ∙ good.table;
+    value = good.value;
+  }
+
+  pub spelled_there : (text : List ℕ) (upsets : List Upset) → SpellsUpsets a text upsets → SpellsUpsets b text upsets
+  spelled_there text upsets spells = record {
+    rows = spells.rows;
+    first = spells.first;
+    few = spells.few;
+    spelled = spells.spelled;
+    good = record {
+      few = spells.good.few;
+      each = λ k d lt. good_there _ (spells.good.each k d lt);
+      ascend = spells.good.ascend;
+    };
+  }

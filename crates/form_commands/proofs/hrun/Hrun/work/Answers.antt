@@ -1,0 +1,34 @@
+use Rattle.std.proofs.Common.{ℕ, ◌<◌, ◌^◌, List, ◌++◌, ap, ap₂, sym, ◌∙◌, rules}
+use Rattle.std.specs.Prelude.{None, map}
+use Rattle.handled_runs.specs.Forms.{row_seen}
+use Rattle.handled_runs.specs.declared.rows.HandledRow.{HandledRow}
+use Rattle.build_commands.specs.Contents.{bytes_of}
+use Rattle.build_commands.specs.Deeds.{Deed}
+use Rattle.build_commands.specs.Lines.{counted}
+use Rattle.build_commands.proofs.Algebra.{counted-map}
+use Rattle.form_commands.specs.Hrun.{handled_files, handled_report, handled_row_lines}
+use Rattle.run_reports.specs.RowLines.{begun_lines}
+use Rattle.form_commands.proofs.HandledLemmas.{handles}
+use Rattle.form_commands.proofs.hrun.Hrun.work.Goals as goal
+
+abbrev only_text : List ℕ → Deed
+only_text t = record { text = t; file = None }
+
+pub returns-in-Ok-lines : goal.returns-in-Ok-lines
+returns-in-Ok-lines c =
+    let a = c.in_ok-accepted.accepted in
+    let byte : c.args.self.flags < 2 ^ 8 = search rules in
+    let bound = a.compiled.firmware.instr_bound in
+    let each = counted-map handled_row_lines row_seen 1 c.in-Ok.rows.items in
+    let lines_of = λ (es : List ℕ) (rs : List HandledRow).
+    begun_lines es bound ++ counted (λ k r. handled_row_lines k (row_seen r)) 1 rs in
+    record {
+      report = handled_report a.inputs.errors.items bound (map row_seen c.in-Ok.rows.items);
+      certified = handles c.answers_are_reported.ensures c.spelled_bytes_fit.ensures c.answers_under_plans.ensures c.args.self.flags byte
+          (handled_files (bytes_of c.args.contents.now)) a.compiled.block a.compiled.firmware a.handler.image
+          a.handler.handler.instrs a.inputs.errors.items a.inputs.samples.items c.deref.result.now a.inputs.plan
+          (map row_seen c.in-Ok.rows.items) c.in_ok-accepted.ensures.accepted c.deref.ensures.value
+          c.in-Ok.ensures.rows c.in-Ok.ensures.answers;
+      deed_is = ap only_text (c.in-Ok-lines.ensures ∙ ap₂ lines_of c.deref-2.ensures.value c.deref-3.ensures.value
+          ∙ ap (λ (l : List ℕ). begun_lines a.inputs.errors.items bound ++ l) (sym each));
+    }

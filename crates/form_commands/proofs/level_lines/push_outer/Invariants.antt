@@ -1,0 +1,11 @@
+use Rattle.std.proofs.Common.{◌≡◌, ◌++◌, take}
+use Rattle.fz_shelf.specs.Lines.{text_of}
+use Rattle.fz_run.specs.Rows.{boundary_seen}
+use Rattle.two_runs.specs.Harness.{row_seen}
+use Rattle.build_commands.specs.Lines.{counted}
+use Rattle.form_commands.specs.Lrun.{outer_lines}
+use Rattle.form_commands.proofs.level_lines.push_outer.Given as goal
+
+abbrev pub invariant-loop-at : goal.invariant-loop-at
+invariant-loop-at l = text_of l.lines.items ≡ text_of l.initial.lines.items
+    ++ counted (λ n f. outer_lines l.k (row_seen l.row).fast n (boundary_seen f)) 1 (take l.at l.frames)

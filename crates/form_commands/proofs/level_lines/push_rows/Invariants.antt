@@ -1,0 +1,10 @@
+use Rattle.std.proofs.Common.{◌≡◌, ◌++◌, take}
+use Rattle.fz_shelf.specs.Lines.{text_of}
+use Rattle.two_runs.specs.Harness.{row_seen}
+use Rattle.build_commands.specs.Lines.{counted}
+use Rattle.form_commands.specs.Lrun.{level_row_lines}
+use Rattle.form_commands.proofs.level_lines.push_rows.Given as goal
+
+abbrev pub invariant-loop-at : goal.invariant-loop-at
+invariant-loop-at l = text_of l.lines.items
+    ≡ text_of l.initial.lines.items ++ counted (λ k r. level_row_lines k (row_seen r)) 1 (take l.at l.rows)

@@ -1,0 +1,35 @@
+use Rattle.std.proofs.Common.{ℕ, ◌<◌, ◌^◌, List, ap, ◌∙◌, rules}
+use Rattle.std.specs.Prelude.{None, map}
+use Rattle.two_level.specs.Images.{fast_most}
+use Rattle.two_runs.specs.Harness.{row_seen}
+use Rattle.two_runs.specs.declared.rows.TwoRow.{TwoRow}
+use Rattle.build_commands.specs.Contents.{bytes_of}
+use Rattle.build_commands.specs.Deeds.{Deed}
+use Rattle.form_commands.specs.Lrun.{level_files, level_report, lrun_lines}
+use Rattle.form_commands.proofs.LevelLemmas.{levels_run}
+use Rattle.form_commands.proofs.lrun.Lrun.work.Goals as goal
+
+abbrev only_text : List ℕ → Deed
+only_text t = record { text = t; file = None }
+
+pub returns-in-Ok-lines : goal.returns-in-Ok-lines
+returns-in-Ok-lines c =
+    let a = c.in_ok-accepted.accepted in
+    let two = a.compiled.two in
+    let byte : c.args.self.flags < 2 ^ 8 = search rules in
+    let rows = map row_seen c.in-Ok.rows.items in
+    let bound = two.slow.instr_bound in
+    let fast_bound = fast_most two.fast.instr_bound in
+    let lines_of = λ (es fes : List ℕ) (rs : List TwoRow).
+    lrun_lines (level_report es fes bound fast_bound (map row_seen rs)) in
+    record {
+      report = level_report a.errors.slow.items a.errors.fast.items bound fast_bound rows;
+      at_levels = levels_run c.answers_are_reported.ensures c.answers_keep_the_bound.ensures c.spelled_bytes_fit.ensures
+          c.posted_answers_are_near.ensures c.answers_under_plans.ensures c.args.self.flags byte (level_files (bytes_of c.args.contents.now))
+          a.compiled.slow a.compiled.fast two a.errors.slow.items a.errors.fast.items a.traces.slow.items
+          a.traces.fast.items a.levels c.in_ok-accepted.ensures.accepted rows
+          (rw (c.deref.ensures.value, c.deref-2.ensures.value) at c.in-Ok.ensures.rows)
+          (rw (c.deref.ensures.value, c.deref-2.ensures.value) at c.in-Ok.ensures.answers);
+      deed_is = ap only_text (c.in-Ok-lines.ensures ∙ (λ i. lines_of (c.deref-3.ensures.value i) (c.deref-4.ensures.value i)
+          (c.deref-5.ensures.value i)));
+    }

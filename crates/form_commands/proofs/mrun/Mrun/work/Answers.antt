@@ -1,0 +1,30 @@
+use Rattle.std.proofs.Common.{ℕ, List, ap, ◌∙◌}
+use Rattle.std.specs.Prelude.{None, map}
+use Rattle.posted_runs.specs.Runs.{answer_seen, frames_seen}
+use Rattle.build_commands.specs.Contents.{bytes_of}
+use Rattle.build_commands.specs.Deeds.{Deed}
+use Rattle.form_commands.specs.Mrun.{mrun_lines, posted_files, posted_report}
+use Rattle.form_commands.proofs.PostedLemmas.{posts_run}
+use Rattle.form_commands.proofs.mrun.Mrun.work.Goals as goal
+
+abbrev only_text : List ℕ → Deed
+only_text t = record { text = t; file = None }
+
+pub returns-in-Ok-lines : goal.returns-in-Ok-lines
+returns-in-Ok-lines c =
+    let a = c.in_ok-accepted.accepted in
+    let run = c.in-Ok.told in
+    let answers = map answer_seen run.answers.items in
+    let frames = frames_seen run.frames.items in
+    let bound = a.compiled.firmware.instr_bound in
+    let lines_of = λ (es : List ℕ). mrun_lines (posted_report es bound answers frames run.resumed) in
+    record {
+      report = posted_report a.errors.items bound answers frames run.resumed;
+      posted = posts_run c.answers_keep_the_bound.ensures c.spelled_bytes_fit.ensures c.posted_answers_are_near.ensures c.last_is_answered.ensures c.args.self.flags
+          (posted_files (bytes_of c.args.contents.now)) a.compiled.block a.compiled.firmware a.errors.items a.samples.items
+          a.posts c.in_ok-accepted.ensures.accepted answers frames run.resumed
+          (rw c.deref.ensures.value at c.in-Ok.ensures.answers) (rw c.deref.ensures.value at c.in-Ok.ensures.frames)
+          (rw c.deref.ensures.value at c.in-Ok.ensures.resumed)
+          (rw c.deref.ensures.value at c.in-Ok.ensures.by_turns);
+      deed_is = ap only_text (c.in-Ok-lines.ensures ∙ ap lines_of c.deref-2.ensures.value);
+    }

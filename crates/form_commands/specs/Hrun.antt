@@ -1,0 +1,77 @@
+-- The command `hrun FCL HANDLER CERT TRACE PLAN FLAGS`.
+use Rattle.std.specs.Prelude.{◌≡◌, ℕ, List, [], ◌∷◌, ◌++◌, codes, Option, None, option_map}
+use Rattle.std.specs.Prelude.{Result, Ok, Err}
+use Rattle.cpu12_asm.specs.declared.image.Image.{Image}
+use Rattle.eval_code.specs.declared.width.Width.TheVariants.{Byte}
+use Rattle.handled_runs.specs.Forms.{HandledSeen}
+use Rattle.build_commands.specs.Contents.{content_at}
+use Rattle.build_commands.specs.Deeds.{Deed}
+use Rattle.build_commands.specs.Firmwares.{OfFirmware, RefusesText}
+use Rattle.build_commands.specs.Hcheck.{GivesHandler, handler_refusals}
+use Rattle.build_commands.specs.Lines.{counted}
+use Rattle.build_commands.specs.Words.{flags_of}
+use Rattle.run_reports.specs.Inputs.{input_refusals}
+use Rattle.form_commands.specs.HandledRun.{HandledFiles, HandledReport, HandledRun}
+use Rattle.run_reports.specs.RowLines.{begun_lines, labelled_row_lines}
+use Rattle.form_commands.specs.declared.hrun.Hrun.{Hrun}
+use Rattle.fz_status.specs.Refusals.{Refusals, Refuses}
+use Rattle.fz_status.specs.Words.{Text, word_at}
+use Rattle.fz_status.specs.declared.status.Status.{Status}
+use Rattle.fz_status.specs.declared.status.Status.TheVariants as status
+
+abbrev pub hrun_with : ℕ → Hrun
+hrun_with flags = record { flags = flags }
+
+-- the command of the words, where the last is of the form of FLAGS
+abbrev pub hrun_in : List Text → Option Hrun
+hrun_in words = option_map hrun_with (flags_of (word_at words 7))
+
+-- FCL, HANDLER, CERT, TRACE and PLAN
+abbrev pub hrun_inputs : List ℕ
+hrun_inputs = 2 ∷ 3 ∷ 4 ∷ 5 ∷ 6 ∷ []
+
+abbrev pub handled_files : List (List ℕ) → HandledFiles
+handled_files contents = record {
+  fcl = content_at contents 0;
+  handler = content_at contents 1;
+  cert = content_at contents 2;
+  trace = content_at contents 3;
+  plan = content_at contents 4;
+}
+
+-- ---- its lines
+
+-- the lines of the k-th sample, as `run` has them, with the steps of the handler at the end of the first
+abbrev pub handled_row_lines : ℕ → HandledSeen → List ℕ
+handled_row_lines k r = labelled_row_lines (codes " handler ") k r.row r.handler
+
+-- the errors, the bound on instructions, and each sample
+abbrev pub hrun_lines : HandledReport → List ℕ
+hrun_lines r = begun_lines r.errors r.bound ++ counted handled_row_lines 1 r.rows
+
+abbrev pub handled_report : List ℕ → ℕ → List HandledSeen → HandledReport
+handled_report errors bound rows = record { errors = errors; bound = bound; rows = rows }
+
+-- ---- what it makes of its files
+
+-- the handler's run is certified, and the lines are those of its report
+pub record HrunGives (hrun : Hrun) (files : HandledFiles) (deed : Deed) : Type 0 where
+  pub report : HandledReport
+  pub certified : HandledRun hrun.flags files report
+  pub deed_is : deed ≡ record { text = hrun_lines report; file = None }
+
+-- why FCL is refused; why HANDLER is, by its records or by its code, FCL giving firmware; and why the files behind are,
+-- HANDLER giving a handler
+abbrev pub hrun_refusals : HandledFiles → Refusals
+hrun_refusals files (status.Fcl f) = RefusesText files.fcl f
+hrun_refusals files (status.Image f) =
+    OfFirmware Byte files.fcl (λ block firmware. handler_refusals files.handler (status.Image f))
+hrun_refusals files (status.Handler f) =
+    OfFirmware Byte files.fcl (λ block firmware. handler_refusals files.handler (status.Handler f))
+hrun_refusals files s = OfFirmware Byte files.fcl (λ block firmware.
+    (image : Image) × (instrs : ℕ) × GivesHandler files.handler image instrs
+    × input_refusals Byte block files.cert files.trace files.plan s)
+
+abbrev pub HrunMakes : Hrun → HandledFiles → Result Deed Status → Type 0
+HrunMakes hrun files (Ok deed) = HrunGives hrun files deed
+HrunMakes hrun files (Err s) = Refuses (hrun_refusals files) s

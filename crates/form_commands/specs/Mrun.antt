@@ -1,0 +1,113 @@
+-- The command `mrun FCL IMAGE CERT TRACE POSTS FLAGS`.
+use Rattle.std.specs.Prelude.{◌≡◌, ℕ, List, [], ◌∷◌, ◌++◌, codes, decimal, length, Option, None, option_map}
+use Rattle.std.specs.Prelude.{Result, Ok, Err}
+use Rattle.std.specs.List.{flat_map}
+use Rattle.fuzzy_meaning.specs.declared.block.Block.{Block}
+use Rattle.cpu12_emul.specs.Take.{FrameSeen}
+use Rattle.codegen.specs.declared.firmware.Firmware.{Firmware}
+use Rattle.eval_code.specs.declared.width.Width.TheVariants.{Byte}
+use Rattle.interrupt_plan.specs.Posts.{PostsHaveFault}
+use Rattle.srecord.specs.Texts.{GivesImage}
+use Rattle.trace_io.specs.Traces.{HasFault as TraceHasFault, Spells as SpellsTrace}
+use Rattle.trace_io.specs.declared.sample.Sample.{Sample}
+use Rattle.posted_runs.specs.Runs.{AnswerSeen}
+use Rattle.fz_status.specs.FaultLines.{newline}
+use Rattle.fz_status.specs.Refusals.{Refusals, Refuses}
+use Rattle.fz_status.specs.Words.{Text, word_at}
+use Rattle.fz_status.specs.declared.status.Status.{Status}
+use Rattle.fz_status.specs.declared.status.Status.TheVariants as status
+use Rattle.build_commands.specs.Certs.{AcceptsCert, HasCertFault}
+use Rattle.build_commands.specs.Contents.{content_at}
+use Rattle.build_commands.specs.Deeds.{Deed}
+use Rattle.build_commands.specs.Firmwares.{GivesMailbox, RefusesText}
+use Rattle.build_commands.specs.Images.{RefusesImage}
+use Rattle.build_commands.specs.Lines.{counted, line}
+use Rattle.build_commands.specs.Words.{flags_of}
+use Rattle.form_commands.specs.PostedRun.{PostedFiles, PostedReport, PostedRun}
+use Rattle.run_reports.specs.RowLines.{answered, begun_lines, frame_told}
+use Rattle.form_commands.specs.declared.mrun.Mrun.{Mrun}
+
+abbrev pub mrun_with : ℕ → Mrun
+mrun_with flags = record { flags = flags }
+
+-- the command of the words, where the last is of the form of FLAGS
+abbrev pub mrun_in : List Text → Option Mrun
+mrun_in words = option_map mrun_with (flags_of (word_at words 7))
+
+-- FCL, IMAGE, CERT, TRACE and POSTS
+abbrev pub mrun_inputs : List ℕ
+mrun_inputs = 2 ∷ 3 ∷ 4 ∷ 5 ∷ 6 ∷ []
+
+abbrev pub posted_files : List (List ℕ) → PostedFiles
+posted_files contents = record {
+  fcl = content_at contents 0;
+  image = content_at contents 1;
+  cert = content_at contents 2;
+  trace = content_at contents 3;
+  posts = content_at contents 4;
+}
+
+-- ---- its lines
+
+-- the line of the k-th answer: its sample, the boundary where its turn ends, and what `run` tells of a sample up to its
+-- instructions
+abbrev pub answer_line : ℕ → AnswerSeen → List ℕ
+answer_line k a = codes "answer " ++ (decimal k ++ (codes " sample " ++ (decimal a.sample
+    ++ (codes " at " ++ (decimal a.at ++ (answered a.bytes a.values a.instrs ++ newline))))))
+
+-- the line of a frame, as `run` has it without a sample
+abbrev pub taken_line : ℕ × FrameSeen → List ℕ
+taken_line f = codes "frame " ++ frame_told f
+
+abbrev pub posted_report : List ℕ → ℕ → List AnswerSeen → List (ℕ × FrameSeen) → ℕ → PostedReport
+posted_report errors bound answers frames resumed = record {
+  errors = errors;
+  bound = bound;
+  answers = answers;
+  frames = frames;
+  resumed = resumed;
+}
+
+-- the errors and the bound on instructions, each answer, each frame, and the number of resumed boundaries
+abbrev pub mrun_lines : PostedReport → List ℕ
+mrun_lines r = begun_lines r.errors r.bound ++ (counted answer_line 1 r.answers
+    ++ (flat_map taken_line r.frames ++ line (codes "resumed ") r.resumed))
+
+-- ---- what it makes of its files
+
+-- the run is one of the files, and the lines are those of its report
+pub record MrunGives (mrun : Mrun) (files : PostedFiles) (deed : Deed) : Type 0 where
+  pub report : PostedReport
+  pub posted : PostedRun mrun.flags files report
+  pub deed_is : deed ≡ record { text = mrun_lines report; file = None }
+
+-- FCL gives firmware in the mailbox form of which this holds
+abbrev pub OfMailbox : List ℕ → (Block → Firmware → Type 0) → Type 0
+OfMailbox fcl holds = (block : Block) × (firmware : Firmware) × GivesMailbox fcl block firmware × holds block firmware
+
+-- why a certificate is refused, FCL giving firmware whose image is IMAGE's; why a trace is, the certificate being
+-- accepted beside; and why posts are, the trace spelling samples beside
+abbrev pub mrun_refusals : PostedFiles → Refusals
+mrun_refusals files (status.Fcl f) = RefusesText files.fcl f
+mrun_refusals files (status.Image f) = OfMailbox files.fcl (λ block firmware. RefusesImage files.image firmware.image f)
+mrun_refusals files (status.Cert f) = OfMailbox files.fcl (λ block firmware.
+    GivesImage files.image firmware.image × HasCertFault Byte block files.cert f)
+mrun_refusals files (status.Trace f) = OfMailbox files.fcl (λ block firmware.
+    GivesImage files.image firmware.image
+    × (errors : List ℕ) × AcceptsCert Byte block files.cert errors
+    × TraceHasFault block.inputs files.trace f)
+mrun_refusals files (status.Plan f) = OfMailbox files.fcl (λ block firmware.
+    GivesImage files.image firmware.image
+    × (errors : List ℕ) × AcceptsCert Byte block files.cert errors
+    × (samples : List Sample) × SpellsTrace block.inputs files.trace samples
+    × PostsHaveFault (length samples) files.posts f)
+mrun_refusals files s = ⊥
+
+-- why a text gives no posts of so many samples
+abbrev pub posts_refusals : ℕ → List ℕ → Refusals
+posts_refusals samples text (status.Plan f) = PostsHaveFault samples text f
+posts_refusals samples text s = ⊥
+
+abbrev pub MrunMakes : Mrun → PostedFiles → Result Deed Status → Type 0
+MrunMakes mrun files (Ok deed) = MrunGives mrun files deed
+MrunMakes mrun files (Err s) = Refuses (mrun_refusals files) s

@@ -1,0 +1,101 @@
+-- The command `srun FCL IMAGE CERT TRACE PLAN UPSETS FLAGS`.
+use Rattle.std.specs.Prelude.{◌≡◌, ℕ, List, [], ◌∷◌, ◌++◌, codes, Option, None, option_map, Result, Ok, Err}
+use Rattle.fuzzy_meaning.specs.declared.block.Block.{Block}
+use Rattle.codegen.specs.declared.firmware.Firmware.{Firmware}
+use Rattle.eval_code.specs.declared.width.Width.TheVariants.{Byte}
+use Rattle.interrupt_plan.specs.UpsetTexts.{HasUpsetFault, SpellsUpsets}
+use Rattle.interrupt_plan.specs.declared.Request.{Request}
+use Rattle.interrupt_plan.specs.declared.upsets.Upset.{Upset}
+use Rattle.srecord.specs.Texts.{GivesImage}
+use Rattle.trace_io.specs.declared.sample.Sample.{Sample}
+use Rattle.watched_runs.specs.Rows.{FaultSeen}
+use Rattle.fz_status.specs.Refusals.{Refusals, Refuses}
+use Rattle.fz_status.specs.Words.{Text, word_at}
+use Rattle.fz_status.specs.declared.status.Status.{Status}
+use Rattle.fz_status.specs.declared.status.Status.TheVariants as status
+use Rattle.build_commands.specs.Contents.{content_at}
+use Rattle.build_commands.specs.Deeds.{Deed}
+use Rattle.build_commands.specs.Firmwares.{GivesWatched, RefusesText}
+use Rattle.build_commands.specs.Images.{RefusesImage}
+use Rattle.build_commands.specs.Lines.{counted}
+use Rattle.build_commands.specs.Words.{flags_of}
+use Rattle.run_reports.specs.Inputs.{AcceptsInputs, input_refusals}
+use Rattle.run_reports.specs.RowLines.{begun_lines, labelled_row_lines}
+use Rattle.form_commands.specs.WatchedRun.{WatchedFiles, WatchedReport, WatchedRun}
+use Rattle.form_commands.specs.declared.srun.Srun.{Srun}
+
+abbrev pub srun_with : ℕ → Srun
+srun_with flags = record { flags = flags }
+
+-- the command of the words, where the last is of the form of FLAGS
+abbrev pub srun_in : List Text → Option Srun
+srun_in words = option_map srun_with (flags_of (word_at words 8))
+
+-- FCL, IMAGE, CERT, TRACE, PLAN and UPSETS
+abbrev pub srun_inputs : List ℕ
+srun_inputs = 2 ∷ 3 ∷ 4 ∷ 5 ∷ 6 ∷ 7 ∷ []
+
+abbrev pub watched_files : List (List ℕ) → WatchedFiles
+watched_files contents = record {
+  fcl = content_at contents 0;
+  image = content_at contents 1;
+  cert = content_at contents 2;
+  trace = content_at contents 3;
+  plan = content_at contents 4;
+  upsets = content_at contents 5;
+}
+
+-- ---- its lines
+
+-- the lines of the k-th sample, as `run` has them, with FAULT at the end of the first
+abbrev pub watched_row_lines : ℕ → FaultSeen → List ℕ
+watched_row_lines k r = labelled_row_lines (codes " fault ") k r.row r.fault
+
+abbrev pub watched_report : List ℕ → ℕ → List FaultSeen → WatchedReport
+watched_report errors bound rows = record { errors = errors; bound = bound; rows = rows }
+
+-- the errors, the bound on instructions, and each sample
+abbrev pub srun_lines : WatchedReport → List ℕ
+srun_lines r = begun_lines r.errors r.bound ++ counted watched_row_lines 1 r.rows
+
+-- ---- what it makes of its files
+
+-- all are accepted, and give this
+pub record AcceptsWatched (files : WatchedFiles) (block : Block) (firmware : Firmware) (errors : List ℕ)
+    (samples : List Sample) (plan : List Request) (upsets : List Upset) : Type 0 where
+  pub compiled : GivesWatched files.fcl block firmware
+  pub image : GivesImage files.image firmware.image
+  pub inputs : AcceptsInputs Byte block files.cert files.trace files.plan errors samples plan
+  pub good_upsets : SpellsUpsets firmware.image.bytes files.upsets upsets
+
+-- the run is one of the files, and the lines are those of its report
+pub record SrunGives (srun : Srun) (files : WatchedFiles) (deed : Deed) : Type 0 where
+  pub report : WatchedReport
+  pub watched : WatchedRun srun.flags files report
+  pub deed_is : deed ≡ record { text = srun_lines report; file = None }
+
+-- FCL gives firmware with watched tables of which this holds
+abbrev pub OfWatched : List ℕ → (Block → Firmware → Type 0) → Type 0
+OfWatched fcl holds = (block : Block) × (firmware : Firmware) × GivesWatched fcl block firmware × holds block firmware
+
+-- why FCL is refused; why IMAGE is, FCL giving firmware; why upsets are, all other files being accepted; and why the
+-- files between are, IMAGE holding its image
+abbrev pub srun_refusals : WatchedFiles → Refusals
+srun_refusals files (status.Fcl f) = RefusesText files.fcl f
+srun_refusals files (status.Image f) = OfWatched files.fcl (λ block firmware. RefusesImage files.image firmware.image f)
+srun_refusals files (status.Upset f) = OfWatched files.fcl (λ block firmware.
+    GivesImage files.image firmware.image
+    × (errors : List ℕ) × (samples : List Sample) × (plan : List Request)
+    × AcceptsInputs Byte block files.cert files.trace files.plan errors samples plan
+    × HasUpsetFault firmware.image.bytes files.upsets f)
+srun_refusals files s = OfWatched files.fcl (λ block firmware.
+    GivesImage files.image firmware.image × input_refusals Byte block files.cert files.trace files.plan s)
+
+-- why a text gives no upsets of an image
+abbrev pub upset_refusals : List (ℕ × ℕ) → List ℕ → Refusals
+upset_refusals image text (status.Upset f) = HasUpsetFault image text f
+upset_refusals image text s = ⊥
+
+abbrev pub SrunMakes : Srun → WatchedFiles → Result Deed Status → Type 0
+SrunMakes srun files (Ok deed) = SrunGives srun files deed
+SrunMakes srun files (Err s) = Refuses (srun_refusals files) s

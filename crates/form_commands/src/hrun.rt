@@ -1,0 +1,132 @@
+//! The command `hrun FCL HANDLER CERT TRACE PLAN FLAGS`: the certified run whose interrupts run a handler's code.
+ghost use Rattle.std.specs.Prelude.{◌≡◌, ◌≤◌, ◌++◌, length, IfOk, IfErr};
+ghost use Rattle.std.specs.List.{All};
+ghost use Rattle.fz_status.specs.Refusals.{IsRefusal};
+ghost use Rattle.fz_status.specs.Words.{texts_of};
+ghost use Rattle.build_commands.specs.Contents.{bytes_of};
+ghost use Rattle.build_commands.specs.Deeds.{DeedHasNoFault, IsResultOf};
+ghost use Rattle.form_commands.specs.HandledRun.{AcceptsHandled, HandledFiles};
+ghost use Rattle.build_commands.specs.Lines.{counted};
+ghost use Rattle.fz_shelf.specs.Lines.{text_of};
+ghost use Rattle.handled_runs.specs.Forms.{row_seen};
+ghost use Rattle.form_commands.specs.Hrun.{HrunMakes, handled_files, handled_row_lines, hrun_in, hrun_refusals};
+ghost use Rattle.run_reports.specs.RowLines.{begun_lines};
+ghost use Rattle.form_commands.specs.declared.hrun.Hrun.{Hrun as TheHrun};
+
+use build_commands::contents::content;
+use build_commands::firmware::{Compiled, firmware_of, spelled_texts_have_no_fault};
+use build_commands::hcheck::{AcceptedHandler, given_handlers_have_no_fault, handler_of};
+use build_commands::words::flags;
+use build_commands::work::Work;
+use eval_code::Width;
+use fz_run::laws::answers_under_plans;
+use fz_status::{Status, word};
+use handled_runs::{HandledRow, run_handler};
+use run_reports::inputs::{Inputs, inputs_of};
+use run_reports::laws::{accepted_inputs_have_no_fault, answers_are_reported, spelled_bytes_fit};
+use run_reports::row_lines::{begun, push_labelled_row};
+use std::alloc::{AllocError, Global};
+
+/// `hrun FCL HANDLER CERT TRACE PLAN FLAGS`
+#[derive(Clone, Copy, Debug, PartialEq, Eq)]
+pub struct Hrun {
+    /// The condition codes that the machine leaves open.
+    flags: u8,
+}
+
+/// The words FCL, HANDLER, CERT, TRACE and PLAN.
+pub static INPUTS: [u32; 5] = [2, 3, 4, 5, 6];
+
+/// What the files give, where all of them are accepted.
+#[derive(Drop)]
+struct Accepted {
+    compiled: Compiled,
+    handler: AcceptedHandler,
+    inputs: Inputs,
+}
+
+impl Hrun {
+    /// The command of these words.
+    pub fn of(words: &[String]) -> Option<Hrun>
+        ensures { result ≡ hrun_in (texts_of words.now) }
+    {
+        match flags(word(words, 7)) {
+            Some(flags) => Some(Hrun { flags }),
+            None => None,
+        }
+    }
+
+    /// Runs the samples of the trace under the plan, each interrupt by the handler's code, once all files
+    /// are accepted, and writes down what came of them.
+    pub fn work(self, alloc: Global, contents: &[Vec<u8>]) -> Result<Work, Status>
+        requires { All (λ c. length c.items ≤ 1048576) contents.now }
+        ensures { IsResultOf (HrunMakes self (handled_files (bytes_of contents.now))) result }
+    {
+        answers_are_reported();
+        answers_under_plans();
+        spelled_bytes_fit();
+        let accepted = Hrun::accepted(alloc, contents)?;
+        let firmware = &accepted.compiled.firmware;
+        let ran = run_handler(
+            alloc,
+            firmware,
+            &accepted.handler.image,
+            &accepted.handler.handler,
+            &accepted.inputs.samples,
+            &accepted.inputs.plan,
+            self.flags,
+        );
+        let Ok(rows) = ran else {
+            return Err(Status::Memory);
+        };
+        match lines(alloc, &accepted.inputs.errors, firmware.instr_bound, &rows) {
+            Ok(lines) => Ok(Work { lines, file: None }),
+            Err(_) => Err(Status::Memory),
+        }
+    }
+
+    /// What the files give, or the first fault in their order.
+    fn accepted(alloc: Global, contents: &[Vec<u8>]) -> Result<Accepted, Status>
+        requires { All (λ c. length c.items ≤ 1048576) contents.now }
+        ensures accepted { IfOk result (λ a. AcceptsHandled (handled_files (bytes_of contents.now)) a.compiled.block
+            a.compiled.firmware a.handler.image a.handler.handler.instrs a.inputs.errors.items
+            a.inputs.samples.items a.inputs.plan) }
+        ensures fault { IfErr result (IsRefusal (hrun_refusals (handled_files (bytes_of contents.now)))) }
+    {
+        let compiled = firmware_of(alloc, Width::Byte, content(contents, 0))?;
+        let handler = handler_of(alloc, content(contents, 1))?;
+        let inputs = inputs_of(alloc, Width::Byte, &compiled.block, contents)?;
+        Ok(Accepted {
+            compiled,
+            handler,
+            inputs,
+        })
+    }
+}
+
+/// The errors, the bound on instructions, and each sample with its frames.
+fn lines(
+    alloc: Global,
+    errors: &[u32],
+    bound: u32,
+    rows: &[HandledRow],
+) -> Result<Vec<String>, AllocError>
+    ensures { IfOk result (λ lines. text_of lines.items
+        ≡ begun_lines errors.now bound ++ counted (λ k r. handled_row_lines k (row_seen r)) 1 rows.now) }
+{
+    let mut lines = begun(alloc, errors, bound)?;
+    for (at, row) in rows.iter().enumerate() {
+        let handler = row.handler;
+        push_labelled_row(alloc, &mut lines, at + 1, &row.row, " handler ", handler)?;
+    }
+    Ok(lines)
+}
+
+/// Files that make a deed make no fault.
+pub fn handled_runs_have_no_fault()
+    ensures { (hrun : TheHrun) (files : HandledFiles) → DeedHasNoFault (HrunMakes hrun files) }
+{
+    spelled_texts_have_no_fault();
+    given_handlers_have_no_fault();
+    accepted_inputs_have_no_fault()
+}

@@ -1,0 +1,180 @@
+//! The lines of a run at two levels.
+ghost use Rattle.std.specs.Prelude.{◌≡◌, ◌++◌, flat_map, map, string_bytes, IfOk, OnOk, Some, None};
+ghost use Rattle.std.specs.List.{slice_index_or};
+ghost use Rattle.fz_shelf.specs.Lines.{text_of};
+ghost use Rattle.fz_run.specs.Rows.{boundary_seen};
+ghost use Rattle.two_level.specs.Images.{fast_most};
+ghost use Rattle.two_runs.specs.Counts.{inner_seen};
+ghost use Rattle.two_runs.specs.Harness.{fast_seen, row_seen};
+ghost use Rattle.build_commands.specs.Lines.{counted};
+ghost use Rattle.form_commands.specs.Lrun.{fast_error_line, fast_line, fast_lines, inner_line};
+ghost use Rattle.form_commands.specs.Lrun.{level_begun_lines, level_report};
+ghost use Rattle.form_commands.specs.Lrun.{level_row_lines, lrun_lines, outer_lines};
+
+use build_commands::lines::{labelled, line_of_error, push_errors};
+use run_reports::row_lines::{
+    labelled_frame, line_of_frame, push_answers, push_count, sample_text,
+};
+use std::alloc::{AllocError, Global};
+use std::fmt::Write;
+use two_level::Two;
+use two_runs::{FastRow, InnerFrame, TwoRow};
+
+/// The errors and the bounds of both blocks, and each slow sample with its frames and the fast runs in them.
+pub(crate) fn lines(
+    alloc: Global,
+    errors: &[u32],
+    fast_errors: &[u32],
+    two: &Two,
+    rows: &[TwoRow],
+) -> Result<Vec<String>, AllocError>
+    ensures { IfOk result (λ lines. text_of lines.items ≡ lrun_lines (level_report errors.now fast_errors.now
+        two.now.slow.instr_bound (fast_most two.now.fast.instr_bound) (map row_seen rows.now))) }
+{
+    let mut lines = begun(alloc, errors, fast_errors, two)?;
+    push_rows(alloc, &mut lines, rows)?;
+    Ok(lines)
+}
+
+/// The errors and the bounds on instructions, with which they begin.
+fn begun(
+    alloc: Global,
+    errors: &[u32],
+    fast_errors: &[u32],
+    two: &Two,
+) -> Result<Vec<String>, AllocError>
+    ensures { IfOk result (λ lines. text_of lines.items ≡ level_begun_lines errors.now fast_errors.now
+        two.now.slow.instr_bound (fast_most two.now.fast.instr_bound)) }
+{
+    let mut lines = Vec::new(alloc);
+    push_errors(alloc, &mut lines, errors)?;
+    push_fast_errors(alloc, &mut lines, fast_errors)?;
+    lines.push(labelled(alloc, "instructions ", u128::from(two.slow.instr_bound))?)?;
+    lines.push(labelled(alloc, "fast instructions ", u128::from(two.fast_bound()))?)?;
+    Ok(lines)
+}
+
+/// The error of each output of the fast block.
+fn push_fast_errors(
+    alloc: Global,
+    lines: &mut Vec<String>,
+    errors: &[u32],
+) -> Result<(), AllocError>
+    ensures { OnOk result (text_of lines.new.items
+        ≡ text_of lines.old.items ++ counted fast_error_line 1 errors.now) }
+{
+    for (at, error) in errors.iter().enumerate() {
+        lines.push(line_of_fast_error(alloc, at + 1, *error)?)?;
+    }
+    Ok(())
+}
+
+fn line_of_fast_error(alloc: Global, output: usize, error: u32) -> Result<String, AllocError>
+    ensures { IfOk result (λ s. string_bytes s ≡ fast_error_line output error) }
+{
+    let usual = line_of_error(alloc, output, error)?;
+    let mut text = String::from_str(alloc, "fast ")?;
+    text.push_str(usual.as_str())?;
+    Ok(text)
+}
+
+/// Each slow sample with its frames and the fast runs in them.
+fn push_rows(alloc: Global, lines: &mut Vec<String>, rows: &[TwoRow]) -> Result<(), AllocError>
+    ensures { OnOk result (text_of lines.new.items ≡ text_of lines.old.items
+        ++ counted (λ k r. level_row_lines k (row_seen r)) 1 rows.now) }
+{
+    for (at, row) in rows.iter().enumerate() {
+        push_row(alloc, lines, at + 1, row)?;
+    }
+    Ok(())
+}
+
+/// The k-th slow sample.
+fn push_row(
+    alloc: Global,
+    lines: &mut Vec<String>,
+    k: usize,
+    row: &TwoRow,
+) -> Result<(), AllocError>
+    ensures { OnOk result (text_of lines.new.items
+        ≡ text_of lines.old.items ++ level_row_lines k (row_seen row.now)) }
+{
+    let mut text = sample_text(alloc, k, &row.row)?;
+    text.push_str("\n")?;
+    lines.push(text)?;
+    push_outer(alloc, lines, k, row)?;
+    Ok(())
+}
+
+/// The frames of the k-th slow sample, each before the fast run in its interrupt.
+fn push_outer(
+    alloc: Global,
+    lines: &mut Vec<String>,
+    k: usize,
+    row: &TwoRow,
+) -> Result<(), AllocError>
+    ensures { OnOk result (text_of lines.new.items ≡ text_of lines.old.items
+        ++ counted (λ n f. outer_lines k (row_seen row.now).fast n (boundary_seen f)) 1 row.now.row.frames) }
+{
+    let frames = row.row.frames.as_slice();
+    for (at, frame) in frames.iter().enumerate() {
+        lines.push(line_of_frame(alloc, k, frame)?)?;
+        push_fast(alloc, lines, row, at)?;
+    }
+    Ok(())
+}
+
+/// The fast run in the interrupt of this place, if there is one.
+fn push_fast(
+    alloc: Global,
+    lines: &mut Vec<String>,
+    row: &TwoRow,
+    at: usize,
+) -> Result<(), AllocError>
+    ensures { OnOk result (text_of lines.new.items
+        ≡ text_of lines.old.items ++ fast_lines (slice_index_or (row_seen row.now).fast at None)) }
+{
+    match row.fast.get(at) {
+        Some(Some(fast)) => push_run(alloc, lines, fast),
+        _ => Ok(()),
+    }
+}
+
+/// A fast run with its frames.
+fn push_run(alloc: Global, lines: &mut Vec<String>, fast: &FastRow) -> Result<(), AllocError>
+    ensures { OnOk result (text_of lines.new.items
+        ≡ text_of lines.old.items ++ fast_lines (Some (fast_seen fast.now))) }
+{
+    lines.push(line_of_fast(alloc, fast)?)?;
+    push_inner(alloc, lines, fast.frames.as_slice())?;
+    Ok(())
+}
+
+/// The frames of a fast run.
+fn push_inner(
+    alloc: Global,
+    lines: &mut Vec<String>,
+    frames: &[InnerFrame],
+) -> Result<(), AllocError>
+    ensures { OnOk result (text_of lines.new.items
+        ≡ text_of lines.old.items ++ flat_map (λ f. inner_line (inner_seen f)) frames.now) }
+{
+    for frame in frames {
+        lines.push(labelled_frame(alloc, "inner ", frame.boundary, &frame.frame)?)?;
+    }
+    Ok(())
+}
+
+/// The line of a fast run.
+fn line_of_fast(alloc: Global, fast: &FastRow) -> Result<String, AllocError>
+    ensures { IfOk result (λ s. string_bytes s ≡ fast_line (fast_seen fast.now)) }
+{
+    let number = fast.number;
+    let mut text = String::from_str(alloc, "fast ")?;
+    write!(&mut text, "{number}")?;
+    push_answers(&mut text, fast.answers.as_slice(), fast.instrs)?;
+    push_count(&mut text, " steps ", fast.steps as usize)?;
+    push_count(&mut text, " resumed ", fast.resumed as usize)?;
+    text.push_str("\n")?;
+    Ok(text)
+}

@@ -1,0 +1,219 @@
+//! The command `lrun SLOW FAST IMAGE SCERT FCERT STRACE FTRACE LEVELS FLAGS`: the run of two blocks at two levels.
+ghost use Rattle.std.specs.Prelude.{◌≡◌, ◌≤◌, length, IfOk, IfErr};
+ghost use Rattle.std.specs.List.{All};
+ghost use Rattle.fuzzy_meaning.specs.Blocks.{IsValid};
+ghost use Rattle.interrupt_plan.specs.Levels.{SpellsLevels};
+ghost use Rattle.fz_status.specs.Refusals.{IsRefusal};
+ghost use Rattle.fz_status.specs.Words.{texts_of};
+ghost use Rattle.build_commands.specs.Contents.{bytes_of};
+ghost use Rattle.build_commands.specs.Deeds.{DeedHasNoFault, IsResultOf};
+ghost use Rattle.form_commands.specs.LevelRun.{AcceptsCerts, AcceptsLevels, LevelFiles, SpellTraces};
+ghost use Rattle.form_commands.specs.Lrun.{LrunMakes, certs_refusals, level_files, levels_refusals, lrun_in};
+ghost use Rattle.form_commands.specs.Lrun.{lrun_refusals, traces_refusals};
+ghost use Rattle.form_commands.specs.declared.lrun.Lrun.{Lrun as TheLrun};
+
+use crate::level_lines::lines;
+use build_commands::certs::{accepted_certs_have_no_fault, errors_under};
+use build_commands::contents::content;
+use build_commands::firmware::spelled_texts_have_no_fault;
+use build_commands::images::require_image;
+use build_commands::twos::{CompiledTwo, two_images_have_no_fault, two_of};
+use build_commands::words::flags;
+use build_commands::work::Work;
+use certified_run::posted_answers_are_near;
+use eval_code::Width;
+use fcl_check::spelled_blocks_are_one;
+use fuzzy_meaning::Block;
+use fz_run::laws::answers_under_plans;
+use fz_status::{Status, word};
+use interrupt_plan::{Levels, PlanFault, read_levels, spelled_levels_have_no_fault};
+use run_reports::inputs::samples_of;
+use run_reports::laws::{
+    answers_are_reported, answers_keep_the_bound, spelled_bytes_fit, spelled_traces_are_one_long,
+    spelled_traces_are_short,
+};
+use std::alloc::Global;
+use trace_io::{Sample, spelled_traces_have_no_fault};
+use two_runs::run_two;
+
+/// `lrun SLOW FAST IMAGE SCERT FCERT STRACE FTRACE LEVELS FLAGS`
+#[derive(Clone, Copy, Debug, PartialEq, Eq)]
+pub struct Lrun {
+    /// The condition codes that the machine leaves open.
+    flags: u8,
+}
+
+/// The words SLOW, FAST, IMAGE, SCERT, FCERT, STRACE, FTRACE and LEVELS.
+pub static INPUTS: [u32; 8] = [2, 3, 4, 5, 6, 7, 8, 9];
+
+/// The errors that both certificates are accepted with.
+#[derive(Drop)]
+struct Errors {
+    slow: Vec<u32>,
+    fast: Vec<u32>,
+}
+
+/// The samples of both traces.
+#[derive(Drop)]
+struct Traces {
+    slow: Vec<Sample>,
+    fast: Vec<Sample>,
+}
+
+/// What the files give, where all of them are accepted.
+#[derive(Drop)]
+struct Accepted {
+    compiled: CompiledTwo,
+    errors: Errors,
+    traces: Traces,
+    levels: Levels,
+}
+
+impl Accepted {
+    /// What the files give, or the first fault in their order.
+    fn of(alloc: Global, contents: &[Vec<u8>]) -> Result<Accepted, Status>
+        requires { All (λ c. length c.items ≤ 1048576) contents.now }
+        ensures accepted { IfOk result (λ a. AcceptsLevels (level_files (bytes_of contents.now))
+            a.compiled.slow a.compiled.fast a.compiled.two a.errors.slow.items a.errors.fast.items
+            a.traces.slow.items a.traces.fast.items a.levels) }
+        ensures fault { IfErr result (IsRefusal (lrun_refusals (level_files (bytes_of contents.now)))) }
+    {
+        spelled_traces_are_short();
+        let compiled = two_of(alloc, content(contents, 0), content(contents, 1))?;
+        require_image(alloc, content(contents, 2), &compiled.two.image)?;
+        let errors = errors_of(alloc, &compiled.slow, &compiled.fast, contents)?;
+        let traces = traces_of(alloc, &compiled.slow, &compiled.fast, contents)?;
+        let levels = levels_of(alloc, content(contents, 7), &traces.fast)?;
+        Ok(Accepted {
+            compiled,
+            errors,
+            traces,
+            levels,
+        })
+    }
+}
+
+impl Lrun {
+    /// The command of these words.
+    pub fn of(words: &[String]) -> Option<Lrun>
+        ensures { result ≡ lrun_in (texts_of words.now) }
+    {
+        match flags(word(words, 10)) {
+            Some(flags) => Some(Lrun { flags }),
+            None => None,
+        }
+    }
+
+    /// Runs the slow samples under the levels, once all files are accepted, and writes down what came of
+    /// them and of the fast runs.
+    pub fn work(self, alloc: Global, contents: &[Vec<u8>]) -> Result<Work, Status>
+        requires { All (λ c. length c.items ≤ 1048576) contents.now }
+        ensures { IsResultOf (LrunMakes self (level_files (bytes_of contents.now))) result }
+    {
+        answers_are_reported();
+        answers_keep_the_bound();
+        posted_answers_are_near();
+        answers_under_plans();
+        spelled_bytes_fit();
+        let accepted = Accepted::of(alloc, contents)?;
+        let two = &accepted.compiled.two;
+        let ran = run_two(
+            alloc,
+            two,
+            &accepted.traces.slow,
+            &accepted.traces.fast,
+            &accepted.levels,
+            self.flags,
+        );
+        let Ok(rows) = ran else {
+            return Err(Status::Memory);
+        };
+        match lines(
+            alloc,
+            &accepted.errors.slow,
+            &accepted.errors.fast,
+            two,
+            &rows,
+        ) {
+            Ok(lines) => Ok(Work { lines, file: None }),
+            Err(_) => Err(Status::Memory),
+        }
+    }
+}
+
+/// The errors that SCERT and FCERT are accepted with, or the first fault of them.
+fn errors_of(
+    alloc: Global,
+    slow: &Block,
+    fast: &Block,
+    contents: &[Vec<u8>],
+) -> Result<Errors, Status>
+    requires slow { IsValid slow.now }
+    requires fast { IsValid fast.now }
+    requires small { All (λ c. length c.items ≤ 1048576) contents.now }
+    ensures accepted { IfOk result (λ e. AcceptsCerts (level_files (bytes_of contents.now)) slow.now fast.now
+        e.slow.items e.fast.items) }
+    ensures fault { IfErr result (IsRefusal
+        (certs_refusals (level_files (bytes_of contents.now)) slow.now fast.now)) }
+{
+    let slow_errors = errors_under(alloc, Width::Byte, slow, content(contents, 3))?;
+    match errors_under(alloc, Width::Byte, fast, content(contents, 4)) {
+        Ok(errors) => Ok(Errors {
+            slow: slow_errors,
+            fast: errors,
+        }),
+        Err(status) => Err(status.of_fast()),
+    }
+}
+
+/// The samples that STRACE and FTRACE spell, or the first fault of them.
+fn traces_of(
+    alloc: Global,
+    slow: &Block,
+    fast: &Block,
+    contents: &[Vec<u8>],
+) -> Result<Traces, Status>
+    requires slow { IsValid slow.now }
+    requires fast { IsValid fast.now }
+    requires small { All (λ c. length c.items ≤ 1048576) contents.now }
+    ensures samples { IfOk result (λ t. SpellTraces (level_files (bytes_of contents.now)) slow.now fast.now
+        t.slow.items t.fast.items) }
+    ensures fault { IfErr result (IsRefusal
+        (traces_refusals (level_files (bytes_of contents.now)) slow.now fast.now)) }
+{
+    let slow_samples = samples_of(alloc, slow, content(contents, 5))?;
+    match samples_of(alloc, fast, content(contents, 6)) {
+        Ok(samples) => Ok(Traces {
+            slow: slow_samples,
+            fast: samples,
+        }),
+        Err(status) => Err(status.of_fast()),
+    }
+}
+
+/// The levels over these fast samples that a text spells.
+fn levels_of(alloc: Global, text: &[u8], fast: &[Sample]) -> Result<Levels, Status>
+    requires text { length text.now ≤ 1048576 }
+    requires few { length fast.now ≤ 10000 }
+    ensures levels { IfOk result (SpellsLevels (length fast.now) text.now) }
+    ensures fault { IfErr result (IsRefusal (levels_refusals (length fast.now) text.now)) }
+{
+    match read_levels(alloc, text, fast.len() as u32) {
+        Ok(levels) => Ok(levels),
+        Err(PlanFault::Memory) => Err(Status::Memory),
+        Err(fault) => Err(Status::Plan(fault)),
+    }
+}
+
+/// Files that make a deed make no fault.
+pub fn level_runs_have_no_fault()
+    ensures { (lrun : TheLrun) (files : LevelFiles) → DeedHasNoFault (LrunMakes lrun files) }
+{
+    spelled_texts_have_no_fault();
+    two_images_have_no_fault();
+    accepted_certs_have_no_fault();
+    spelled_blocks_are_one();
+    spelled_traces_have_no_fault();
+    spelled_traces_are_one_long();
+    spelled_levels_have_no_fault()
+}

@@ -1,0 +1,141 @@
+//! The command `mrun FCL IMAGE CERT TRACE POSTS FLAGS`: the run of a firmware in the mailbox form, to which
+//! interrupts post samples.
+ghost use Rattle.std.specs.Prelude.{◌≡◌, ◌≤◌, length, IfOk, IfErr};
+ghost use Rattle.std.specs.List.{All};
+ghost use Rattle.interrupt_plan.specs.Posts.{SpellsPosts};
+ghost use Rattle.fz_status.specs.Refusals.{IsRefusal};
+ghost use Rattle.fz_status.specs.Words.{texts_of};
+ghost use Rattle.build_commands.specs.Contents.{bytes_of};
+ghost use Rattle.build_commands.specs.Deeds.{DeedHasNoFault, IsResultOf};
+ghost use Rattle.form_commands.specs.Mrun.{MrunMakes, mrun_in, mrun_refusals, posted_files, posts_refusals};
+ghost use Rattle.form_commands.specs.PostedRun.{AcceptsPosted, PostedFiles};
+ghost use Rattle.form_commands.specs.declared.mrun.Mrun.{Mrun as TheMrun};
+
+use crate::posted_lines::lines;
+use build_commands::certs::{accepted_certs_have_no_fault, errors_under};
+use build_commands::contents::content;
+use build_commands::firmware::{Compiled, mailbox_of, spelled_texts_have_no_fault};
+use build_commands::images::{mailbox_images_have_no_fault, require_image};
+use build_commands::words::flags;
+use build_commands::work::Work;
+use certified_run::posted_answers_are_near;
+use eval_code::Width;
+use fcl_check::spelled_blocks_are_one;
+use fz_status::{Status, word};
+use interrupt_plan::{PlanFault, Posts, read_posts, spelled_posts_have_no_fault};
+use posted_runs::{last_is_answered, run_posts};
+use run_reports::inputs::samples_of;
+use run_reports::laws::{
+    answers_keep_the_bound, spelled_bytes_fit, spelled_traces_are_one_long,
+    spelled_traces_are_short,
+};
+use std::alloc::Global;
+use trace_io::{Sample, spelled_traces_have_no_fault};
+
+/// `mrun FCL IMAGE CERT TRACE POSTS FLAGS`
+#[derive(Clone, Copy, Debug, PartialEq, Eq)]
+pub struct Mrun {
+    /// The condition codes that the machine leaves open.
+    flags: u8,
+}
+
+/// The words FCL, IMAGE, CERT, TRACE and POSTS.
+pub static INPUTS: [u32; 5] = [2, 3, 4, 5, 6];
+
+/// What the files give, where all of them are accepted.
+#[derive(Drop)]
+struct Accepted {
+    compiled: Compiled,
+    errors: Vec<u32>,
+    samples: Vec<Sample>,
+    posts: Posts,
+}
+
+impl Accepted {
+    /// What the files give, or the first fault in their order.
+    fn of(alloc: Global, contents: &[Vec<u8>]) -> Result<Accepted, Status>
+        requires { All (λ c. length c.items ≤ 1048576) contents.now }
+        ensures accepted { IfOk result (λ a. AcceptsPosted (posted_files (bytes_of contents.now))
+            a.compiled.block a.compiled.firmware a.errors.items a.samples.items a.posts) }
+        ensures fault { IfErr result (IsRefusal (mrun_refusals (posted_files (bytes_of contents.now)))) }
+    {
+        spelled_traces_are_short();
+        let compiled = mailbox_of(alloc, content(contents, 0))?;
+        require_image(alloc, content(contents, 1), &compiled.firmware.image)?;
+        let errors = errors_under(alloc, Width::Byte, &compiled.block, content(contents, 2))?;
+        let samples = samples_of(alloc, &compiled.block, content(contents, 3))?;
+        let posts = posts_of(alloc, content(contents, 4), &samples)?;
+        Ok(Accepted {
+            compiled,
+            errors,
+            samples,
+            posts,
+        })
+    }
+}
+
+impl Mrun {
+    /// The command of these words.
+    pub fn of(words: &[String]) -> Option<Mrun>
+        ensures { result ≡ mrun_in (texts_of words.now) }
+    {
+        match flags(word(words, 7)) {
+            Some(flags) => Some(Mrun { flags }),
+            None => None,
+        }
+    }
+
+    /// Runs the firmware under the posts, once all files are accepted, and writes down what came of them.
+    pub fn work(self, alloc: Global, contents: &[Vec<u8>]) -> Result<Work, Status>
+        requires { All (λ c. length c.items ≤ 1048576) contents.now }
+        ensures { IsResultOf (MrunMakes self (posted_files (bytes_of contents.now))) result }
+    {
+        answers_keep_the_bound();
+        spelled_bytes_fit();
+        posted_answers_are_near();
+        last_is_answered();
+        let accepted = Accepted::of(alloc, contents)?;
+        let firmware = &accepted.compiled.firmware;
+        let ran = run_posts(
+            alloc,
+            firmware,
+            &accepted.samples,
+            &accepted.posts,
+            self.flags,
+        );
+        let Ok(told) = ran else {
+            return Err(Status::Memory);
+        };
+        match lines(alloc, &accepted.errors, firmware.instr_bound, &told) {
+            Ok(lines) => Ok(Work { lines, file: None }),
+            Err(_) => Err(Status::Memory),
+        }
+    }
+}
+
+/// The posts of these samples that a text spells.
+fn posts_of(alloc: Global, text: &[u8], samples: &[Sample]) -> Result<Posts, Status>
+    requires text { length text.now ≤ 1048576 }
+    requires few { length samples.now ≤ 10000 }
+    ensures posts { IfOk result (SpellsPosts (length samples.now) text.now) }
+    ensures fault { IfErr result (IsRefusal (posts_refusals (length samples.now) text.now)) }
+{
+    match read_posts(alloc, text, samples.len() as u32) {
+        Ok(posts) => Ok(posts),
+        Err(PlanFault::Memory) => Err(Status::Memory),
+        Err(fault) => Err(Status::Plan(fault)),
+    }
+}
+
+/// Files that make a deed make no fault.
+pub fn posted_runs_have_no_fault()
+    ensures { (mrun : TheMrun) (files : PostedFiles) → DeedHasNoFault (MrunMakes mrun files) }
+{
+    spelled_texts_have_no_fault();
+    mailbox_images_have_no_fault();
+    accepted_certs_have_no_fault();
+    spelled_blocks_are_one();
+    spelled_traces_have_no_fault();
+    spelled_traces_are_one_long();
+    spelled_posts_have_no_fault()
+}

@@ -1,0 +1,62 @@
+//! The lines of a run under posts.
+ghost use Rattle.std.specs.Prelude.{◌≡◌, ◌++◌, map, string_bytes, IfOk, OnOk};
+ghost use Rattle.fz_shelf.specs.Lines.{text_of};
+ghost use Rattle.posted_runs.specs.Runs.{answer_seen, frames_seen};
+ghost use Rattle.build_commands.specs.Lines.{counted};
+ghost use Rattle.form_commands.specs.Mrun.{answer_line, mrun_lines, posted_report};
+
+use build_commands::lines::labelled;
+use posted_runs::{Answer, PostRun};
+use run_reports::row_lines::{begun, push_answered, push_labelled_frames};
+use std::alloc::{AllocError, Global};
+use std::fmt::Write;
+
+/// The errors, the bound on instructions, each answer, each frame, and the number of resumed boundaries.
+pub(crate) fn lines(
+    alloc: Global,
+    errors: &[u32],
+    bound: u32,
+    run: &PostRun,
+) -> Result<Vec<String>, AllocError>
+    ensures { IfOk result (λ lines. text_of lines.items ≡ mrun_lines (posted_report errors.now bound
+        (map answer_seen run.now.answers.items) (frames_seen run.now.frames.items) run.now.resumed)) }
+{
+    let mut lines = begun(alloc, errors, bound)?;
+    push_answers(alloc, &mut lines, &run.answers)?;
+    push_labelled_frames(alloc, &mut lines, "frame ", &run.frames)?;
+    lines.push(labelled(alloc, "resumed ", u128::from(run.resumed))?)?;
+    Ok(lines)
+}
+
+/// Each answer.
+fn push_answers(
+    alloc: Global,
+    lines: &mut Vec<String>,
+    answers: &[Answer],
+) -> Result<(), AllocError>
+    ensures { OnOk result (text_of lines.new.items ≡ text_of lines.old.items
+        ++ counted (λ k a. answer_line k (answer_seen a)) 1 answers.now) }
+{
+    for (at, answer) in answers.iter().enumerate() {
+        lines.push(line_of_answer(alloc, at + 1, answer)?)?;
+    }
+    Ok(())
+}
+
+/// The line of the k-th answer.
+fn line_of_answer(alloc: Global, k: usize, answer: &Answer) -> Result<String, AllocError>
+    ensures { IfOk result (λ s. string_bytes s ≡ answer_line k (answer_seen answer.now)) }
+{
+    let sample = answer.sample;
+    let at = answer.at;
+    let mut text = String::from_str(alloc, "answer ")?;
+    write!(&mut text, "{k} sample {sample} at {at}")?;
+    push_answered(
+        &mut text,
+        answer.bytes.as_slice(),
+        answer.answers.as_slice(),
+        answer.instrs,
+    )?;
+    text.push_str("\n")?;
+    Ok(text)
+}

@@ -1,0 +1,153 @@
+//! The command `srun FCL IMAGE CERT TRACE PLAN UPSETS FLAGS`: the run of a firmware with watched tables, whose
+//! bytes are upset.
+ghost use Rattle.std.specs.Prelude.{◌≡◌, ◌≤◌, ◌++◌, length, IfOk, IfErr};
+ghost use Rattle.std.specs.List.{All};
+ghost use Rattle.interrupt_plan.specs.UpsetTexts.{SpellsUpsets};
+ghost use Rattle.fz_status.specs.Refusals.{IsRefusal};
+ghost use Rattle.fz_status.specs.Words.{texts_of};
+ghost use Rattle.build_commands.specs.Contents.{bytes_of};
+ghost use Rattle.build_commands.specs.Deeds.{DeedHasNoFault, IsResultOf};
+ghost use Rattle.form_commands.specs.Srun.{AcceptsWatched, SrunMakes, srun_in, srun_refusals};
+ghost use Rattle.form_commands.specs.Srun.{upset_refusals, watched_files, watched_row_lines};
+ghost use Rattle.build_commands.specs.Lines.{counted};
+ghost use Rattle.fz_shelf.specs.Lines.{text_of};
+ghost use Rattle.watched_runs.specs.Rows.{row_seen};
+ghost use Rattle.run_reports.specs.RowLines.{begun_lines};
+ghost use Rattle.form_commands.specs.WatchedRun.{WatchedFiles};
+ghost use Rattle.form_commands.specs.declared.srun.Srun.{Srun as TheSrun};
+
+use build_commands::contents::content;
+use build_commands::firmware::{Compiled, spelled_texts_have_no_fault, watched_firmware_of};
+use build_commands::images::{require_image, watched_images_have_no_fault};
+use build_commands::words::flags;
+use build_commands::work::Work;
+use certified_run::faultless_answers_are_near;
+use cpu12_asm::Image;
+use eval_code::Width;
+use fz_status::{Status, word};
+use interrupt_plan::{UpsetFault, Upsets, read_upsets, spelled_upsets_have_no_fault};
+use run_reports::inputs::{Inputs, inputs_of};
+use run_reports::laws::{accepted_inputs_have_no_fault, spelled_bytes_fit};
+use run_reports::row_lines::{begun, push_labelled_row};
+use srecord::images_are_one;
+use std::alloc::{AllocError, Global};
+use watched_runs::{WatchedRow, run_upsets};
+
+/// `srun FCL IMAGE CERT TRACE PLAN UPSETS FLAGS`
+#[derive(Clone, Copy, Debug, PartialEq, Eq)]
+pub struct Srun {
+    /// The condition codes that the machine leaves open.
+    flags: u8,
+}
+
+/// The words FCL, IMAGE, CERT, TRACE, PLAN and UPSETS.
+pub static INPUTS: [u32; 6] = [2, 3, 4, 5, 6, 7];
+
+/// What the files give, where all of them are accepted.
+#[derive(Drop)]
+struct Accepted {
+    compiled: Compiled,
+    inputs: Inputs,
+    upsets: Upsets,
+}
+
+impl Accepted {
+    /// What the files give, or the first fault in their order.
+    fn of(alloc: Global, contents: &[Vec<u8>]) -> Result<Accepted, Status>
+        requires { All (λ c. length c.items ≤ 1048576) contents.now }
+        ensures accepted { IfOk result (λ a. AcceptsWatched (watched_files (bytes_of contents.now))
+            a.compiled.block a.compiled.firmware a.inputs.errors.items a.inputs.samples.items a.inputs.plan a.upsets) }
+        ensures fault { IfErr result (IsRefusal (srun_refusals (watched_files (bytes_of contents.now)))) }
+    {
+        let compiled = watched_firmware_of(alloc, content(contents, 0))?;
+        require_image(alloc, content(contents, 1), &compiled.firmware.image)?;
+        let inputs = inputs_of(alloc, Width::Byte, &compiled.block, contents)?;
+        let upsets = upsets_of(alloc, content(contents, 5), &compiled.firmware.image)?;
+        Ok(Accepted {
+            compiled,
+            inputs,
+            upsets,
+        })
+    }
+}
+
+impl Srun {
+    /// The command of these words.
+    pub fn of(words: &[String]) -> Option<Srun>
+        ensures { result ≡ srun_in (texts_of words.now) }
+    {
+        match flags(word(words, 8)) {
+            Some(flags) => Some(Srun { flags }),
+            None => None,
+        }
+    }
+
+    /// Runs the samples of the trace under the plan, each with its upset, once all files are accepted, and
+    /// writes down what came of them.
+    pub fn work(self, alloc: Global, contents: &[Vec<u8>]) -> Result<Work, Status>
+        requires { All (λ c. length c.items ≤ 1048576) contents.now }
+        ensures { IsResultOf (SrunMakes self (watched_files (bytes_of contents.now))) result }
+    {
+        faultless_answers_are_near();
+        spelled_bytes_fit();
+        let accepted = Accepted::of(alloc, contents)?;
+        let firmware = &accepted.compiled.firmware;
+        let ran = run_upsets(
+            alloc,
+            firmware,
+            &accepted.inputs.samples,
+            &accepted.inputs.plan,
+            &accepted.upsets,
+            self.flags,
+        );
+        let Ok(rows) = ran else {
+            return Err(Status::Memory);
+        };
+        match lines(alloc, &accepted.inputs.errors, firmware.instr_bound, &rows) {
+            Ok(lines) => Ok(Work { lines, file: None }),
+            Err(_) => Err(Status::Memory),
+        }
+    }
+}
+
+/// The upsets of an image's tables that a text spells.
+fn upsets_of(alloc: Global, text: &[u8], image: &Image) -> Result<Upsets, Status>
+    requires { length text.now ≤ 1048576 }
+    ensures upsets { IfOk result (SpellsUpsets image.now.bytes text.now) }
+    ensures fault { IfErr result (IsRefusal (upset_refusals image.now.bytes text.now)) }
+{
+    match read_upsets(alloc, text, image) {
+        Ok(upsets) => Ok(upsets),
+        Err(UpsetFault::Memory) => Err(Status::Memory),
+        Err(fault) => Err(Status::Upset(fault)),
+    }
+}
+
+/// The errors, the bound on instructions, and each sample with its frames.
+fn lines(
+    alloc: Global,
+    errors: &[u32],
+    bound: u32,
+    rows: &[WatchedRow],
+) -> Result<Vec<String>, AllocError>
+    ensures { IfOk result (λ lines. text_of lines.items
+        ≡ begun_lines errors.now bound ++ counted (λ k r. watched_row_lines k (row_seen r)) 1 rows.now) }
+{
+    let mut lines = begun(alloc, errors, bound)?;
+    for (at, row) in rows.iter().enumerate() {
+        let fault = u32::from(row.fault);
+        push_labelled_row(alloc, &mut lines, at + 1, &row.row, " fault ", fault)?;
+    }
+    Ok(lines)
+}
+
+/// Files that make a deed make no fault.
+pub fn watched_runs_have_no_fault()
+    ensures { (srun : TheSrun) (files : WatchedFiles) → DeedHasNoFault (SrunMakes srun files) }
+{
+    spelled_texts_have_no_fault();
+    watched_images_have_no_fault();
+    accepted_inputs_have_no_fault();
+    images_are_one();
+    spelled_upsets_have_no_fault()
+}

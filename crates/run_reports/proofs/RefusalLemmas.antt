@@ -1,0 +1,53 @@
+-- What refuses the files that all runs share, and that nothing refuses accepted ones.
+use Rattle.std.proofs.Common.{ℕ, List, sym, subst}
+use Rattle.fuzzy_meaning.specs.declared.block.Block.{Block}
+use Rattle.fuzzy_meaning.specs.declared.block.Input.{Input}
+use Rattle.eval_code.specs.declared.width.Width.{Width}
+use Rattle.fcl_check.specs.OneBlock.{SpelledBlocksAreOne}
+use Rattle.interrupt_plan.specs.OneReading.{SpelledPlansHaveNoFault}
+use Rattle.trace_io.specs.OneReading.{SpelledTracesHaveNoFault}
+use Rattle.trace_io.specs.Traces.{Spells as SpellsTrace}
+use Rattle.trace_io.specs.declared.sample.Sample.{Sample}
+use Rattle.build_commands.specs.Certs.{AcceptedCertsHaveNoFault, AcceptsCert, cert_refusals}
+use Rattle.run_reports.specs.Inputs.{input_refusals, plan_refusals, sample_refusals, trace_refusals}
+use Rattle.run_reports.specs.Laws.{AcceptedInputsHaveNoFault, SpelledSamplesHaveNoFault}
+use Rattle.fz_status.specs.declared.status.Status.{Status}
+use Rattle.fz_status.specs.declared.status.Status.TheVariants as status
+
+-- ---- what refuses one file
+
+module _ (block : Block) (trace plan : List ℕ) where
+  pub by_trace : (s : Status) → trace_refusals block trace s → sample_refusals block trace plan s
+  by_trace (status.Trace f) r = r
+  by_trace s r = absurd r
+
+  pub by_plan : (samples : List Sample) → SpellsTrace block.inputs trace samples → (s : Status) → plan_refusals plan s
+      → sample_refusals block trace plan s
+  by_plan samples spells (status.Plan f) r = (samples, spells, r)
+  by_plan samples spells s r = absurd r
+
+  pub by_cert : (width : Width) (cert : List ℕ) (s : Status) → cert_refusals width block cert s
+      → input_refusals width block cert trace plan s
+  by_cert width cert (status.Cert f) r = r
+  by_cert width cert s r = absurd r
+
+  pub by_samples : (width : Width) (cert errors : List ℕ) → AcceptsCert width block cert errors → (s : Status)
+      → sample_refusals block trace plan s → input_refusals width block cert trace plan s
+  by_samples width cert errors accepts (status.Cert f) r = absurd r
+  by_samples width cert errors accepts s r = (errors, accepts, r)
+
+-- ---- nothing refuses files that are accepted
+
+pub samples_stand : SpelledBlocksAreOne → SpelledTracesHaveNoFault → SpelledPlansHaveNoFault → SpelledSamplesHaveNoFault
+samples_stand one traces plans text trace plan block other samples requests (status.Trace f) spelled also in_range good r =
+    traces other.inputs trace samples f
+    (subst (λ (is : List Input). SpellsTrace is trace samples) (sym (one text other block also spelled).inputs) in_range) r
+samples_stand one traces plans text trace plan block other samples requests (status.Plan f) spelled also in_range good r =
+    plans plan requests f good r.2
+samples_stand one traces plans text trace plan block other samples requests s spelled also in_range good r = r
+
+pub inputs_stand : AcceptedCertsHaveNoFault → SpelledSamplesHaveNoFault → AcceptedInputsHaveNoFault
+inputs_stand certs stand width text cert trace plan block other errors samples requests (status.Cert f) spelled also a r =
+    certs width text cert errors block other f spelled also a.accepted r
+inputs_stand certs stand width text cert trace plan block other errors samples requests s spelled also a r =
+    stand text trace plan block other samples requests s spelled also a.in_range a.good_plan r.2

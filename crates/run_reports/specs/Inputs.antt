@@ -1,0 +1,39 @@
+-- The contents of the files of a run, accepted or refused one by one.
+use Rattle.std.specs.Prelude.{ℕ, List}
+use Rattle.fuzzy_meaning.specs.declared.block.Block.{Block}
+use Rattle.eval_code.specs.declared.width.Width.{Width}
+use Rattle.interrupt_plan.specs.PlanTexts.{HasFault as PlanHasFault, Spells as SpellsPlan}
+use Rattle.interrupt_plan.specs.declared.Request.{Request}
+use Rattle.trace_io.specs.Traces.{HasFault as TraceHasFault, Spells as SpellsTrace}
+use Rattle.trace_io.specs.declared.sample.Sample.{Sample}
+use Rattle.build_commands.specs.Certs.{AcceptsCert, HasCertFault}
+use Rattle.fz_status.specs.Refusals.{Refusals}
+use Rattle.fz_status.specs.declared.status.Status.TheVariants as status
+
+-- CERT, TRACE and PLAN are accepted, and give this
+pub record AcceptsInputs (width : Width) (block : Block) (cert trace plan : List ℕ) (errors : List ℕ)
+    (samples : List Sample) (requests : List Request) : Type 0 where
+  pub accepted : AcceptsCert width block cert errors
+  pub in_range : SpellsTrace block.inputs trace samples
+  pub good_plan : SpellsPlan plan requests
+
+abbrev pub trace_refusals : Block → List ℕ → Refusals
+trace_refusals block text (status.Trace f) = TraceHasFault block.inputs text f
+trace_refusals block text s = ⊥
+
+abbrev pub plan_refusals : List ℕ → Refusals
+plan_refusals text (status.Plan f) = PlanHasFault text f
+plan_refusals text s = ⊥
+
+-- why a trace is refused, and why a plan is, the trace spelling samples beside
+abbrev pub sample_refusals : Block → List ℕ → List ℕ → Refusals
+sample_refusals block trace plan (status.Trace f) = TraceHasFault block.inputs trace f
+sample_refusals block trace plan (status.Plan f) =
+    (samples : List Sample) × SpellsTrace block.inputs trace samples × PlanHasFault plan f
+sample_refusals block trace plan s = ⊥
+
+-- why a certificate is refused, and why a trace or a plan is, the certificate being accepted beside
+abbrev pub input_refusals : Width → Block → List ℕ → List ℕ → List ℕ → Refusals
+input_refusals width block cert trace plan (status.Cert f) = HasCertFault width block cert f
+input_refusals width block cert trace plan s =
+    (errors : List ℕ) × AcceptsCert width block cert errors × sample_refusals block trace plan s

@@ -1,0 +1,70 @@
+-- What is so of every run and of every run's files.
+use Rattle.std.specs.Prelude.{◌≡◌, ℕ, ◌≤◌, List, All, length, map}
+use Rattle.fuzzy_meaning.specs.declared.block.Block.{Block}
+use Rattle.fuzzy_meaning.specs.declared.block.Input.{Input}
+use Rattle.fcl_check.specs.Texts.{SpellsBlock}
+use Rattle.box_tree.specs.declared.cert.Cert.{Cert}
+use Rattle.cert_check.specs.Acceptance.{IsAccepted}
+use Rattle.eval_code.specs.Firing.{AreInputBytes}
+use Rattle.codegen.specs.Uninterrupted.{Answer, AreAnswersOf}
+use Rattle.eval_code.specs.Widths.{parts}
+use Rattle.codegen.specs.declared.firmware.Firmware.{Firmware}
+use Rattle.eval_code.specs.declared.width.Width.{Width}
+use Rattle.interrupt_plan.specs.PlanTexts.{Spells as SpellsPlan}
+use Rattle.interrupt_plan.specs.declared.Request.{Request}
+use Rattle.trace_io.specs.Traces.{Spells as SpellsTrace}
+use Rattle.trace_io.specs.declared.sample.Sample.{Sample}
+use Rattle.run_law.specs.Forms.{RowSeen}
+use Rattle.fz_run.specs.Answering.{AnswersItsBlock}
+use Rattle.fz_run.specs.Rows.{firmware_rows, input_bytes}
+use Rattle.fz_status.specs.declared.status.Status.{Status}
+use Rattle.build_commands.specs.Firmwares.{GivesFirmware}
+use Rattle.run_reports.specs.Inputs.{AcceptsInputs, input_refusals, sample_refusals}
+use Rattle.run_reports.specs.Reports.{IsReportOf, report_of}
+
+-- a trace spells at most 10000 samples
+abbrev pub SpelledTracesAreShort : Type 0
+SpelledTracesAreShort = (inputs : List Input) (trace : List ℕ) (samples : List Sample)
+    → SpellsTrace inputs trace samples → length samples ≤ 10000
+
+-- and equally many whatever the inputs are
+abbrev pub SpelledTracesAreOneLong : Type 0
+SpelledTracesAreOneLong = (inputs others : List Input) (trace : List ℕ) (samples those : List Sample)
+    → SpellsTrace inputs trace samples → SpellsTrace others trace those → length samples ≡ length those
+
+-- the bytes of the samples of a trace are input bytes of the block
+abbrev pub SpelledBytesFit : Type 0
+SpelledBytesFit = (block : Block) (trace : List ℕ) (samples : List Sample)
+    → SpellsTrace block.inputs trace samples → All (AreInputBytes block) (map input_bytes samples)
+
+-- a block's answers take no more instructions than its bound
+abbrev pub AnswersKeepTheBound : Type 0
+AnswersKeepTheBound = (width : Width) (block : Block) (most : ℕ) (before : ℕ → ℕ) (samples : List (List ℕ))
+    (answers : List Answer)
+    → AreAnswersOf width block most before samples answers → All (λ a. a.instructions ≤ most) answers
+
+-- what the firmware of a text answers of the samples of a trace is its report, with the errors of each certificate that
+-- is accepted for the text's block
+abbrev pub AnswersAreReported : Type 0
+AnswersAreReported = (width : Width) (flags : ℕ) (text : List ℕ) (block : Block) (firmware : Firmware) (cert : Cert)
+    (errors trace : List ℕ) (samples : List Sample) (plan : List Request) (rows : List (RowSeen (List ℕ)))
+    → GivesFirmware width text block firmware → IsAccepted block (parts width) cert errors
+    → SpellsTrace block.inputs trace samples
+    → rows ≡ (firmware_rows firmware (map input_bytes samples) plan flags).rows
+    → AnswersItsBlock firmware flags (map input_bytes samples) plan rows
+    → IsReportOf width flags block firmware samples plan (report_of errors firmware.instr_bound rows)
+
+-- a trace and a plan that are accepted with one block of a text are refused with none
+abbrev pub SpelledSamplesHaveNoFault : Type 0
+SpelledSamplesHaveNoFault = (text trace plan : List ℕ) (block other : Block) (samples : List Sample)
+    (requests : List Request) (s : Status)
+    → SpellsBlock text block → SpellsBlock text other
+    → SpellsTrace block.inputs trace samples → SpellsPlan plan requests → sample_refusals other trace plan s → ⊥
+
+-- and so it is with a certificate before them
+abbrev pub AcceptedInputsHaveNoFault : Type 0
+AcceptedInputsHaveNoFault = (width : Width) (text cert trace plan : List ℕ) (block other : Block) (errors : List ℕ)
+    (samples : List Sample) (requests : List Request) (s : Status)
+    → SpellsBlock text block → SpellsBlock text other
+    → AcceptsInputs width block cert trace plan errors samples requests
+    → input_refusals width other cert trace plan s → ⊥

@@ -1,0 +1,4 @@
+pub mod Inputs
+pub mod Laws
+pub mod Reports
+pub mod RowLines

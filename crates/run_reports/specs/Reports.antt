@@ -1,0 +1,38 @@
+-- What a report of a run says.
+use Rattle.std.specs.Prelude.{◌≡◌, ℕ, ◌≤◌, List, All, map}
+use Rattle.fuzzy_meaning.specs.declared.block.Block.{Block}
+use Rattle.eval_code.specs.Bounds.{instruction_bound, step_bound}
+use Rattle.codegen.specs.Uninterrupted.{AreUninterrupted}
+use Rattle.eval_code.specs.Widths.{parts}
+use Rattle.codegen.specs.declared.firmware.Firmware.{Firmware}
+use Rattle.eval_code.specs.declared.width.Width.{Width}
+use Rattle.trace_io.specs.declared.sample.Sample.{Sample}
+use Rattle.interrupt_plan.specs.declared.Request.{Request}
+use Rattle.run_law.specs.Forms.{RowSeen}
+use Rattle.fz_run.specs.Answering.{AnswersUnder, answer_of_row}
+use Rattle.fz_run.specs.Rows.{firmware_rows, input_bytes}
+use Rattle.certified_run.specs.Nearness.{AreWithinErrors}
+
+-- what is told of a run: an error for each output, in millionths of its range, the bound on instructions, and a row for
+-- each sample
+pub record Report : Type 0 where
+  pub errors : List ℕ
+  pub bound : ℕ
+  pub rows : List (RowSeen (List ℕ))
+
+abbrev pub report_of : List ℕ → ℕ → List (RowSeen (List ℕ)) → Report
+report_of errors bound rows = record { errors = errors; bound = bound; rows = rows }
+
+-- What a block's firmware does to samples under a plan, where a certificate is accepted with the report's errors: the
+-- emulated image answers each sample as it does without interrupts, within the printed error of FCL's exact fraction,
+-- in at most the printed number of instructions; and its steps, the boundaries inside REV, REVW and WAV at which it
+-- goes on once interrupted, and its frames are read off its run without interrupts.
+pub record IsReportOf (width : Width) (flags : ℕ) (block : Block) (firmware : Firmware) (samples : List Sample)
+    (plan : List Request) (report : Report) : Type 0 where
+  pub ran : report.rows ≡ (firmware_rows firmware (map input_bytes samples) plan flags).rows
+  pub uninterrupted : AreUninterrupted firmware flags (map input_bytes samples) (map answer_of_row report.rows)
+  pub within : AreWithinErrors (parts width) block report.errors samples report.rows
+  pub bound : report.bound ≡ instruction_bound width block
+  pub instructions : All (λ row. row.instrs ≤ report.bound) report.rows
+  pub steps : All (λ row. row.steps ≤ step_bound width block) report.rows
+  pub follows : AnswersUnder block firmware flags (map input_bytes samples) plan report.rows

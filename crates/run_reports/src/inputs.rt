@@ -1,0 +1,105 @@
+//! The files that runs share: CERT, TRACE and PLAN.
+ghost use Rattle.std.specs.Prelude.{◌≤◌, length, IfOk, IfErr};
+ghost use Rattle.std.specs.List.{All};
+ghost use Rattle.fuzzy_meaning.specs.Blocks.{IsValid};
+ghost use Rattle.interrupt_plan.specs.PlanTexts.{Spells as SpellsPlan};
+ghost use Rattle.trace_io.specs.Traces.{Spells};
+ghost use Rattle.fz_status.specs.Refusals.{IsRefusal};
+ghost use Rattle.build_commands.specs.Contents.{bytes_of, content_at};
+ghost use Rattle.run_reports.specs.Inputs.{AcceptsInputs, input_refusals, plan_refusals};
+ghost use Rattle.run_reports.specs.Inputs.{sample_refusals, trace_refusals};
+
+use build_commands::certs::errors_under;
+use build_commands::contents::content;
+use eval_code::Width;
+use fuzzy_meaning::Block;
+use fz_status::Status;
+use interrupt_plan::{Plan, PlanFault, read_plan};
+use std::alloc::Global;
+use trace_io::{Sample, TraceFault, read_trace};
+
+/// What a certificate, a trace and a plan give, where all three are accepted.
+#[derive(Drop)]
+pub struct Inputs {
+    /// The error of each output that the certificate is accepted with.
+    pub errors: Vec<u32>,
+    /// The samples of the trace.
+    pub samples: Vec<Sample>,
+    /// The requests of the plan.
+    pub plan: Plan,
+}
+
+/// What CERT, TRACE and PLAN give, which are the third file and those behind it, or the first fault in their order.
+pub fn inputs_of(
+    alloc: Global,
+    width: Width,
+    block: &Block,
+    contents: &[Vec<u8>],
+) -> Result<Inputs, Status>
+    requires block { IsValid block.now }
+    requires small { All (λ c. length c.items ≤ 1048576) contents.now }
+    ensures inputs { IfOk result (λ i. AcceptsInputs width block.now (content_at (bytes_of contents.now) 2)
+        (content_at (bytes_of contents.now) 3) (content_at (bytes_of contents.now) 4)
+        i.errors.items i.samples.items i.plan) }
+    ensures fault { IfErr result (IsRefusal (input_refusals width block.now (content_at (bytes_of contents.now) 2)
+        (content_at (bytes_of contents.now) 3) (content_at (bytes_of contents.now) 4))) }
+{
+    let errors = errors_under(alloc, width, block, content(contents, 2))?;
+    let (samples, plan) = samples_and_plan(
+        alloc,
+        block,
+        content(contents, 3),
+        content(contents, 4),
+    )?;
+    Ok(Inputs {
+        errors,
+        samples,
+        plan,
+    })
+}
+
+/// The samples that a trace spells for a block, and the plan that a text spells.
+pub fn samples_and_plan(
+    alloc: Global,
+    block: &Block,
+    trace: &[u8],
+    plan: &[u8],
+) -> Result<(Vec<Sample>, Plan), Status>
+    requires block { IsValid block.now }
+    requires trace { length trace.now ≤ 1048576 }
+    requires plan { length plan.now ≤ 1048576 }
+    ensures samples { IfOk result (λ r. Spells block.now.inputs trace.now r.0.items) }
+    ensures plan { IfOk result (λ r. SpellsPlan plan.now r.1) }
+    ensures fault { IfErr result (IsRefusal (sample_refusals block.now trace.now plan.now)) }
+{
+    let samples = samples_of(alloc, block, trace)?;
+    let plan = plan_of(alloc, plan)?;
+    Ok((samples, plan))
+}
+
+/// The samples that a trace spells for a block.
+pub fn samples_of(alloc: Global, block: &Block, text: &[u8]) -> Result<Vec<Sample>, Status>
+    requires block { IsValid block.now }
+    requires text { length text.now ≤ 1048576 }
+    ensures samples { IfOk result (λ samples. Spells block.now.inputs text.now samples.items) }
+    ensures fault { IfErr result (IsRefusal (trace_refusals block.now text.now)) }
+{
+    match read_trace(alloc, text, block) {
+        Ok(samples) => Ok(samples),
+        Err(TraceFault::Memory) => Err(Status::Memory),
+        Err(fault) => Err(Status::Trace(fault)),
+    }
+}
+
+/// The plan that a text spells.
+fn plan_of(alloc: Global, text: &[u8]) -> Result<Plan, Status>
+    requires { length text.now ≤ 1048576 }
+    ensures plan { IfOk result (SpellsPlan text.now) }
+    ensures fault { IfErr result (IsRefusal (plan_refusals text.now)) }
+{
+    match read_plan(alloc, text) {
+        Ok(plan) => Ok(plan),
+        Err(PlanFault::Memory) => Err(Status::Memory),
+        Err(fault) => Err(Status::Plan(fault)),
+    }
+}

@@ -1,0 +1,57 @@
+//! Laws of reports and of the files that runs share, each the contract of a function that does nothing.
+ghost use Rattle.run_reports.specs.Laws.{AcceptedInputsHaveNoFault, AnswersAreReported, AnswersKeepTheBound};
+ghost use Rattle.run_reports.specs.Laws.{SpelledBytesFit, SpelledSamplesHaveNoFault, SpelledTracesAreOneLong};
+ghost use Rattle.run_reports.specs.Laws.{SpelledTracesAreShort};
+
+use build_commands::certs::accepted_certs_have_no_fault;
+use certified_run::answers_are_within_errors;
+use fcl_check::spelled_blocks_are_one;
+use fz_rows::first_rows_are_one;
+use interrupt_plan::spelled_plans_have_no_fault;
+use trace_io::spelled_traces_have_no_fault;
+
+/// A trace spells at most 10000 samples.
+pub fn spelled_traces_are_short()
+    ensures { SpelledTracesAreShort }
+{}
+
+/// A trace spells equally many samples whatever the inputs are.
+pub fn spelled_traces_are_one_long()
+    ensures { SpelledTracesAreOneLong }
+{
+    first_rows_are_one()
+}
+
+/// The bytes of a trace's samples are input bytes of the block.
+pub fn spelled_bytes_fit()
+    ensures { SpelledBytesFit }
+{}
+
+/// A block's answers take no more instructions than its bound.
+pub fn answers_keep_the_bound()
+    ensures { AnswersKeepTheBound }
+{}
+
+/// What a firmware answers of the samples of a trace is its report.
+pub fn answers_are_reported()
+    ensures { AnswersAreReported }
+{
+    answers_are_within_errors()
+}
+
+/// A trace and a plan that are accepted with one block of a text are refused with none.
+pub fn spelled_samples_have_no_fault()
+    ensures { SpelledSamplesHaveNoFault }
+{
+    spelled_blocks_are_one();
+    spelled_traces_have_no_fault();
+    spelled_plans_have_no_fault()
+}
+
+/// A certificate, a trace and a plan that are accepted with one block of a text are refused with none.
+pub fn accepted_inputs_have_no_fault()
+    ensures { AcceptedInputsHaveNoFault }
+{
+    accepted_certs_have_no_fault();
+    spelled_samples_have_no_fault()
+}

@@ -1,0 +1,216 @@
+//! The lines that all runs tell of samples, answers and frames.
+ghost use Rattle.std.specs.Prelude.{ℕ, List, ◌≡◌, ◌++◌, decimal, string_bytes, IfOk, OnOk};
+ghost use Rattle.std.specs.List.{flat_map};
+ghost use Rattle.fz_shelf.specs.Lines.{text_of};
+ghost use Rattle.cpu12_emul.specs.Take.{frame_seen};
+ghost use Rattle.fz_run.specs.Rows.{boundary_seen, row_seen};
+ghost use Rattle.build_commands.specs.Lines.{counted};
+ghost use Rattle.run_reports.specs.RowLines.{answered, answers_told, begun_lines, frame_line, frame_told};
+ghost use Rattle.run_reports.specs.RowLines.{labelled_row_lines, numbers, row_lines, row_lines_with};
+ghost use Rattle.run_reports.specs.RowLines.{sample_line_with};
+
+use build_commands::lines::{labelled, push_address, push_errors};
+use cpu12_emul::ends::Frame;
+use fz_run::Row;
+use std::alloc::{AllocError, Global};
+use std::fmt::Write;
+
+/// The errors and the bound on instructions, with which the lines of a run begin.
+pub fn begun(alloc: Global, errors: &[u32], bound: u32) -> Result<Vec<String>, AllocError>
+    ensures { IfOk result (λ lines. text_of lines.items ≡ begun_lines errors.now bound) }
+{
+    let mut lines = Vec::new(alloc);
+    push_errors(alloc, &mut lines, errors)?;
+    lines.push(labelled(alloc, "instructions ", u128::from(bound))?)?;
+    Ok(lines)
+}
+
+/// Each sample with its frames.
+pub fn push_rows(alloc: Global, lines: &mut Vec<String>, rows: &[Row]) -> Result<(), AllocError>
+    ensures { OnOk result (text_of lines.new.items ≡ text_of lines.old.items
+        ++ counted (λ k r. row_lines k (row_seen r)) 1 rows.now) }
+{
+    for (at, row) in rows.iter().enumerate() {
+        push_row(alloc, lines, at + 1, row, "\n")?;
+    }
+    Ok(())
+}
+
+/// The k-th sample with a number behind a label at the end of its line, and its frames.
+pub fn push_labelled_row(
+    alloc: Global,
+    lines: &mut Vec<String>,
+    k: usize,
+    row: &Row,
+    label: &str,
+    number: u32,
+) -> Result<(), AllocError>
+    ensures { OnOk result (text_of lines.new.items
+        ≡ text_of lines.old.items ++ labelled_row_lines label.now k (row_seen row.now) number) }
+{
+    let rest = labelled(alloc, label, u128::from(number))?;
+    push_row(alloc, lines, k, row, rest.as_str())
+}
+
+/// The k-th sample, whose line ends with the rest, and its frames.
+fn push_row(
+    alloc: Global,
+    lines: &mut Vec<String>,
+    k: usize,
+    row: &Row,
+    rest: &str,
+) -> Result<(), AllocError>
+    ensures { OnOk result (text_of lines.new.items
+        ≡ text_of lines.old.items ++ row_lines_with k (row_seen row.now) rest.now) }
+{
+    let mut text = sample_text(alloc, k, row)?;
+    text.push_str(rest)?;
+    lines.push(text)?;
+    push_frames(alloc, lines, k, row.frames.as_slice())?;
+    Ok(())
+}
+
+/// The frames of the k-th sample.
+fn push_frames(
+    alloc: Global,
+    lines: &mut Vec<String>,
+    k: usize,
+    frames: &[(u32, Frame)],
+) -> Result<(), AllocError>
+    ensures { OnOk result (text_of lines.new.items ≡ text_of lines.old.items
+        ++ flat_map (λ f. frame_line k (boundary_seen f)) frames.now) }
+{
+    for frame in frames {
+        lines.push(line_of_frame(alloc, k, frame)?)?;
+    }
+    Ok(())
+}
+
+/// The line of a frame of the k-th sample.
+pub fn line_of_frame(alloc: Global, k: usize, frame: &(u32, Frame)) -> Result<String, AllocError>
+    ensures { IfOk result (λ s. string_bytes s ≡ frame_line k (boundary_seen frame.now)) }
+{
+    let mut text = String::from_str(alloc, "frame ")?;
+    write!(&mut text, "{k} ")?;
+    push_frame(alloc, &mut text, frame.0, &frame.1)?;
+    Ok(text)
+}
+
+/// Frames that are told without a sample, behind a label.
+pub fn push_labelled_frames(
+    alloc: Global,
+    lines: &mut Vec<String>,
+    label: &str,
+    frames: &[(u32, Frame)],
+) -> Result<(), AllocError>
+    ensures { OnOk result (text_of lines.new.items ≡ text_of lines.old.items
+        ++ flat_map (λ f. label.now ++ frame_told (boundary_seen f)) frames.now) }
+{
+    for frame in frames {
+        lines.push(labelled_frame(alloc, label, frame.0, &frame.1)?)?;
+    }
+    Ok(())
+}
+
+/// The line of a frame behind a label.
+pub fn labelled_frame(
+    alloc: Global,
+    label: &str,
+    boundary: u32,
+    frame: &Frame,
+) -> Result<String, AllocError>
+    ensures { IfOk result (λ s. string_bytes s ≡ label.now ++ frame_told (boundary, frame_seen frame.now)) }
+{
+    let mut text = String::from_str(alloc, label)?;
+    push_frame(alloc, &mut text, boundary, frame)?;
+    Ok(text)
+}
+
+/// A frame behind its boundary, and the end of the line.
+fn push_frame(
+    alloc: Global,
+    text: &mut String,
+    boundary: u32,
+    frame: &Frame,
+) -> Result<(), AllocError>
+    ensures { OnOk result (string_bytes text.new
+        ≡ string_bytes text.old ++ frame_told (boundary, frame_seen frame.now)) }
+{
+    let bytes = frame.bytes.len();
+    write!(text, "{boundary}")?;
+    push_address(alloc, text, " ", frame.pc)?;
+    push_address(alloc, text, " ", frame.sp)?;
+    write!(text, " {bytes}\n")
+}
+
+/// Input bytes, the answers to them, and the number of instructions that these took.
+pub fn push_answered(
+    text: &mut String,
+    bytes: &[u8],
+    answers: &[u16],
+    instrs: u32,
+) -> Result<(), AllocError>
+    ensures { OnOk result (string_bytes text.new
+        ≡ string_bytes text.old ++ answered bytes.now answers.now instrs) }
+{
+    text.push_str(" bytes")?;
+    push_bytes(text, bytes)?;
+    push_answers(text, answers, instrs)?;
+    Ok(())
+}
+
+/// Answers, and the number of instructions that these took.
+pub fn push_answers(text: &mut String, answers: &[u16], instrs: u32) -> Result<(), AllocError>
+    ensures { OnOk result (string_bytes text.new ≡ string_bytes text.old ++ answers_told answers.now instrs) }
+{
+    text.push_str(" answers")?;
+    push_numbers(text, answers)?;
+    push_count(text, " instructions ", instrs as usize)?;
+    Ok(())
+}
+
+/// Bytes as numbers, with a blank before each.
+fn push_bytes(text: &mut String, values: &[u8]) -> Result<(), AllocError>
+    ensures { OnOk result (string_bytes text.new ≡ string_bytes text.old ++ numbers values.now) }
+{
+    for byte in values {
+        write!(text, " {byte}")?;
+    }
+    Ok(())
+}
+
+/// Numbers, with a blank before each.
+fn push_numbers(text: &mut String, values: &[u16]) -> Result<(), AllocError>
+    ensures { OnOk result (string_bytes text.new ≡ string_bytes text.old ++ numbers values.now) }
+{
+    for number in values {
+        write!(text, " {number}")?;
+    }
+    Ok(())
+}
+
+/// The line of the k-th sample, up to the number of its frames.
+pub fn sample_text(alloc: Global, k: usize, row: &Row) -> Result<String, AllocError>
+    ensures { IfOk result (λ s. (rest : List ℕ) → string_bytes s ++ rest ≡ sample_line_with k (row_seen row.now) rest) }
+{
+    let mut text = String::from_str(alloc, "sample ")?;
+    write!(&mut text, "{k}")?;
+    push_answered(
+        &mut text,
+        row.bytes.as_slice(),
+        row.answers.as_slice(),
+        row.instrs,
+    )?;
+    push_count(&mut text, " steps ", row.steps as usize)?;
+    push_count(&mut text, " resumed ", row.resumed as usize)?;
+    push_count(&mut text, " frames ", row.frames.len())?;
+    Ok(text)
+}
+
+/// A number behind a label.
+pub fn push_count(text: &mut String, label: &str, count: usize) -> Result<(), AllocError>
+    ensures { OnOk result (string_bytes text.new ≡ string_bytes text.old ++ (label.now ++ decimal count)) }
+{
+    text.push_str(label)?;
+    write!(text, "{count}")
+}
