@@ -24,3 +24,5 @@ mod records;
 mod sources;
 #[cfg(test)]
 mod upsets;
+#[cfg(test)]
+mod vectors;
