@@ -7,6 +7,7 @@ use Rattle.codegen.specs.declared.firmware.Firmware.{Firmware}
 use Rattle.eval_code.specs.declared.width.Width.TheVariants.{Byte}
 use Rattle.eval_code.specs.Layouts.{main_layout}
 use Rattle.codegen.specs.Code.{frame_code}
+use Rattle.eval_code.specs.Bounds.{instruction_bound, step_bound}
 use Rattle.eval_code.specs.Items.{block_items}
 use Rattle.codegen.specs.Images.{vector_items, IsImageOf}
 use Rattle.codegen.specs.Firmwares.{IsFirmwareOf}
@@ -29,6 +30,15 @@ two_items slow fast = fast_items fast ++ slow_items slow
 pub record IsAlone (b : Block) (f : Firmware) : Type 0 where
   pub firmware : IsFirmwareOf b f
   pub narrow : f.wide ≡ false
+
+-- the bounds of a firmware are the block's, for answers of bytes
+pub record HasByteBounds (b : Block) (f : Firmware) : Type 0 where
+  pub instructions : f.instr_bound ≡ instruction_bound Byte b
+  pub steps : f.step_bound ≡ step_bound Byte b
+
+-- Those of each firmware that answers bytes and stands alone are.
+abbrev pub AloneHasByteBounds : Type 0
+AloneHasByteBounds = (b : Block) (f : Firmware) → IsAlone b f → HasByteBounds b f
 
 -- The image has just the bytes of both, and the firmwares are those of each block alone.
 pub record IsTwoOf (slow fast : Block) (two : Two) : Type 0 where

@@ -1,5 +1,6 @@
 //! Laws of two blocks at two levels.
 ghost use Rattle.two_level.specs.Alike.{TwosAreOne};
+ghost use Rattle.two_level.specs.Images.{AloneHasByteBounds};
 ghost use Rattle.two_level.specs.Running.{FastAnswersEntered};
 ghost use Rattle.two_level.specs.Standing.{TwoStandBeside};
 
@@ -33,6 +34,11 @@ pub fn two_stand_beside()
     firmware_answers_beside();
     firmware_arrives_alike();
 }
+
+/// A block's firmware that answers bytes and stands alone has the block's bounds.
+pub fn alone_has_byte_bounds()
+    ensures { AloneHasByteBounds }
+{}
 
 /// Blocks that are the same, wherever their conditions lie in memory, have one image at two levels.
 pub fn twos_are_one()
