@@ -11,7 +11,7 @@ use Rattle.fz_status.specs.Words.{Text}
 use Rattle.fz_status.specs.declared.status.Status.{Status}
 use Rattle.fz_status.specs.declared.status.Status.TheVariants as status
 use Rattle.fz_top.specs.Runs.{Runs, world}
-use Rattle.program_calls.specs.Lefts.{Differs, Leaves}
+use Rattle.program_calls.specs.Lefts.{IsFirstDifference, Leaves}
 use Rattle.program_calls.specs.declared.difference.Difference.{Difference}
 use Rattle.program_calls.specs.declared.difference.Difference.TheVariants as difference
 use Rattle.program_calls.specs.declared.left.Left.{Left}
@@ -70,7 +70,7 @@ pub record LeavesAnother (words : List Text) (old new : Told) (left : Left) (fou
   pub out : Option Taken
   pub err : Option Taken
   pub called : Called words old new out err number
-  pub differs : Differs number out err left found
+  pub differs : IsFirstDifference number out err left found
 
 -- the same, or memory was wanted
 abbrev pub CallDiffers : List Text → Told → Told → Left → Difference → Type 0

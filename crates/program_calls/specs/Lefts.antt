@@ -32,10 +32,10 @@ pub record Leaves (number : ℕ) (out err : Option Taken) (left : Left) : Type 0
   pub complaint : Took err (err_left left)
 
 -- the first difference, on err, on out or in the status, or memory was wanted
-abbrev pub Differs : ℕ → Option Taken → Option Taken → Left → Difference → Type 0
-Differs code out err left (difference.Err text) = Took err (err_left left) → ⊥
-Differs code out err left (difference.Out text) = Took err (err_left left) × (Took out (out_left left) → ⊥)
-Differs code out err left (difference.Status n) =
+abbrev pub IsFirstDifference : ℕ → Option Taken → Option Taken → Left → Difference → Type 0
+IsFirstDifference code out err left (difference.Err text) = Took err (err_left left) → ⊥
+IsFirstDifference code out err left (difference.Out text) = Took err (err_left left) × (Took out (out_left left) → ⊥)
+IsFirstDifference code out err left (difference.Status n) =
     Took err (err_left left) × Took out (out_left left) × (n ≡ code) × (n ≢ code_left left)
-Differs code out err left difference.Memory = Unit {0}
-Differs code out err left d = ⊥
+IsFirstDifference code out err left difference.Memory = Unit {0}
+IsFirstDifference code out err left d = ⊥

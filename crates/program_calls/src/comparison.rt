@@ -1,6 +1,6 @@
 //! What a call left against what it was to leave.
 ghost use Rattle.std.specs.Prelude.{IfErr, OnOk};
-ghost use Rattle.program_calls.specs.Lefts.{Differs, Leaves};
+ghost use Rattle.program_calls.specs.Lefts.{IsFirstDifference, Leaves};
 
 use crate::{Difference, Left};
 use fz_shelf::{MemSink, Sink};
@@ -21,7 +21,7 @@ pub(crate) fn compare(
 ) -> Result<(), Difference>
     ensures same { OnOk result (Leaves code (⟦<MemSink as Sink>⟧.told out.now)
         (⟦<MemSink as Sink>⟧.told err.now) left.now) }
-    ensures differs { IfErr result (Differs code (⟦<MemSink as Sink>⟧.told out.now)
+    ensures differs { IfErr result (IsFirstDifference code (⟦<MemSink as Sink>⟧.told out.now)
         (⟦<MemSink as Sink>⟧.told err.now) left.now) }
 {
     if err.bytes() != left.err().as_bytes() {
