@@ -16,7 +16,7 @@ use Rattle.two_level.specs.Images.{fast_most}
 use Rattle.fz_run.specs.Rows.{bytes_of, shown_rows}
 use Rattle.two_runs.specs.Runs.{FastSeen}
 use Rattle.two_runs.specs.Rows.{with_fast}
-use Rattle.two_runs.specs.Answering.{runs_told, fast_runs, answer_of_fast, IsTold, AreTold}
+use Rattle.two_runs.specs.Answering.{runs_told, fast_runs, answer_of_fast, IsReadOff, IsTold, AreTold}
 use Rattle.two_runs.specs.Levels.{outputs_told, outputs_after, IsAnswerTold, AreAnswersTold}
 
 -- those of all samples
@@ -31,6 +31,13 @@ runs_shown (row ∷ rows) [] e = absurd (omega arith)
 runs_shown (row ∷ rows) (ts ∷ tss) e =
     ap (λ (fs : List FastSeen). runs_told (map (λ (t : Level × Option FastSeen). t.1) ts) ++ fs) (runs_shown rows tss (omega arith))
 
+plain_shown : (rows : List (RowSeen (List ℕ))) (tss : List (List (Level × Option FastSeen))) → length rows ≡ length tss
+    → map (λ r. r.row) (shown_rows with_fast rows tss) ≡ rows
+plain_shown [] tss e = refl
+plain_shown (row ∷ rows) [] e = absurd (omega arith)
+plain_shown (row ∷ rows) (ts ∷ tss) e =
+    ap (λ (rs : List (RowSeen (List ℕ))). row ∷ rs) (plain_shown rows tss (omega arith))
+
 -- each row has what was told
 one_telling : {S A B : Type 0} (f : Form S A B) (most : ℕ) (asks : ℕ → List A) (k : ℕ) (samples : List S) (s : State)
     → length (rows_from f most asks k samples s).rows ≡ length (rows_from f most asks k samples s).told
@@ -43,6 +50,12 @@ pub runs_are : (f : Form (List ℕ) Level (Option FastSeen)) (most : ℕ) (asks 
 runs_are f most asks k samples s =
     let all = rows_from f most asks k samples s in
     runs_shown all.rows all.told (one_telling f most asks k samples s)
+
+pub rows_seen : (f : Form (List ℕ) Level (Option FastSeen)) (most : ℕ) (asks : ℕ → List Level) (k : ℕ) (samples : List (List ℕ)) (s : State)
+    → (let all = rows_from f most asks k samples s in map (λ r. r.row) (shown_rows with_fast all.rows all.told) ≡ all.rows)
+rows_seen f most asks k samples s =
+    let all = rows_from f most asks k samples s in
+    plain_shown all.rows all.told (one_telling f most asks k samples s)
 
 -- they answer their samples, one after the other
 abbrev pub Answer : Block → Two → List (List ℕ) → (ℕ → ℕ) → List FastSeen → Type 0
@@ -74,29 +87,29 @@ all_answers b two samples (ts ∷ tss) done told =
     let r = all_answers b two samples tss (onto ts done) told in
     onto_answers b two samples ts done (runs_in tss) r.1 r.0
 
+-- what holds of each that is read off
+module _ (b : Block) (two : Two) (flags : ℕ) (samples : List (List ℕ)) (P : FastSeen → Type 0)
+    (each : (l : Level) (f : FastSeen) → IsReadOff b two flags samples l f → P f) where
+  told_by_levels : (ts : List (Level × Option FastSeen)) (fs : List FastSeen) → AreTold b two flags samples ts → All P fs
+      → All P (runs_told (map (λ t. t.1) ts) ++ fs)
+  told_by_levels [] fs told rest = rest
+  told_by_levels (t ∷ ts) fs told rest =
+      by t.1 (told 0 t (omega arith)) (told_by_levels ts fs (λ k d l. told (suc k) d (omega arith)) rest)
+    where
+      by : (o : Option FastSeen) → IsTold b two flags samples t.0 o
+          → All P (runs_told (map (λ (u : Level × Option FastSeen). u.1) ts) ++ fs)
+          → All P (cons_option o (runs_told (map (λ (u : Level × Option FastSeen). u.1) ts)) ++ fs)
+      by None h more = more
+      by (Some f) h more =
+          All-cons P f (runs_told (map (λ (u : Level × Option FastSeen). u.1) ts) ++ fs) (each t.0 f h) more
+
+  pub all_told : (tss : List (List (Level × Option FastSeen))) → All (AreTold b two flags samples) tss → All P (runs_in tss)
+  all_told [] told = λ k x lt. absurd (omega arith)
+  all_told (ts ∷ tss) told =
+      told_by_levels ts (runs_in tss) (told 0 ts (omega arith)) (all_told tss (λ k d l. told (suc k) d (omega arith)))
+
 -- their steps are within the bound
-abbrev Few : ℕ → List FastSeen → Type 0
-Few most fs = All (λ f. f.steps ≤ most) fs
-
-few_told : (b : Block) (two : Two) (flags : ℕ) (samples : List (List ℕ)) (ts : List (Level × Option FastSeen)) (fs : List FastSeen)
-    → AreTold b two flags samples ts → Few (fast_most (step_bound Byte b)) fs
-    → Few (fast_most (step_bound Byte b)) (runs_told (map (λ t. t.1) ts) ++ fs)
-few_told b two flags samples [] fs told rest = rest
-few_told b two flags samples (t ∷ ts) fs told rest =
-    by t.1 (told 0 t (omega arith)) (few_told b two flags samples ts fs (λ k d l. told (suc k) d (omega arith)) rest)
-  where
-    by : (o : Option FastSeen) → IsTold b two flags samples t.0 o
-        → Few (fast_most (step_bound Byte b)) (runs_told (map (λ (u : Level × Option FastSeen). u.1) ts) ++ fs)
-        → Few (fast_most (step_bound Byte b)) (cons_option o (runs_told (map (λ (u : Level × Option FastSeen). u.1) ts)) ++ fs)
-    by None h more = more
-    by (Some f) h more =
-        (let run = h.run in
-        All-cons (λ (g : FastSeen). g.steps ≤ fast_most (step_bound Byte b)) f (runs_told (map (λ (u : Level × Option FastSeen). u.1) ts) ++ fs)
-        (subst (λ (n : ℕ). n ≤ fast_most (step_bound Byte b)) (sym h.steps) run.steps) more)
-
-pub all_few : (b : Block) (two : Two) (flags : ℕ) (samples : List (List ℕ)) (tss : List (List (Level × Option FastSeen)))
-    → All (AreTold b two flags samples) tss → Few (fast_most (step_bound Byte b)) (runs_in tss)
-all_few b two flags samples [] told = λ k x lt. absurd (omega arith)
-all_few b two flags samples (ts ∷ tss) told =
-    few_told b two flags samples ts (runs_in tss) (told 0 ts (omega arith))
-    (all_few b two flags samples tss (λ k d l. told (suc k) d (omega arith)))
+pub few_steps : (b : Block) (two : Two) (flags : ℕ) (samples : List (List ℕ)) (l : Level) (f : FastSeen)
+    → IsReadOff b two flags samples l f → f.steps ≤ fast_most (step_bound Byte b)
+few_steps b two flags samples l f h =
+    let run = h.run in subst (λ (n : ℕ). n ≤ fast_most (step_bound Byte b)) (sym h.steps) run.steps

@@ -1,5 +1,5 @@
 -- Runs at two levels answer.
-use Rattle.std.proofs.Common.{◌≡◌, ℕ, ◌≤◌, Bool, List, [], map, length, ap, sym, ◌∙◌, subst}
+use Rattle.std.proofs.Common.{◌≡◌, ℕ, ◌≤◌, List, [], map, length, ap, sym, ◌∙◌, subst}
 use Rattle.std.specs.Prelude.{All, Option}
 use Rattle.cpu12_parts.specs.State.{State}
 use Rattle.cpu12_emul.specs.Image.{image_memory}
@@ -8,7 +8,6 @@ use Rattle.run_law.specs.Following.{all_onto, AllFollow, RunsFollow}
 use Rattle.interrupt_plan.specs.declared.levels.Level.{Level}
 use Rattle.interrupt_plan.specs.Levels.{IsGoodLevel}
 use Rattle.eval_code.specs.declared.width.Width.TheVariants.{Byte}
-use Rattle.eval_code.specs.Widths.{width_of}
 use Rattle.eval_code.specs.Bounds.{step_bound}
 use Rattle.codegen.specs.Firmwares.{IsFirmwareOf}
 use Rattle.two_level.specs.Images.{fast_most}
@@ -26,11 +25,11 @@ use Rattle.two_runs.specs.Rows.{levels_of, level_form, first_two, two_rows}
 use Rattle.two_runs.specs.Answering.{plan_of, fast_runs_of, IsTold, AreTold, taken_by, AnswersUnderLevels}
 use Rattle.two_runs.specs.Levels.{Levels, fitted_form, FastStands}
 use Rattle.two_runs.proofs.Arriving.{first_stands}
-use Rattle.two_runs.proofs.FastRuns.{Answer, runs_in, runs_are, all_answers, all_few}
+use Rattle.two_runs.proofs.FastRuns.{Answer, runs_in, runs_are, all_answers, all_told, few_steps}
 use Rattle.two_runs.proofs.Fitting.{AreFitted, all_fitted, rows_fitted}
 use Rattle.two_runs.proofs.LevelPlans.{plan_good, levels_are_good}
 use Rattle.two_runs.proofs.LevelRows.{SlowFacts, complete, same_numbers, same_rows, same_taken, on_stack}
-use Rattle.two_runs.proofs.LevelServing.{LevelLaws, Given, few_outputs}
+use Rattle.two_runs.proofs.LevelServing.{LevelLaws, Given, bounds, few_outputs}
 use Rattle.two_runs.proofs.LevelSound.{level_sound}
 
 -- the laws of lower crates, and the law on runs
@@ -52,11 +51,13 @@ answers_under_levels laws two flags slow_samples samples levels hf good slow fas
   slow_answers = subst (λ (rows : List (RowSeen (List ℕ))). AnswerBlock slow two.slow flags slow_samples rows) (sym rows_are) under.answers;
   taken = followed.taken ∙ same_taken flags two samples levels 1 runs.ns slow_samples first fitted_all runs.complete
       ∙ ap (λ (rows : List (RowSeen (List ℕ))). taken_by 1 levels (map (λ (r : RowSeen (List ℕ)). r.steps) rows)) (sym rows_of);
+  fast_numbers = subst (λ (fs : List FastSeen). All (λ (f : FastSeen). (1 ≤ f.number) × (f.number ≤ length samples)) fs) (sym fast_are)
+      (all_told fast two flags samples (λ f. (1 ≤ f.number) × (f.number ≤ length samples)) (λ l f h. (h.from, h.to)) all.told told);
   fast_answers = subst (λ (fs : List FastSeen). Answer fast two samples (λ o. 0) fs) (sym fast_are)
       (all_answers fast two samples all.told [] own.answers).0;
   fast_steps = subst (λ (fs : List FastSeen). All (λ (f : FastSeen). f.steps ≤ fast_most two.fast.step_bound) fs) (sym fast_are)
       (subst (λ (n : ℕ). All (λ (f : FastSeen). f.steps ≤ fast_most n) (runs_in all.told)) (sym bound)
-      (all_few fast two flags samples all.told told));
+      (all_told fast two flags samples (λ f. f.steps ≤ fast_most (step_bound Byte fast)) (few_steps fast two flags samples) all.told told));
   told = told;
   stack = subst (λ (rows : List (RowSeen (List ℕ))). All (λ (r : RowSeen (List ℕ)). AreOnStack r.frames) rows) (sym rows_of)
       (on_stack flags two (plan_of levels) 1 runs.ns slow_samples first runs.complete);
@@ -150,7 +151,4 @@ answers_under_levels laws two flags slow_samples samples levels hf good slow fas
     told = (all_onto_all (λ (t : Level × Option FastSeen). IsTold fast two flags samples t.0 t.1) all.told [] own.told).0
 
     bound : two.fast.step_bound ≡ step_bound Byte fast
-    bound =
-        (let alone = is.fast_alone in
-        let of_fast = alone.firmware in
-        of_fast.steps ∙ ap (λ (wide : Bool). step_bound (width_of wide) fast) alone.narrow)
+    bound = (let of_fast = bounds x in of_fast.steps)

@@ -22,12 +22,9 @@ use Rattle.run_law.specs.Uninterrupted.{counted}
 use Rattle.run_law.specs.Soundness.{below_sums, Begins, Quiet, Ascend}
 use Rattle.interrupt_plan.specs.declared.levels.Level.{Level}
 use Rattle.interrupt_plan.specs.Levels.{IsGoodLevel}
-use Rattle.eval_code.specs.declared.width.Width.TheVariants.{Byte}
-use Rattle.eval_code.specs.Widths.{width_of}
-use Rattle.eval_code.specs.Bounds.{instruction_bound}
 use Rattle.eval_code.specs.Firing.{AreInputBytes}
 use Rattle.two_level.specs.declared.two.Two.{Two}
-use Rattle.two_level.specs.Images.{fast_most, IsTwoOf}
+use Rattle.two_level.specs.Images.{fast_most, AloneHasByteBounds, HasByteBounds, IsTwoOf}
 use Rattle.two_level.specs.Layouts.{is_fast_ram, is_open_to_fast}
 use Rattle.fz_run.specs.Facts.{AreNoneOrRunning, IsStackOfOneCall, FactsBeside}
 use Rattle.fz_run.specs.OpenBytes.{StepsLeaveOpen, GivenLeavesOpen}
@@ -55,6 +52,7 @@ pub record LevelLaws : Type 0 where
   pub is_quiet : OuterIsQuiet
   pub serves : OuterServes
   pub servable : OuterIsServable
+  pub alone_has_byte_bounds : AloneHasByteBounds
 
 -- two valid blocks with their image, open flags, and samples of the fast one
 pub record Given : Type 0 where
@@ -158,13 +156,12 @@ most_of x = fast_most x.two.fast.step_bound
 abbrev ran_of : Given → Level → State → Ran ℕ (Unit {0})
 ran_of x l v = fast_run x.flags (length x.fast.outputs) (most_of x) l.inner.items (entered (bytes_in x l) v)
 
--- the fast firmware's bounds are those of bytes
-bounds : (x : Given) → (x.two.fast.instr_bound ≡ instruction_bound Byte x.fast) × (x.two.fast.outputs ≡ length x.fast.outputs)
-bounds x =
-    let is = x.is_two in
-    let alone = is.fast_alone in
-    let firmware = alone.firmware in
-    (firmware.instructions ∙ ap (λ (wide : Bool). instruction_bound (width_of wide) x.fast) alone.narrow, firmware.outputs)
+-- the fast firmware's bounds are those of bytes, and its outputs are the block's
+pub bounds : (x : Given) → HasByteBounds x.fast x.two.fast
+bounds x = let laws = x.laws in let is = x.is_two in laws.alone_has_byte_bounds x.fast x.two.fast is.fast_alone
+
+outputs_are : (x : Given) → x.two.fast.outputs ≡ length x.fast.outputs
+outputs_are x = let is = x.is_two in let alone = is.fast_alone in let firmware = alone.firmware in firmware.outputs
 
 servable : (x : Given) (done : List (Level × Option FastSeen)) (l : Level) (v s : State) → Serves x done v s
     → AreInputBytes x.fast (bytes_in x l)
@@ -187,9 +184,9 @@ code_kept image m n sp l a h = record {
     shown at lo = grind (arith, nat_tests)
 
 served_stands : (x : Given) (done : List (Level × Option FastSeen)) (l : Level) (v s : State) → Serves x done v s
-    → AreInputBytes x.fast (bytes_in x l) → Ascend (λ k. k) 0 l.inner.items
+    → 1 ≤ l.fast → l.fast ≤ length x.samples → AreInputBytes x.fast (bytes_in x l) → Ascend (λ k. k) 0 l.inner.items
     → FastStands x.fast x.two x.flags x.samples ((l, Some (seen_of l.fast (length x.fast.outputs) (ran_of x l v))) ∷ done) (ran_of x l v).state
-served_stands x done l v s h input ascend =
+served_stands x done l v s h from to input ascend =
     let laws = x.laws in
     let image = image_memory x.two.image.bytes in
     let before = outputs_after x.fast x.samples done in
@@ -207,7 +204,7 @@ served_stands x done l v s h input ascend =
     let most = x.two.fast.instr_bound in
     let steps : (ran_of x l v).instrs ≤ fast_most most =
     (let follows = inside.follows in let bound = bounds x in
-    subst (λ (n : ℕ). n ≤ fast_most most) (sym follows.instrs) (subst (λ (n : ℕ). counted x.flags (suc run.further) (entered (bytes_in x l) v) ≤ fast_most n) (sym bound.0) run.instructions)) in
+    subst (λ (n : ℕ). n ≤ fast_most most) (sym follows.instrs) (subst (λ (n : ℕ). counted x.flags (suc run.further) (entered (bytes_in x l) v) ≤ fast_most n) (sym bound.instructions) run.instructions)) in
     record {
       bytes = k.bytes_fit;
       code = code_kept image (ran_of x l v).state.mem v.mem v.regs.sp can.high k.mem own.code;
@@ -215,14 +212,14 @@ served_stands x done l v s h input ascend =
       answers = (answers_told x.fast (fast_most most) l.fast before (bytes_in x l) (ran_of x l v) (few_outputs x) steps k.answers, own.answers);
       told = All-cons (λ (t : Level × Option FastSeen). IsTold x.fast x.two x.flags x.samples t.0 t.1)
           (l, Some (seen_of l.fast (length x.fast.outputs) (ran_of x l v))) done
-          (read_off x.fast x.two x.flags (most_of x) x.samples l before v fast.behind run inside) own.told;
+          (read_off x.fast x.two x.flags (most_of x) x.samples l before v fast.behind from to run inside) own.told;
     }
 
 -- the sample of a level
 abbrev IsSampleOf : Given → Level → Type 0
 IsSampleOf x l =
     ((sample_of x.samples l.fast ≡ None) × (l.fast ≡ 0))
-    ⊎ ((sample_of x.samples l.fast ≡ Some (bytes_in x l)) × AreInputBytes x.fast (bytes_in x l))
+    ⊎ ((sample_of x.samples l.fast ≡ Some (bytes_in x l)) × (1 ≤ l.fast) × AreInputBytes x.fast (bytes_in x l))
 
 got : (xs : List (List ℕ)) (j : ℕ) → j < length xs → slice_get xs j ≡ Some (slice_index_or xs j [])
 got [] j l = absurd (omega arith)
@@ -234,12 +231,13 @@ sample_is x l le = by l.fast le
   where
     by : (k : ℕ) → k ≤ length x.samples
         → ((sample_of x.samples k ≡ None) × (k ≡ 0))
-        ⊎ ((sample_of x.samples k ≡ Some (bytes_of x.samples k)) × AreInputBytes x.fast (bytes_of x.samples k))
+        ⊎ ((sample_of x.samples k ≡ Some (bytes_of x.samples k)) × (1 ≤ k) × AreInputBytes x.fast (bytes_of x.samples k))
     by zero h = inl (refl, refl)
     by (suc j) h =
         (let e : suc j - 1 ≡ j = omega arith in
         inr (
           got x.samples j (omega arith) ∙ ap (λ (k : ℕ). Some (slice_index_or x.samples k [])) (sym e),
+          omega arith,
           subst (λ (k : ℕ). AreInputBytes x.fast (slice_index_or x.samples k [])) (sym e) (x.inputs j [] (omega arith)),
         ))
 
@@ -272,7 +270,7 @@ pub serves : (x : Given) (done : List (Level × Option FastSeen)) (l : Level) (v
     × FastStands x.fast x.two x.flags x.samples ((l, told x.flags x.two.fast.outputs (most_of x) (outer_of x.samples l) v) ∷ done)
     (served x.flags x.two.fast.outputs (most_of x) (outer_of x.samples l) v)
 serves x done l v s good h =
-    subst (λ (n : ℕ). AfterLevel x done l v s n (sample_of x.samples l.fast)) (sym (let b = bounds x in b.1))
+    subst (λ (n : ℕ). AfterLevel x done l v s n (sample_of x.samples l.fast)) (sym (outputs_are x))
     (by (sample_is x l good.fast_to))
   where
     ascend : Ascend (λ k. k) 0 l.inner.items
@@ -295,5 +293,7 @@ serves x done l v s good h =
         subst (λ (sample : Option (List ℕ)). AfterLevel x done l v s (length x.fast.outputs) sample) (sym e.0)
         (quiet None tt, unserved x done l v s h e.1)
     by (inr e) =
-        subst (λ (sample : Option (List ℕ)). AfterLevel x done l v s (length x.fast.outputs) sample) (sym e.0)
-        (quiet (Some (bytes_in x l)) (servable x done l v s h e.1), served_stands x done l v s h e.1 ascend)
+        subst (λ (sample : Option (List ℕ)). AfterLevel x done l v s (length x.fast.outputs) sample) (sym e.0) (
+          quiet (Some (bytes_in x l)) (servable x done l v s h e.2),
+          served_stands x done l v s h e.1 good.fast_to e.2 ascend,
+        )

@@ -45,21 +45,25 @@ abbrev pub answer_of_fast : FastSeen → Answer
 answer_of_fast f = record { values = f.answers; instructions = f.instrs }
 
 -- What a level told of its fast run is read off the run without inner requests from where the fast code was entered,
--- in a state in which no slow sums run: the number of its sample; its steps and instructions; and its resumed count
--- and frames, where an inner moment 0 counts as 1. No frame stands below the stack's start.
+-- in a state in which no slow sums run: the number of its sample, which is one of the fast ones; its steps and
+-- instructions; and its resumed count and frames, where an inner moment 0 counts as 1. No frame stands below the
+-- stack's start.
 pub record IsReadOff (b : Block) (two : Two) (flags : ℕ) (fast : List (List ℕ)) (l : Level) (f : FastSeen)
     : Type 0 where
   pub number : f.number ≡ l.fast
+  pub from : 1 ≤ f.number
+  pub to : f.number ≤ length fast
   pub before : ℕ → ℕ
-  pub found : State
+  pub interrupted : State
   pub behind : State
   pub run : IsFastRun b (image_memory two.image.bytes) flags (bytes_of fast l.fast) before
-      (entered (bytes_of fast l.fast) found) behind
+      (entered (bytes_of fast l.fast) interrupted) behind
   pub steps : f.steps ≡ suc run.further
-  pub instrs : f.instrs ≡ counted flags f.steps (entered (bytes_of fast l.fast) found)
+  pub instrs : f.instrs ≡ counted flags f.steps (entered (bytes_of fast l.fast) interrupted)
   pub resumed : f.resumed
-      ≡ resumed_of flags (λ m. max 1 m) (entered (bytes_of fast l.fast) found) l.inner.items f.steps
-  pub frames : f.frames ≡ frames_of flags (λ m. max 1 m) (entered (bytes_of fast l.fast) found) l.inner.items f.steps
+      ≡ resumed_of flags (λ m. max 1 m) (entered (bytes_of fast l.fast) interrupted) l.inner.items f.steps
+  pub frames : f.frames
+      ≡ frames_of flags (λ m. max 1 m) (entered (bytes_of fast l.fast) interrupted) l.inner.items f.steps
   pub stack : AreOnStack f.frames
 
 -- What a level told: nothing where it has no fast sample, and else of its fast run.
@@ -78,9 +82,9 @@ taken_by k levels (n ∷ ns) = taken_before (λ l. l.moment) n (levels_of k leve
 -- A run at two levels. It comes to the end of each slow sample, without a trap. Its slow rows are those of the slow
 -- firmware alone under a plan at the same places that writes nothing: so are their answers, which are the slow
 -- block's, counts and frames. The levels that are taken are those before the end of their sample. Each fast run answers
--- its sample as the fast block over bytes, after the fast run before it, by at most so many instructions and steps, and
--- what is told of it is read off its run without inner requests. No frame of either level stands below the stack's
--- start.
+-- its sample, which is one of the fast ones, as the fast block over bytes, after the fast run before it, by at most so
+-- many instructions and steps, and what is told of it is read off its run without inner requests. No frame of either
+-- level stands below the stack's start.
 pub record AnswersAtTwoLevels (slow fast : Block) (two : Two) (flags : ℕ) (slow_samples fast_samples : List (List ℕ))
     (levels : List Level) : Type 0 where
   pub arrived : (two_rows two slow_samples fast_samples levels flags).arrived ≡ true
@@ -90,6 +94,8 @@ pub record AnswersAtTwoLevels (slow fast : Block) (two : Two) (flags : ℕ) (slo
       (two_rows two slow_samples fast_samples levels flags).rows
   pub taken : map (λ ts. asked ts) (two_rows two slow_samples fast_samples levels flags).told
       ≡ taken_by 1 levels (map (λ r. r.steps) (two_rows two slow_samples fast_samples levels flags).rows)
+  pub fast_numbers : All (λ f. (1 ≤ f.number) × (f.number ≤ length fast_samples))
+      (fast_runs_of two slow_samples fast_samples levels flags)
   pub fast_answers : AreAnswersOf Byte fast (fast_most two.fast.instr_bound) (λ o. 0)
       (map (λ f. bytes_of fast_samples f.number) (fast_runs_of two slow_samples fast_samples levels flags))
       (map answer_of_fast (fast_runs_of two slow_samples fast_samples levels flags))
@@ -97,6 +103,12 @@ pub record AnswersAtTwoLevels (slow fast : Block) (two : Two) (flags : ℕ) (slo
       (fast_runs_of two slow_samples fast_samples levels flags)
   pub told : All (AreTold fast two flags fast_samples) (two_rows two slow_samples fast_samples levels flags).told
   pub stack : All (λ r. AreOnStack r.frames) (two_rows two slow_samples fast_samples levels flags).rows
+
+-- Each row is seen with what its levels told of their fast runs.
+abbrev pub RowsAreSeen : Type 0
+RowsAreSeen =
+    (two : Two) (slow fast : List (List ℕ)) (levels : List Level) (flags : ℕ)
+    → map (λ r. r.row) (two_seen two slow fast levels flags) ≡ (two_rows two slow fast levels flags).rows
 
 -- So does each run over samples of two valid blocks, where the image is that of both.
 abbrev pub AnswersItsBlocks : Two → ℕ → List (List ℕ) → List (List ℕ) → List Level → Type 0

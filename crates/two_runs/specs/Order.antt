@@ -1,10 +1,16 @@
--- Levels are requests in order.
+-- Levels are requests in order, and make a plan.
 use Rattle.std.specs.Prelude.{ℕ, List}
 use Rattle.interrupt_plan.specs.declared.levels.Level.{Level}
 use Rattle.interrupt_plan.specs.Levels.{AreGoodLevels}
+use Rattle.interrupt_plan.specs.Plans.{IsGood}
 use Rattle.fz_run.specs.Slices.{IsInOrder}
+use Rattle.two_runs.specs.Answering.{plan_of}
 use Rattle.two_runs.specs.Rows.{place_of_level}
 
 -- Good levels are few, and their samples do not fall.
 abbrev pub LevelsAreInOrder : Type 0
 LevelsAreInOrder = (fast : ℕ) (levels : List Level) → AreGoodLevels fast levels → IsInOrder place_of_level levels
+
+-- The plan at good levels' places is good.
+abbrev pub LevelsMakeAPlan : Type 0
+LevelsMakeAPlan = (fast : ℕ) (levels : List Level) → AreGoodLevels fast levels → IsGood (plan_of levels)

@@ -1,9 +1,9 @@
 // Laws of runs at two levels.
 ghost use Rattle.two_runs.specs.Steps.{FastRunsExist, FastStepsReturn};
-ghost use Rattle.two_runs.specs.Answering.{AnswersUnderLevels};
+ghost use Rattle.two_runs.specs.Answering.{AnswersUnderLevels, RowsAreSeen};
 ghost use Rattle.two_runs.specs.Entered.{FastIsEntered};
 ghost use Rattle.two_runs.specs.Inside.{FastRunsFollow};
-ghost use Rattle.two_runs.specs.Order.{LevelsAreInOrder};
+ghost use Rattle.two_runs.specs.Order.{LevelsAreInOrder, LevelsMakeAPlan};
 ghost use Rattle.two_runs.specs.Outer.{OuterEnters, OuterIsServable, OuterIsQuiet, OuterServes};
 
 use crate::inside::InsideForm;
@@ -16,7 +16,7 @@ use fz_run::laws::{
     requests_are_good, steps_leave_open,
 };
 use run_law::laws::{run_follows, runs_follow, step_laws, writes_are_quiet};
-use two_level::{fast_answers_entered, two_stand_beside};
+use two_level::{alone_has_byte_bounds, fast_answers_entered, two_stand_beside};
 
 /// The whole instructions with which the fast code answers, and its return, are steps from the state
 /// in which it was entered to that behind the interrupt, within its bounds; before each step the
@@ -72,6 +72,7 @@ pub fn outer_is_servable()
 {
     outer_enters();
     fast_runs_exist();
+    alone_has_byte_bounds();
 }
 
 /// An outer interrupt leaves the registers, no sums that run, and memory but for the fast block's RAM, where
@@ -116,10 +117,21 @@ pub fn answers_under_levels()
     first_states_alike();
     answers_under_plans();
     requests_are_good();
+    alone_has_byte_bounds();
     runs_follow::<LevelForm>();
 }
 
 /// Good levels are requests in order.
 pub fn levels_are_in_order()
     ensures { LevelsAreInOrder }
+{}
+
+/// Requests at the places of good levels that write nothing are a good plan.
+pub fn levels_make_a_plan()
+    ensures { LevelsMakeAPlan }
+{}
+
+/// What is seen of a run at two levels has its slow rows.
+pub fn rows_are_seen()
+    ensures { RowsAreSeen }
 {}

@@ -20,7 +20,8 @@ mod serve;
 pub use counts::InnerFrame;
 pub use laws::{
     answers_under_levels, fast_is_entered, fast_runs_exist, fast_runs_follow, fast_steps_return,
-    outer_enters, outer_is_quiet, outer_is_servable, outer_serves,
+    levels_make_a_plan, outer_enters, outer_is_quiet, outer_is_servable, outer_serves,
+    rows_are_seen,
 };
 pub use rows::{TwoRow, run_two};
 pub use serve::FastRow;

@@ -18,6 +18,7 @@ returns c = answers_under_levels (record {
     is_quiet = c.outer_is_quiet.ensures;
     serves = c.outer_serves.ensures;
     servable = c.outer_is_servable.ensures;
+    alone_has_byte_bounds = c.alone_has_byte_bounds.ensures;
   };
   two_stand_beside = c.two_stand_beside.ensures;
   firmware_runs_beside = c.firmware_runs_beside.ensures;
