@@ -59,18 +59,9 @@ impl Certify {
         ensures { IsResultOf (CertifyMakes self fcl.now) result }
     {
         let width = self.width;
-        let compiled = match firmware_of(alloc, width, fcl) {
-            Ok(compiled) => compiled,
-            Err(status) => return Err(status),
-        };
-        let cert = match halved(alloc, width, self.target.get(), &compiled.block) {
-            Ok(cert) => cert,
-            Err(status) => return Err(status),
-        };
-        let text = match text_of_cert(alloc, width, &cert) {
-            Ok(text) => text,
-            Err(status) => return Err(status),
-        };
+        let compiled = firmware_of(alloc, width, fcl)?;
+        let cert = halved(alloc, width, self.target.get(), &compiled.block)?;
+        let text = text_of_cert(alloc, width, &cert)?;
         match lines(alloc, &cert) {
             Ok(lines) => Ok(Work {
                 lines,

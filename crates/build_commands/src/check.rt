@@ -31,14 +31,8 @@ impl Check {
         requires cert { length cert.now ≤ 1048576 }
         ensures { IsResultOf (CheckMakes self fcl.now cert.now) result }
     {
-        let compiled = match firmware_of(alloc, self.width, fcl) {
-            Ok(compiled) => compiled,
-            Err(status) => return Err(status),
-        };
-        let errors = match errors_under(alloc, self.width, &compiled.block, cert) {
-            Ok(errors) => errors,
-            Err(status) => return Err(status),
-        };
+        let compiled = firmware_of(alloc, self.width, fcl)?;
+        let errors = errors_under(alloc, self.width, &compiled.block, cert)?;
         match lines(alloc, errors.as_slice(), compiled.firmware.instr_bound) {
             Ok(lines) => Ok(Work { lines, file: None }),
             Err(_) => Err(Status::Memory),

@@ -27,10 +27,7 @@ impl Compile {
         requires { length fcl.now ≤ 1048576 }
         ensures { IsResultOf (CompileMakes self fcl.now) result }
     {
-        let compiled = match firmware_of(alloc, self.width, fcl) {
-            Ok(compiled) => compiled,
-            Err(status) => return Err(status),
-        };
+        let compiled = firmware_of(alloc, self.width, fcl)?;
         written_firmware(alloc, &compiled.firmware)
     }
 }

@@ -54,10 +54,7 @@ impl Exec {
         requires { length records.now ≤ 1048576 }
         ensures { IsResultOf (ExecMakes self records.now) result }
     {
-        let image = match image_of(alloc, records) {
-            Ok(image) => image,
-            Err(status) => return Err(status),
-        };
+        let image = image_of(alloc, records)?;
         let mut machine = match Machine::<PageMem>::new(alloc, &image, self.flags) {
             Ok(machine) => machine,
             Err(_) => return Err(Status::Memory),

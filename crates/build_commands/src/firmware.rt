@@ -30,10 +30,7 @@ pub fn firmware_of(alloc: Global, width: Width, text: &[u8]) -> Result<Compiled,
     ensures gives { IfOk result (λ c. GivesFirmware width text.now c.block c.firmware) }
     ensures fault { IfErr result (IsRefusal (text_refusals text.now)) }
 {
-    let block = match block_of(alloc, text) {
-        Ok(block) => block,
-        Err(status) => return Err(status),
-    };
+    let block = block_of(alloc, text)?;
     let firmware = match width {
         Width::Byte => compile(alloc, &block),
         Width::Word => compile16(alloc, &block),
@@ -52,10 +49,7 @@ pub fn mailbox_of(alloc: Global, text: &[u8]) -> Result<Compiled, Status>
     ensures gives { IfOk result (λ c. GivesMailbox text.now c.block c.firmware) }
     ensures fault { IfErr result (IsRefusal (text_refusals text.now)) }
 {
-    let block = match block_of(alloc, text) {
-        Ok(block) => block,
-        Err(status) => return Err(status),
-    };
+    let block = block_of(alloc, text)?;
     match compile_post(alloc, &block) {
         Ok(firmware) => Ok(Compiled { block, firmware }),
         Err(LayoutFault::Memory) => Err(Status::Memory),
@@ -70,10 +64,7 @@ pub fn watched_firmware_of(alloc: Global, text: &[u8]) -> Result<Compiled, Statu
     ensures gives { IfOk result (λ c. GivesWatched text.now c.block c.firmware) }
     ensures fault { IfErr result (IsRefusal (text_refusals text.now)) }
 {
-    let block = match block_of(alloc, text) {
-        Ok(block) => block,
-        Err(status) => return Err(status),
-    };
+    let block = block_of(alloc, text)?;
     match compile_scrub(alloc, &block) {
         Ok(firmware) => Ok(Compiled { block, firmware }),
         Err(LayoutFault::Memory) => Err(Status::Memory),
@@ -87,10 +78,7 @@ pub(crate) fn laid_out_block_of(alloc: Global, text: &[u8]) -> Result<Block, Sta
     ensures gives { IfOk result (GivesBlock text.now) }
     ensures fault { IfErr result (IsRefusal (text_refusals text.now)) }
 {
-    let block = match block_of(alloc, text) {
-        Ok(block) => block,
-        Err(status) => return Err(status),
-    };
+    let block = block_of(alloc, text)?;
     match spread(alloc, &block) {
         Ok(_) => Ok(block),
         Err(LayoutFault::Memory) => Err(Status::Memory),

@@ -35,10 +35,7 @@ pub fn handler_of(alloc: Global, records: &[u8]) -> Result<AcceptedHandler, Stat
     ensures handler { IfOk result (λ a. GivesHandler records.now a.image a.handler.instrs) }
     ensures fault { IfErr result (IsRefusal (handler_refusals records.now)) }
 {
-    let image = match image_of(alloc, records) {
-        Ok(image) => image,
-        Err(status) => return Err(status),
-    };
+    let image = image_of(alloc, records)?;
     match check_handler(alloc, &image) {
         Ok(handler) => Ok(AcceptedHandler { image, handler }),
         Err(HandlerFault::Memory) => Err(Status::Memory),
@@ -51,10 +48,7 @@ pub fn work(alloc: Global, records: &[u8]) -> Result<Work, Status>
     requires { length records.now ≤ 1048576 }
     ensures { IsResultOf (HcheckMakes records.now) result }
 {
-    let accepted = match handler_of(alloc, records) {
-        Ok(accepted) => accepted,
-        Err(status) => return Err(status),
-    };
+    let accepted = handler_of(alloc, records)?;
     match lines(alloc, accepted.handler) {
         Ok(lines) => Ok(Work { lines, file: None }),
         Err(_) => Err(Status::Memory),

@@ -32,10 +32,7 @@ pub fn require_image(alloc: Global, text: &[u8], wanted: &Image) -> Result<(), S
     ensures image { OnOk result (GivesImage text.now wanted.now) }
     ensures fault { IfErr result (IsRefusal (image_refusals text.now wanted.now)) }
 {
-    let given = match image_of(alloc, text) {
-        Ok(given) => given,
-        Err(status) => return Err(status),
-    };
+    let given = image_of(alloc, text)?;
     match given.bytes.first_difference(&wanted.bytes) {
         Some(at) => Err(Status::Image(ImageFault::Byte(
             at,

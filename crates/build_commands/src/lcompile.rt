@@ -27,10 +27,7 @@ pub fn work(alloc: Global, slow: &[u8], fast: &[u8]) -> Result<Work, Status>
     requires fast { length fast.now ≤ 1048576 }
     ensures { IsResultOf (LcompileMakes slow.now fast.now) result }
 {
-    let both = match two_of(alloc, slow, fast) {
-        Ok(both) => both,
-        Err(status) => return Err(status),
-    };
+    let both = two_of(alloc, slow, fast)?;
     match lines(alloc, &both.two) {
         Ok(lines) => written_image(alloc, &both.two.image, OUT, lines),
         Err(_) => Err(Status::Memory),

@@ -14,10 +14,7 @@ pub fn work(alloc: Global, fcl: &[u8]) -> Result<Work, Status>
     requires { length fcl.now ≤ 1048576 }
     ensures { IsResultOf (McompileMakes fcl.now) result }
 {
-    let compiled = match mailbox_of(alloc, fcl) {
-        Ok(compiled) => compiled,
-        Err(status) => return Err(status),
-    };
+    let compiled = mailbox_of(alloc, fcl)?;
     written_firmware(alloc, &compiled.firmware)
 }
 

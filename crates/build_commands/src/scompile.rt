@@ -18,10 +18,7 @@ pub fn work(alloc: Global, fcl: &[u8]) -> Result<Work, Status>
     requires { length fcl.now ≤ 1048576 }
     ensures { IsResultOf (ScompileMakes fcl.now) result }
 {
-    let compiled = match watched_firmware_of(alloc, fcl) {
-        Ok(compiled) => compiled,
-        Err(status) => return Err(status),
-    };
+    let compiled = watched_firmware_of(alloc, fcl)?;
     written_firmware(alloc, &compiled.firmware)
 }
 

@@ -30,10 +30,7 @@ pub fn two_of(alloc: Global, slow: &[u8], fast: &[u8]) -> Result<CompiledTwo, St
     ensures gives { IfOk result (λ c. GivesTwo slow.now fast.now c.slow c.fast c.two) }
     ensures fault { IfErr result (IsRefusal (two_refusals slow.now fast.now)) }
 {
-    let slow_block = match laid_out_block_of(alloc, slow) {
-        Ok(block) => block,
-        Err(status) => return Err(status),
-    };
+    let slow_block = laid_out_block_of(alloc, slow)?;
     let fast_block = match laid_out_block_of(alloc, fast) {
         Ok(block) => block,
         Err(status) => return Err(status.of_fast()),

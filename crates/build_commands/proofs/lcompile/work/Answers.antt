@@ -14,20 +14,20 @@ use Rattle.build_commands.proofs.lcompile.work.Goals as goal
 bound_alone : (b : Block) (f : Firmware) → IsAlone b f → f.instr_bound ≡ instruction_bound Byte b
 bound_alone b f is = is.firmware.instructions ∙ ap (λ (wide : Bool). instruction_bound (width_of wide) b) is.narrow
 
-pub returns-in-Ok-lines : goal.returns-in-Ok-lines
-returns-in-Ok-lines c =
-    let both = c.in-Ok.both in
+pub returns-in-Ok : goal.returns-in-Ok
+returns-in-Ok c =
+    let both = c.in_ok-both.both in
     let two = both.two in
-    let gives = c.in-Ok.ensures.gives in
+    let gives = c.in_ok-both.ensures.gives in
     let bytes = length two.image.bytes in
-    written_makes (LcompileMakes c.args.slow.now c.args.fast.now) two.image 4 (text_of c.in-Ok-lines.lines.items)
+    written_makes (LcompileMakes c.args.slow.now c.args.fast.now) two.image 4 (text_of c.in-Ok.lines.items)
     c.written_image.result c.written_image.ensures.writes c.written_image.ensures.memory (λ deed w. record {
       slow_block = both.slow;
       fast_block = both.fast;
       two = two;
       gives = gives;
       writes = subst (λ (text : List ℕ). WritesImage two.image 4 text deed)
-          (c.in-Ok-lines.ensures
+          (c.in-Ok.ensures
           ∙ ap₂ (λ (s f : ℕ). lcompile_lines s (fast_most f) bytes) (bound_alone both.slow two.slow gives.both.slow_alone)
           (bound_alone both.fast two.fast gives.both.fast_alone)) w;
     })
