@@ -12,7 +12,7 @@ use crate::work::Work;
 use crate::written::written_image;
 use fz_status::Status;
 use std::alloc::{AllocError, Global};
-use two_level::Two;
+use two_level::{Two, alone_has_byte_bounds};
 
 /// The words SLOW and FAST.
 pub static INPUTS: [u32; 2] = [2, 3];
@@ -27,6 +27,7 @@ pub fn work(alloc: Global, slow: &[u8], fast: &[u8]) -> Result<Work, Status>
     requires fast { length fast.now ≤ 1048576 }
     ensures { IsResultOf (LcompileMakes slow.now fast.now) result }
 {
+    alone_has_byte_bounds();
     let both = two_of(alloc, slow, fast)?;
     match lines(alloc, &both.two) {
         Ok(lines) => written_image(alloc, &both.two.image, OUT, lines),
