@@ -1,11 +1,11 @@
 -- The commands `check FCL CERT` and `check16 FCL CERT`.
-use Rattle.std.specs.Prelude.{◌≡◌, ℕ, List, [], ◌∷◌, ◌++◌, codes, None, Result, Ok, Err}
+use Rattle.std.specs.Prelude.{◌≡◌, ℕ, List, [], ◌∷◌, ◌++◌, codes, Result, Ok, Err}
 use Rattle.fuzzy_meaning.specs.declared.block.Block.{Block}
 use Rattle.eval_code.specs.Bounds.{instruction_bound}
 use Rattle.codegen.specs.declared.firmware.Firmware.{Firmware}
 use Rattle.eval_code.specs.declared.width.Width.{Width}
 use Rattle.build_commands.specs.Certs.{AcceptsCert, RefusesCert}
-use Rattle.build_commands.specs.Deeds.{Deed}
+use Rattle.build_commands.specs.Deeds.{Deed, only_text}
 use Rattle.build_commands.specs.Firmwares.{GivesFirmware, RefusesText}
 use Rattle.build_commands.specs.Lines.{counted, error_line, line}
 use Rattle.fz_status.specs.Refusals.{Refusals, Refuses}
@@ -34,7 +34,7 @@ pub record CheckGives (check : Check) (text cert : List ℕ) (deed : Deed) : Typ
   pub gives : GivesFirmware check.width text block firmware
   pub errors : List ℕ
   pub accepts : AcceptsCert check.width block cert errors
-  pub deed_is : deed ≡ record { text = check_lines errors (instruction_bound check.width block); file = None }
+  pub deed_is : deed ≡ only_text (check_lines errors (instruction_bound check.width block))
 
 -- why its files are refused: the text first
 abbrev pub check_refusals : Check → List ℕ → List ℕ → Refusals

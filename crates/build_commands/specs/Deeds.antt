@@ -1,5 +1,5 @@
 -- What a command leaves to be written and put.
-use Rattle.std.specs.Prelude.{ℕ, List, Option, option_map, Result, Ok, Err}
+use Rattle.std.specs.Prelude.{ℕ, List, None, Option, option_map, Result, Ok, Err}
 use Rattle.fz_shelf.specs.Lines.{text_of}
 use Rattle.fz_status.specs.declared.status.Status.{Status}
 use Rattle.fz_status.specs.declared.status.Status.TheVariants as status
@@ -9,6 +9,10 @@ use Rattle.build_commands.specs.declared.work.Work.{Work}
 pub record Deed : Type 0 where
   pub text : List ℕ
   pub file : Option (ℕ × List ℕ)
+
+-- a deed that writes no file
+abbrev pub only_text : List ℕ → Deed
+only_text t = record { text = t; file = None }
 
 abbrev pub deed_of : Work → Deed
 deed_of w = record { text = text_of w.lines.items; file = option_map (λ p. (p.0, p.1.items)) w.file }

@@ -1,6 +1,6 @@
 -- The command `exec IMAGE STEPS FLAGS`.
 use Rattle.std.specs.Prelude.{◌≡◌, ℕ, List, [], ◌∷◌, codes}
-use Rattle.std.specs.Prelude.{Option, None, option_and_then, option_map, Result, Ok, Err}
+use Rattle.std.specs.Prelude.{Option, option_and_then, option_map, Result, Ok, Err}
 use Rattle.cpu12_asm.specs.declared.image.Image.{Image}
 use Rattle.cpu12_isa.specs.declared.instr.Regs.{Regs}
 use Rattle.cpu12_parts.specs.State.{State}
@@ -10,7 +10,7 @@ use Rattle.cpu12_emul.specs.Step.{reset_with}
 use Rattle.cpu12_emul.specs.declared.ends.RunEnd.{RunEnd}
 use Rattle.cpu12_emul.specs.declared.ends.RunEnd.TheVariants as end
 use Rattle.srecord.specs.Texts.{GivesImage}
-use Rattle.build_commands.specs.Deeds.{Deed}
+use Rattle.build_commands.specs.Deeds.{Deed, only_text}
 use Rattle.build_commands.specs.Images.{records_refusals}
 use Rattle.build_commands.specs.Lines.{line, with_registers}
 use Rattle.fz_status.specs.Refusals.{Refusals, Refuses}
@@ -50,7 +50,7 @@ pub record ExecGives (exec : Exec) (text : List ℕ) (deed : Deed) : Type 0 wher
   pub steps : ℕ
   pub last : State
   pub arrives : Ends exec text (end.Arrived steps) last
-  pub deed_is : deed ≡ record { text = exec_line last.regs steps; file = None }
+  pub deed_is : deed ≡ only_text (exec_line last.regs steps)
 
 -- the text gives no image, or the run ends elsewhere
 abbrev pub exec_refusals : Exec → List ℕ → Refusals

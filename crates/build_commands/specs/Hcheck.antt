@@ -1,9 +1,9 @@
 -- The command `hcheck HANDLER`.
-use Rattle.std.specs.Prelude.{◌≡◌, ℕ, List, [], ◌∷◌, codes, None, Result, Ok, Err}
+use Rattle.std.specs.Prelude.{◌≡◌, ℕ, List, [], ◌∷◌, codes, Result, Ok, Err}
 use Rattle.cpu12_asm.specs.declared.image.Image.{Image}
 use Rattle.handler_check.specs.Images.{IsHandler, IsFault}
 use Rattle.srecord.specs.Texts.{GivesImage}
-use Rattle.build_commands.specs.Deeds.{Deed}
+use Rattle.build_commands.specs.Deeds.{Deed, only_text}
 use Rattle.build_commands.specs.Images.{records_refusals}
 use Rattle.build_commands.specs.Lines.{line}
 use Rattle.fz_status.specs.Refusals.{Refusals, Refuses}
@@ -34,7 +34,7 @@ pub record HcheckGives (text : List ℕ) (deed : Deed) : Type 0 where
   pub image : Image
   pub instrs : ℕ
   pub gives : GivesHandler text image instrs
-  pub deed_is : deed ≡ record { text = line (codes "handler instructions ") instrs; file = None }
+  pub deed_is : deed ≡ only_text (line (codes "handler instructions ") instrs)
 
 abbrev pub HcheckMakes : List ℕ → Result Deed Status → Type 0
 HcheckMakes text (Ok deed) = HcheckGives text deed
