@@ -34,7 +34,8 @@ use run_reports::laws::{
 };
 use std::alloc::Global;
 use trace_io::{Sample, spelled_traces_have_no_fault};
-use two_runs::run_two;
+use two_level::alone_has_byte_bounds;
+use two_runs::{levels_make_a_plan, rows_are_seen, run_two};
 
 /// `lrun SLOW FAST IMAGE SCERT FCERT STRACE FTRACE LEVELS FLAGS`
 #[derive(Clone, Copy, Debug, PartialEq, Eq)]
@@ -114,6 +115,9 @@ impl Lrun {
         answers_keep_the_bound();
         posted_answers_are_near();
         answers_under_plans();
+        levels_make_a_plan();
+        rows_are_seen();
+        alone_has_byte_bounds();
         spelled_bytes_fit();
         let accepted = Accepted::of(alloc, contents)?;
         let two = &accepted.compiled.two;
