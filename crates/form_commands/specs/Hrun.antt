@@ -1,11 +1,11 @@
 -- The command `hrun FCL HANDLER CERT TRACE PLAN FLAGS`.
-use Rattle.std.specs.Prelude.{◌≡◌, ℕ, List, [], ◌∷◌, ◌++◌, codes, Option, None, option_map}
+use Rattle.std.specs.Prelude.{◌≡◌, ℕ, List, [], ◌∷◌, ◌++◌, codes, Option, option_map}
 use Rattle.std.specs.Prelude.{Result, Ok, Err}
 use Rattle.cpu12_asm.specs.declared.image.Image.{Image}
 use Rattle.eval_code.specs.declared.width.Width.TheVariants.{Byte}
 use Rattle.handled_runs.specs.Forms.{HandledSeen}
 use Rattle.build_commands.specs.Contents.{content_at}
-use Rattle.build_commands.specs.Deeds.{Deed}
+use Rattle.build_commands.specs.Deeds.{Deed, only_text}
 use Rattle.build_commands.specs.Firmwares.{OfFirmware, RefusesText}
 use Rattle.build_commands.specs.Hcheck.{GivesHandler, handler_refusals}
 use Rattle.build_commands.specs.Lines.{counted}
@@ -58,7 +58,7 @@ handled_report errors bound rows = record { errors = errors; bound = bound; rows
 pub record HrunGives (hrun : Hrun) (files : HandledFiles) (deed : Deed) : Type 0 where
   pub report : HandledReport
   pub certified : HandledRun hrun.flags files report
-  pub deed_is : deed ≡ record { text = hrun_lines report; file = None }
+  pub deed_is : deed ≡ only_text (hrun_lines report)
 
 -- why FCL is refused; why HANDLER is, by its records or by its code, FCL giving firmware; and why the files behind are,
 -- HANDLER giving a handler

@@ -20,7 +20,7 @@ use Rattle.fz_status.specs.declared.status.Status.{Status}
 use Rattle.fz_status.specs.declared.status.Status.TheVariants as status
 use Rattle.build_commands.specs.Certs.{AcceptsCert, HasCertFault}
 use Rattle.build_commands.specs.Contents.{content_at}
-use Rattle.build_commands.specs.Deeds.{Deed}
+use Rattle.build_commands.specs.Deeds.{Deed, only_text}
 use Rattle.build_commands.specs.Images.{RefusesImage}
 use Rattle.build_commands.specs.Lines.{counted, error_line, line}
 use Rattle.build_commands.specs.Twos.{GivesTwo, two_refusals}
@@ -101,7 +101,7 @@ level_report errors fast_errors bound fast_bound rows =
 pub record LrunGives (lrun : Lrun) (files : LevelFiles) (deed : Deed) : Type 0 where
   pub report : LevelReport
   pub at_levels : LevelRun lrun.flags files report
-  pub deed_is : deed ≡ record { text = lrun_lines report; file = None }
+  pub deed_is : deed ≡ only_text (lrun_lines report)
 
 -- why a certificate is refused: the slow block's first
 abbrev pub certs_refusals : LevelFiles → Block → Block → Refusals

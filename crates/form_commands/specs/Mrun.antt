@@ -1,5 +1,5 @@
 -- The command `mrun FCL IMAGE CERT TRACE POSTS FLAGS`.
-use Rattle.std.specs.Prelude.{◌≡◌, ℕ, List, [], ◌∷◌, ◌++◌, codes, decimal, length, Option, None, option_map}
+use Rattle.std.specs.Prelude.{◌≡◌, ℕ, List, [], ◌∷◌, ◌++◌, codes, decimal, length, Option, option_map}
 use Rattle.std.specs.Prelude.{Result, Ok, Err}
 use Rattle.std.specs.List.{flat_map}
 use Rattle.fuzzy_meaning.specs.declared.block.Block.{Block}
@@ -18,7 +18,7 @@ use Rattle.fz_status.specs.declared.status.Status.{Status}
 use Rattle.fz_status.specs.declared.status.Status.TheVariants as status
 use Rattle.build_commands.specs.Certs.{AcceptsCert, HasCertFault}
 use Rattle.build_commands.specs.Contents.{content_at}
-use Rattle.build_commands.specs.Deeds.{Deed}
+use Rattle.build_commands.specs.Deeds.{Deed, only_text}
 use Rattle.build_commands.specs.Firmwares.{GivesMailbox, RefusesText}
 use Rattle.build_commands.specs.Images.{RefusesImage}
 use Rattle.build_commands.specs.Lines.{counted, line}
@@ -79,7 +79,7 @@ mrun_lines r = begun_lines r.errors r.bound ++ (counted answer_line 1 r.answers
 pub record MrunGives (mrun : Mrun) (files : PostedFiles) (deed : Deed) : Type 0 where
   pub report : PostedReport
   pub posted : PostedRun mrun.flags files report
-  pub deed_is : deed ≡ record { text = mrun_lines report; file = None }
+  pub deed_is : deed ≡ only_text (mrun_lines report)
 
 -- FCL gives firmware in the mailbox form of which this holds
 abbrev pub OfMailbox : List ℕ → (Block → Firmware → Type 0) → Type 0

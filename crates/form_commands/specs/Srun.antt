@@ -1,5 +1,5 @@
 -- The command `srun FCL IMAGE CERT TRACE PLAN UPSETS FLAGS`.
-use Rattle.std.specs.Prelude.{◌≡◌, ℕ, List, [], ◌∷◌, ◌++◌, codes, Option, None, option_map, Result, Ok, Err}
+use Rattle.std.specs.Prelude.{◌≡◌, ℕ, List, [], ◌∷◌, ◌++◌, codes, Option, option_map, Result, Ok, Err}
 use Rattle.fuzzy_meaning.specs.declared.block.Block.{Block}
 use Rattle.codegen.specs.declared.firmware.Firmware.{Firmware}
 use Rattle.eval_code.specs.declared.width.Width.TheVariants.{Byte}
@@ -14,7 +14,7 @@ use Rattle.fz_status.specs.Words.{Text, word_at}
 use Rattle.fz_status.specs.declared.status.Status.{Status}
 use Rattle.fz_status.specs.declared.status.Status.TheVariants as status
 use Rattle.build_commands.specs.Contents.{content_at}
-use Rattle.build_commands.specs.Deeds.{Deed}
+use Rattle.build_commands.specs.Deeds.{Deed, only_text}
 use Rattle.build_commands.specs.Firmwares.{GivesWatched, RefusesText}
 use Rattle.build_commands.specs.Images.{RefusesImage}
 use Rattle.build_commands.specs.Lines.{counted}
@@ -72,7 +72,7 @@ pub record AcceptsWatched (files : WatchedFiles) (block : Block) (firmware : Fir
 pub record SrunGives (srun : Srun) (files : WatchedFiles) (deed : Deed) : Type 0 where
   pub report : WatchedReport
   pub watched : WatchedRun srun.flags files report
-  pub deed_is : deed ≡ record { text = srun_lines report; file = None }
+  pub deed_is : deed ≡ only_text (srun_lines report)
 
 -- FCL gives firmware with watched tables of which this holds
 abbrev pub OfWatched : List ℕ → (Block → Firmware → Type 0) → Type 0

@@ -1,18 +1,15 @@
 use Rattle.std.proofs.Common.{ℕ, ◌<◌, ◌^◌, List, ◌++◌, ap, ap₂, sym, ◌∙◌, rules}
-use Rattle.std.specs.Prelude.{None, map}
+use Rattle.std.specs.Prelude.{map}
 use Rattle.handled_runs.specs.Forms.{row_seen}
 use Rattle.handled_runs.specs.declared.rows.HandledRow.{HandledRow}
 use Rattle.build_commands.specs.Contents.{bytes_of}
-use Rattle.build_commands.specs.Deeds.{Deed}
+use Rattle.build_commands.specs.Deeds.{only_text}
 use Rattle.build_commands.specs.Lines.{counted}
 use Rattle.build_commands.proofs.Algebra.{counted-map}
 use Rattle.form_commands.specs.Hrun.{handled_files, handled_report, handled_row_lines}
 use Rattle.run_reports.specs.RowLines.{begun_lines}
 use Rattle.form_commands.proofs.HandledLemmas.{handles}
 use Rattle.form_commands.proofs.hrun.Hrun.work.Goals as goal
-
-abbrev only_text : List ℕ → Deed
-only_text t = record { text = t; file = None }
 
 pub returns-in-Ok-lines : goal.returns-in-Ok-lines
 returns-in-Ok-lines c =

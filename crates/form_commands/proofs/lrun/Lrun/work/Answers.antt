@@ -1,16 +1,13 @@
 use Rattle.std.proofs.Common.{ℕ, ◌<◌, ◌^◌, List, ap, ◌∙◌, rules}
-use Rattle.std.specs.Prelude.{None, map}
+use Rattle.std.specs.Prelude.{map}
 use Rattle.two_level.specs.Images.{fast_most}
 use Rattle.two_runs.specs.Harness.{row_seen}
 use Rattle.two_runs.specs.declared.rows.TwoRow.{TwoRow}
 use Rattle.build_commands.specs.Contents.{bytes_of}
-use Rattle.build_commands.specs.Deeds.{Deed}
+use Rattle.build_commands.specs.Deeds.{only_text}
 use Rattle.form_commands.specs.Lrun.{level_files, level_report, lrun_lines}
 use Rattle.form_commands.proofs.LevelLemmas.{levels_run}
 use Rattle.form_commands.proofs.lrun.Lrun.work.Goals as goal
-
-abbrev only_text : List ℕ → Deed
-only_text t = record { text = t; file = None }
 
 pub returns-in-Ok-lines : goal.returns-in-Ok-lines
 returns-in-Ok-lines c =

@@ -1,14 +1,11 @@
 use Rattle.std.proofs.Common.{ℕ, List, ap, ◌∙◌}
-use Rattle.std.specs.Prelude.{None, map}
+use Rattle.std.specs.Prelude.{map}
 use Rattle.posted_runs.specs.Runs.{answer_seen, frames_seen}
 use Rattle.build_commands.specs.Contents.{bytes_of}
-use Rattle.build_commands.specs.Deeds.{Deed}
+use Rattle.build_commands.specs.Deeds.{only_text}
 use Rattle.form_commands.specs.Mrun.{mrun_lines, posted_files, posted_report}
 use Rattle.form_commands.proofs.PostedLemmas.{posts_run}
 use Rattle.form_commands.proofs.mrun.Mrun.work.Goals as goal
-
-abbrev only_text : List ℕ → Deed
-only_text t = record { text = t; file = None }
 
 pub returns-in-Ok-lines : goal.returns-in-Ok-lines
 returns-in-Ok-lines c =

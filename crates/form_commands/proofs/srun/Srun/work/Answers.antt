@@ -1,18 +1,15 @@
 use Rattle.std.proofs.Common.{List, ℕ, ◌++◌, ap, ap₂, sym, ◌∙◌}
-use Rattle.std.specs.Prelude.{None, map}
+use Rattle.std.specs.Prelude.{map}
 use Rattle.watched_runs.specs.Rows.{row_seen}
 use Rattle.watched_runs.specs.declared.form.WatchedRow.{WatchedRow}
 use Rattle.build_commands.specs.Contents.{bytes_of}
-use Rattle.build_commands.specs.Deeds.{Deed}
+use Rattle.build_commands.specs.Deeds.{only_text}
 use Rattle.build_commands.specs.Lines.{counted}
 use Rattle.build_commands.proofs.Algebra.{counted-map}
 use Rattle.run_reports.specs.RowLines.{begun_lines}
 use Rattle.form_commands.specs.Srun.{watched_files, watched_report, watched_row_lines}
 use Rattle.form_commands.proofs.WatchedLemmas.{watches}
 use Rattle.form_commands.proofs.srun.Srun.work.Goals as goal
-
-abbrev only_text : List ℕ → Deed
-only_text t = record { text = t; file = None }
 
 pub returns-in-Ok-lines : goal.returns-in-Ok-lines
 returns-in-Ok-lines c =
