@@ -9,8 +9,8 @@ use Rattle.std.proofs.lemmas.Bool.Decides.{nat_tests}
 use Rattle.cpu12_isa.specs.Memory.{bytes_at, from, plus}
 use Rattle.cpu12_parts.specs.State.{State}
 use Rattle.run_law.specs.Forms.{Form, rows_from}
-use Rattle.fz_run.specs.Outlooks.{Outlook, at_position, from_here}
-use Rattle.fz_run.specs.Positions.{Position, all_numbered, numbered, positions, positions_or}
+use Rattle.run_forms.specs.Outlooks.{Outlook, at_position, from_here}
+use Rattle.run_forms.specs.Positions.{Position, all_numbered, numbered, positions, positions_or}
 use Rattle.debug_script.specs.Going.{AreTold, Leads, is_other, place_of, with_byte}
 use Rattle.debug_script.specs.Places.{distance, on}
 use Rattle.debug_script.specs.Showing.{differs, marks_after, place_after, shown_from, shown_of, stops}

@@ -1,8 +1,8 @@
 -- How far a session has gone.
 use Rattle.std.specs.Prelude.{◌≡◌, ◌==◌, ◌≤◌, ℕ, Bool, not, List, [], ◌∷◌, slice_index}
 use Rattle.cpu12_parts.specs.State.{State}
-use Rattle.fz_run.specs.Outlooks.{Outlook, from_here}
-use Rattle.fz_run.specs.Positions.{Position}
+use Rattle.run_forms.specs.Outlooks.{Outlook, from_here}
+use Rattle.run_forms.specs.Positions.{Position}
 
 -- the positions from where a session stands on
 abbrev pub place_of : {T : Type 0} → Outlook T → List Position

@@ -6,7 +6,7 @@ use Rattle.std.specs.List.{list_any}
 use Rattle.std.specs.Ordering.{nat_cmp}
 use Rattle.std.specs.Set.{remove_key}
 use Rattle.cpu12_isa.specs.Memory.{bytes_at, from}
-use Rattle.fz_run.specs.Positions.{Position}
+use Rattle.run_forms.specs.Positions.{Position}
 use Rattle.debug_script.specs.Places.{distance, on}
 use Rattle.debug_script.specs.declared.marks.Marks.{Marks}
 use Rattle.debug_script.specs.declared.order.Order.{Order}

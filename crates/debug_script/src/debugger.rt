@@ -6,7 +6,7 @@ ghost use Rattle.std.specs.Ordering.{nat_cmp};
 ghost use Rattle.cpu12_isa.specs.Memory.{bytes_at, from};
 ghost use Rattle.interrupt_plan.specs.Plans.{IsGood};
 ghost use Rattle.fz_run.specs.Answering.{AnswersItsBlock};
-ghost use Rattle.fz_run.specs.Positions.{positions};
+ghost use Rattle.run_forms.specs.Positions.{positions};
 ghost use Rattle.fz_run.specs.Rows.{first_state, firmware_rows, input_bytes, row_seen};
 ghost use Rattle.debug_script.specs.Going.{AreTold, Leads, is_other, place_of, with_byte};
 ghost use Rattle.debug_script.specs.Places.{distance, on};

@@ -6,7 +6,7 @@ use Rattle.std.specs.declared.alloc.Global.{Global}
 use Rattle.cpu12_emul.specs.declared.ends.Frame.{Frame}
 use Rattle.fz_shelf.specs.Lines.{text_of}
 use Rattle.fz_status.specs.FaultLines.{newline}
-use Rattle.fz_run.specs.Rows.{boundary_seen}
+use Rattle.run_forms.specs.Rows.{boundary_seen}
 use Rattle.two_runs.specs.Runs.{FastSeen}
 use Rattle.build_commands.specs.Lines.{counted, error_line, line}
 use Rattle.build_commands.proofs.Algebra.{counted_more, text_more, text_of-snoc}

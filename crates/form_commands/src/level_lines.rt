@@ -2,7 +2,7 @@
 ghost use Rattle.std.specs.Prelude.{◌≡◌, ◌++◌, flat_map, map, string_bytes, IfOk, OnOk, Some, None};
 ghost use Rattle.std.specs.List.{slice_index_or};
 ghost use Rattle.fz_shelf.specs.Lines.{text_of};
-ghost use Rattle.fz_run.specs.Rows.{boundary_seen};
+ghost use Rattle.run_forms.specs.Rows.{boundary_seen};
 ghost use Rattle.two_level.specs.Images.{fast_most};
 ghost use Rattle.two_runs.specs.Counts.{inner_seen};
 ghost use Rattle.two_runs.specs.Harness.{fast_seen, row_seen};

@@ -32,8 +32,9 @@ use Rattle.run_law.specs.Uninterrupted.{uninterrupted, counted}
 use Rattle.run_law.specs.Following.{Completes, AllComplete, AllWithin}
 use Rattle.run_law.proofs.Algebra.{before_at, before_weaker}
 use Rattle.fz_run.specs.Forms.{given, answer_size, answers_at, answers_in, with_writes}
-use Rattle.fz_run.specs.Rows.{requests_of, arrival, first_state, firmware_rows}
-use Rattle.fz_run.specs.Arrival.{ArrivesPlainly}
+use Rattle.run_forms.specs.Rows.{arrival}
+use Rattle.fz_run.specs.Rows.{requests_of, first_state, firmware_rows}
+use Rattle.run_forms.specs.Arrival.{ArrivesPlainly}
 use Rattle.fz_run.specs.Facts.{FactsBeside, FactsAlone, WaitsAlone}
 use Rattle.fz_run.specs.Instructions.{AreSteps, IsServing}
 use Rattle.fz_run.specs.Following.{row_of_sample, rows_of_samples, IsLow, FollowsAlone, AllWait}

@@ -1,9 +1,4 @@
-pub mod Takings
-pub mod Onward
 pub mod PortBytes
-pub mod Arrivals
-pub mod PlanSlices
-pub mod RowSteps
 pub mod Stretches
 pub mod Stretching
 pub mod PlainSteps
@@ -16,7 +11,4 @@ pub mod AnsweredRows
 pub mod Requests
 pub mod StandAlone
 pub mod UsedLaws
-pub mod Comings
-pub mod Outlooks
-pub mod AtOnce
 pub mod OpenBytes

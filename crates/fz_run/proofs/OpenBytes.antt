@@ -19,7 +19,7 @@ use Rattle.cpu12_emul.specs.Simulation.{Simulates, AreSumsReady, HasRoom, IsShow
 use Rattle.run_law.specs.Uninterrupted.{stepped, state_by}
 use Rattle.fz_run.specs.Facts.{Facts, IsStackOfOneCall}
 use Rattle.fz_run.specs.OpenBytes.{AreOpenAlike, StepsLeaveOpen, GivenLeavesOpen}
-use Rattle.fz_run.proofs.Algebra.{placed_in}
+use Rattle.run_forms.proofs.Algebra.{placed_in}
 
 -- the laws of lower crates
 pub record OpenLaws : Type 0 where

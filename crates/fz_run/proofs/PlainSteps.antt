@@ -1,5 +1,5 @@
 -- A plain instruction is one step, before which the state keeps the facts.
-use Rattle.std.proofs.Common.{ℕ, Bool, Result, Ok, refl, ap, sym, ◌∙◌, subst, inl, min}
+use Rattle.std.proofs.Common.{ℕ, Bool, refl, sym, subst, inl, min}
 use Rattle.cpu12_isa.specs.declared.instr.Instr.{Instr}
 use Rattle.cpu12_isa.specs.Act.{read_by}
 use Rattle.cpu12_isa.specs.Agreement.{AllShown, Uncovers}
@@ -13,27 +13,18 @@ use Rattle.cpu12_parts.specs.State.{State}
 use Rattle.cpu12_parts.specs.Whole.{IsPlainStep}
 use Rattle.cpu12_emul.specs.declared.ends.Stepped.TheVariants.{Plain}
 use Rattle.cpu12_emul.specs.Simulation.{AreSumsReady, PlainIsStep}
-use Rattle.cpu12_emul.specs.Step.{Left, Next, applied}
 use Rattle.fz_run.specs.Facts.{Facts, AreNoneOrRunning}
-use Rattle.fz_run.specs.Instructions.{PlainIsOneStep}
+use Rattle.run_forms.specs.Arrival.{PlainIsOneStep}
 use Rattle.fz_run.proofs.Stretches.{OneInstruction, Kept, AtInstruction}
 use Rattle.run_law.proofs.Algebra.{one_stretch}
 
--- its step, whatever the state keeps beside
-pub plain_next : PlainIsStep → PlainIsOneStep
-plain_next law flags i s t free p =
-    ap (λ (o : Result Left ℕ). applied o s.mem) (law flags i s (inl free) p.decoded p.plain).0 ∙ ap by (sym p.after)
-  where
-    by : State → Result Next ℕ
-    by u = Ok (record { state = u; kind = Plain })
-
-pub plain_step : PlainIsStep → (open_to : ℕ → Bool) (flags : ℕ) (Q : State → Type 0) (i : Instr) (s t : State) → AtInstruction open_to s
+pub plain_step : PlainIsStep → PlainIsOneStep → (open_to : ℕ → Bool) (flags : ℕ) (Q : State → Type 0) (i : Instr) (s t : State) → AtInstruction open_to s
     → IsPlainStep flags i s t
     → AllShown (is_hidden open_to s.regs.sp) (read_by (act_of flags i s.regs) s.mem)
     → AllShown (is_hidden open_to (min s.regs.sp t.regs.sp)) (addresses (effect flags i s.regs s.mem).writes)
     → Uncovers (is_hidden open_to s.regs.sp) (effect flags i s.regs s.mem).writes (is_hidden open_to t.regs.sp) → Q s
     → OneInstruction (Kept open_to flags Q) flags 0 s t
-plain_step law open_to flags Q i s t c p reads writes covers q =
+plain_step law one open_to flags Q i s t c p reads writes covers q =
     let h = is_hidden open_to s.regs.sp in
     let e : Effect = effect flags i s.regs s.mem in
     let is = law flags i s (inl c.temps) p.decoded p.plain in
@@ -50,4 +41,4 @@ plain_step law open_to flags Q i s t c p reads writes covers q =
       unmasked = c.unmasked;
       sums = subst AreNoneOrRunning (sym c.temps) tt;
     } in
-    one_stretch (Kept open_to flags Q) flags Plain s t refl (facts, q) (plain_next law flags i s t c.temps p)
+    one_stretch (Kept open_to flags Q) flags Plain s t refl (facts, q) (one flags i s t c.temps p)

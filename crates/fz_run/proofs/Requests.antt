@@ -1,13 +1,30 @@
--- Good requests, and bytes that no plan writes.
+-- The requests of a good plan are in order, and those of each sample are good.
 use Rattle.std.proofs.Common.{◌≡◌, ℕ, suc, ◌<◌, ◌≤◌, Bool, true, false, List, [], ◌∷◌, sym, ◌∙◌, subst, arith, refl, inl, inr, ◌⊎◌}
 use Rattle.std.specs.Prelude.{All}
 use Rattle.interrupt_plan.specs.declared.Request.{Request}
 use Rattle.interrupt_plan.specs.Plans.{NotAfter, Ascends, IsGoodRequest, IsGood}
 use Rattle.fz_run.specs.Forms.{place_of}
-use Rattle.fz_run.specs.Rows.{is_of, requests_of}
-use Rattle.fz_run.specs.Given.{RequestsAreGood}
+use Rattle.run_forms.specs.Rows.{is_of}
+use Rattle.fz_run.specs.Rows.{requests_of}
+use Rattle.fz_run.specs.Given.{RequestsAreGood, PlansAreInOrder}
 use Rattle.run_law.specs.Soundness.{AllGood, Ascend}
-use Rattle.fz_run.proofs.PlanSlices.{not_after_le, one_is, other_is, of_here, of_not}
+use Rattle.run_forms.specs.Slices.{Follow}
+use Rattle.run_forms.proofs.Algebra.{one_is, other_is, of_here, of_not}
+
+pub not_after_le : (a b : Request) → NotAfter a b → a.sample ≤ b.sample
+not_after_le a b (inl l) = omega arith
+not_after_le a b (inr e) = let s = e.0 in omega (arith, s)
+
+follow_ascends : (a : Request) (rest : List Request) → Ascends (a ∷ rest) → Follow place_of a.sample rest
+follow_ascends a [] h = tt
+follow_ascends a (b ∷ rest) h = (not_after_le a b h.0, follow_ascends b rest h.1)
+
+follow_good : (plan : List Request) → IsGood plan → Follow place_of 1 plan
+follow_good [] h = tt
+follow_good (a ∷ rest) h = (let first : IsGoodRequest a = h.requests 0 a (omega arith) in first.sample_from, follow_ascends a rest h.ascends)
+
+pub plans_are_in_order : PlansAreInOrder
+plans_are_in_order plan good = record { few = good.few; follow = follow_good plan good }
 
 -- by sample and then by moment, from a pair of numbers on, and each request is good
 abbrev pub Goes : ℕ → ℕ → List Request → Type 0

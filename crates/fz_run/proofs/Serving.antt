@@ -8,6 +8,7 @@ use Rattle.cpu12_parts.specs.State.{State}
 use Rattle.cpu12_parts.specs.Executions.{Execution, all_steps}
 use Rattle.eval_code.specs.declared.layout.Layout.{Layout}
 use Rattle.codegen.specs.Interruptible.{is_idle, IsInterruptible, IsShownInstruction, IsInterruptibleStep}
+use Rattle.run_forms.specs.Arrival.{PlainIsOneStep}
 use Rattle.fz_run.specs.Facts.{IsStackOfOneCall}
 use Rattle.fz_run.specs.Instructions.{IsServing, InstructionsAreSteps}
 use Rattle.run_law.specs.Steps.{StepLaws}
@@ -47,11 +48,11 @@ at_instruction open_to image s c = record {
     high (inl e) = omega arith
     high (inr e) = omega arith
 
-step_stretch : StepLaws → (open_to : ℕ → Bool) (l : Layout) (image : List ℕ) (flags d : ℕ) (s t : State)
+step_stretch : StepLaws → PlainIsOneStep → (open_to : ℕ → Bool) (l : Layout) (image : List ℕ) (flags d : ℕ) (s t : State)
     → flags < 2 ^ 8 → IsInterruptibleStep open_to l image flags d s t
     → OneInstruction (Kept open_to flags (On l image)) flags d s t
 unfolding On
-step_stretch laws open_to l image flags d s t hf h = by h.instruction
+step_stretch laws one open_to l image flags d s t hf h = by h.instruction
   where
     c : AtInstruction open_to s
     c = at_instruction open_to image s h.interruptible
@@ -82,7 +83,7 @@ step_stretch laws open_to l image flags d s t hf h = by h.instruction
     by : IsShownInstruction open_to l flags d s t → OneInstruction (Kept open_to flags (On l image)) flags d s t
     by (inl p) =
         subst (λ (k : ℕ). OneInstruction (Kept open_to flags (On l image)) flags k s t) (sym p.1.1)
-        (plain_step laws.plain_is_step open_to flags (On l image) p.0 s t c p.1.0.step p.1.0.reads p.1.0.writes
+        (plain_step laws.plain_is_step one open_to flags (On l image) p.0 s t c p.1.0.step p.1.0.reads p.1.0.writes
         p.1.0.uncovers here)
     by (inr (inl p)) =
         rev_step laws open_to flags (On l image) d p.0 p.1 s t hf c p.2.step
@@ -95,24 +96,24 @@ step_stretch laws open_to l image flags d s t hf h = by h.instruction
     by (inr (inr (inr p))) =
         average_step laws open_to flags (On l image) d s t hf c p.step p.reads here (second p.away)
 
-stretches : StepLaws → (open_to : ℕ → Bool) (l : Layout) (image : List ℕ) (flags : ℕ) (ds : List ℕ) (s t : State)
+stretches : StepLaws → PlainIsOneStep → (open_to : ℕ → Bool) (l : Layout) (image : List ℕ) (flags : ℕ) (ds : List ℕ) (s t : State)
     → flags < 2 ^ 8 → Execution (IsInterruptibleStep open_to l image flags) ds s t
     → Execution (OneInstruction (Kept open_to flags (On l image)) flags) ds s t
-stretches laws open_to l image flags [] s t hf h = h
-stretches laws open_to l image flags (d ∷ ds) s t hf h = (
+stretches laws one open_to l image flags [] s t hf h = h
+stretches laws one open_to l image flags (d ∷ ds) s t hf h = (
   h.0,
   (
-    step_stretch laws open_to l image flags d s h.0 hf h.1.0,
-    stretches laws open_to l image flags ds h.0 t hf h.1.1,
+    step_stretch laws one open_to l image flags d s h.0 hf h.1.0,
+    stretches laws one open_to l image flags ds h.0 t hf h.1.1,
   ),
 )
 
-pub instructions_are_steps : StepLaws → InstructionsAreSteps
+pub instructions_are_steps : StepLaws → PlainIsOneStep → InstructionsAreSteps
 unfolding On
-instructions_are_steps laws open_to l image flags ds s t hf h =
+instructions_are_steps laws one open_to l image flags ds s t hf h =
     let P = Kept open_to flags (On l image) in
     let Q = IsServing open_to l image flags in
-    let g = all_stretches P flags ds s t (stretches laws open_to l image flags ds s t hf h) in
+    let g = all_stretches P flags ds s t (stretches laws one open_to l image flags ds s t hf h) in
     record {
       goes = g.goes;
       counts = g.counts;

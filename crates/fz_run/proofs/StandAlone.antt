@@ -15,7 +15,7 @@ use Rattle.fz_run.specs.Facts.{FactsAlone}
 use Rattle.fz_run.specs.SoundAlone.{free_opens}
 use Rattle.fz_run.specs.Following.{rows_of_samples, RunsFollowAlone, RunsFollowBeside}
 use Rattle.fz_run.specs.Given.{RequestsAreGood}
-use Rattle.fz_run.proofs.Algebra.{taken_is}
+use Rattle.run_forms.proofs.Algebra.{taken_is}
 
 same_rows : (flags : ℕ) (f : Firmware) (plan : List Request) (k : ℕ) (ns : List ℕ) (samples : List (List ℕ)) (s : State)
     → AllComplete (FactsAlone flags f) (with_writes flags f) ns samples s

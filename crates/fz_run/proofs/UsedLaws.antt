@@ -1,7 +1,7 @@
 -- The laws on which the answers under plans stand.
 use Rattle.codegen.specs.Answers.{FirmwareAnswers}
 use Rattle.codegen.specs.Uninterrupted.{AnsweredAreUninterrupted}
-use Rattle.fz_run.specs.Arrival.{ArrivesPlainly}
+use Rattle.run_forms.specs.Arrival.{ArrivesPlainly}
 use Rattle.fz_run.specs.Following.{RunsFollowAlone}
 use Rattle.fz_run.specs.Given.{GivenIsPut}
 use Rattle.fz_run.specs.Instructions.{InstructionsAreSteps}

@@ -19,7 +19,8 @@ use Rattle.codegen.specs.Uninterrupted.{Answer, AreUninterrupted, AreAnswersOf}
 use Rattle.run_law.specs.Forms.{RowSeen}
 use Rattle.run_law.specs.Following.{AllComplete, AllWithin}
 use Rattle.fz_run.specs.Forms.{with_writes}
-use Rattle.fz_run.specs.Rows.{arrival, first_state, firmware_rows}
+use Rattle.run_forms.specs.Rows.{arrival}
+use Rattle.fz_run.specs.Rows.{first_state, firmware_rows}
 use Rattle.fz_run.specs.Facts.{FactsBeside, FactsAlone}
 use Rattle.fz_run.specs.Following.{IsLow, rows_of_samples, AllWait, FollowsAlone}
 

@@ -4,11 +4,12 @@ use Rattle.cpu12_isa.specs.Act.{write_all}
 use Rattle.cpu12_isa.specs.Memory.{plus, placed, word_of}
 use Rattle.cpu12_parts.specs.State.{State}
 use Rattle.cpu12_emul.specs.Take.{framed}
-use Rattle.run_law.specs.Forms.{Form, RowSeen}
+use Rattle.run_law.specs.Forms.{Form}
 use Rattle.interrupt_plan.specs.declared.Request.{Request}
 use Rattle.codegen.specs.declared.firmware.Firmware.{Firmware}
 use Rattle.eval_code.specs.declared.layout.Layout.{Layout}
 use Rattle.codegen.specs.Interruptible.{is_idle}
+use Rattle.run_forms.specs.Forms.{FormParts, plan_form}
 
 -- the input bytes are written, and READY 1
 abbrev pub given : Layout → List ℕ → State → State
@@ -30,39 +31,6 @@ answers_at wide (suc n) at mem = answer_at wide at mem ∷ answers_at wide n (pl
 
 abbrev pub answers_in : Firmware → State → List ℕ
 answers_in f s = answers_at f.wide f.outputs f.layout.outputs s.mem
-
--- What a form of firmware is, whatever the open flags are: how a sample is given, and taken away again at its end; when
--- it ends; what it answers there; the place of a request, which is its sample, counted from 1, and its moment; and, by
--- the byte from which open flags are taken, what a request's handler does to a state in which no sums run, from the push
--- of the frame up to the return, and what it tells.
-pub record FormParts (S A B : Type 0) : Type 0 where
-  pub give : S → State → State
-  pub leave : S → State → State
-  pub ends : State → Bool
-  pub answers : State → List ℕ
-  pub place : A → ℕ × ℕ
-  pub handle : ℕ → A → State → State
-  pub tells : ℕ → A → State → B
-
--- a request's sample, and its moment
-abbrev pub sample_in : {A : Type 0} → (A → ℕ × ℕ) → A → ℕ
-sample_in place r = (let at = place r in at.0)
-
-abbrev pub moment_in : {A : Type 0} → (A → ℕ × ℕ) → A → ℕ
-moment_in place r = (let at = place r in at.1)
-
--- the form of these parts, where a request is due from its moment on
-abbrev pub plan_form : {S A B : Type 0} → ℕ → FormParts S A B → Form S A B
-plan_form flags parts = record {
-  flags = flags;
-  give = parts.give;
-  leave = parts.leave;
-  ends = λ m s. parts.ends s;
-  answers = parts.answers;
-  moment = moment_in parts.place;
-  handle = parts.handle flags;
-  tells = parts.tells flags;
-}
 
 -- A run of a firmware that stands alone ends where the firmware waits with READY 0.
 abbrev pub stand_alone : {A B : Type 0} → Firmware → (A → ℕ × ℕ) → (ℕ → A → State → State) → (ℕ → A → State → B)
@@ -87,13 +55,3 @@ listed_writes f = stand_alone f place_of (λ flags r. framed r.writes) (λ flags
 
 abbrev pub with_writes : ℕ → Firmware → Form (List ℕ) Request (Unit {0})
 with_writes flags f = plan_form flags (listed_writes f)
-
--- What a run in Rust is of, whose requests are of type A, whose handlers' tellings are of type U and whose rows are of
--- type R: the samples; the form's parts; what is seen of a telling; what a row is to show of the run of its sample and
--- of what all its handlers told; and what a row shows.
-pub record Harness (A U R S B T : Type 0) : Type 0 where
-  pub samples : List S
-  pub parts : FormParts S A B
-  pub told : U → B
-  pub shows : RowSeen S → List B → T
-  pub seen : R → T

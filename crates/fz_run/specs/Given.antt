@@ -8,7 +8,7 @@ use Rattle.codegen.specs.Answers as answers
 use Rattle.run_law.specs.Soundness.{AllGood, Ascend}
 use Rattle.fz_run.specs.Forms.{given, place_of}
 use Rattle.fz_run.specs.Rows.{requests_of}
-use Rattle.fz_run.specs.Slices.{IsInOrder}
+use Rattle.run_forms.specs.Slices.{IsInOrder}
 
 -- Bytes that end in memory are given as whole instructions are.
 abbrev pub GivenIsPut : Type 0

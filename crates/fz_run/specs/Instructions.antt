@@ -1,12 +1,7 @@
 -- Whole instructions as steps.
-use Rattle.std.specs.Prelude.{◌≡◌, ℕ, ◌^◌, ◌<◌, Bool, false, Ok, List, length}
-use Rattle.cpu12_isa.specs.declared.instr.Instr.{Instr}
-use Rattle.cpu12_parts.specs.declared.temps.Temps.TheVariants.{Free}
+use Rattle.std.specs.Prelude.{◌≡◌, ℕ, ◌^◌, ◌<◌, Bool, false, List, length}
 use Rattle.cpu12_parts.specs.State.{State}
 use Rattle.cpu12_parts.specs.Executions.{Execution, all_steps}
-use Rattle.cpu12_parts.specs.Whole.{IsPlainStep}
-use Rattle.cpu12_emul.specs.declared.ends.Stepped.TheVariants.{Plain}
-use Rattle.cpu12_emul.specs.Step.{next_of}
 use Rattle.eval_code.specs.declared.layout.Layout.{Layout}
 use Rattle.codegen.specs.Interruptible.{is_idle, IsInterruptibleStep}
 use Rattle.run_law.specs.Uninterrupted.{uninterrupted, counted}
@@ -34,9 +29,3 @@ InstructionsAreSteps =
     (open_to : ℕ → Bool) (l : Layout) (image : List ℕ) (flags : ℕ) (ds : List ℕ) (s t : State) → flags < 2 ^ 8
     → Execution (IsInterruptibleStep open_to l image flags) ds s t
     → AreSteps (IsServing open_to l image flags) flags ds s t
-
--- A plain instruction is one.
-abbrev pub PlainIsOneStep : Type 0
-PlainIsOneStep =
-    (flags : ℕ) (i : Instr) (s t : State) → s.temps ≡ Free → IsPlainStep flags i s t
-    → next_of flags s ≡ Ok (record { state = t; kind = Plain })

@@ -1,16 +1,9 @@
 pub mod Forms
 pub mod Rows
-pub mod Rest
-pub mod Slices
-pub mod Positions
-pub mod Sessions
-pub mod Outlooks
 pub mod Facts
 pub mod Following
 pub mod SoundAlone
 pub mod Answering
-pub mod Showing
-pub mod Arrival
 pub mod Instructions
 pub mod Given
 pub mod OpenBytes

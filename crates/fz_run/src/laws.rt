@@ -1,20 +1,18 @@
 // Laws of runs.
 ghost use Rattle.fz_run.specs.Answering.{AnswersUnderPlans, FirmwareRunsBeside, FirstStatesAlike};
-ghost use Rattle.fz_run.specs.Arrival.{ArrivesPlainly};
 ghost use Rattle.fz_run.specs.Following.{RunsFollowAlone, RunsFollowBeside};
 ghost use Rattle.fz_run.specs.Given.{GivenIsPut, PlansAreInOrder, RequestsAreGood};
-ghost use Rattle.fz_run.specs.Instructions.{InstructionsAreSteps, PlainIsOneStep};
+ghost use Rattle.fz_run.specs.Instructions.{InstructionsAreSteps};
 ghost use Rattle.fz_run.specs.OpenBytes.{GivenLeavesOpen, StepsLeaveOpen};
-ghost use Rattle.fz_run.specs.Showing.{RowsAreShown};
 
 use crate::alone::StandAlone;
-use crate::form::RunForm;
 use codegen::laws::{
     answered_are_uninterrupted, firmware_answers, firmware_answers_beside, firmware_arrives_alike,
 };
-use cpu12_emul::laws::{plain_is_step, step_agrees, wavr_goes_on};
+use cpu12_emul::laws::{step_agrees, wavr_goes_on};
 use cpu12_isa::laws::writes_stay;
 use cpu12_parts::laws::wav_suspends;
+use run_forms::laws::{arrives_plainly, plain_is_one_step};
 use run_law::laws::{runs_follow, step_laws};
 
 /// The run of a firmware that stands alone follows the run without interrupts under every good plan,
@@ -53,20 +51,6 @@ pub fn answers_under_plans()
     runs_follow_alone();
 }
 
-/// Plain instructions from reset to LOOP are the way by which a run gets there.
-pub fn arrives_plainly()
-    ensures { ArrivesPlainly }
-{
-    plain_is_step();
-}
-
-/// A plain instruction is one step, where no sums run.
-pub fn plain_is_one_step()
-    ensures { PlainIsOneStep }
-{
-    plain_is_step();
-}
-
 /// Whole instructions on a sample, at each of which an interrupt may come, are steps: as many count as
 /// there are instructions, and before each step, also inside REV, REVW and WAV, the state keeps the
 /// facts of a run and the image.
@@ -74,6 +58,7 @@ pub fn instructions_are_steps()
     ensures { InstructionsAreSteps }
 {
     step_laws();
+    plain_is_one_step();
 }
 
 /// A sample is given to a run as it is to whole instructions.
@@ -89,11 +74,6 @@ pub fn requests_are_good()
 /// The requests of a good plan are in order.
 pub fn plans_are_in_order()
     ensures { PlansAreInOrder }
-{}
-
-/// What is shown of the runs of a form has a row for each sample, and what was told of its requests.
-pub fn rows_are_shown<A, U, R, F: RunForm<A, U, R>>()
-    ensures { RowsAreShown F.Given A F.Told }
 {}
 
 /// The firmware of a block answers all samples without interrupts, each within its bound of steps, and

@@ -11,23 +11,16 @@
 //! is taken before the first step. [`run_on`] is a [`Session`] driven to its end: a run that stops at
 //! each boundary.
 //!
-//! Both are runs of one form of firmware, [`form::WithWrites`]. [`run_form`] runs any other
-//! [`form::RunForm`] by the same loop: its samples, its handler and its rows are its own.
+//! Both are runs of one form of firmware, [`form::WithWrites`], by the loop that runs any other
+//! ([`run_forms::run_form`]).
 #![tactic(auto)]
 
 pub mod alone;
-mod at_once;
-mod boundary;
 pub mod form;
 pub mod laws;
 pub mod ports;
-mod progress;
 mod rows;
-mod runs;
-mod sample;
 mod session;
 
 pub use rows::{Row, row_of, run, run_on};
-pub use runs::{Start, run_form};
-pub use sample::{Room, Tally};
 pub use session::Session;

@@ -1,12 +1,12 @@
 //! The rows of a firmware that stands alone, over a list of samples under a plan.
 ghost use Rattle.std.specs.Prelude.{ℕ, ◌≡◌, ◌≤◌, length, map, IfOk};
 ghost use Rattle.interrupt_plan.specs.Plans.{IsGood};
-ghost use Rattle.fz_run.specs.Rows.{row_seen, frames_seen, input_bytes, firmware_rows};
+ghost use Rattle.run_forms.specs.Rows.{frames_seen};
+ghost use Rattle.fz_run.specs.Rows.{row_seen, input_bytes, firmware_rows};
 ghost use Rattle.fz_run.specs.Answering.{AnswersItsBlock};
 
 use crate::laws::answers_under_plans;
 use crate::ports::copy_of;
-use crate::sample::Tally;
 use crate::session::Session;
 use arrayvec::ArrayVec;
 use codegen::Firmware;
@@ -15,6 +15,7 @@ use cpu12_isa::mem::Mem;
 use cpu12_isa::pages::PageMem;
 use fz_list::{List, Memory};
 use interrupt_plan::Plan;
+use run_forms::Tally;
 use std::alloc::Global;
 use trace_io::Sample;
 

@@ -2,18 +2,18 @@
 ghost use Rattle.std.specs.Prelude.{ℕ, ◌≡◌, ◌≤◌, ◌∷◌, [], true, false, min, map, slice_index, IfOk};
 ghost use Rattle.interrupt_plan.specs.Plans.{IsGood};
 ghost use Rattle.fz_run.specs.Rows.{row_seen, input_bytes, first_state, firmware_rows};
-ghost use Rattle.fz_run.specs.Outlooks.{from_here, at_position, of_run};
+ghost use Rattle.run_forms.specs.Outlooks.{from_here, at_position, of_run};
 
 use crate::form::WithWrites;
-use crate::progress::{Progress, advance, drive, into_rows};
 use crate::rows::Row;
-use crate::runs::{Start, begun};
 use codegen::Firmware;
 use cpu12_emul::machine::Machine;
 use cpu12_isa::instr::Regs;
 use cpu12_isa::mem::Mem;
 use fz_list::Memory;
-use interrupt_plan::Plan;
+use interrupt_plan::{Plan, Request};
+use run_forms::laws::rows_are_shown;
+use run_forms::{Progress, Start, advance, begun, drive, into_rows};
 use std::alloc::Global;
 use std::marker::Model;
 use trace_io::Sample;
@@ -33,7 +33,7 @@ impl<'a, M: Mem> Model for Session<'a, M> {
     ghost use Rattle.std.specs.Prelude.{ℕ, List};
     ghost use Rattle.run_law.specs.Forms.{RowSeen};
     ghost use Rattle.fz_run.specs.Rows.{writes_harness};
-    ghost use Rattle.fz_run.specs.Outlooks.{Outlook, outlook_at, IsUnderWay};
+    ghost use Rattle.run_forms.specs.Outlooks.{Outlook, outlook_at, IsUnderWay};
 
     ghost Value = { Outlook (RowSeen (List ℕ)) };
 
@@ -58,6 +58,7 @@ impl<'a, M: Mem> Session<'a, M> {
         ensures { IfOk result (λ s. from_here s ≡ of_run (first_state firmware.now flags)
             (firmware_rows firmware.now (map input_bytes samples.now) plan.now flags)) }
     {
+        rows_are_shown::<Request, (), Row, WithWrites>();
         let form = WithWrites { firmware, samples };
         let start = Start {
             image: &firmware.image,

@@ -19,13 +19,15 @@ use Rattle.codegen.specs.declared.firmware.Firmware.{Firmware}
 use Rattle.codegen.specs.Answers.{LeavesLayout}
 use Rattle.eval_code.specs.Firing.{AreInputBytes}
 use Rattle.fz_run.specs.Forms.{given, with_writes}
-use Rattle.fz_run.specs.Showing.{RowsAreShown}
-use Rattle.fz_run.specs.Rows.{requests_of, first_state, tellings}
+use Rattle.run_forms.specs.Showing.{RowsAreShown}
+use Rattle.run_forms.specs.Rows.{tellings}
+use Rattle.fz_run.specs.Rows.{requests_of, first_state}
 use Rattle.fz_run.specs.Facts.{FactsBeside}
 use Rattle.fz_run.specs.Following.{RunsFollowBeside}
 use Rattle.fz_run.specs.Given.{RequestsAreGood}
 use Rattle.fz_run.specs.Answering.{FirmwareRunsBeside, FirstAlike, FirstStatesAlike}
-use Rattle.fz_run.proofs.Algebra.{map-shown_rows, first_same, all_onto_all}
+use Rattle.run_forms.proofs.Algebra.{map-shown_rows, all_onto_all}
+use Rattle.fz_run.proofs.Algebra.{first_same}
 use Rattle.handled_runs.specs.Open.{is_open_to_code}
 use Rattle.handled_runs.specs.Joint.{joint_memory}
 use Rattle.handled_runs.specs.Forms.{with_code, first_handled, handled_rows, HandledSeen, with_steps, handled_seen}

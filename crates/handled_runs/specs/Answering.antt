@@ -9,7 +9,8 @@ use Rattle.interrupt_plan.specs.Plans.{IsGood}
 use Rattle.codegen.specs.declared.firmware.Firmware.{Firmware}
 use Rattle.eval_code.specs.Firing.{AreInputBytes}
 use Rattle.codegen.specs.Firmwares.{IsFirmwareOf}
-use Rattle.fz_run.specs.Rows.{firmware_rows, tellings}
+use Rattle.run_forms.specs.Rows.{tellings}
+use Rattle.fz_run.specs.Rows.{firmware_rows}
 use Rattle.handled_runs.specs.Forms.{handled_rows, HandledSeen}
 
 -- each interrupt of a sample does at most so many steps

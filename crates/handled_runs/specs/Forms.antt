@@ -6,8 +6,10 @@ use Rattle.handler_check.specs.Running.{Returned, until_rti, at_code}
 use Rattle.interrupt_plan.specs.declared.Request.{Request}
 use Rattle.codegen.specs.declared.firmware.Firmware.{Firmware}
 use Rattle.trace_io.specs.declared.sample.Sample.{Sample}
-use Rattle.fz_run.specs.Forms.{given, FormParts, plan_form, place_of, stand_alone, Harness}
-use Rattle.fz_run.specs.Rows.{requests_of, arrived_at, input_bytes, shown}
+use Rattle.run_forms.specs.Forms.{FormParts, plan_form, Harness}
+use Rattle.fz_run.specs.Forms.{given, place_of, stand_alone}
+use Rattle.run_forms.specs.Rows.{arrived_at, shown}
+use Rattle.fz_run.specs.Rows.{requests_of, input_bytes}
 use Rattle.fz_run.specs.Rows as rows
 use Rattle.handled_runs.specs.declared.rows.HandledRow as declared
 use Rattle.handled_runs.specs.Joint.{joint_bytes}

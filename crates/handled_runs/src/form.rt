@@ -1,6 +1,6 @@
 // A firmware whose interrupts run code, as a form of runs.
 ghost use Rattle.std.specs.Prelude.{ℕ, ◌≡◌, ◌≤◌, ◌<◌, List, Some, length, slice_get, sum, vec_len};
-ghost use Rattle.fz_run.specs.Rest.{counted_at, shown_by};
+ghost use Rattle.run_forms.specs.Rest.{counted_at, shown_by};
 ghost use Rattle.handled_runs.specs.Forms.{HandledSeen, code_harness};
 
 use crate::back::until_rti;
@@ -9,10 +9,10 @@ use codegen::Firmware;
 use cpu12_emul::ends::Frame;
 use cpu12_emul::machine::Machine;
 use cpu12_isa::mem::Mem;
-use fz_run::form::RunForm;
 use fz_run::ports::{answers, give, is_busy_here, is_idle};
-use fz_run::{Tally, row_of};
+use fz_run::row_of;
 use interrupt_plan::Request;
+use run_forms::{RunForm, Tally};
 use trace_io::Sample;
 
 /// A firmware that stands alone beside a handler in memory, with a trace.

@@ -14,11 +14,13 @@ use cpu12_asm::Image;
 use cpu12_emul::laws::images_load_alike;
 use cpu12_isa::pages::PageMem;
 use fz_list::Memory;
-use fz_run::laws::{plans_are_in_order, rows_are_shown};
-use fz_run::{Row, Start, run_form};
+use fz_run::Row;
+use fz_run::laws::plans_are_in_order;
 use handler_check::Handler;
 use handler_check::laws::handlers_are_short;
 use interrupt_plan::{Plan, Request};
+use run_forms::laws::rows_are_shown;
+use run_forms::{Start, run_form};
 use std::alloc::Global;
 use trace_io::Sample;
 

@@ -22,7 +22,8 @@ use Rattle.codegen.specs.SampleTurns.{MailboxTakesSamples}
 use Rattle.codegen.specs.Turns.{MailboxTakesPosts, MailboxIsUninterrupted}
 use Rattle.codegen.specs.Uninterrupted.{is_waiting, AreUninterrupted, AreAnswersOf, UninterruptedAreOne}
 use Rattle.eval_code.specs.Widths.{width_of}
-use Rattle.fz_run.specs.Instructions.{AreSteps, InstructionsAreSteps, PlainIsOneStep}
+use Rattle.run_forms.specs.Arrival.{PlainIsOneStep}
+use Rattle.fz_run.specs.Instructions.{AreSteps, InstructionsAreSteps}
 use Rattle.posted_runs.specs.Turns.{Turn, samples_of}
 use Rattle.fz_run.specs.Rows.{bytes_of}
 use Rattle.posted_runs.specs.Runs.{arrival}

@@ -22,7 +22,8 @@ use Rattle.codegen.specs.SampleTurns.{TakesSamples}
 use Rattle.codegen.specs.Turns.{IsAt, IsLook, TakesTurns}
 use Rattle.codegen.specs.Uninterrupted.{values_in, IsAnswerTo}
 use Rattle.eval_code.specs.Widths.{width_of, answer}
-use Rattle.fz_run.specs.Instructions.{InstructionsAreSteps, PlainIsOneStep}
+use Rattle.run_forms.specs.Arrival.{PlainIsOneStep}
+use Rattle.fz_run.specs.Instructions.{InstructionsAreSteps}
 use Rattle.fz_run.specs.Rows.{bytes_of}
 use Rattle.posted_runs.specs.UninterruptedTurns.{answered_alone, IsIdleRun, IsAnswerRun}
 use Rattle.posted_runs.proofs.Alone.{IsAlone, alone, same_alone}

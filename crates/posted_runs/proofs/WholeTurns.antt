@@ -10,7 +10,8 @@ use Rattle.run_law.specs.Soundness.{Before}
 use Rattle.run_law.proofs.Algebra.{uninterrupted_add, counted_add, before_add}
 use Rattle.eval_code.specs.declared.layout.Layout.{Layout}
 use Rattle.codegen.specs.Turns.{IsMaskedStep}
-use Rattle.fz_run.specs.Instructions.{AreSteps, PlainIsOneStep}
+use Rattle.run_forms.specs.Arrival.{PlainIsOneStep}
+use Rattle.fz_run.specs.Instructions.{AreSteps}
 
 -- a step is defined, and PC is not where the code waits
 pub record IsOnWay (l : Layout) (flags : ℕ) (s : State) : Type 0 where

@@ -13,7 +13,7 @@ use Rattle.srecord.specs.Texts.{GivesImage}
 use Rattle.trace_io.specs.Traces.{Spells as SpellsTrace}
 use Rattle.trace_io.specs.declared.sample.Sample.{Sample}
 use Rattle.fz_run.specs.Answering.{AnswersUnder}
-use Rattle.fz_run.specs.Positions.{Position, positions}
+use Rattle.run_forms.specs.Positions.{Position, positions}
 use Rattle.fz_run.specs.Rows.{first_state, firmware_rows, input_bytes}
 use Rattle.debug_script.specs.Scripts.{script_of}
 use Rattle.debug_script.specs.Showing.{shown}

@@ -6,7 +6,7 @@ use Rattle.std.specs.declared.alloc.Global.{Global}
 use Rattle.std.proofs.Math.Seq.{take-suc}
 use Rattle.std.proofs.lemmas.List.{append-nil}
 use Rattle.fz_shelf.specs.Lines.{text_of}
-use Rattle.fz_run.specs.Rows.{boundary_seen, frames_seen}
+use Rattle.run_forms.specs.Rows.{boundary_seen, frames_seen}
 use Rattle.cpu12_emul.specs.declared.ends.Frame.{Frame}
 use Rattle.build_commands.specs.Lines.{counted, error_line, line}
 use Rattle.build_commands.proofs.Algebra.{flat-map, made_next, made_with, text_of-snoc}

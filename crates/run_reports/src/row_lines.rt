@@ -3,7 +3,8 @@ ghost use Rattle.std.specs.Prelude.{ℕ, List, ◌≡◌, ◌++◌, decimal, str
 ghost use Rattle.std.specs.List.{flat_map};
 ghost use Rattle.fz_shelf.specs.Lines.{text_of};
 ghost use Rattle.cpu12_emul.specs.Take.{frame_seen};
-ghost use Rattle.fz_run.specs.Rows.{boundary_seen, row_seen};
+ghost use Rattle.run_forms.specs.Rows.{boundary_seen};
+ghost use Rattle.fz_run.specs.Rows.{row_seen};
 ghost use Rattle.build_commands.specs.Lines.{counted};
 ghost use Rattle.run_reports.specs.RowLines.{answered, answers_told, begun_lines, frame_line, frame_told};
 ghost use Rattle.run_reports.specs.RowLines.{labelled_row_lines, numbers, row_lines, row_lines_with};

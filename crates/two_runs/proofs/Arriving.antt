@@ -8,7 +8,7 @@ use Rattle.cpu12_parts.specs.Fits.{FitsState}
 use Rattle.cpu12_emul.specs.Fits.{StepFits}
 use Rattle.cpu12_emul.specs.Image.{image_memory}
 use Rattle.cpu12_emul.specs.Step.{Next, next_of, reset_with}
-use Rattle.fz_run.specs.Rows.{then_arrival, arrival}
+use Rattle.run_forms.specs.Rows.{then_arrival, arrival}
 use Rattle.fz_run.specs.Answering.{FirstAlike}
 use Rattle.two_level.specs.declared.two.Two.{Two}
 use Rattle.two_level.specs.Layouts.{is_open_to_fast}

@@ -11,7 +11,7 @@ use Rattle.cpu12_emul.specs.Step.{Next, next_of, is_part}
 use Rattle.cpu12_parts.specs.Cuts.{suspended, wav}
 use Rattle.cpu12_emul.specs.Take.{FrameSeen, frame_of, framed}
 use Rattle.run_law.specs.Forms.{Taking, Ran, takes, taken, told, put_take, one_if, resumes, stuck, then_rest, run_from, ended}
-use Rattle.fz_run.specs.Rest.{is_due}
+use Rattle.run_forms.specs.Rest.{is_due}
 use Rattle.two_runs.specs.declared.counts.Counts.{Counts}
 use Rattle.two_runs.specs.Runs.{fast_form, fast_run}
 use Rattle.two_runs.specs.Counts.{MomentForm, counted, due_at, after, past, past_of, rest_of, counted_at, inner_frames_seen}

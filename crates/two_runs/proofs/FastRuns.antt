@@ -13,7 +13,8 @@ use Rattle.eval_code.specs.Bounds.{step_bound}
 use Rattle.codegen.specs.Uninterrupted.{AreAnswersOf}
 use Rattle.two_level.specs.declared.two.Two.{Two}
 use Rattle.two_level.specs.Images.{fast_most}
-use Rattle.fz_run.specs.Rows.{bytes_of, shown_rows}
+use Rattle.run_forms.specs.Rows.{shown_rows}
+use Rattle.fz_run.specs.Rows.{bytes_of}
 use Rattle.two_runs.specs.Runs.{FastSeen}
 use Rattle.two_runs.specs.Rows.{with_fast}
 use Rattle.two_runs.specs.Answering.{runs_told, fast_runs, answer_of_fast, IsReadOff, IsTold, AreTold}

@@ -18,7 +18,8 @@ use Rattle.fz_run.specs.Facts.{FactsBeside, FactsAlone}
 use Rattle.fz_run.specs.Following.{rows_of_samples}
 use Rattle.fz_run.specs.Given.{RequestsAreGood}
 use Rattle.fz_run.specs.Answering.{AnswerBlock, AnswersUnder, AnswersUnderPlans, RunsBeside, FirmwareRunsBeside, FirstAlike, FirstStatesAlike}
-use Rattle.fz_run.proofs.Algebra.{first_same, all_onto_all}
+use Rattle.run_forms.proofs.Algebra.{all_onto_all}
+use Rattle.fz_run.proofs.Algebra.{first_same}
 use Rattle.two_runs.specs.Runs.{FastSeen}
 use Rattle.two_runs.specs.Inside.{AreOnStack}
 use Rattle.two_runs.specs.Rows.{levels_of, level_form, first_two, two_rows}

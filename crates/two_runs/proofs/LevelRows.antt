@@ -18,7 +18,7 @@ use Rattle.fz_run.specs.Forms.{given, answers_in, with_writes}
 use Rattle.fz_run.specs.Rows.{requests_of}
 use Rattle.fz_run.specs.Facts.{IsStackOfOneCall, FactsBeside}
 use Rattle.fz_run.specs.Following.{rows_of_samples}
-use Rattle.fz_run.proofs.Algebra.{taken_is}
+use Rattle.run_forms.proofs.Algebra.{taken_is}
 use Rattle.two_runs.specs.Inside.{AreOnStack}
 use Rattle.two_runs.specs.Rows.{levels_of}
 use Rattle.two_runs.specs.Answering.{request_of, plan_of, taken_by}

@@ -3,7 +3,7 @@ use Rattle.std.proofs.Common.{ℕ, ◌≤◌, List, [], ◌∷◌, inl, inr, ari
 use Rattle.interrupt_plan.specs.declared.levels.Level.{Level}
 use Rattle.interrupt_plan.specs.Levels.{LevelNotAfter}
 use Rattle.interrupt_plan.specs.Plans.{Ascend}
-use Rattle.fz_run.specs.Slices.{Follow}
+use Rattle.run_forms.specs.Slices.{Follow}
 use Rattle.two_runs.specs.Rows.{place_of_level}
 use Rattle.two_runs.specs.Order.{LevelsAreInOrder}
 

@@ -10,7 +10,7 @@ use Rattle.cpu12_isa.specs.Registers.{frame_bytes}
 use Rattle.cpu12_parts.specs.State.{State}
 use Rattle.eval_code.specs.Evaluation.{HasBytes}
 use Rattle.two_level.specs.Layouts.{fast_layout}
-use Rattle.fz_run.proofs.Algebra.{placed_in}
+use Rattle.run_forms.proofs.Algebra.{placed_in}
 
 -- memory in which the frame is pushed, and that in which the sample's bytes are written too
 abbrev pub framed_mem : State → List ℕ

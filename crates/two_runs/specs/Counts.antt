@@ -5,7 +5,7 @@ use Rattle.cpu12_parts.specs.State.{State}
 use Rattle.cpu12_emul.specs.Step.{next_of}
 use Rattle.cpu12_emul.specs.Take.{FrameSeen, frame_seen}
 use Rattle.run_law.specs.Forms.{Form, Ran, takes, then_rest, run_from, ended}
-use Rattle.fz_run.specs.Rest.{is_due}
+use Rattle.run_forms.specs.Rest.{is_due}
 use Rattle.two_runs.specs.declared.counts.InnerFrame.{InnerFrame}
 use Rattle.two_runs.specs.declared.counts.Counts.{Counts}
 

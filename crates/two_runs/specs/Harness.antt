@@ -2,7 +2,7 @@
 use Rattle.std.specs.Prelude.{ℕ, Option, None, Some, List, map}
 use Rattle.interrupt_plan.specs.declared.levels.Level.{Level}
 use Rattle.trace_io.specs.declared.sample.Sample.{Sample}
-use Rattle.fz_run.specs.Forms.{Harness}
+use Rattle.run_forms.specs.Forms.{Harness}
 use Rattle.fz_run.specs.Rows as plain
 use Rattle.fz_run.specs.Rows.{input_bytes}
 use Rattle.two_level.specs.declared.two.Two.{Two}

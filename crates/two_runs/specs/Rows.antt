@@ -3,8 +3,9 @@ use Rattle.std.specs.Prelude.{ℕ, zero, suc, Option, None, List, slice_get}
 use Rattle.cpu12_parts.specs.State.{State}
 use Rattle.run_law.specs.Forms.{Form, RowSeen, Rows, rows_from}
 use Rattle.interrupt_plan.specs.declared.levels.Level.{Level}
-use Rattle.fz_run.specs.Forms.{FormParts, plan_form, stand_alone}
-use Rattle.fz_run.specs.Rows.{of_sample, arrived_at, shown}
+use Rattle.run_forms.specs.Forms.{FormParts, plan_form}
+use Rattle.fz_run.specs.Forms.{stand_alone}
+use Rattle.run_forms.specs.Rows.{of_sample, arrived_at, shown}
 use Rattle.two_level.specs.declared.two.Two.{Two}
 use Rattle.two_level.specs.Images.{fast_most}
 use Rattle.two_runs.specs.Runs.{FastSeen, Outer, served, told}

@@ -1,6 +1,6 @@
 // A slow firmware with a fast block beside it, as a form of runs.
 ghost use Rattle.std.specs.Prelude.{ℕ, ◌≡◌, ◌≤◌, ◌<◌, List, Option, Some, length, slice_get, vec_len};
-ghost use Rattle.fz_run.specs.Rest.{counted_at, shown_by};
+ghost use Rattle.run_forms.specs.Rest.{counted_at, shown_by};
 ghost use Rattle.two_runs.specs.Runs.{FastSeen};
 ghost use Rattle.two_runs.specs.Rows.{TwoSeen};
 ghost use Rattle.two_runs.specs.Harness.{level_harness};
@@ -11,10 +11,10 @@ use cpu12_emul::ends::Frame;
 use cpu12_emul::machine::Machine;
 use cpu12_isa::mem::Mem;
 use fz_list::List as Items;
-use fz_run::form::RunForm;
+use fz_run::Row;
 use fz_run::ports::{answers, copy_of, give, is_busy_here, is_idle};
-use fz_run::{Row, Tally};
 use interrupt_plan::Level;
+use run_forms::{RunForm, Tally};
 use trace_io::Sample;
 use two_level::Two;
 

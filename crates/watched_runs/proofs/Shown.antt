@@ -7,10 +7,10 @@ use Rattle.codegen.specs.declared.firmware.Firmware.{Firmware}
 use Rattle.eval_code.specs.declared.layout.Layout.{Layout}
 use Rattle.codegen.specs.Watched.{Change, Watched, changed}
 use Rattle.codegen.specs.WatchedCode.{fault_at}
-use Rattle.fz_run.specs.declared.sample.Tally.{Tally}
+use Rattle.run_forms.specs.declared.sample.Tally.{Tally}
 use Rattle.fz_run.specs.Forms.{given, answers_in}
-use Rattle.fz_run.specs.Rest.{counted_at, shown_by}
-use Rattle.fz_run.specs.Rows.{frames_seen, shown}
+use Rattle.run_forms.specs.Rest.{counted_at, shown_by}
+use Rattle.run_forms.specs.Rows.{frames_seen, shown}
 use Rattle.watched_runs.specs.Forms.{given_changed, watched_parts}
 use Rattle.watched_runs.specs.Rows.{FaultSeen, fault_seen}
 use Rattle.watched_runs.proofs.Answers.{take_answers, fault_behind}

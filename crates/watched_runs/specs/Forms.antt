@@ -12,7 +12,8 @@ use Rattle.codegen.specs.Interruptible.{is_idle}
 use Rattle.codegen.specs.Watched.{Watched, changed, restored}
 use Rattle.codegen.specs.WatchedCode.{fault_at}
 use Rattle.fz_run.specs.Facts.{Facts, IsStackOfOneCall}
-use Rattle.fz_run.specs.Forms.{FormParts, given, answers_in, place_of, plan_form}
+use Rattle.run_forms.specs.Forms.{FormParts, plan_form}
+use Rattle.fz_run.specs.Forms.{given, answers_in, place_of}
 
 -- a sample is given, and then the byte is changed
 abbrev pub given_changed : Layout → Watched → State → State

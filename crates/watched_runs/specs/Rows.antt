@@ -6,7 +6,7 @@ use Rattle.interrupt_plan.specs.declared.upsets.Upset.{Upset}
 use Rattle.codegen.specs.declared.firmware.Firmware.{Firmware}
 use Rattle.codegen.specs.Watched.{Watched}
 use Rattle.trace_io.specs.declared.sample.Sample.{Sample}
-use Rattle.fz_run.specs.Forms.{Harness}
+use Rattle.run_forms.specs.Forms.{Harness}
 use Rattle.fz_run.specs.Rows as rows
 use Rattle.fz_run.specs.Rows.{requests_of, first_state, input_bytes}
 use Rattle.watched_runs.specs.Samples.{with_upsets}

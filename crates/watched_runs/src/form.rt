@@ -1,6 +1,6 @@
 //! A firmware with watched tables, as a form of runs.
 ghost use Rattle.std.specs.Prelude.{ℕ, ◌≡◌, ◌<◌, ◌≤◌, ◌+◌, List, Some, length, map, slice_get, vec_len};
-ghost use Rattle.fz_run.specs.Rest.{counted_at, shown_by};
+ghost use Rattle.run_forms.specs.Rest.{counted_at, shown_by};
 ghost use Rattle.fz_run.specs.Rows.{input_bytes};
 ghost use Rattle.codegen.specs.Watched as tables;
 ghost use Rattle.watched_runs.specs.Rows.{FaultSeen, watched_harness};
@@ -11,10 +11,10 @@ use codegen::Firmware;
 use cpu12_emul::ends::Frame;
 use cpu12_emul::machine::Machine;
 use cpu12_isa::mem::Mem;
-use fz_run::form::RunForm;
 use fz_run::ports::{answers, give, is_busy_here, is_idle};
-use fz_run::{Row, Tally, row_of};
+use fz_run::{Row, row_of};
 use interrupt_plan::{Request, Upset};
+use run_forms::{RunForm, Tally};
 use trace_io::Sample;
 
 /// What a sample's run gave, and what FAULT held at its end.

@@ -3,7 +3,8 @@ ghost use Rattle.watched_runs.specs.Answering.{AnswersUnderAllUpsets};
 
 use crate::watched::WatchedTables;
 use codegen::laws::watched_answers;
-use fz_run::laws::{arrives_plainly, given_is_put, instructions_are_steps, requests_are_good};
+use fz_run::laws::{given_is_put, instructions_are_steps, requests_are_good};
+use run_forms::laws::arrives_plainly;
 use run_law::laws::runs_follow;
 
 /// The firmware of a block with watched tables answers every list of samples under every good plan and

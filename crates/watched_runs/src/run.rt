@@ -13,8 +13,8 @@ use codegen::Firmware;
 use cpu12_isa::pages::PageMem;
 use fz_list::Memory;
 use fz_run::laws::plans_are_in_order;
-use fz_run::{Start, run_form};
 use interrupt_plan::{Plan, Upsets};
+use run_forms::{Start, run_form};
 use std::alloc::Global;
 use trace_io::Sample;
 

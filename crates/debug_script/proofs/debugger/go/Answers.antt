@@ -1,5 +1,5 @@
 use Rattle.std.proofs.Common.{◌≡◌, ◌∙◌, true, false, refl, sym}
-use Rattle.fz_run.specs.Outlooks.{at_position, from_here}
+use Rattle.run_forms.specs.Outlooks.{at_position, from_here}
 use Rattle.debug_script.specs.Showing.{stops}
 use Rattle.debug_script.proofs.GoingLemmas.{bytes_stay, further_place, leads_more, stopped_place, stops_there}
 use Rattle.debug_script.proofs.debugger.go.Goals as goal

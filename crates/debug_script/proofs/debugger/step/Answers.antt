@@ -1,5 +1,5 @@
 use Rattle.std.proofs.Common.{◌≡◌, ◌∙◌, refl, sym}
-use Rattle.fz_run.specs.Outlooks.{at_position, from_here}
+use Rattle.run_forms.specs.Outlooks.{at_position, from_here}
 use Rattle.debug_script.proofs.GoingLemmas.{leads_more, step_more}
 use Rattle.debug_script.proofs.debugger.step.Goals as goal
 

@@ -1,6 +1,6 @@
 use Rattle.std.proofs.Common.{◌∙◌, ℕ, ap}
 use Rattle.cpu12_emul.specs.declared.ends.Frame.{Frame}
-use Rattle.fz_run.specs.Rows.{boundary_seen}
+use Rattle.run_forms.specs.Rows.{boundary_seen}
 use Rattle.two_runs.specs.Harness.{row_seen}
 use Rattle.run_reports.specs.RowLines.{frame_line}
 use Rattle.form_commands.proofs.LevelLines.{outer_more}

@@ -1,6 +1,6 @@
 use Rattle.std.proofs.Common.{◌≡◌, ◌++◌, take}
 use Rattle.fz_shelf.specs.Lines.{text_of}
-use Rattle.fz_run.specs.Rows.{boundary_seen}
+use Rattle.run_forms.specs.Rows.{boundary_seen}
 use Rattle.two_runs.specs.Harness.{row_seen}
 use Rattle.build_commands.specs.Lines.{counted}
 use Rattle.form_commands.specs.Lrun.{outer_lines}

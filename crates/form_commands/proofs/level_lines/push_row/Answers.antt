@@ -1,6 +1,6 @@
 use Rattle.std.proofs.Common.{◌∙◌, ◌++◌, ℕ, List, ap, sym}
 use Rattle.fz_shelf.specs.Lines.{text_of}
-use Rattle.fz_run.specs.Rows.{boundary_seen}
+use Rattle.run_forms.specs.Rows.{boundary_seen}
 use Rattle.two_runs.specs.Harness.{row_seen}
 use Rattle.build_commands.proofs.Algebra.{counted-map}
 use Rattle.form_commands.specs.Lrun.{outer_lines}

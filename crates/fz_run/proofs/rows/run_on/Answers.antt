@@ -1,7 +1,7 @@
 use Rattle.std.proofs.Common.{◌≡◌, ◌∙◌, ℕ, List, map, ap}
 use Rattle.run_law.specs.Forms.{RowSeen}
 use Rattle.fz_run.specs.Rows.{row_seen, input_bytes, firmware_rows}
-use Rattle.fz_run.specs.Outlooks.{Ahead}
+use Rattle.run_forms.specs.Outlooks.{Ahead}
 use Rattle.fz_run.proofs.AnsweredRows.{answers_its_block}
 use Rattle.fz_run.proofs.rows.run_on.Goals as goal
 

@@ -1,6 +1,6 @@
 use Rattle.std.proofs.Common.{arith, sym, subst}
 use Rattle.fz_run.specs.Forms.{place_of}
-use Rattle.fz_run.specs.Slices.{IsInOrder}
+use Rattle.run_forms.specs.Slices.{IsInOrder}
 use Rattle.handled_runs.proofs.rows.joint_rows.Goals as goal
 
 pub overflow_cast-form : goal.overflow_cast-form

@@ -1,7 +1,7 @@
 use Rattle.std.proofs.Common.{◌≡◌, ◌++◌, take}
 use Rattle.std.specs.List.{flat_map}
 use Rattle.fz_shelf.specs.Lines.{text_of}
-use Rattle.fz_run.specs.Rows.{boundary_seen}
+use Rattle.run_forms.specs.Rows.{boundary_seen}
 use Rattle.run_reports.specs.RowLines.{frame_line}
 use Rattle.run_reports.proofs.row_lines.push_frames.Given as goal
 

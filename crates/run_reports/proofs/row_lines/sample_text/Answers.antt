@@ -1,6 +1,6 @@
 use Rattle.std.proofs.Common.{◌≡◌, ◌∙◌, length, sym}
 use Rattle.std.proofs.lemmas.List.{length-map}
-use Rattle.fz_run.specs.Rows.{boundary_seen, frames_seen}
+use Rattle.run_forms.specs.Rows.{boundary_seen, frames_seen}
 use Rattle.run_reports.proofs.LineLemmas.{sample_written}
 use Rattle.run_reports.proofs.row_lines.sample_text.Goals as goal
 

@@ -3,7 +3,7 @@ use Rattle.std.proofs.lemmas.List.{length-map}
 use Rattle.interrupt_plan.specs.declared.levels.Level.{Level}
 use Rattle.interrupt_plan.specs.Levels.{AreGoodLevels}
 use Rattle.fz_run.specs.Rows.{input_bytes}
-use Rattle.fz_run.specs.Slices.{IsInOrder}
+use Rattle.run_forms.specs.Slices.{IsInOrder}
 use Rattle.two_runs.specs.Rows.{place_of_level}
 use Rattle.two_runs.proofs.rows.run_two.Goals as goal
 

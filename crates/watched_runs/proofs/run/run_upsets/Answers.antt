@@ -4,8 +4,9 @@ use Rattle.interrupt_plan.specs.declared.Request.{Request}
 use Rattle.interrupt_plan.specs.declared.upsets.Upset.{Upset}
 use Rattle.codegen.specs.Watched.{Watched}
 use Rattle.fz_run.specs.Forms.{place_of}
-use Rattle.fz_run.specs.Slices.{IsInOrder}
-use Rattle.fz_run.specs.Rows.{requests_of, first_state, input_bytes, shown}
+use Rattle.run_forms.specs.Slices.{IsInOrder}
+use Rattle.run_forms.specs.Rows.{shown}
+use Rattle.fz_run.specs.Rows.{requests_of, first_state, input_bytes}
 use Rattle.watched_runs.specs.Samples.{with_upsets}
 use Rattle.watched_runs.specs.Forms.{watched_form}
 use Rattle.watched_runs.specs.Rows.{FaultSeen, fault_seen, upset_rows, faults_of}

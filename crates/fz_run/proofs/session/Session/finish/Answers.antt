@@ -3,7 +3,7 @@ use Rattle.cpu12_parts.specs.State.{State}
 use Rattle.run_law.specs.Forms.{RowSeen}
 use Rattle.interrupt_plan.specs.declared.Request.{Request}
 use Rattle.fz_run.specs.Rows.{writes_harness}
-use Rattle.fz_run.specs.Outlooks.{Outlook, outlook_at}
+use Rattle.run_forms.specs.Outlooks.{Outlook, outlook_at}
 use Rattle.fz_run.proofs.session.Session.finish.Goals as goal
 
 pub returns-clause-rows : goal.returns-clause-rows

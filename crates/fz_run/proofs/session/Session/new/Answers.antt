@@ -4,12 +4,10 @@ use Rattle.run_law.specs.Forms.{RowSeen, Rows}
 use Rattle.interrupt_plan.specs.declared.Request.{Request}
 use Rattle.fz_run.specs.Forms.{place_of, with_writes}
 use Rattle.fz_run.specs.Rows.{requests_of, input_bytes, first_state, firmware_rows, writes_harness}
-use Rattle.fz_run.specs.Positions.{positions}
-use Rattle.fz_run.specs.Slices.{IsInOrder}
-use Rattle.fz_run.specs.Outlooks.{from_here, outlook_at, shown_run}
-use Rattle.fz_run.proofs.Outlooks.{made}
-use Rattle.fz_run.proofs.PlanSlices.{plans_are_in_order}
-use Rattle.fz_run.proofs.RowSteps.{rows_are_shown}
+use Rattle.run_forms.specs.Positions.{positions}
+use Rattle.run_forms.specs.Slices.{IsInOrder}
+use Rattle.run_forms.specs.Outlooks.{Ahead, from_here, outlook_at, shown_run}
+use Rattle.fz_run.proofs.Requests.{plans_are_in_order}
 use Rattle.fz_run.proofs.session.Session.new.Goals as goal
 
 pub begun-requires : goal.begun-requires
@@ -29,5 +27,8 @@ returns g c =
     ap₂ (λ (k : ℕ) (l : List Request). from_here (outlook_at k h l r.progress r.machine.state)) r.ensures.flags (sym same)
     ∙ r.ensures.first
     ∙ ap (λ (l : List Request). shown_run h.shows first (rows l)) same
-    ∙ ap (λ (shown : List (RowSeen (List ℕ))). made (positions first (rows a.plan.now)) shown (rows a.plan.now).state)
-    (let are = rows_are_shown (with_writes a.flags f) f.step_bound (λ k. requests_of k a.plan.now) 1 inputs first in are.rows)
+    ∙ ap (λ (shown : List (RowSeen (List ℕ))). with_rows first (rows a.plan.now) shown)
+    (let are = c.rows_are_shown.ensures (with_writes a.flags f) f.step_bound (λ k. requests_of k a.plan.now) 1 inputs first in are.rows)
+  where
+    with_rows : State → Rows (List ℕ) Request (Unit {0}) → List (RowSeen (List ℕ)) → Ahead (RowSeen (List ℕ))
+    with_rows first all rows = record { left = positions first all; rows = rows; state = all.state }

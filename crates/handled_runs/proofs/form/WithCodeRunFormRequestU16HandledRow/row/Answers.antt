@@ -2,7 +2,7 @@ use Rattle.std.proofs.Common.{◌≡◌, ◌∙◌, ℕ, List, map, ap, ap₂, s
 use Rattle.std.specs.Prelude.{sum}
 use Rattle.std.proofs.lemmas.List.{map-id}
 use Rattle.run_law.specs.Forms.{RowSeen}
-use Rattle.fz_run.specs.Rest.{counted_at, row_by}
+use Rattle.run_forms.specs.Rest.{counted_at, row_by}
 use Rattle.fz_run.specs.Rows as rows
 use Rattle.fz_run.specs.Rows.{input_bytes}
 use Rattle.fz_run.specs.Forms.{answers_in}

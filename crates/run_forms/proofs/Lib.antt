@@ -1,0 +1,9 @@
+pub mod Algebra
+pub mod Takings
+pub mod Onward
+pub mod Arrivals
+pub mod PlanSlices
+pub mod RowSteps
+pub mod Comings
+pub mod Outlooks
+pub mod AtOnce

@@ -1,0 +1,26 @@
+use Rattle.std.proofs.Common.{◌≡◌, ◌-◌, ℕ, length, ap, subst, sym, arith}
+use Rattle.run_forms.specs.Slices.{HaveRoom}
+use Rattle.run_forms.proofs.Outlooks.{steady_before}
+use Rattle.run_forms.proofs.progress.before_samples.Goals as goal
+
+pub returns-clause-way : goal.returns-clause-way
+returns-clause-way g c =
+    let a = c.args in
+    let h = g.F.RunForm.harness a.form.now in
+    let samples = h.samples in
+    let none = ap length c.requires.none in
+    let len = a.rows.ok in
+    let order = c.requires.order in
+    let all : length samples - 0 ≡ length samples = omega arith in
+    record {
+      few = order.few;
+      number = omega arith;
+      first = omega arith;
+      behind = omega arith;
+      follow = order.follow;
+      rooms = subst (λ (n : ℕ). HaveRoom h.parts.place 1 n a.plan.now a.rooms.items) (sym all) c.requires.rooms;
+      rows = omega (arith, len.0, none);
+      room = c.requires.room;
+      stand = steady_before (record { frames = c.new.result; told = c.new-2.result }) c.fresh_stand-stand.result c.fresh_stand-stand.ensures.tally
+          c.new.ensures.items c.new-2.ensures.items;
+    }

@@ -1,0 +1,9 @@
+pub mod Forms
+pub mod Rows
+pub mod Rest
+pub mod Slices
+pub mod Positions
+pub mod Sessions
+pub mod Outlooks
+pub mod Showing
+pub mod Arrival

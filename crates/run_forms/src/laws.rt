@@ -1,0 +1,25 @@
+// Laws of runs of any form.
+ghost use Rattle.run_forms.specs.Arrival.{ArrivesPlainly, PlainIsOneStep};
+ghost use Rattle.run_forms.specs.Showing.{RowsAreShown};
+
+use crate::form::RunForm;
+use cpu12_emul::laws::plain_is_step;
+
+/// A plain instruction is one step, where no sums run.
+pub fn plain_is_one_step()
+    ensures { PlainIsOneStep }
+{
+    plain_is_step();
+}
+
+/// Plain instructions from reset to LOOP are the way by which a run gets there.
+pub fn arrives_plainly()
+    ensures { ArrivesPlainly }
+{
+    plain_is_step();
+}
+
+/// What is shown of the runs of a form has a row for each sample, and what was told of its requests.
+pub fn rows_are_shown<A, U, R, F: RunForm<A, U, R>>()
+    ensures { RowsAreShown F.Given A F.Told }
+{}

@@ -1,0 +1,268 @@
+// A run under way, sample after sample.
+ghost use Rattle.std.specs.Prelude.{ℕ, ◌≡◌, ◌≤◌, ◌<◌, ◌+◌, ◌-◌, ◌^◌, List};
+ghost use Rattle.std.specs.Prelude.{[], true, false, length, map, drop, vec_len, vec_capacity};
+ghost use Rattle.cpu12_parts.specs.State.{State};
+ghost use Rattle.run_forms.specs.Rest.{counted_at, shown_by};
+ghost use Rattle.run_forms.specs.Rows.{harness_rows};
+ghost use Rattle.run_forms.specs.Slices.{HaveRoom, IsInOrder};
+ghost use Rattle.run_forms.specs.Outlooks.{ahead, at_position, from_here, left_by, outlook_at};
+ghost use Rattle.run_forms.specs.Outlooks.{rows_here, sample_at, shown_run, state_here, with_row, IsUnderWay};
+
+use crate::at_once::pass_at_once;
+use crate::boundary::{Stand, come, pass};
+use crate::form::RunForm;
+use crate::runs::count_of;
+use crate::sample::{Room, Tally};
+use cpu12_emul::machine::Machine;
+use cpu12_isa::mem::Mem;
+use std::alloc::Global;
+use std::collections::VecDeque;
+use std::mem;
+
+/// What a run under way has done, and the room that is left.
+#[derive(Drop)]
+pub struct Progress<U, R> {
+    /// Where the run of the last sample that was given stands.
+    pub stand: Stand<U>,
+    /// How many steps a sample may take at most.
+    pub most: u32,
+    /// How many samples were given.
+    pub number: usize,
+    /// Where the requests of the last of them begin in the plan.
+    pub first: usize,
+    /// Where those of the next begin.
+    pub behind: usize,
+    /// Room for what the requests of each sample that is left push and tell.
+    pub rooms: VecDeque<Room<U>>,
+    /// The rows of the samples before.
+    pub rows: Vec<R>,
+}
+
+/// Before the first boundary of a sample that may take `budget` steps.
+fn fresh_stand<U>(budget: u32, room: Room<U>) -> Stand<U>
+    ensures tally { result.tally ≡ record {
+      arrived = false;
+      moment = 0;
+      inside = false;
+      next = 0;
+      instrs = 0;
+      resumed = 0;
+      frames = room.frames;
+      told = room.told;
+    } }
+    ensures left { result.left ≡ budget }
+    ensures on { result.over ≡ false }
+    ensures sum { result.tally.moment + result.left < 2 ^ 32 }
+{
+    let tally = Tally {
+        arrived: false,
+        moment: 0,
+        inside: false,
+        next: 0,
+        instrs: 0,
+        resumed: 0,
+        frames: room.frames,
+        told: room.told,
+    };
+    Stand {
+        tally,
+        left: budget,
+        over: false,
+    }
+}
+
+/// Takes sample `number` away, which ends here, and puts its row behind those before. There is none of
+/// number 0.
+fn end_sample<M: Mem, A, U: Drop, R, F: RunForm<A, U, R>>(
+    m: &mut Machine<M>,
+    form: &F,
+    number: usize,
+    tally: Tally<U>,
+    rows: &mut Vec<R>,
+)
+    requires number { number ≤ length (F.harness form.now).samples }
+    requires len { vec_len rows.old ≡ number - 1 }
+    requires few { vec_len tally.told ≤ 10000 }
+    requires room { number ≤ vec_capacity rows.old }
+    ensures rows { map (F.harness form.now).seen rows.new.items
+        ≡ with_row (map (F.harness form.now).seen rows.old.items)
+        (shown_by (F.harness form.now).shows (F.harness form.now).parts.answers
+        (counted_at (F.harness form.now).told tally m.old.state))
+        (sample_at number (F.harness form.now).samples) }
+    ensures state { m.new.state ≡ left_by (F.harness form.now).parts.leave
+        (sample_at number (F.harness form.now).samples) m.old.state }
+    ensures len { vec_len rows.new ≡ number }
+    ensures room { vec_capacity rows.old ≤ vec_capacity rows.new }
+    ensures flags { m.new.flags ≡ m.old.flags }
+{
+    if number == 0 {
+        return;
+    }
+    let row = form.row(m, number - 1, tally);
+    rows.push(row).unwrap();
+    form.leave(m, number - 1);
+}
+
+/// Gives the next sample, and comes to its first boundary.
+#[inline(never)]
+fn give_next<M: Mem, A, U: Drop, R, F: RunForm<A, U, R>>(
+    m: &mut Machine<M>,
+    form: &F,
+    plan: &[A],
+    p: &mut Progress<U, R>,
+)
+    requires way { IsUnderWay (F.harness form.now) plan.now p.old }
+    requires left { p.old.number < length (F.harness form.now).samples }
+    ensures outlook { from_here (outlook_at m.old.flags (F.harness form.now) plan.now p.new m.new.state)
+        ≡ ahead m.old.flags (F.harness form.now) p.old.most (p.old.number + 1) (drop p.old.behind plan.now)
+        (drop p.old.number (F.harness form.now).samples)
+        (rows_here (F.harness form.now) p.old m.old.state) (state_here (F.harness form.now) p.old m.old.state) }
+    ensures way { IsUnderWay (F.harness form.now) plan.now p.new }
+    ensures flags { m.new.flags ≡ m.old.flags }
+{
+    let Some(room) = p.rooms.pop_front() else {
+        unreachable!()
+    };
+    let stand = mem::replace(&mut p.stand, fresh_stand(p.most, room));
+    end_sample(m, form, p.number, stand.tally, &mut p.rows);
+    form.give(m, p.number);
+    p.number += 1;
+    p.first = p.behind;
+    p.behind += count_of(form, &plan[p.first..], p.number);
+    come(m, form, &plan[p.first..p.behind], &mut p.stand);
+}
+
+/// Goes on to the next position of the run. Answers whether there is one.
+#[inline(always)]
+pub fn advance<M: Mem, A, U: Drop, R, F: RunForm<A, U, R>>(
+    m: &mut Machine<M>,
+    form: &F,
+    plan: &[A],
+    p: &mut Progress<U, R>,
+) -> bool
+    requires way { IsUnderWay (F.harness form.now) plan.now p.old }
+    ensures goes { result ≡ true → outlook_at m.old.flags (F.harness form.now) plan.now p.old m.old.state
+        ≡ at_position (record { sample = p.old.number; moment = p.old.stand.tally.moment; state = m.old.state })
+        (from_here (outlook_at m.old.flags (F.harness form.now) plan.now p.new m.new.state)) }
+    ensures ends { result ≡ false → outlook_at m.old.flags (F.harness form.now) plan.now p.old m.old.state
+        ≡ record {
+          here = record { sample = p.old.number; moment = p.old.stand.tally.moment; state = m.old.state };
+          later = [];
+          rows = rows_here (F.harness form.now) p.old m.old.state;
+          state = state_here (F.harness form.now) p.old m.old.state;
+        } }
+    ensures same { result ≡ false → (p.new ≡ p.old) × (m.new ≡ m.old) }
+    ensures way { IsUnderWay (F.harness form.now) plan.now p.new }
+    ensures flags { m.new.flags ≡ m.old.flags }
+{
+    if pass(m, form, &plan[p.first..p.behind], &mut p.stand) {
+        return true;
+    }
+    if p.number == form.count() {
+        return false;
+    }
+    give_next(m, form, plan, p);
+    true
+}
+
+/// Before the first sample of a run each of whose samples may take `most` steps.
+pub(crate) fn before_samples<A, U, R, F: RunForm<A, U, R>>(
+    alloc: Global,
+    form: &F,
+    most: u32,
+    plan: &[A],
+    rooms: VecDeque<Room<U>>,
+    rows: Vec<R>,
+) -> Progress<U, R>
+    requires order { IsInOrder (F.harness form.now).parts.place plan.now }
+    requires rooms { HaveRoom (F.harness form.now).parts.place 1 (length (F.harness form.now).samples) plan.now
+        rooms.items }
+    requires none { rows.items ≡ [] }
+    requires room { length (F.harness form.now).samples ≤ vec_capacity rows }
+    ensures outlook { (flags : ℕ) (s : State) → outlook_at flags (F.harness form.now) plan.now result s
+        ≡ at_position (record { sample = 0; moment = 0; state = s })
+        (ahead flags (F.harness form.now) most 1 plan.now (F.harness form.now).samples [] s) }
+    ensures most { result.most ≡ most }
+    ensures way { IsUnderWay (F.harness form.now) plan.now result }
+{
+    let none = Room {
+        frames: Vec::new(alloc),
+        told: Vec::new(alloc),
+    };
+    let mut stand = fresh_stand(0, none);
+    stand.over = true;
+    Progress {
+        stand,
+        most,
+        number: 0,
+        first: 0,
+        behind: 0,
+        rooms,
+        rows,
+    }
+}
+
+/// Comes to the first position of a run, from before the first sample.
+pub(crate) fn begin<M: Mem, A, U: Drop, R, F: RunForm<A, U, R>>(
+    m: &mut Machine<M>,
+    form: &F,
+    plan: &[A],
+    p: &mut Progress<U, R>,
+)
+    requires way { IsUnderWay (F.harness form.now) plan.now p.old }
+    requires before { outlook_at m.old.flags (F.harness form.now) plan.now p.old m.old.state
+        ≡ at_position (record { sample = 0; moment = 0; state = m.old.state })
+        (ahead m.old.flags (F.harness form.now) p.old.most 1 plan.now (F.harness form.now).samples [] m.old.state) }
+    ensures first { from_here (outlook_at m.old.flags (F.harness form.now) plan.now p.new m.new.state)
+        ≡ shown_run (F.harness form.now).shows m.old.state
+        (harness_rows m.old.flags (F.harness form.now) p.old.most plan.now m.old.state) }
+    ensures way { IsUnderWay (F.harness form.now) plan.now p.new }
+    ensures flags { m.new.flags ≡ m.old.flags }
+{
+    advance(m, form, plan, p);
+}
+
+/// Goes on to the last position.
+pub fn drive<M: Mem, A, U: Drop, R, F: RunForm<A, U, R>>(
+    m: &mut Machine<M>,
+    form: &F,
+    plan: &[A],
+    p: &mut Progress<U, R>,
+)
+    requires way { IsUnderWay (F.harness form.now) plan.now p.old }
+    ensures rows { rows_here (F.harness form.now) p.new m.new.state
+        ≡ (outlook_at m.old.flags (F.harness form.now) plan.now p.old m.old.state).rows }
+    ensures state { state_here (F.harness form.now) p.new m.new.state
+        ≡ (outlook_at m.old.flags (F.harness form.now) plan.now p.old m.old.state).state }
+    ensures way { IsUnderWay (F.harness form.now) plan.now p.new }
+{
+    while advance(m, form, plan, p) {
+        pass_at_once(m, form, &plan[p.first..p.behind], &mut p.stand);
+    }
+}
+
+/// All rows of a run whose last sample ends here, and is taken away.
+pub fn into_rows<M: Mem, A, U: Drop, R, F: RunForm<A, U, R>>(
+    m: &mut Machine<M>,
+    form: &F,
+    p: Progress<U, R>,
+) -> Vec<R>
+    requires number { p.number ≤ length (F.harness form.now).samples }
+    requires few { vec_len p.stand.tally.told ≤ 10000 }
+    requires len { vec_len p.rows ≡ p.number - 1 }
+    requires room { p.number ≤ vec_capacity p.rows }
+    ensures rows { map (F.harness form.now).seen result.items ≡ rows_here (F.harness form.now) p m.old.state }
+    ensures state { m.new.state ≡ state_here (F.harness form.now) p m.old.state }
+{
+    let Progress {
+        stand,
+        most: _,
+        number,
+        first: _,
+        behind: _,
+        rooms: _,
+        mut rows,
+    } = p;
+    end_sample(m, form, number, stand.tally, &mut rows);
+    rows
+}

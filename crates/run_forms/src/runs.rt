@@ -1,0 +1,151 @@
+//! The run of any form over its samples under a plan.
+ghost use Rattle.std.specs.Prelude.{ℕ, ◌≡◌, ◌≤◌, ◌+◌, [], length, map, vec_capacity, IfOk};
+ghost use Rattle.run_forms.specs.Rows.{arrival, arrived_at, harness_rows, shown};
+ghost use Rattle.run_forms.specs.Slices.{HaveRoom, IsInOrder, requests_first};
+ghost use Rattle.run_forms.specs.Outlooks.{from_here, shown_run, outlook_at, IsUnderWay};
+
+use crate::form::RunForm;
+use crate::progress::{Progress, before_samples, begin, drive, into_rows};
+use crate::sample::Room;
+use cpu12_asm::Image;
+use cpu12_emul::machine::Machine;
+use cpu12_isa::mem::Mem;
+use fz_list::Memory;
+use std::alloc::Global;
+use std::collections::VecDeque;
+
+/// Where a run begins, and how long its samples may take.
+#[derive(Drop)]
+pub struct Start<'a> {
+    /// What stands in memory at reset.
+    pub image: &'a Image,
+    /// The address at which its code waits for a sample.
+    pub wait: u16,
+    /// How many steps may lead there, and how many a sample may take at most.
+    pub most: u32,
+}
+
+/// Runs a form over its samples under requests in order, and answers a row for each sample and the memory of the
+/// last state. Bits of `flags` give the flags that the CPU12 Reference Manual leaves undefined. All
+/// memory is taken before the first step, and want of it is the one error.
+pub fn run_form<M: Mem, A, U: Drop, R: Drop, F: RunForm<A, U, R>>(
+    alloc: Global,
+    form: &F,
+    start: &Start,
+    plan: &[A],
+    flags: u8,
+) -> Result<(Vec<R>, M), Memory>
+    requires order { IsInOrder (F.harness form.now).parts.place plan.now }
+    ensures rows { IfOk result (λ r. map (F.harness form.now).seen r.0.items
+        ≡ shown (F.harness form.now).shows (harness_rows flags (F.harness form.now) start.now.most plan.now
+        (arrived_at flags start.now.wait start.now.most start.now.image.now.bytes))) }
+    ensures memory { IfOk result (λ r. M.bytes r.1
+        ≡ (harness_rows flags (F.harness form.now) start.now.most plan.now
+        (arrived_at flags start.now.wait start.now.most start.now.image.now.bytes)).state.mem) }
+{
+    let (mut machine, mut progress) = begun(alloc, form, start, plan, flags)?;
+    drive(&mut machine, form, plan, &mut progress);
+    let rows = into_rows(&mut machine, form, progress);
+    Ok((rows, machine.into_mem()))
+}
+
+/// A machine and a run at its first position. All memory is taken here.
+pub fn begun<M: Mem, A, U: Drop, R: Drop, F: RunForm<A, U, R>>(
+    alloc: Global,
+    form: &F,
+    start: &Start,
+    plan: &[A],
+    flags: u8,
+) -> Result<(Machine<M>, Progress<U, R>), Memory>
+    requires order { IsInOrder (F.harness form.now).parts.place plan.now }
+    ensures first { IfOk result (λ r. from_here (outlook_at flags (F.harness form.now) plan.now r.1 r.0.state)
+        ≡ shown_run (F.harness form.now).shows
+        (arrived_at flags start.now.wait start.now.most start.now.image.now.bytes)
+        (harness_rows flags (F.harness form.now) start.now.most plan.now
+        (arrived_at flags start.now.wait start.now.most start.now.image.now.bytes))) }
+    ensures way { IfOk result (λ r. IsUnderWay (F.harness form.now) plan.now r.1) }
+    ensures flags { IfOk result (λ r. r.0.flags ≡ flags) }
+{
+    let count = form.count();
+    let rooms = make_rooms(alloc, form, count, plan)?;
+    let Ok(rows) = Vec::with_capacity(alloc, count) else {
+        return Err(Memory);
+    };
+    let mut machine = Machine::new(alloc, start.image, flags)?;
+    arrive(&mut machine, start.wait, start.most);
+    let mut progress = before_samples(alloc, form, start.most, plan, rooms, rows);
+    begin(&mut machine, form, plan, &mut progress);
+    Ok((machine, progress))
+}
+
+/// Does steps until PC is at LOOP, at most `budget` and as long as one is defined.
+fn arrive<M: Mem>(m: &mut Machine<M>, loop_at: u16, budget: u32)
+    ensures state { m.new.state ≡ arrival m.old.flags loop_at budget m.old.state }
+    ensures flags { m.new.flags ≡ m.old.flags }
+{
+    let mut left = budget;
+    while left > 0 {
+        if m.regs().pc == loop_at {
+            return;
+        }
+        match m.step() {
+            Ok(_) => left -= 1,
+            Err(_) => return,
+        }
+    }
+}
+
+/// How many of these requests, from the first on, are of sample `k`.
+pub(crate) fn count_of<A, U, R, F: RunForm<A, U, R>>(form: &F, requests: &[A], k: usize) -> usize
+    ensures { result ≡ length (requests_first (F.harness form.now).parts.place k requests.now) }
+{
+    let mut count = 0;
+    for request in requests {
+        if form.place(request).0 as usize != k {
+            return count;
+        }
+        count += 1;
+    }
+    count
+}
+
+/// Room for what so many requests push and tell.
+fn room_for<U: Drop>(alloc: Global, count: usize) -> Result<Room<U>, Memory>
+    ensures { IfOk result (λ room. (room.frames.items ≡ []) × (room.told.items ≡ [])
+        × (count ≤ vec_capacity room.frames) × (count ≤ vec_capacity room.told)) }
+{
+    let Ok(frames) = Vec::with_capacity(alloc, count) else {
+        return Err(Memory);
+    };
+    let Ok(told) = Vec::with_capacity(alloc, count) else {
+        return Err(Memory);
+    };
+    Ok(Room { frames, told })
+}
+
+/// Room for what the requests of each sample push and tell.
+fn make_rooms<A, U: Drop, R, F: RunForm<A, U, R>>(
+    alloc: Global,
+    form: &F,
+    samples: usize,
+    plan: &[A],
+) -> Result<VecDeque<Room<U>>, Memory>
+    ensures { IfOk result (λ rooms. HaveRoom (F.harness form.now).parts.place 1 samples plan.now rooms.items) }
+{
+    let Ok(mut rooms) = VecDeque::with_capacity(alloc, samples) else {
+        return Err(Memory);
+    };
+    let mut next = 0;
+    let mut first = 0;
+    while next < samples {
+        next += 1;
+        let count = count_of(form, &plan[first..], next);
+        let room = room_for(alloc, count)?;
+        match rooms.push_back(room) {
+            Ok(()) => {}
+            Err(_) => return Err(Memory),
+        }
+        first += count;
+    }
+    Ok(rooms)
+}
