@@ -59,9 +59,6 @@ placed_in (v ∷ (u ∷ vs)) p at l (inr w) =
     (omega (arith, r.0), omega (arith, r.1))
 
 -- a request is of a sample, or is not
-pub is_one : {A : Type 0} (place : A → ℕ × ℕ) (k : ℕ) (r : A) → sample_in place r ≡ k → is_of place k r ≡ true
-is_one place k r e = grind (arith, nat_tests)
-
 pub is_other : {A : Type 0} (place : A → ℕ × ℕ) (k : ℕ) (r : A) → (sample_in place r ≡ k → ⊥) → is_of place k r ≡ false
 is_other place k r e = grind (arith, nat_tests)
 
