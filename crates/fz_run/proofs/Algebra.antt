@@ -1,17 +1,12 @@
--- Where SP stands, and where a run begins beside open bytes.
-use Rattle.std.proofs.Common.{◌≡◌, ℕ, ◌⊎◌, inl, inr, true, Bool, nat_le, nat_lt, List, arith}
+-- Where a run begins beside open bytes.
+use Rattle.std.proofs.Common.{ℕ, Bool, nat_le, nat_lt, List}
 use Rattle.std.specs.Prelude.{◌&&◌}
 use Rattle.std.proofs.lemmas.Bool.{or_parts}
 use Rattle.cpu12_parts.specs.State.{State}
 use Rattle.cpu12_emul.specs.Simulation.{Same}
 use Rattle.codegen.specs.declared.firmware.Firmware.{Firmware}
 use Rattle.fz_run.specs.Answering.{FirstAlike}
-use Rattle.fz_run.specs.Facts.{IsStackOfOneCall}
 use Rattle.fz_run.specs.Rows.{first_state}
-
-pub at_stack : (sp : ℕ) → (sp ≡ 0x1FFE) ⊎ (sp ≡ 0x2000) → IsStackOfOneCall sp
-at_stack sp (inl e) = inl (omega arith)
-at_stack sp (inr e) = inr e
 
 -- the first state beside open bytes is the same but for what is hidden
 pub first_same : (open_to : ℕ → Bool) (f : Firmware) (flags : ℕ) (mem : List ℕ) (w : State)

@@ -35,11 +35,11 @@ use Rattle.fz_run.specs.Forms.{given, answer_size, answers_at, answers_in, with_
 use Rattle.run_forms.specs.Rows.{arrival}
 use Rattle.fz_run.specs.Rows.{requests_of, first_state, firmware_rows}
 use Rattle.run_forms.specs.Arrival.{ArrivesPlainly}
-use Rattle.fz_run.specs.Facts.{FactsBeside, FactsAlone, WaitsAlone}
-use Rattle.fz_run.specs.Instructions.{AreSteps, IsServing}
+use Rattle.instruction_steps.specs.Facts.{FactsBeside, FactsAlone, WaitsAlone}
+use Rattle.instruction_steps.specs.Instructions.{AreSteps, IsServing}
 use Rattle.fz_run.specs.Following.{row_of_sample, rows_of_samples, IsLow, FollowsAlone, AllWait}
 use Rattle.fz_run.specs.Answering.{answer_of_row, AnswersItsBlock, AnswersUnder, AnswersUnderPlans, RunsBeside, FirmwareRunsBeside, FirstAlike, FirstStatesAlike}
-use Rattle.fz_run.proofs.Algebra.{at_stack}
+use Rattle.instruction_steps.proofs.Algebra.{at_stack}
 use Rattle.fz_run.proofs.UsedLaws.{WayLaws, Laws}
 
 -- a firmware at the layout that stands alone, with n answers

@@ -1,12 +1,5 @@
 pub mod PortBytes
-pub mod Stretches
-pub mod Stretching
-pub mod PlainSteps
-pub mod PartSteps
-pub mod SumSteps
-pub mod WholeSteps
 pub mod Algebra
-pub mod Serving
 pub mod AnsweredRows
 pub mod Requests
 pub mod StandAlone

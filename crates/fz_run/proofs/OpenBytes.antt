@@ -17,7 +17,7 @@ use Rattle.cpu12_parts.specs.Laws.{IsOff, addresses}
 use Rattle.cpu12_emul.specs.Step.{Left, Next, step_act, applied, next_of}
 use Rattle.cpu12_emul.specs.Simulation.{Simulates, AreSumsReady, HasRoom, IsShownStep, StepAgrees, WavrGoesOn}
 use Rattle.run_law.specs.Uninterrupted.{stepped, state_by}
-use Rattle.fz_run.specs.Facts.{Facts, IsStackOfOneCall}
+use Rattle.instruction_steps.specs.Facts.{Facts, IsStackOfOneCall}
 use Rattle.fz_run.specs.OpenBytes.{AreOpenAlike, StepsLeaveOpen, GivenLeavesOpen}
 use Rattle.run_forms.proofs.Algebra.{placed_in}
 

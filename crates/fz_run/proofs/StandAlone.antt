@@ -11,7 +11,7 @@ use Rattle.interrupt_plan.specs.declared.Request.{Request}
 use Rattle.codegen.specs.declared.firmware.Firmware.{Firmware}
 use Rattle.fz_run.specs.Forms.{given, answers_in, with_writes}
 use Rattle.fz_run.specs.Rows.{requests_of}
-use Rattle.fz_run.specs.Facts.{FactsAlone}
+use Rattle.instruction_steps.specs.Facts.{FactsAlone}
 use Rattle.fz_run.specs.SoundAlone.{free_opens}
 use Rattle.fz_run.specs.Following.{rows_of_samples, RunsFollowAlone, RunsFollowBeside}
 use Rattle.fz_run.specs.Given.{RequestsAreGood}

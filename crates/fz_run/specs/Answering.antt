@@ -21,7 +21,7 @@ use Rattle.run_law.specs.Following.{AllComplete, AllWithin}
 use Rattle.fz_run.specs.Forms.{with_writes}
 use Rattle.run_forms.specs.Rows.{arrival}
 use Rattle.fz_run.specs.Rows.{first_state, firmware_rows}
-use Rattle.fz_run.specs.Facts.{FactsBeside, FactsAlone}
+use Rattle.instruction_steps.specs.Facts.{FactsBeside, FactsAlone}
 use Rattle.fz_run.specs.Following.{IsLow, rows_of_samples, AllWait, FollowsAlone}
 
 -- a row's answers and its number of instructions

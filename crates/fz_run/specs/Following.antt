@@ -11,7 +11,7 @@ use Rattle.interrupt_plan.specs.Plans.{IsGoodRequest, IsGood}
 use Rattle.codegen.specs.declared.firmware.Firmware.{Firmware}
 use Rattle.fz_run.specs.Forms.{given, answer_size, answers_in, with_writes}
 use Rattle.fz_run.specs.Rows.{requests_of}
-use Rattle.fz_run.specs.Facts.{FactsBeside, FactsAlone, WaitsAlone}
+use Rattle.instruction_steps.specs.Facts.{FactsBeside, FactsAlone, WaitsAlone}
 
 -- what the row of a sample is to be that is answered in n steps without interrupts: each request is taken at its moment
 abbrev pub row_of_sample : ℕ → Firmware → List Request → ℕ → List ℕ → State → RowSeen (List ℕ)

@@ -1,9 +1,7 @@
 pub mod Forms
 pub mod Rows
-pub mod Facts
 pub mod Following
 pub mod SoundAlone
 pub mod Answering
-pub mod Instructions
 pub mod Given
 pub mod OpenBytes

@@ -8,7 +8,7 @@ use Rattle.run_law.specs.Uninterrupted.{stepped}
 use Rattle.eval_code.specs.declared.layout.Layout.{Layout}
 use Rattle.codegen.specs.declared.firmware.Firmware.{Firmware}
 use Rattle.fz_run.specs.Forms.{given}
-use Rattle.fz_run.specs.Facts.{FactsBeside}
+use Rattle.instruction_steps.specs.Facts.{FactsBeside}
 
 -- the open bytes are as they were
 abbrev pub AreOpenAlike : (ℕ → Bool) → List ℕ → List ℕ → Type 0

@@ -3,7 +3,7 @@ ghost use Rattle.std.specs.Prelude.{ℕ, List};
 ghost use Rattle.interrupt_plan.specs.Plans.{IsGoodRequest};
 ghost use Rattle.interrupt_plan.specs.declared.Request as plan;
 ghost use Rattle.fz_run.specs.Forms.{with_writes};
-ghost use Rattle.fz_run.specs.Facts.{FactsBeside};
+ghost use Rattle.instruction_steps.specs.Facts.{FactsBeside};
 ghost use Rattle.fz_run.specs.Following.{Alone, Nothing};
 ghost use Rattle.fz_run.specs.SoundAlone.{sound};
 

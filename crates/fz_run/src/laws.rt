@@ -2,7 +2,6 @@
 ghost use Rattle.fz_run.specs.Answering.{AnswersUnderPlans, FirmwareRunsBeside, FirstStatesAlike};
 ghost use Rattle.fz_run.specs.Following.{RunsFollowAlone, RunsFollowBeside};
 ghost use Rattle.fz_run.specs.Given.{GivenIsPut, PlansAreInOrder, RequestsAreGood};
-ghost use Rattle.fz_run.specs.Instructions.{InstructionsAreSteps};
 ghost use Rattle.fz_run.specs.OpenBytes.{GivenLeavesOpen, StepsLeaveOpen};
 
 use crate::alone::StandAlone;
@@ -12,8 +11,9 @@ use codegen::laws::{
 use cpu12_emul::laws::{step_agrees, wavr_goes_on};
 use cpu12_isa::laws::writes_stay;
 use cpu12_parts::laws::wav_suspends;
-use run_forms::laws::{arrives_plainly, plain_is_one_step};
-use run_law::laws::{runs_follow, step_laws};
+use instruction_steps::laws::instructions_are_steps;
+use run_forms::laws::arrives_plainly;
+use run_law::laws::runs_follow;
 
 /// The run of a firmware that stands alone follows the run without interrupts under every good plan,
 /// where each state of the latter keeps the facts of [`FactsAlone`]: its answers, counts of instructions
@@ -49,16 +49,6 @@ pub fn answers_under_plans()
     firmware_answers();
     answered_are_uninterrupted();
     runs_follow_alone();
-}
-
-/// Whole instructions on a sample, at each of which an interrupt may come, are steps: as many count as
-/// there are instructions, and before each step, also inside REV, REVW and WAV, the state keeps the
-/// facts of a run and the image.
-pub fn instructions_are_steps()
-    ensures { InstructionsAreSteps }
-{
-    step_laws();
-    plain_is_one_step();
 }
 
 /// A sample is given to a run as it is to whole instructions.

@@ -22,7 +22,7 @@ use Rattle.fz_run.specs.Forms.{given, with_writes}
 use Rattle.run_forms.specs.Showing.{RowsAreShown}
 use Rattle.run_forms.specs.Rows.{tellings}
 use Rattle.fz_run.specs.Rows.{requests_of, first_state}
-use Rattle.fz_run.specs.Facts.{FactsBeside}
+use Rattle.instruction_steps.specs.Facts.{FactsBeside}
 use Rattle.fz_run.specs.Following.{RunsFollowBeside}
 use Rattle.fz_run.specs.Given.{RequestsAreGood}
 use Rattle.fz_run.specs.Answering.{FirmwareRunsBeside, FirstAlike, FirstStatesAlike}

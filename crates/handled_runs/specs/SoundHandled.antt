@@ -25,7 +25,7 @@ use Rattle.interrupt_plan.specs.declared.Request.{Request}
 use Rattle.interrupt_plan.specs.Plans.{IsGoodRequest}
 use Rattle.codegen.specs.declared.firmware.Firmware.{Firmware}
 use Rattle.fz_run.specs.Forms.{given}
-use Rattle.fz_run.specs.Facts.{IsStackOfOneCall, FactsBeside}
+use Rattle.instruction_steps.specs.Facts.{IsStackOfOneCall, FactsBeside}
 use Rattle.fz_run.specs.Following.{IsLow, OpensFree}
 use Rattle.fz_run.specs.OpenBytes.{AreOpenAlike, StepsLeaveOpen, GivenLeavesOpen}
 use Rattle.fz_run.specs.SoundAlone.{low_ports, given_alike, answered_alike, ended_alike}

@@ -2,7 +2,7 @@
 ghost use Rattle.std.specs.Prelude.{ℕ, List};
 ghost use Rattle.interrupt_plan.specs.Plans.{IsGoodRequest};
 ghost use Rattle.interrupt_plan.specs.declared.Request as plan;
-ghost use Rattle.fz_run.specs.Facts.{FactsBeside};
+ghost use Rattle.instruction_steps.specs.Facts.{FactsBeside};
 ghost use Rattle.handled_runs.specs.Open.{is_open_to_code};
 ghost use Rattle.handled_runs.specs.Forms.{with_code};
 ghost use Rattle.handled_runs.specs.SoundHandled.{Handled, HandlerStands, sound};

@@ -22,7 +22,7 @@ use Rattle.codegen.specs.declared.firmware.Firmware.{Firmware}
 use Rattle.codegen.specs.Mailboxes.{is_mail, is_postable}
 use Rattle.codegen.specs.Turns.{IsAt}
 use Rattle.eval_code.specs.Widths.{width_of, places}
-use Rattle.fz_run.specs.Facts.{FactsBeside}
+use Rattle.instruction_steps.specs.Facts.{FactsBeside}
 use Rattle.posted_runs.specs.Turns.{up_to, behind, waiting}
 use Rattle.posted_runs.specs.Runs.{TurnForm, turn_form}
 use Rattle.posted_runs.specs.PostedTurns.{TurnEnds, plain_frame, PostedTurnsFollow}

@@ -28,7 +28,7 @@ use Rattle.eval_code.specs.declared.width.Width.TheVariants.{Byte, Word}
 use Rattle.codegen.specs.Mailboxes.{is_mail, is_postable}
 use Rattle.codegen.specs.Uninterrupted.{values_from}
 use Rattle.eval_code.specs.Widths.{width_of, places}
-use Rattle.fz_run.specs.Facts.{Facts, FactsBeside, IsStackOfOneCall}
+use Rattle.instruction_steps.specs.Facts.{Facts, FactsBeside, IsStackOfOneCall}
 use Rattle.posted_runs.specs.Runs.{post_writes}
 use Rattle.posted_runs.specs.Postings.{mailed, last_of, IsBox, AreOfSize}
 use Rattle.posted_runs.specs.Behind.{part_form, posted_by, not_mail, HoldsMail}

@@ -23,7 +23,7 @@ use Rattle.codegen.specs.Turns.{MailboxTakesPosts, MailboxIsUninterrupted}
 use Rattle.codegen.specs.Uninterrupted.{is_waiting, AreUninterrupted, AreAnswersOf, UninterruptedAreOne}
 use Rattle.eval_code.specs.Widths.{width_of}
 use Rattle.run_forms.specs.Arrival.{PlainIsOneStep}
-use Rattle.fz_run.specs.Instructions.{AreSteps, InstructionsAreSteps}
+use Rattle.instruction_steps.specs.Instructions.{AreSteps, InstructionsAreSteps}
 use Rattle.posted_runs.specs.Turns.{Turn, samples_of}
 use Rattle.fz_run.specs.Rows.{bytes_of}
 use Rattle.posted_runs.specs.Runs.{arrival}

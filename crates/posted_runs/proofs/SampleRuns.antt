@@ -21,7 +21,7 @@ use Rattle.codegen.specs.SampleTurns.{IsSampleTurn}
 use Rattle.codegen.specs.Turns.{IsAt, IsLook, IsChoice, IsCopied, call_of}
 use Rattle.eval_code.specs.Widths.{width_of}
 use Rattle.run_forms.specs.Arrival.{PlainIsOneStep}
-use Rattle.fz_run.specs.Instructions.{AreSteps, IsServing, InstructionsAreSteps}
+use Rattle.instruction_steps.specs.Instructions.{AreSteps, IsServing, InstructionsAreSteps}
 use Rattle.posted_runs.specs.UninterruptedTurns.{IsAnswerRun}
 use Rattle.posted_runs.proofs.WholeTurns.{IsOnWay, one_step, steps_append, steps_on, masked_steps, masked_count}
 use Rattle.posted_runs.proofs.Serving.{IsServed, served, on_way_by, facts_by}

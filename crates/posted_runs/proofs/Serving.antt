@@ -15,8 +15,8 @@ use Rattle.codegen.specs.declared.firmware.Firmware.{Firmware}
 use Rattle.eval_code.specs.declared.layout.Layout.{Layout}
 use Rattle.codegen.specs.Interruptible.{is_idle}
 use Rattle.codegen.specs.Mailboxes.{is_postable}
-use Rattle.fz_run.specs.Facts.{Facts, FactsBeside}
-use Rattle.fz_run.specs.Instructions.{IsServing}
+use Rattle.instruction_steps.specs.Facts.{Facts, FactsBeside}
+use Rattle.instruction_steps.specs.Instructions.{IsServing}
 use Rattle.posted_runs.proofs.WholeTurns.{IsOnWay}
 
 -- a state behind the call, in which no sample is posted

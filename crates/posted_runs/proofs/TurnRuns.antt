@@ -11,7 +11,7 @@ use Rattle.eval_code.specs.Firing.{AreInputBytes}
 use Rattle.codegen.specs.Mailboxes.{is_postable}
 use Rattle.codegen.specs.Uninterrupted.{values_in, AreAnswersTo}
 use Rattle.eval_code.specs.Widths.{width_of, answer}
-use Rattle.fz_run.specs.Facts.{FactsBeside}
+use Rattle.instruction_steps.specs.Facts.{FactsBeside}
 use Rattle.posted_runs.specs.Turns.{Turn, samples_of}
 use Rattle.fz_run.specs.Rows.{bytes_of}
 use Rattle.posted_runs.specs.Runs.{AnswerSeen, arrival}

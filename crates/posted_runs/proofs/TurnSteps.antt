@@ -23,7 +23,7 @@ use Rattle.codegen.specs.Turns.{IsAt, IsLook, TakesTurns}
 use Rattle.codegen.specs.Uninterrupted.{values_in, IsAnswerTo}
 use Rattle.eval_code.specs.Widths.{width_of, answer}
 use Rattle.run_forms.specs.Arrival.{PlainIsOneStep}
-use Rattle.fz_run.specs.Instructions.{InstructionsAreSteps}
+use Rattle.instruction_steps.specs.Instructions.{InstructionsAreSteps}
 use Rattle.fz_run.specs.Rows.{bytes_of}
 use Rattle.posted_runs.specs.UninterruptedTurns.{answered_alone, IsIdleRun, IsAnswerRun}
 use Rattle.posted_runs.proofs.Alone.{IsAlone, alone, same_alone}

@@ -11,7 +11,7 @@ use Rattle.run_law.proofs.Algebra.{uninterrupted_add, counted_add, before_add}
 use Rattle.eval_code.specs.declared.layout.Layout.{Layout}
 use Rattle.codegen.specs.Turns.{IsMaskedStep}
 use Rattle.run_forms.specs.Arrival.{PlainIsOneStep}
-use Rattle.fz_run.specs.Instructions.{AreSteps}
+use Rattle.instruction_steps.specs.Instructions.{AreSteps}
 
 -- a step is defined, and PC is not where the code waits
 pub record IsOnWay (l : Layout) (flags : ℕ) (s : State) : Type 0 where

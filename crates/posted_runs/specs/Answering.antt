@@ -16,7 +16,7 @@ use Rattle.eval_code.specs.Firing.{AreInputBytes}
 use Rattle.codegen.specs.Mailboxes.{is_postable, IsMailboxOf}
 use Rattle.codegen.specs.Uninterrupted.{Answer, values_in, AreUninterrupted, AreAnswersOf}
 use Rattle.eval_code.specs.Widths.{width_of}
-use Rattle.fz_run.specs.Facts.{FactsBeside}
+use Rattle.instruction_steps.specs.Facts.{FactsBeside}
 use Rattle.posted_runs.specs.Turns.{Turn, AreTurns, samples_of}
 use Rattle.fz_run.specs.Rows.{bytes_of}
 use Rattle.posted_runs.specs.Runs.{AnswerSeen, RunSeen, no_turn, before_turns, arrival, run_under_posts}

@@ -10,7 +10,7 @@ use Rattle.codegen.specs.declared.firmware.Firmware.{Firmware}
 use Rattle.eval_code.specs.declared.layout.Layout.{Layout}
 use Rattle.codegen.specs.Mailboxes.{is_mail, is_postable}
 use Rattle.eval_code.specs.Widths.{width_of, places}
-use Rattle.fz_run.specs.Facts.{FactsBeside}
+use Rattle.instruction_steps.specs.Facts.{FactsBeside}
 use Rattle.posted_runs.specs.Runs.{TurnForm, turn_form}
 use Rattle.posted_runs.specs.Shifts.{counted_from}
 use Rattle.posted_runs.specs.Postings.{mailed, last_of, IsBox, AreOfSize}

@@ -17,7 +17,7 @@ use Rattle.codegen.specs.Mailboxes.{is_postable, IsMailboxOf}
 use Rattle.codegen.specs.Turns.{IsAt, IsLook, IsChoice, IsCopied}
 use Rattle.codegen.specs.Uninterrupted.{AreUninterrupted, AreAnswersOf}
 use Rattle.eval_code.specs.Widths.{width_of}
-use Rattle.fz_run.specs.Facts.{FactsBeside}
+use Rattle.instruction_steps.specs.Facts.{FactsBeside}
 use Rattle.posted_runs.specs.Turns.{Turn, AreTurns, samples_of}
 use Rattle.fz_run.specs.Rows.{bytes_of}
 use Rattle.posted_runs.specs.Runs.{turn_form, arrival}

@@ -3,7 +3,7 @@ ghost use Rattle.std.specs.Prelude.{length};
 ghost use Rattle.interrupt_plan.specs.Posts.{IsGoodPost};
 ghost use Rattle.interrupt_plan.specs.declared.Post as plan;
 ghost use Rattle.codegen.specs.Mailboxes.{is_postable};
-ghost use Rattle.fz_run.specs.Facts.{FactsBeside};
+ghost use Rattle.instruction_steps.specs.Facts.{FactsBeside};
 ghost use Rattle.posted_runs.specs.Behind.{part_form, Copied, HoldsMail};
 
 use run_law::laws::SoundForm;

@@ -20,7 +20,7 @@ use cpu12_emul::laws::{
 };
 use cpu12_isa::laws::{stack_is_hidden, writes_agree, writes_stay};
 use cpu12_parts::laws::wav_suspends;
-use fz_run::laws::instructions_are_steps;
+use instruction_steps::laws::instructions_are_steps;
 use run_forms::laws::plain_is_one_step;
 use run_law::laws::{run_follows, taken_at_first_open};
 

@@ -14,7 +14,7 @@ use Rattle.two_level.specs.Images.{fast_most}
 use Rattle.two_level.specs.Layouts.{is_open_to_fast}
 use Rattle.two_level.specs.Standing.{StandsBeside, TwoStandBeside}
 use Rattle.fz_run.specs.Rows.{first_state, firmware_rows}
-use Rattle.fz_run.specs.Facts.{FactsBeside, FactsAlone}
+use Rattle.instruction_steps.specs.Facts.{FactsBeside, FactsAlone}
 use Rattle.fz_run.specs.Following.{rows_of_samples}
 use Rattle.fz_run.specs.Given.{RequestsAreGood}
 use Rattle.fz_run.specs.Answering.{AnswerBlock, AnswersUnder, AnswersUnderPlans, RunsBeside, FirmwareRunsBeside, FirstAlike, FirstStatesAlike}

@@ -16,7 +16,7 @@ use Rattle.two_level.specs.declared.two.Two.{Two}
 use Rattle.two_level.specs.Layouts.{is_open_to_fast}
 use Rattle.fz_run.specs.Forms.{given, answers_in, with_writes}
 use Rattle.fz_run.specs.Rows.{requests_of}
-use Rattle.fz_run.specs.Facts.{IsStackOfOneCall, FactsBeside}
+use Rattle.instruction_steps.specs.Facts.{IsStackOfOneCall, FactsBeside}
 use Rattle.fz_run.specs.Following.{rows_of_samples}
 use Rattle.run_forms.proofs.Algebra.{taken_is}
 use Rattle.two_runs.specs.Inside.{AreOnStack}

@@ -14,7 +14,7 @@ use Rattle.codegen.specs.Answers.{LeavesLayout}
 use Rattle.eval_code.specs.Layouts.{main_layout}
 use Rattle.two_level.specs.Layouts.{is_open_to_fast}
 use Rattle.fz_run.specs.Forms.{given, answer_size}
-use Rattle.fz_run.specs.Facts.{FactsBeside}
+use Rattle.instruction_steps.specs.Facts.{FactsBeside}
 use Rattle.fz_run.specs.Following.{IsLow}
 use Rattle.fz_run.specs.OpenBytes.{AreOpenAlike, StepLeavesOpen}
 use Rattle.fz_run.specs.SoundAlone.{LeavesPorts, given_alike, answered_alike, ended_alike}

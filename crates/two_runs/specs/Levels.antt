@@ -17,7 +17,7 @@ use Rattle.two_level.specs.declared.two.Two.{Two}
 use Rattle.two_level.specs.Images.{fast_most}
 use Rattle.two_level.specs.Layouts.{fast_layout, is_open_to_fast}
 use Rattle.fz_run.specs.Forms.{given}
-use Rattle.fz_run.specs.Facts.{FactsBeside}
+use Rattle.instruction_steps.specs.Facts.{FactsBeside}
 use Rattle.fz_run.specs.Rows.{bytes_of}
 use Rattle.two_runs.specs.Runs.{FastSeen}
 use Rattle.two_runs.specs.Outer.{HasFastCode}

@@ -8,7 +8,7 @@ use Rattle.codegen.specs.Watched.{WatchedAnswers}
 use Rattle.run_forms.specs.Arrival.{ArrivesPlainly}
 use Rattle.fz_run.specs.Following.{IsLow, Nothing}
 use Rattle.fz_run.specs.Given.{GivenIsPut, RequestsAreGood}
-use Rattle.fz_run.specs.Instructions.{InstructionsAreSteps}
+use Rattle.instruction_steps.specs.Instructions.{InstructionsAreSteps}
 use Rattle.watched_runs.specs.Forms.{watched_form, FactsWatched}
 
 -- the law on runs at this form

@@ -29,10 +29,10 @@ use Rattle.run_law.specs.Following.{Completes, AllComplete, AllWithin, AllFollow
 use Rattle.run_law.proofs.Algebra.{before_at, before_weaker}
 use Rattle.fz_run.specs.Forms.{answer_size, answers_at, answers_in}
 use Rattle.fz_run.specs.Rows.{requests_of, first_state}
-use Rattle.fz_run.specs.Facts.{HasImageBytes, WaitsAlone}
+use Rattle.instruction_steps.specs.Facts.{HasImageBytes, WaitsAlone}
 use Rattle.fz_run.specs.Following.{IsLow, Nothing}
-use Rattle.fz_run.specs.Instructions.{AreSteps, IsServing}
-use Rattle.fz_run.proofs.Algebra.{at_stack}
+use Rattle.instruction_steps.specs.Instructions.{AreSteps, IsServing}
+use Rattle.instruction_steps.proofs.Algebra.{at_stack}
 use Rattle.watched_runs.specs.Samples.{change_of, changes_from, with_upsets}
 use Rattle.watched_runs.specs.Forms.{given_changed, watched_form, FactsWatched}
 use Rattle.watched_runs.specs.Rows.{FaultSeen, fault_seen, upset_rows, faults_of}

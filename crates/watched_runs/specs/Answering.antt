@@ -15,7 +15,7 @@ use Rattle.eval_code.specs.Firing.{AreInputBytes}
 use Rattle.codegen.specs.Watched.{Watched, changed, restored, watched_answer, watched_fault, IsWatchedFirmwareOf}
 use Rattle.run_law.specs.Uninterrupted.{uninterrupted}
 use Rattle.run_law.specs.Following.{AllComplete, AllFollow, expected_rows}
-use Rattle.fz_run.specs.Facts.{HasImageBytes, WaitsAlone}
+use Rattle.instruction_steps.specs.Facts.{HasImageBytes, WaitsAlone}
 use Rattle.fz_run.specs.Following.{Nothing}
 use Rattle.fz_run.specs.Rows.{requests_of, first_state}
 use Rattle.watched_runs.specs.Samples.{with_upsets}

@@ -11,7 +11,7 @@ use Rattle.eval_code.specs.declared.layout.Layout.{Layout}
 use Rattle.codegen.specs.Interruptible.{is_idle}
 use Rattle.codegen.specs.Watched.{Watched, changed, restored}
 use Rattle.codegen.specs.WatchedCode.{fault_at}
-use Rattle.fz_run.specs.Facts.{Facts, IsStackOfOneCall}
+use Rattle.instruction_steps.specs.Facts.{Facts, IsStackOfOneCall}
 use Rattle.run_forms.specs.Forms.{FormParts, plan_form}
 use Rattle.fz_run.specs.Forms.{given, answers_in, place_of}
 

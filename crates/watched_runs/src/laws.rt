@@ -3,7 +3,8 @@ ghost use Rattle.watched_runs.specs.Answering.{AnswersUnderAllUpsets};
 
 use crate::watched::WatchedTables;
 use codegen::laws::watched_answers;
-use fz_run::laws::{given_is_put, instructions_are_steps, requests_are_good};
+use fz_run::laws::{given_is_put, requests_are_good};
+use instruction_steps::laws::instructions_are_steps;
 use run_forms::laws::arrives_plainly;
 use run_law::laws::runs_follow;
 

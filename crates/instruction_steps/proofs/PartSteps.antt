@@ -22,9 +22,9 @@ use Rattle.cpu12_parts.specs.Touching.{Each}
 use Rattle.cpu12_emul.specs.declared.ends.Stepped.TheVariants.{LastPart}
 use Rattle.cpu12_emul.specs.Simulation.{AreSumsReady, left_of}
 use Rattle.cpu12_emul.specs.Step.{Left, Next, kind_of, applied, next_of}
-use Rattle.fz_run.specs.Facts.{Facts, AreNoneOrRunning}
+use Rattle.instruction_steps.specs.Facts.{Facts, AreNoneOrRunning}
 use Rattle.run_law.specs.Steps.{WriteLaws, RuleLaws}
-use Rattle.fz_run.proofs.Stretches.{OneInstruction, Kept, SameAbove, AtInstruction}
+use Rattle.instruction_steps.proofs.Stretches.{OneInstruction, Kept, SameAbove, AtInstruction}
 use Rattle.run_law.proofs.Algebra.{one_stretch, part_stretch}
 
 -- an address is one of these

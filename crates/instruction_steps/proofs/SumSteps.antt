@@ -23,9 +23,9 @@ use Rattle.cpu12_emul.specs.declared.ends.Stepped.TheVariants.{LastPart}
 use Rattle.cpu12_emul.specs.Simulation.{AreSumsReady, left_of, HasRoom}
 use Rattle.cpu12_emul.specs.Step.{Left, Next, kind_of, step_act, applied}
 use Rattle.cpu12_isa.specs.Act.{outcome}
-use Rattle.fz_run.specs.Facts.{Facts, AreNoneOrRunning}
+use Rattle.instruction_steps.specs.Facts.{Facts, AreNoneOrRunning}
 use Rattle.run_law.specs.Steps.{SumLaws}
-use Rattle.fz_run.proofs.Stretches.{OneInstruction, Kept, AtInstruction}
+use Rattle.instruction_steps.proofs.Stretches.{OneInstruction, Kept, AtInstruction}
 use Rattle.run_law.proofs.Algebra.{one_stretch, part_stretch, kept_sums}
 
 -- a state within WAV

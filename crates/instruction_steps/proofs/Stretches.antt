@@ -8,7 +8,7 @@ use Rattle.cpu12_isa.specs.Regions.{stack_start, stack_end, is_hidden}
 use Rattle.cpu12_parts.specs.declared.temps.Temps.TheVariants.{Free}
 use Rattle.cpu12_parts.specs.State.{State}
 use Rattle.run_law.proofs.Algebra.{Stretch}
-use Rattle.fz_run.specs.Facts.{Facts}
+use Rattle.instruction_steps.specs.Facts.{Facts}
 
 -- One whole instruction leads from s to t by d steps more than one: they are parts but for the last, and P holds at
 -- each state before t.

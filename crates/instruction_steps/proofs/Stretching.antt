@@ -3,8 +3,8 @@ use Rattle.std.proofs.Common.{◌≡◌, ℕ, suc, ◌+◌, List, [], ◌∷◌,
 use Rattle.cpu12_parts.specs.State.{State}
 use Rattle.cpu12_parts.specs.Executions.{Execution, all_steps}
 use Rattle.run_law.proofs.Algebra.{Stretch, no_stretch, joined}
-use Rattle.fz_run.specs.Instructions.{AreSteps}
-use Rattle.fz_run.proofs.Stretches.{OneInstruction}
+use Rattle.instruction_steps.specs.Instructions.{AreSteps}
+use Rattle.instruction_steps.proofs.Stretches.{OneInstruction}
 
 one_behind : (P : State → Type 0) (flags : ℕ) (ds : List ℕ) (s t : State) → Execution (OneInstruction P flags) ds s t
     → Stretch P flags (all_steps ds) (length ds) s t

@@ -13,9 +13,9 @@ use Rattle.cpu12_parts.specs.State.{State}
 use Rattle.cpu12_parts.specs.Whole.{IsPlainStep}
 use Rattle.cpu12_emul.specs.declared.ends.Stepped.TheVariants.{Plain}
 use Rattle.cpu12_emul.specs.Simulation.{AreSumsReady, PlainIsStep}
-use Rattle.fz_run.specs.Facts.{Facts, AreNoneOrRunning}
+use Rattle.instruction_steps.specs.Facts.{Facts, AreNoneOrRunning}
 use Rattle.run_forms.specs.Arrival.{PlainIsOneStep}
-use Rattle.fz_run.proofs.Stretches.{OneInstruction, Kept, AtInstruction}
+use Rattle.instruction_steps.proofs.Stretches.{OneInstruction, Kept, AtInstruction}
 use Rattle.run_law.proofs.Algebra.{one_stretch}
 
 pub plain_step : PlainIsStep → PlainIsOneStep → (open_to : ℕ → Bool) (flags : ℕ) (Q : State → Type 0) (i : Instr) (s t : State) → AtInstruction open_to s

@@ -9,15 +9,15 @@ use Rattle.cpu12_parts.specs.Executions.{Execution, all_steps}
 use Rattle.eval_code.specs.declared.layout.Layout.{Layout}
 use Rattle.codegen.specs.Interruptible.{is_idle, IsInterruptible, IsShownInstruction, IsInterruptibleStep}
 use Rattle.run_forms.specs.Arrival.{PlainIsOneStep}
-use Rattle.fz_run.specs.Facts.{IsStackOfOneCall}
-use Rattle.fz_run.specs.Instructions.{IsServing, InstructionsAreSteps}
+use Rattle.instruction_steps.specs.Facts.{IsStackOfOneCall}
+use Rattle.instruction_steps.specs.Instructions.{IsServing, InstructionsAreSteps}
 use Rattle.run_law.specs.Steps.{StepLaws}
 use Rattle.run_law.proofs.Algebra.{before_weaker}
-use Rattle.fz_run.proofs.Algebra.{at_stack}
-use Rattle.fz_run.proofs.Stretches.{OneInstruction, Kept, SameAbove, AtInstruction}
-use Rattle.fz_run.proofs.Stretching.{all_stretches}
-use Rattle.fz_run.proofs.PlainSteps.{plain_step}
-use Rattle.fz_run.proofs.WholeSteps.{Inside, rev_step, revw_step, average_step}
+use Rattle.instruction_steps.proofs.Algebra.{at_stack}
+use Rattle.instruction_steps.proofs.Stretches.{OneInstruction, Kept, SameAbove, AtInstruction}
+use Rattle.instruction_steps.proofs.Stretching.{all_stretches}
+use Rattle.instruction_steps.proofs.PlainSteps.{plain_step}
+use Rattle.instruction_steps.proofs.WholeSteps.{Inside, rev_step, revw_step, average_step}
 
 -- it does not wait, SP is one of two, and memory is the image's from the stack's end on
 On : Layout → List ℕ → State → Type 0

@@ -6,7 +6,7 @@ use Rattle.eval_code.specs.declared.layout.Layout.{Layout}
 use Rattle.codegen.specs.Interruptible.{is_idle, IsInterruptibleStep}
 use Rattle.run_law.specs.Uninterrupted.{uninterrupted, counted}
 use Rattle.run_law.specs.Soundness.{Before}
-use Rattle.fz_run.specs.Facts.{Facts, HasImageBytes, IsStackOfOneCall}
+use Rattle.instruction_steps.specs.Facts.{Facts, HasImageBytes, IsStackOfOneCall}
 
 -- The steps of whole instructions one after another lead from s to t: as many count as there are instructions, and P
 -- holds at each state before t.

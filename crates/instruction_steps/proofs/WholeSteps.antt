@@ -14,9 +14,9 @@ use Rattle.cpu12_parts.specs.Laws.{PartsTo}
 use Rattle.cpu12_parts.specs.Touching.{Each}
 use Rattle.cpu12_parts.specs.Whole.{IsRulesStep, IsAverageStep}
 use Rattle.run_law.specs.Steps.{WriteLaws, RuleLaws, StepLaws}
-use Rattle.fz_run.proofs.Stretches.{OneInstruction, Kept, SameAbove, AtInstruction}
-use Rattle.fz_run.proofs.PartSteps.{is_spared, spared, parts_at}
-use Rattle.fz_run.proofs.SumSteps.{average_at}
+use Rattle.instruction_steps.proofs.Stretches.{OneInstruction, Kept, SameAbove, AtInstruction}
+use Rattle.instruction_steps.proofs.PartSteps.{is_spared, spared, parts_at}
+use Rattle.instruction_steps.proofs.SumSteps.{average_at}
 
 -- what rules touch: they read what is shown, and write what is shown, below the image and not themselves
 pub record Touches (open_to : ℕ → Bool) (f : Form) (p : Rule) (ps : List Rule) (s : State) : Type 0 where
