@@ -1,7 +1,7 @@
 -- Records that give an image are not refused.
 use Rattle.std.proofs.Common.{ℕ, List, ◌∙◌, sym}
 use Rattle.cpu12_asm.specs.declared.image.Image.{Image}
-use Rattle.two_level.specs.Alike.{AreOneImage}
+use Rattle.codegen.specs.Alike.{AreOneImage}
 use Rattle.fz_status.specs.declared.status.ImageFault.{ImageFault}
 use Rattle.fz_status.specs.declared.status.ImageFault.TheVariants as fault
 use Rattle.srecord.specs.Laws.{ImagesAreOne, ImagesHaveNoFault}

@@ -4,7 +4,7 @@ use Rattle.fuzzy_meaning.specs.declared.block.Block.{Block}
 use Rattle.rule_layout.specs.Layouts.{IsWithinLimits, IsFaultOf as IsLayoutFault}
 use Rattle.codegen.specs.Firmwares.{IsFirmwareOf}
 use Rattle.codegen.specs.Mailboxes.{IsMailboxOf}
-use Rattle.codegen.specs.Watched.{IsWatchedFirmwareOf}
+use Rattle.watched_code.specs.Watched.{IsWatchedFirmwareOf}
 use Rattle.codegen.specs.declared.firmware.Firmware.{Firmware}
 use Rattle.eval_code.specs.declared.width.Width.{Width}
 use Rattle.eval_code.specs.Widths.{is_wide}

@@ -1,6 +1,6 @@
 -- The command `scompile FCL OUT`.
 use Rattle.std.specs.Prelude.{ℕ, List, [], ◌∷◌, Result, Ok, Err}
-use Rattle.codegen.specs.Watched.{watched_bound}
+use Rattle.watched_code.specs.Watched.{watched_bound}
 use Rattle.build_commands.specs.Deeds.{Deed}
 use Rattle.build_commands.specs.Firmwares.{GivesWatched, text_refusals}
 use Rattle.build_commands.specs.Written.{WritesFirmware}

@@ -5,7 +5,7 @@ ghost use Rattle.build_commands.specs.Firmwares.{GivesBlock, GivesFirmware, Give
 ghost use Rattle.build_commands.specs.Firmwares.{SpelledTextsHaveNoFault};
 ghost use Rattle.fz_status.specs.Refusals.{IsRefusal};
 
-use codegen::{Firmware, compile, compile_post, compile_scrub, compile16};
+use codegen::{Firmware, compile, compile_post, compile16};
 use eval_code::Width;
 use fcl_check::{LoadFault, load, load_faults_are_one, spelled_blocks_are_one};
 use fcl_syntax::{SyntaxFault, first_faults_are_one, parse};
@@ -13,6 +13,7 @@ use fuzzy_meaning::Block;
 use fz_status::{FclFault, Status};
 use rule_layout::{LayoutFault, layouts_are_one, limits_have_no_fault, spread};
 use std::alloc::Global;
+use watched_code::compile_scrub;
 
 /// A block with its firmware.
 #[derive(Drop)]

@@ -5,12 +5,13 @@ ghost use Rattle.build_commands.specs.Images.{FirmwareImagesHaveNoFault, Mailbox
 ghost use Rattle.build_commands.specs.Images.{WatchedImagesHaveNoFault, image_refusals, records_refusals};
 ghost use Rattle.fz_status.specs.Refusals.{IsRefusal};
 
-use codegen::{firmwares_are_one, mailboxes_are_one, watched_firmwares_are_one};
+use codegen::{firmwares_are_one, mailboxes_are_one};
 use cpu12_asm::Image;
 use fcl_check::spelled_blocks_are_one;
 use fz_status::{ImageFault, Status};
 use srecord::{SrecFault, images_are_one};
 use std::alloc::Global;
+use watched_code::watched_firmwares_are_one;
 
 /// The image that a text of records gives, or the status of its first fault.
 pub(crate) fn image_of(alloc: Global, text: &[u8]) -> Result<Image, Status>

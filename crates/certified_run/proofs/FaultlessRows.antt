@@ -17,7 +17,7 @@ use Rattle.point_slope.specs.Bytes.{ByteShare, answer_in, byte_shares, centre, r
 use Rattle.cert_check.specs.Laws.{AcceptedAnswersAreNear, answer_to}
 use Rattle.cpu12_emul.specs.Image.{image_memory}
 use Rattle.codegen.specs.declared.firmware.Firmware.{Firmware}
-use Rattle.codegen.specs.Watched.{Watched, is_upset, watched_answer, watched_fault}
+use Rattle.watched_code.specs.Watched.{Watched, is_upset, watched_answer, watched_fault}
 use Rattle.interrupt_plan.specs.declared.upsets.Upset.{Upset}
 use Rattle.fz_run.specs.Rows.{input_bytes}
 use Rattle.watched_runs.specs.Samples.{change_of, changes_from, with_upsets}

@@ -1,5 +1,5 @@
 -- Blocks that are the same have one image.
-use Rattle.std.proofs.Common.{◌≡◌, ℕ, Bool, List, [], ◌∷◌, ◌++◌, length, refl, sym, ◌∙◌, ap, ap₂}
+use Rattle.std.proofs.Common.{◌≡◌, ℕ, Bool, List, [], ◌∷◌, ◌++◌, length, refl, sym, ◌∙◌, ap, ap₂, subst}
 use Rattle.std.specs.Prelude.{flat_map}
 use Rattle.fuzzy_meaning.specs.declared.block.Block.{Block}
 use Rattle.fuzzy_meaning.specs.declared.block.Input.{Input}
@@ -16,9 +16,8 @@ use Rattle.rule_layout.specs.declared.flat.Slot.{Slot}
 use Rattle.cpu12_isa.specs.declared.instr.Instr.{Instr}
 use Rattle.cpu12_isa.specs.declared.instr.Instr.TheVariants.{Rts}
 use Rattle.cpu12_asm.specs.Bytes.{byte_at, word_or_zero}
-use Rattle.cpu12_asm.specs.Items.{given_by}
 use Rattle.cpu12_asm.specs.declared.items.Item.{Item}
-use Rattle.codegen.specs.Alike.{FirmwaresAreOne, HaveOneImage, MailboxesAreOne, WatchedFirmwaresAreOne}
+use Rattle.codegen.specs.Alike.{FirmwaresAreOne, HaveOneImage, ImagesAreOne, ItemsAreOne, MailboxesAreOne}
 use Rattle.eval_code.specs.Code.{eval_code_over}
 use Rattle.codegen.specs.Code.{frame_code}
 use Rattle.eval_code.specs.Data.{rule_bytes_by, singleton_bytes_of, weight_bytes_by}
@@ -26,15 +25,10 @@ use Rattle.codegen.specs.Images.{IsImageOf, firmware_items, vector_items}
 use Rattle.eval_code.specs.Items.{bytes_at, code_at, block_items}
 use Rattle.eval_code.specs.Layouts.{main_layout}
 use Rattle.codegen.specs.Mailboxes.{mailbox_code, mailbox_layout}
-use Rattle.codegen.specs.Watched.{watched_items}
-use Rattle.codegen.specs.WatchedCode.{segment, segments_of, watched_front, watched_front_over, watched_layout}
-use Rattle.codegen.specs.WatchedCode.{watched_layout_over, weight_segments}
 use Rattle.eval_code.specs.Widths.{width_of}
 use Rattle.codegen.specs.declared.firmware.Firmware.{Firmware}
 use Rattle.eval_code.specs.declared.layout.Layout.{Layout}
-use Rattle.codegen.specs.declared.segments.Segment.{Segment}
 use Rattle.eval_code.specs.declared.width.Width.{Width}
-use Rattle.eval_code.specs.declared.width.Width.TheVariants.{Byte}
 
 -- a block's items by what they are made of
 abbrev items_of : Layout → Width → List Instr → List Instr → List Input → List Output → List Slot → List Conjunction → List ℕ → Form → List Item
@@ -72,16 +66,22 @@ same_items l p q w before behind says same =
     ∙ (λ i. items_of l w before behind (says.inputs i) (says.outputs i) (same.slots i) (same.conjunctions i) (same.weights i) (same.form i))
     ∙ sym (made_of l q w before behind)
 
+pub items_are_one : LayoutsAreOne → ItemsAreOne
+items_are_one layouts l p q w before behind says = same_items l p q w before behind says (parts_same p q (layouts.layout p q says))
+
 -- images of the same items are one
+pub images_are_one : ImagesAreOne
+images_are_one items f g of_f of_g = (bytes, start)
+  where
+    bytes : (at : ℕ) → byte_at f.bytes at ≡ byte_at g.bytes at
+    bytes at = of_f.bytes.bytes at ∙ sym (of_g.bytes.bytes at)
+
+    start : f.start ≡ g.start
+    start = of_f.start ∙ ap₂ word_or_zero (bytes 65534) (bytes 65535) ∙ sym of_g.start
+
 items_alike : (xs ys : List Item) (f g : Firmware) → xs ≡ ys → IsImageOf xs f.image → IsImageOf ys g.image
     → HaveOneImage f g
-items_alike xs ys f g items of_f of_g = (bytes, start)
-  where
-    bytes : (at : ℕ) → byte_at f.image.bytes at ≡ byte_at g.image.bytes at
-    bytes at = of_f.bytes.bytes at ∙ ap (λ (l : List Item). byte_at (given_by l) at) items ∙ sym (of_g.bytes.bytes at)
-
-    start : f.image.start ≡ g.image.start
-    start = of_f.start ∙ ap₂ word_or_zero (bytes 65534) (bytes 65535) ∙ sym of_g.start
+items_alike xs ys f g items of_f of_g = images_are_one ys f.image g.image (subst (λ (zs : List Item). IsImageOf zs f.image) items of_f) of_g
 
 pub one_image : LayoutsAreOne → FirmwaresAreOne
 one_image layouts p q f g says wide of_p of_q =
@@ -92,42 +92,6 @@ one_image layouts p q f g says wide of_p of_q =
     items =
         ap (λ (xs : List Item). xs ++ vector_items main_layout) (same_items main_layout p q (width_of f.wide) (frame_code main_layout) (Rts ∷ []) says (parts_same p q (layouts.layout p q says)))
         ∙ ap (λ (b : Bool). firmware_items main_layout q (width_of b)) wide
-
--- ---- with watched tables
-
--- a block's segments by what they are made of
-abbrev segments_by : List Input → List Output → List Conjunction → List ℕ → Form → List Segment
-segments_by inputs outputs conjunctions weights form =
-    segment main_layout.tables (flat_map (λ row. row) (flat_map rows_of inputs))
-    ∷ segment main_layout.singletons (flat_map singleton_bytes_of outputs)
-    ∷ (weight_segments main_layout.weights form weights
-    ++ segment main_layout.rules (rule_bytes_by main_layout.slots form conjunctions) ∷ [])
-
-segments_made : (b : Block)
-    → segments_of main_layout b ≡ segments_by b.inputs b.outputs (conjunctions_of b) (weights_of b) (form_of b)
-segments_made b = refl
-
-same_segments : (p q : Block) → IsSameBlock p q → SameLayout p q → segments_of main_layout p ≡ segments_of main_layout q
-same_segments p q says same =
-    segments_made p
-    ∙ (λ i. segments_by (says.inputs i) (says.outputs i) (same.conjunctions i) (same.weights i) (same.form i))
-    ∙ sym (segments_made q)
-
-same_watched : (p q : Block) → IsSameBlock p q → SameLayout p q → watched_items p ≡ watched_items q
-same_watched p q says same =
-    let segments = same_segments p q says same in
-    let layout : watched_layout p ≡ watched_layout q =
-    (λ i. watched_layout_over main_layout (says.outputs i) (segments i)) in
-    let front : watched_front main_layout p ≡ watched_front main_layout q =
-    (λ i. watched_front_over main_layout (says.outputs i) (segments i)) in
-    ap (λ (xs : List Item). xs ++ vector_items (watched_layout p))
-    (same_items (watched_layout p) p q Byte (watched_front main_layout p) (Rts ∷ []) says same)
-    ∙ (λ i. block_items (layout i) q Byte (front i) (Rts ∷ []) ++ vector_items (layout i))
-
-pub one_watched_image : LayoutsAreOne → WatchedFirmwaresAreOne
-one_watched_image layouts p q f g says of_p of_q =
-    items_alike (watched_items p) (watched_items q) f g
-    (same_watched p q says (parts_same p q (layouts.layout p q says))) of_p.image of_q.image
 
 -- ---- in the mailbox form
 

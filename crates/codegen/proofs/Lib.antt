@@ -1,4 +1,4 @@
 pub mod runs
 pub mod turns
-pub mod watching
 pub mod AlikeLemmas
+pub mod Algebra

@@ -5,6 +5,7 @@ pub mod Framing
 pub mod Placing
 pub mod Founding
 pub mod Arriving
+pub mod Standing
 pub mod Sampling
 pub mod Law
 pub mod Uninterrupted

@@ -15,6 +15,7 @@ use Rattle.eval_code.specs.declared.width.Width.{Width}
 use Rattle.codegen.specs.declared.firmware.Firmware.{Firmware}
 use Rattle.eval_code.specs.Widths.{width_of, answer}
 use Rattle.eval_code.specs.Bounds.{steps_by}
+use Rattle.eval_code.specs.Layouts.{main_layout}
 use Rattle.eval_code.specs.Firing.{AreInputBytes}
 use Rattle.eval_code.specs.Evaluation.{put, Reads, Writes, HasAnswers}
 use Rattle.codegen.specs.Interruptible.{is_idle, IsInterruptible, IsInterruptibleStep}
@@ -78,6 +79,10 @@ pub record LeavesLayout (open_to : ℕ → Bool) (l : Layout) : Type 0 where
   pub stack : (at : ℕ) → stack_start ≤ at → at < stack_end → open_to at ≡ false
   pub code : (at : ℕ) → l.code ≤ at → at < l.tables → open_to at ≡ false
   pub reset : (at : ℕ) → 0xFFFE ≤ at → at < 2 ^ 16 → open_to at ≡ false
+
+-- So do the free bytes.
+abbrev pub FreeBytesLeave : Type 0
+FreeBytesLeave = LeavesLayout is_free main_layout
 
 -- The same beside handlers to which more is open.
 abbrev pub AnswersBeside : (ℕ → Bool) → Block → Firmware → Type 0

@@ -1,12 +1,14 @@
 //! Laws of the forms of firmware.
-ghost use Rattle.codegen.specs.Alike.{FirmwaresAreOne, MailboxesAreOne, WatchedFirmwaresAreOne};
-ghost use Rattle.codegen.specs.Answers.{FirmwareAnswers, FirmwareAnswersBeside, FirmwareArrivesAlike};
-ghost use Rattle.codegen.specs.Checksums.{OneChangeIsSeen, TwoChangesMayPass, UnchangedSumIsZero};
+ghost use Rattle.codegen.specs.Alike.{FirmwaresAreOne, ImagesAreOne, ItemsAreOne, MailboxesAreOne};
+ghost use Rattle.codegen.specs.Answers.{FirmwareAnswers, FirmwareAnswersBeside, FirmwareArrivesAlike, FreeBytesLeave};
+ghost use Rattle.codegen.specs.Calls.{CalledEvalReturns};
+ghost use Rattle.codegen.specs.Frames.{FrameCallsAndLeaves, StartArrives};
 ghost use Rattle.codegen.specs.Laws.{LowerLaws};
 ghost use Rattle.codegen.specs.Mailboxes.{MailboxStepsAreFew};
 ghost use Rattle.codegen.specs.SampleTurns.{MailboxTakesSamples};
+ghost use Rattle.codegen.specs.Settings.{InstructionGoesOn, ReturnGoesOn};
+ghost use Rattle.codegen.specs.Standing.{ImageHasFirmware};
 ghost use Rattle.codegen.specs.Turns.{MailboxTakesPosts, MailboxIsUninterrupted};
-ghost use Rattle.codegen.specs.Watched.{WatchedAnswers};
 ghost use Rattle.codegen.specs.Uninterrupted.{AnsweredAreUninterrupted, FirmwareIsUninterrupted, UninterruptedAreOne};
 
 use byte_scaling::nearest_is_byte;
@@ -29,6 +31,39 @@ fn lower_laws()
     eval_answers();
     blocks_are_placed();
 }
+
+/// One instruction of the code around EVAL leads on: a plain one that leaves SP and what masks
+/// interrupts, and the return from a call.
+pub fn instructions_go_on()
+    ensures plain { InstructionGoesOn }
+    ensures returns { ReturnGoesOn }
+{}
+
+/// EVAL comes back with its block's answers wherever the code around it calls it.
+pub fn called_eval_returns()
+    ensures { CalledEvalReturns }
+{
+    eval_answers();
+}
+
+/// The memory of an image of a block's items with the vectors behind them has the block's firmware.
+pub fn image_has_firmware()
+    ensures { ImageHasFirmware }
+{
+    lower_laws();
+}
+
+/// The frame of a firmware that stands alone leads from reset to where it waits, with a sample to what
+/// it calls, and back from there.
+pub fn frames_lead()
+    ensures arrives { StartArrives }
+    ensures turns { FrameCallsAndLeaves }
+{}
+
+/// The free bytes leave the layout of a firmware that stands alone as it is.
+pub fn free_bytes_leave()
+    ensures { FreeBytesLeave }
+{}
 
 /// The firmware of a block answers every list of samples over bytes, whatever the open flags are,
 /// within its bounds; and at each instruction what an interrupt may change is not read, whichever
@@ -105,16 +140,17 @@ pub fn uninterrupted_are_one()
     executions_are_one();
 }
 
-/// Blocks that are the same, wherever their conditions lie in memory, have firmware with one image.
-pub fn firmwares_are_one()
-    ensures { FirmwaresAreOne }
+/// Blocks that are the same have the same items at a layout; images of the same items are one.
+pub fn items_are_one()
+    ensures items { ItemsAreOne }
+    ensures images { ImagesAreOne }
 {
     layouts_are_one();
 }
 
-/// So they have with watched tables.
-pub fn watched_firmwares_are_one()
-    ensures { WatchedFirmwaresAreOne }
+/// Blocks that are the same, wherever their conditions lie in memory, have firmware with one image.
+pub fn firmwares_are_one()
+    ensures { FirmwaresAreOne }
 {
     layouts_are_one();
 }
@@ -124,21 +160,4 @@ pub fn mailboxes_are_one()
     ensures { MailboxesAreOne }
 {
     layouts_are_one();
-}
-
-/// With its check byte the sum of bytes is 0. Where one byte is changed to another it is not; where
-/// two are it may be.
-pub fn one_change_is_seen()
-    ensures unchanged { UnchangedSumIsZero }
-    ensures one { OneChangeIsSeen }
-    ensures two { TwoChangesMayPass }
-{}
-
-/// The firmware of a block with watched tables answers every list of samples, whatever the open flags
-/// are, within its bounds: by the block's answers over bytes and FAULT 0, but by the outputs' defaults
-/// and FAULT 1 while a byte of its tables holds another value.
-pub fn watched_answers()
-    ensures { WatchedAnswers }
-{
-    lower_laws();
 }

@@ -4,28 +4,22 @@
 //! [`Firmware`] that stands alone and answers bytes, and [`compile16`] into one that answers 16 bits: an
 //! image of memory with its code, its tables and its rule list, and bounds on the instructions and steps
 //! that a sample takes. [`compile_post`] makes the mailbox form, whose samples come by an interrupt.
-//! [`compile_scrub`] makes a firmware that also watches its tables: it sums them before each sample, and
-//! answers the outputs' defaults, with a byte FAULT set, where they are not what they were. Each image
-//! holds exactly the bytes that its definition names and answers every list of samples from reset as the
-//! block does over bytes, with interrupts let in; all refuse exactly the blocks that
-//! `rule_layout::spread` refuses, and take memory.
+//! Each image holds exactly the bytes that its definition names and answers every list of samples from
+//! reset as the block does over bytes, with interrupts let in; all refuse exactly the blocks that
+//! `rule_layout::spread` refuses, and take memory. What crates above rest on that put other code around
+//! EVAL stands in [`laws`]: how an instruction goes on, EVAL is called, and a frame leads.
 #![tactic(auto)]
 
-mod check;
 mod firmware;
 mod items;
 pub mod laws;
 mod mailbox;
-mod segments;
-mod watch;
 
 pub use firmware::{Firmware, compile, compile16, image_of};
 pub use items::{firmware_items, frame_code, push_vectors};
 pub use laws::{
     firmware_answers, firmware_is_uninterrupted, firmwares_are_one, mailbox_is_uninterrupted,
     mailbox_steps_are_few, mailbox_takes_posts, mailbox_takes_samples, mailboxes_are_one,
-    one_change_is_seen, uninterrupted_are_one, watched_answers, watched_firmwares_are_one,
+    uninterrupted_are_one,
 };
 pub use mailbox::compile_post;
-pub use segments::Segment;
-pub use watch::compile_scrub;

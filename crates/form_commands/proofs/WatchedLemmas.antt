@@ -5,7 +5,7 @@ use Rattle.std.proofs.lemmas.List.Elements.{All-cons, All-nil}
 use Rattle.fuzzy_meaning.specs.declared.block.Block.{Block}
 use Rattle.cpu12_asm.specs.Bytes.{byte_at}
 use Rattle.cpu12_emul.specs.Image.{image_memory}
-use Rattle.codegen.specs.Watched.{Watched, watched_answer}
+use Rattle.watched_code.specs.Watched.{Watched, watched_answer}
 use Rattle.codegen.specs.declared.firmware.Firmware.{Firmware}
 use Rattle.eval_code.specs.declared.width.Width.TheVariants.{Byte}
 use Rattle.srecord.specs.Texts.{GivesImage}

@@ -1,7 +1,7 @@
 -- The run of a firmware with watched tables: what the program's answer to `srun` says.
 use Rattle.std.specs.Prelude.{◌≡◌, ℕ, ◌≤◌, List, All, map}
 use Rattle.fuzzy_meaning.specs.declared.block.Block.{Block}
-use Rattle.codegen.specs.Watched.{watched_bound}
+use Rattle.watched_code.specs.Watched.{watched_bound}
 use Rattle.codegen.specs.declared.firmware.Firmware.{Firmware}
 use Rattle.eval_code.specs.declared.width.Width.TheVariants.{Byte}
 use Rattle.srecord.specs.Texts.{GivesImage}

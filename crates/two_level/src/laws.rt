@@ -4,12 +4,11 @@ ghost use Rattle.two_level.specs.Images.{AloneHasByteBounds};
 ghost use Rattle.two_level.specs.Running.{FastAnswersEntered};
 ghost use Rattle.two_level.specs.Standing.{TwoStandBeside};
 
-use codegen::laws::{firmware_answers_beside, firmware_arrives_alike};
+use codegen::laws::{firmware_answers_beside, firmware_arrives_alike, items_are_one};
 use cpu12_emul::laws::holds_image;
 use cpu12_isa::decode::decodes_encoded;
 use cpu12_isa::laws::{stays_fit, writes_stay};
 use eval_code::laws::{blocks_are_placed, eval_answers};
-use rule_layout::layouts_are_one;
 
 /// Wherever an interrupt enters the fast code it leads to its return with its block's answers, within its
 /// bounds, touches what is the fast block's alone, and leaves X.
@@ -44,5 +43,5 @@ pub fn alone_has_byte_bounds()
 pub fn twos_are_one()
     ensures { TwosAreOne }
 {
-    layouts_are_one();
+    items_are_one();
 }

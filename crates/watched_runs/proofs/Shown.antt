@@ -5,9 +5,9 @@ use Rattle.cpu12_parts.specs.State.{State}
 use Rattle.run_law.specs.Forms.{Form, RowSeen, row_of, rows_from, run_from}
 use Rattle.codegen.specs.declared.firmware.Firmware.{Firmware}
 use Rattle.eval_code.specs.declared.layout.Layout.{Layout}
-use Rattle.codegen.specs.Watched.{Change, Watched, changed}
-use Rattle.codegen.specs.WatchedCode.{fault_at}
-use Rattle.run_forms.specs.declared.sample.Tally.{Tally}
+use Rattle.watched_code.specs.Watched.{Change, Watched, changed}
+use Rattle.watched_code.specs.WatchedCode.{fault_at}
+use Rattle.fz_run.specs.declared.sample.Tally.{Tally}
 use Rattle.fz_run.specs.Forms.{given, answers_in}
 use Rattle.run_forms.specs.Rest.{counted_at, shown_by}
 use Rattle.run_forms.specs.Rows.{frames_seen, shown}

@@ -4,8 +4,8 @@ use Rattle.cpu12_isa.specs.Regions.{is_free}
 use Rattle.run_law.specs.Following.{RunsFollow}
 use Rattle.interrupt_plan.specs.Plans.{IsGoodRequest}
 use Rattle.codegen.specs.declared.firmware.Firmware.{Firmware}
-use Rattle.codegen.specs.Watched.{WatchedAnswers}
-use Rattle.run_forms.specs.Arrival.{ArrivesPlainly}
+use Rattle.watched_code.specs.Watched.{WatchedAnswers}
+use Rattle.fz_run.specs.Arrival.{ArrivesPlainly}
 use Rattle.fz_run.specs.Following.{IsLow, Nothing}
 use Rattle.fz_run.specs.Given.{GivenIsPut, RequestsAreGood}
 use Rattle.instruction_steps.specs.Instructions.{InstructionsAreSteps}

@@ -20,9 +20,9 @@ use Rattle.codegen.specs.Answers.{IsArrived}
 use Rattle.eval_code.specs.Bounds.{steps_by, instruction_bound}
 use Rattle.eval_code.specs.Firing.{AreInputBytes}
 use Rattle.codegen.specs.Interruptible.{is_idle}
-use Rattle.codegen.specs.Watched.{Watched, changed, restored, upset_given, watched_answer, IsTableChange, IsGoodSample}
-use Rattle.codegen.specs.Watched.{IsWatchAnswered, AreWatchAnswered, IsWatchedFirmwareOf, watched_bound}
-use Rattle.codegen.specs.WatchedCode.{fault_at, watched_layout}
+use Rattle.watched_code.specs.Watched.{Watched, changed, restored, upset_given, watched_answer, IsTableChange, IsGoodSample}
+use Rattle.watched_code.specs.Watched.{IsWatchAnswered, AreWatchAnswered, IsWatchedFirmwareOf, watched_bound}
+use Rattle.watched_code.specs.WatchedCode.{fault_at, watched_layout}
 use Rattle.run_law.specs.Forms.{rows_from}
 use Rattle.run_law.specs.Uninterrupted.{uninterrupted}
 use Rattle.run_law.specs.Following.{Completes, AllComplete, AllWithin, AllFollow, expected_row, expected_rows}

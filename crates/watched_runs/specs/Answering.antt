@@ -12,7 +12,7 @@ use Rattle.interrupt_plan.specs.Plans.{IsGood}
 use Rattle.interrupt_plan.specs.Upsets.{AreGoodUpsets}
 use Rattle.codegen.specs.declared.firmware.Firmware.{Firmware}
 use Rattle.eval_code.specs.Firing.{AreInputBytes}
-use Rattle.codegen.specs.Watched.{Watched, changed, restored, watched_answer, watched_fault, IsWatchedFirmwareOf}
+use Rattle.watched_code.specs.Watched.{Watched, changed, restored, watched_answer, watched_fault, IsWatchedFirmwareOf}
 use Rattle.run_law.specs.Uninterrupted.{uninterrupted}
 use Rattle.run_law.specs.Following.{AllComplete, AllFollow, expected_rows}
 use Rattle.instruction_steps.specs.Facts.{HasImageBytes, WaitsAlone}

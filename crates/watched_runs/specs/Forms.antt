@@ -9,11 +9,10 @@ use Rattle.interrupt_plan.specs.declared.Request.{Request}
 use Rattle.codegen.specs.declared.firmware.Firmware.{Firmware}
 use Rattle.eval_code.specs.declared.layout.Layout.{Layout}
 use Rattle.codegen.specs.Interruptible.{is_idle}
-use Rattle.codegen.specs.Watched.{Watched, changed, restored}
-use Rattle.codegen.specs.WatchedCode.{fault_at}
-use Rattle.instruction_steps.specs.Facts.{Facts, IsStackOfOneCall}
-use Rattle.run_forms.specs.Forms.{FormParts, plan_form}
-use Rattle.fz_run.specs.Forms.{given, answers_in, place_of}
+use Rattle.watched_code.specs.Watched.{Watched, changed, restored}
+use Rattle.watched_code.specs.WatchedCode.{fault_at}
+use Rattle.fz_run.specs.Facts.{Facts, IsStackOfOneCall}
+use Rattle.fz_run.specs.Forms.{FormParts, given, answers_in, place_of, plan_form}
 
 -- a sample is given, and then the byte is changed
 abbrev pub given_changed : Layout → Watched → State → State

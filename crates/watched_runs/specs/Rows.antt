@@ -4,7 +4,7 @@ use Rattle.run_law.specs.Forms.{RowSeen, Rows, rows_from}
 use Rattle.interrupt_plan.specs.declared.Request.{Request}
 use Rattle.interrupt_plan.specs.declared.upsets.Upset.{Upset}
 use Rattle.codegen.specs.declared.firmware.Firmware.{Firmware}
-use Rattle.codegen.specs.Watched.{Watched}
+use Rattle.watched_code.specs.Watched.{Watched}
 use Rattle.trace_io.specs.declared.sample.Sample.{Sample}
 use Rattle.run_forms.specs.Forms.{Harness}
 use Rattle.fz_run.specs.Rows as rows

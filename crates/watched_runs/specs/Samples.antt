@@ -2,7 +2,7 @@
 use Rattle.std.specs.Prelude.{ℕ, suc, ◌<◌, ◌==◌, if◌then◌else◌, Option}
 use Rattle.std.specs.Prelude.{Some, None, List, [], ◌∷◌, length, slice_index_or}
 use Rattle.interrupt_plan.specs.declared.upsets.Upset.{Upset}
-use Rattle.codegen.specs.Watched.{Change, Watched}
+use Rattle.watched_code.specs.Watched.{Change, Watched}
 
 -- each sample of upsets is above all before it
 abbrev pub AscendThroughout : List Upset → Type 0

@@ -9,8 +9,8 @@ use Rattle.cpu12_emul.specs.Simulation.{Same}
 use Rattle.run_law.specs.Soundness.{Sound, WritesAreQuiet}
 use Rattle.interrupt_plan.specs.Plans.{IsGoodRequest}
 use Rattle.codegen.specs.declared.firmware.Firmware.{Firmware}
-use Rattle.codegen.specs.Watched.{Change, changed, restored}
-use Rattle.codegen.specs.WatchedCode.{fault_at}
+use Rattle.watched_code.specs.Watched.{Change, changed, restored}
+use Rattle.watched_code.specs.WatchedCode.{fault_at}
 use Rattle.fz_run.specs.Following.{IsLow, Nothing}
 use Rattle.fz_run.specs.Forms.{given}
 use Rattle.fz_run.specs.SoundAlone as alone

@@ -2,7 +2,7 @@
 ghost use Rattle.std.specs.Prelude.{ℕ, ◌≡◌, ◌<◌, ◌≤◌, ◌+◌, List, Some, length, map, slice_get, vec_len};
 ghost use Rattle.run_forms.specs.Rest.{counted_at, shown_by};
 ghost use Rattle.fz_run.specs.Rows.{input_bytes};
-ghost use Rattle.codegen.specs.Watched as tables;
+ghost use Rattle.watched_code.specs.Watched as tables;
 ghost use Rattle.watched_runs.specs.Rows.{FaultSeen, watched_harness};
 ghost use Rattle.watched_runs.specs.Samples.{AscendThroughout};
 

@@ -2,11 +2,9 @@
 ghost use Rattle.watched_runs.specs.Answering.{AnswersUnderAllUpsets};
 
 use crate::watched::WatchedTables;
-use codegen::laws::watched_answers;
-use fz_run::laws::{given_is_put, requests_are_good};
-use instruction_steps::laws::instructions_are_steps;
-use run_forms::laws::arrives_plainly;
+use fz_run::laws::{arrives_plainly, given_is_put, instructions_are_steps, requests_are_good};
 use run_law::laws::runs_follow;
+use watched_code::laws::watched_answers;
 
 /// The firmware of a block with watched tables answers every list of samples under every good plan and
 /// all good upsets: a row's answers are the block's over bytes and FAULT is 0, but the defaults and 1

@@ -2,7 +2,7 @@
 ghost use Rattle.std.specs.Prelude.{ℕ, ◌≡◌, MatchResult, None, slice_get};
 ghost use Rattle.cpu12_emul.specs.Image.{image_memory};
 ghost use Rattle.interrupt_plan.specs.Upsets.{SamplesAscend};
-ghost use Rattle.codegen.specs.Watched.{changed, restored};
+ghost use Rattle.watched_code.specs.Watched.{changed, restored};
 ghost use Rattle.watched_runs.specs.Samples.{AscendThroughout, change_of, change_in};
 
 use cpu12_asm::Image;

@@ -3,7 +3,7 @@ ghost use Rattle.std.specs.Prelude.{ℕ};
 ghost use Rattle.cpu12_isa.specs.Regions.{is_free};
 ghost use Rattle.interrupt_plan.specs.Plans.{IsGoodRequest};
 ghost use Rattle.interrupt_plan.specs.declared.Request as plan;
-ghost use Rattle.codegen.specs.Watched as tables;
+ghost use Rattle.watched_code.specs.Watched as tables;
 ghost use Rattle.fz_run.specs.Following.{Alone, Nothing};
 ghost use Rattle.watched_runs.specs.Forms.{watched_form, FactsWatched};
 ghost use Rattle.watched_runs.specs.SoundWatched.{sound};

@@ -18,7 +18,7 @@ use Rattle.eval_code.specs.declared.width.Width.TheVariants.{Byte, Word}
 use Rattle.eval_code.specs.Widths.{places, bytes_of}
 use Rattle.eval_code.specs.Code.{block_code, code_bytes}
 use Rattle.eval_code.specs.Data.{table_bytes, singleton_bytes, weight_bytes, rule_bytes, bytes_of_word}
-use Rattle.eval_code.specs.Items.{bytes_at, block_items, IsApart}
+use Rattle.eval_code.specs.Items.{bytes_at, block_items}
 use Rattle.cpu12_asm.specs.declared.items.Item.TheVariants.{Op}
 use Rattle.cpu12_isa.specs.declared.instr.Regs.{Regs}
 use Rattle.cpu12_isa.specs.Agreement.{Agree}
@@ -27,9 +27,9 @@ use Rattle.std.proofs.lemmas.Bool.{cases_eq}
 use Rattle.eval_code.specs.Evaluation.{HasBytes}
 use Rattle.eval_code.proofs.Algebra.{unmasked, same_bytes, SameHigh, high_set, bytes_set_out, bytes_after_set, decode_same, decode_here, Rises}
 use Rattle.eval_code.proofs.Algebra.{HasGiven, none_below}
-use Rattle.codegen.proofs.runs.Stepping.{Ctx, Live}
-use Rattle.codegen.proofs.runs.Framing.{Home, answer_room}
-use Rattle.codegen.proofs.runs.Founding.{IsStarted, start_code}
+use Rattle.codegen.proofs.runs.Framing.{answer_room}
+use Rattle.codegen.specs.Frames.{first_waiting, IsStarted, start_code, StartArrives}
+use Rattle.codegen.specs.Settings.{Setting, Live}
 
 -- memory below the code is 0
 pub zero_below : Rises → (image : List ℕ) (l : Layout) (b : Block) (w : Width) (before behind : List Instr) (rest : List Item)
@@ -43,14 +43,9 @@ none_stand : (w : Width) (m : List ℕ) (p : ℕ) → ((q : ℕ) → p ≤ q →
 none_stand Byte m p h = (h p (omega arith) (omega arith), tt)
 none_stand Word m p h = (h p (omega arith) (omega arith), (h (p + 1) (omega arith) (omega arith), tt))
 
--- the state in which the code waits first, from a memory
-abbrev pub third : ℕ → Layout → List ℕ → State
-third flags l m =
-    after_plain flags (Andcc 0xEF) (after_plain flags (ClrExtended l.ready) (after_plain flags (LdsImmediate 0x2000) (reset_with m)))
-
 -- three plain instructions lead there
 pub start_way : (flags : ℕ) (l : Layout) (image : List ℕ) → IsStarted l → HasBytes image 0xFFFE (bytes_of_word l.code) → HasBytes image l.code (code_bytes (start_code l))
-    → PlainWay flags l.wait 3 (reset_with image) (third flags l image)
+    → PlainWay flags l.wait 3 (reset_with image) (first_waiting flags l image)
 start_way flags l image f vector start =
     let lo = f.low in
     let hi = f.high in
@@ -80,17 +75,12 @@ start_way flags l image f vector start =
     (s1, (omega arith, (LdsImmediate 0x2000, record { decoded = d0; plain = refl; after = refl }), (s2, (omega arith, (ClrExtended l.ready, record { decoded = d1; plain = refl; after = refl }), (s3, (omega arith, (Andcc 0xEF, record { decoded = d2; plain = refl; after = refl }), refl))))))
 
 -- the first arrival
-pub record Arrived (c : Ctx) (b : Block) (w : Width) : Type 0 where
-  pub t : State
-  pub third_is : t ≡ third c.flags c.layout c.image
-  pub size : length c.image ≡ 65536
-  pub way : PlainWay c.flags c.layout.wait 3 (reset_with c.image) t
-  pub home : Home c b w (λ o. 0) t
-
-pub arrive : (c : Ctx) (b : Block) (w : Width) → IsStarted c.layout → IsApart c.layout → length b.outputs ≤ 4
-    → HasBytes c.image 0xFFFE (bytes_of_word c.layout.code) → HasBytes c.image c.layout.code (code_bytes (start_code c.layout)) → length c.image ≡ 65536
-    → AreBytes c.image → ((q : ℕ) → q < c.layout.code → get_or c.image q 0 ≡ 0) → Arrived c b w
-arrive c b width f a few vector start size bytes zero_low =
+pub arrive : StartArrives
+arrive c b width before f a v start h =
+    let few = v.few_outputs in
+    let vector = h.reset in
+    let size = h.size in
+    let bytes = h.bytes in
     let l = c.layout in
     let lo = f.low in
     let hi = f.high in
@@ -127,8 +117,7 @@ arrive c b width f a few vector start size bytes zero_low =
     let home : s3.regs.pc ≡ l.wait = p3 ∙ sym w in
     record {
       t = s3;
-      third_is = refl;
-      size = size;
+      first = refl;
       way = start_way c.flags l c.image f vector start;
       home = record {
         live = live;
@@ -137,18 +126,18 @@ arrive c b width f a few vector start size bytes zero_low =
         outs = λ o from to.
             (let p = l.outputs + places width * (o - 1) in
             let room = answer_room width o 0 from (omega arith) in
-            bytes_set_out c.image l.ready 0 p (bytes_of width 0) (⊎_elim (λ before. inr (omega arith)) (λ behind. inl (omega arith)) f.apart) (none_stand width c.image p (λ q lo hi. zero_low q (omega arith))));
+            bytes_set_out c.image l.ready 0 p (bytes_of width 0) (⊎_elim (λ before. inr (omega arith)) (λ behind. inl (omega arith)) f.apart) (none_stand width c.image p (λ q lo hi. h.low q (omega arith))));
         ready_is = ready;
       };
     }
 
 -- the arrival from a memory that agrees: where it is the same
-pub record Alike (c : Ctx) (mem : List ℕ) : Type 0 where
+pub record Alike (c : Setting) (mem : List ℕ) : Type 0 where
   pub state : State
   pub way : PlainWay c.flags c.layout.wait 3 (reset_with mem) state
-  pub regs : state.regs ≡ (third c.flags c.layout c.image).regs
-  pub temps : state.temps ≡ (third c.flags c.layout c.image).temps
-  pub bytes : Agree c.open_to state.mem (third c.flags c.layout c.image).mem
+  pub regs : state.regs ≡ (first_waiting c.flags c.layout c.image).regs
+  pub temps : state.temps ≡ (first_waiting c.flags c.layout c.image).temps
+  pub bytes : Agree c.open_to state.mem (first_waiting c.flags c.layout c.image).mem
   pub open_bytes : (at : ℕ) → c.open_to at ≡ true → get_or state.mem at 0 ≡ get_or mem at 0
 
 -- the registers there depend on PC alone
@@ -172,7 +161,7 @@ set_agree open_to m n at v lt a = record { size = length-set m at v ∙ a.size �
 apart : (open_to : ℕ → Bool) (p q : ℕ) → open_to p ≡ true → open_to q ≡ false → p ≢ q
 apart open_to p q t f e = cc
 
-pub arrive_alike : (c : Ctx) (mem : List ℕ) → IsStarted c.layout → c.open_to c.layout.ready ≡ false → ((at : ℕ) → 0xFFFE ≤ at → at < 2 ^ 16 → c.open_to at ≡ false)
+pub arrive_alike : (c : Setting) (mem : List ℕ) → IsStarted c.layout → c.open_to c.layout.ready ≡ false → ((at : ℕ) → 0xFFFE ≤ at → at < 2 ^ 16 → c.open_to at ≡ false)
     → HasBytes c.image 0xFFFE (bytes_of_word c.layout.code) → HasBytes c.image c.layout.code (code_bytes (start_code c.layout)) → length c.image ≡ 65536
     → Agree c.open_to mem c.image → Alike c mem
 unfolding regs_from
@@ -184,7 +173,7 @@ arrive_alike c mem f shown reset vector start size a =
     let word : (m : List ℕ) → ℕ = λ m. get_or m 65534 0 * 2 ^ 8 + get_or m 65535 0 in
     let pc : word mem ≡ word c.image = ap₂ (λ (x y : ℕ). x * 2 ^ 8 + y) (a.bytes 65534 (reset 65534 (omega arith) (omega arith))) (a.bytes 65535 (reset 65535 (omega arith) (omega arith))) in
     record {
-      state = third c.flags l mem;
+      state = first_waiting c.flags l mem;
       way = start_way c.flags l mem f here code;
       regs = ap (regs_from c.flags l.ready) pc;
       temps = refl;

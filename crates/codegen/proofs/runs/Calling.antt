@@ -1,19 +1,16 @@
 -- EVAL called in a firmware that stands alone, from what it owns.
-use Rattle.std.proofs.Common.{◌≡◌, ◌⊎◌, inl, inr, ⊎_elim, ℕ, ◌+◌, ◌*◌, ◌^◌, ◌<◌, ◌≤◌, max, min, nat_lt, nat_le, ◌&&◌, Bool, false, List, [], ◌∷◌, ◌++◌, length, get_or, set, refl}
+use Rattle.std.proofs.Common.{◌≡◌, inl, inr, ⊎_elim, ℕ, ◌+◌, ◌*◌, ◌^◌, ◌<◌, ◌≤◌, max, min, nat_lt, nat_le, ◌&&◌, Bool, false, List, [], ◌∷◌, ◌++◌, length, get_or, set, refl}
 use Rattle.std.proofs.Common.{sym, ap, ap₂, ◌∙◌, subst, arith}
 use Rattle.std.proofs.lemmas.Bool.{or_parts}
 use Rattle.std.proofs.lemmas.Bool.Decides.{nat_tests}
 use Rattle.fuzzy_meaning.specs.declared.block.Block.{Block}
-use Rattle.eval_code.specs.Bounds.{instruction_bound, step_bound}
 use Rattle.fuzzy_meaning.specs.Blocks.{IsValid}
-use Rattle.rule_layout.specs.Layouts.{IsWithinLimits}
-use Rattle.rule_layout.specs.Slots.{slots_of}
 use Rattle.cpu12_isa.specs.Memory.{plus}
 use Rattle.cpu12_isa.specs.declared.instr.Instr.{Instr}
 use Rattle.cpu12_isa.specs.declared.instr.Instr.TheVariants.{Rts, Rev, Revw}
 use Rattle.cpu12_isa.specs.Act.{read_by}
 use Rattle.cpu12_isa.specs.Agreement.{AllShown}
-use Rattle.cpu12_isa.specs.Code.{encode_of, six_from}
+use Rattle.cpu12_isa.specs.Code.{six_from}
 use Rattle.cpu12_isa.specs.Flags.{has}
 use Rattle.cpu12_isa.specs.Meaning.{act_of, effect}
 use Rattle.cpu12_parts.specs.declared.temps.Temps.TheVariants.{Free}
@@ -23,20 +20,19 @@ use Rattle.cpu12_parts.specs.Rules.{Rule, Form, concluded, all_concluded, named,
 use Rattle.cpu12_parts.specs.Whole.{after_plain}
 use Rattle.eval_code.specs.declared.layout.Layout.{Layout}
 use Rattle.eval_code.specs.declared.width.Width.{Width}
-use Rattle.eval_code.specs.Widths.{answer}
 use Rattle.eval_code.specs.Data.{table_bytes, singleton_bytes, weight_bytes, rule_bytes}
 use Rattle.eval_code.specs.Items.{IsApart}
-use Rattle.eval_code.specs.Firing.{AreInputBytes}
-use Rattle.cpu12_parts.specs.Executions.{Execution, all_steps}
+use Rattle.cpu12_parts.specs.Executions.{Execution}
 use Rattle.cpu12_isa.specs.Regions.{is_hidden}
-use Rattle.codegen.specs.Interruptible.{IsInterruptible, IsShownRules, IsShownInstruction, IsInterruptibleStep}
+use Rattle.codegen.specs.Interruptible.{IsShownRules, IsShownInstruction, IsInterruptibleStep}
 use Rattle.cpu12_parts.specs.Touching.{IsIn, Each, IsRulesOver, IsInstructionOver}
 use Rattle.eval_code.specs.Code.{eval_code, code_bytes}
-use Rattle.eval_code.specs.Placed.{eval_room}
-use Rattle.eval_code.specs.Evaluation.{HasBytes, HasEval, HasAnswers, IsAtEval, IsEvaluated, EvalAnswers, eval_bytes, Reads, Writes, code_region, IsEvalStep}
+use Rattle.eval_code.specs.Evaluation.{HasBytes, HasEval, IsAtEval, IsEvaluated, EvalAnswers, eval_bytes, Reads, Writes, code_region, IsEvalStep}
 use Rattle.eval_code.proofs.Algebra.{SameHigh, high_set, same_bytes, high_writes, execution_on, steps_append, length_append, decode_here, Below, From}
 use Rattle.eval_code.proofs.Algebra.{apart_by, below_front, below_back, written_low, writes_low, places_few}
-use Rattle.codegen.proofs.runs.Stepping.{code_room, IsShut, Ctx, Here, Live, Next, plain_next, low_shown, high_shown, not_at}
+use Rattle.codegen.proofs.runs.Stepping.{plain_next, low_shown, high_shown, not_at}
+use Rattle.codegen.specs.Settings.{IsShut, Setting, Here, Live, ReturnGoesOn}
+use Rattle.codegen.specs.Calls.{IsInCode, HasRoutine, IsCalled, Back, CalledEvalReturns}
 
 -- RTS with the return address on the stack
 less_hidden : (open_to : ℕ → Bool) (at : ℕ) → is_hidden open_to 0x2000 at ≡ false → is_hidden open_to 0x1FFE at ≡ false
@@ -45,8 +41,7 @@ less_hidden open_to at h =
     let t : (nat_le 0x1FE0 at && nat_lt at 0x1FFE) ≡ false = grind (arith, nat_tests, q.1) in
     rw (q.0, t)
 
-pub rts_run : (c : Ctx) (s : State) (p ret : ℕ) → Live c s → s.regs.pc ≡ p → Here c p Rts → s.regs.sp ≡ 0x1FFE
-    → get_or s.mem 0x1FFE 0 * 2 ^ 8 + get_or s.mem 0x1FFF 0 ≡ ret → Next c s (after_plain c.flags Rts s) ret
+pub rts_run : ReturnGoesOn
 rts_run c s p ret l ep h es er =
     let e1 : plus s.regs.sp 1 ≡ 0x1FFF = omega arith in
     let e2 : plus s.regs.sp 2 ≡ 0x2000 = omega arith in
@@ -82,11 +77,6 @@ written_below l (at ∷ ats) a e = (written_low l at a e.0, written_below l ats 
 code_above : (l : Layout) (ats : List ℕ) → IsApart l → Each (IsIn (code_region l)) ats → From 0x2000 ats
 code_above l [] r e = tt
 code_above l (at ∷ ats) r e = (omega (arith, r.eval, e.0.0), code_above l ats r e.1)
-
--- EVAL stands in the code
-pub record IsInCode (l : Layout) : Type 0 where
-  pub from : l.code ≤ l.eval
-  pub to : l.eval + 2432 ≤ l.code + code_room
 
 code_seen : (open_to : ℕ → Bool) (l : Layout) (sp : ℕ) (ats : List ℕ) → IsShut open_to l → IsApart l → IsInCode l → sp ≤ 0x2000 → Each (IsIn (code_region l)) ats
     → AllShown (is_hidden open_to sp) ats
@@ -201,15 +191,6 @@ interruptible_execution open_to l image flags (d ∷ ds) s t u a w c h e =
     let rest = interruptible_execution open_to l image flags ds e.0 t u a w c one.1 e.1.1 in
     ((e.0, (one.0, rest.0)), rest.1)
 
--- EVAL and its return stand in the image, above where the code waits, and leave room behind them and behind the slots
-pub record HasRoutine (l : Layout) (b : Block) (w : Width) (image : List ℕ) : Type 0 where
-  pub above : l.wait < l.eval
-  pub inside : IsInCode l
-  pub eval : HasEval l b w image
-  pub back : HasBytes image (l.eval + length (eval_bytes l b w)) (encode_of Rts)
-  pub room : length (eval_bytes l b w) ≤ eval_room
-  pub few_slots : length (slots_of b) ≤ 300
-
 found : (l : Layout) (b : Block) (w : Width) (image mem : List ℕ) → IsApart l → HasEval l b w image → SameHigh image mem → HasEval l b w mem
 found l b w image mem a h same =
     let low = a.eval in
@@ -223,29 +204,7 @@ found l b w image mem a h same =
       rules = at l.rules (rule_bytes l.slots b) a.rules h.rules;
     }
 
--- EVAL was called from an address with these bytes of inputs and these answers before
-pub record IsCalled (open_to : ℕ → Bool) (l : Layout) (b : Block) (w : Width) (image : List ℕ) (back : ℕ) (bytes : List ℕ) (before : ℕ → ℕ) (s : State) : Type 0 where
-  pub interruptible : IsInterruptible open_to image s
-  pub pc : s.regs.pc ≡ l.eval
-  pub sp : s.regs.sp ≡ 0x1FFE
-  pub back_is : get_or s.mem 0x1FFE 0 * 2 ^ 8 + get_or s.mem 0x1FFF 0 ≡ back
-  pub inputs : HasBytes s.mem l.inputs bytes
-  pub outputs : HasAnswers l b w before s.mem
-
--- back at the caller
-pub record Back (c : Ctx) (b : Block) (w : Width) (back : ℕ) (bytes : List ℕ) (before : ℕ → ℕ) (s : State) : Type 0 where
-  pub t : State
-  pub ds : List ℕ
-  pub execution : Execution (IsInterruptibleStep c.open_to c.layout c.image c.flags) ds s t
-  pub live : Live c t
-  pub pc_is : t.regs.pc ≡ back
-  pub sp_is : t.regs.sp ≡ 0x2000
-  pub answers : HasAnswers c.layout b w (λ o. answer w b o bytes (before o)) t.mem
-  pub elsewhere : (at : ℕ) → (at < c.layout.outputs) ⊎ (c.layout.outputs + 8 ≤ at) → (at < c.layout.slots) ⊎ (c.layout.slots + 300 ≤ at) → get_or t.mem at 0 ≡ get_or s.mem at 0
-  pub instructions : length ds + 5 ≤ instruction_bound w b
-  pub steps : all_steps ds + 5 ≤ step_bound w b
-
-returned : (c : Ctx) (b : Block) (w : Width) (back : ℕ) (bytes : List ℕ) (before : ℕ → ℕ) (s : State) → IsApart c.layout → IsValid b
+returned : (c : Setting) (b : Block) (w : Width) (back : ℕ) (bytes : List ℕ) (before : ℕ → ℕ) (s : State) → IsApart c.layout → IsValid b
     → HasRoutine c.layout b w c.image → IsCalled c.open_to c.layout b w c.image back bytes before s
     → (t : State) → (g : IsEvaluated c.layout b w c.flags bytes before s t) → Execution (IsInterruptibleStep c.open_to c.layout c.image c.flags) g.ds s t
     → Alone c.image t → Back c b w back bytes before s
@@ -284,9 +243,7 @@ returned c b w back bytes before s a v h k t g e alone =
       steps = omega (arith, g.steps, steps_append g.ds (0 ∷ []));
     }
 
-pub called : EvalAnswers → (c : Ctx) (b : Block) (w : Width) (back : ℕ) (bytes : List ℕ) (before : ℕ → ℕ) (s : State) → IsApart c.layout → IsValid b
-    → IsWithinLimits b → HasRoutine c.layout b w c.image → AreInputBytes b bytes → IsCalled c.open_to c.layout b w c.image back bytes before s
-    → Back c b w back bytes before s
+pub called : EvalAnswers → CalledEvalReturns
 called go c b w back bytes before s a v limits h i k =
     let l = c.layout in
     let state = k.interruptible in

@@ -1,9 +1,9 @@
 -- A firmware's frame and its reset vector stand in its memory.
-use Rattle.std.proofs.Common.{◌≡◌, ◌⊎◌, ℕ, ◌+◌, ◌<◌, ◌≤◌, false, List, [], ◌∷◌, ◌++◌, length, sym, ap, ◌∙◌, subst, arith, append_assoc, append-nil}
+use Rattle.std.proofs.Common.{◌≡◌, ℕ, ◌+◌, ◌<◌, ◌≤◌, false, List, [], ◌∷◌, ◌++◌, length, sym, ap, ◌∙◌, subst, arith, append_assoc, append-nil}
 use Rattle.fuzzy_meaning.specs.declared.block.Block.{Block}
 use Rattle.rule_layout.specs.Slots.{slots_of}
 use Rattle.cpu12_isa.specs.declared.instr.Instr.{Instr}
-use Rattle.cpu12_isa.specs.declared.instr.Instr.TheVariants.{LdaaExtended, LdsImmediate, ClrExtended, Beq, Bra, JsrExtended, Rts, Andcc, Rti}
+use Rattle.cpu12_isa.specs.declared.instr.Instr.TheVariants.{LdaaExtended, ClrExtended, Beq, Bra, JsrExtended, Rts, Rti}
 use Rattle.cpu12_isa.specs.Code.{encode_of, decode_at}
 use Rattle.cpu12_asm.specs.declared.items.Item.{Item}
 use Rattle.cpu12_asm.specs.Items.{given_by, IsRising}
@@ -17,9 +17,11 @@ use Rattle.eval_code.specs.Placed.{StandsBetween}
 use Rattle.codegen.specs.Code.{frame_code}
 use Rattle.codegen.specs.Images.{vector_items}
 use Rattle.eval_code.proofs.Algebra.{Rises, HasGiven, bytes_stand, bytes_front, bytes_back, decode_here}
-use Rattle.codegen.proofs.runs.Stepping.{Ctx, Stands, stands_of}
-use Rattle.codegen.proofs.runs.Framing.{HasFrame}
-use Rattle.codegen.proofs.runs.Calling.{HasRoutine, IsInCode}
+use Rattle.codegen.proofs.runs.Stepping.{stands_of}
+use Rattle.codegen.proofs.runs.Framing.{HasFrame, call_run, leave_run}
+use Rattle.codegen.specs.Frames.{start_code, IsFramed, FrameCallsAndLeaves}
+use Rattle.codegen.specs.Calls.{HasRoutine, IsInCode}
+use Rattle.codegen.specs.Settings.{Setting, Stands}
 
 -- the reset vector stands
 pub start_stands : Rises → (image : List ℕ) (front : List Item) (l : Layout) → HasGiven image (given_by (front ++ vector_items l)) → IsRising (front ++ vector_items l)
@@ -29,24 +31,6 @@ start_stands rises image front l h rise =
     let E = bytes_at 0xFFFE (bytes_of_word l.code) in
     let e : front ++ (V ++ E) ≡ (front ++ V) ++ (E ++ []) = sym (append_assoc front V E) ∙ ap (λ (x : List Item). (front ++ V) ++ x) (sym (append-nil E)) in
     bytes_stand rises image (front ++ vector_items l) (front ++ V) [] 0xFFFE (bytes_of_word l.code) h rise e
-
--- where the code of a form starts that sets up its stack, clears the byte by which samples come and lets interrupts in
-pub record IsStarted (l : Layout) : Type 0 where
-  pub low : 0x2000 ≤ l.code
-  pub high : l.code + 2432 + 90 < 65536
-  pub wait : l.wait ≡ l.code + 8
-  pub ready : l.ready < 0x1800
-  pub apart : (l.ready < l.outputs) ⊎ (l.outputs + 8 ≤ l.ready)
-
-abbrev pub start_code : Layout → List Instr
-start_code l = LdsImmediate 0x2000 ∷ ClrExtended l.ready ∷ Andcc 0xEF ∷ []
-
--- where the frame of a firmware stands that stands alone
-pub record IsFramed (l : Layout) : Type 0 where
-  pub started : IsStarted l
-  pub ready : l.ready < l.inputs
-  pub samples : l.samples ≡ l.inputs
-  pub eval : l.eval < 65536
 
 -- its frame in three pieces
 abbrev pub turn_code : Layout → List Instr
@@ -68,7 +52,7 @@ frame_bytes image l h =
       turn = bytes_front image (l.code + 8 + 3) (code_bytes (turn_code l)) (code_bytes rest) h2;
     }
 
-pub has_frame : (c : Ctx) → c.open_to c.layout.ready ≡ false → IsFramed c.layout → IsApart c.layout → FrameBytes c.image c.layout → HasFrame c
+pub has_frame : (c : Setting) → c.open_to c.layout.ready ≡ false → IsFramed c.layout → IsApart c.layout → FrameBytes c.image c.layout → HasFrame c
 has_frame c shown f a h =
     let l = c.layout in
     let w = f.started.wait in
@@ -101,3 +85,10 @@ has_routine l b w before image above inside few h = record {
   room = h.room;
   few_slots = few;
 }
+
+-- the frame leads to what it calls, and back
+pub frame_calls_and_leaves : FrameCallsAndLeaves
+frame_calls_and_leaves c shown f a h =
+    let frame = has_frame c shown f a (frame_bytes c.image c.layout h) in
+    let low = f.started.ready in
+    record { calls = λ s l pc sp ready. call_run c s frame low l pc sp ready; leaves = λ s l pc. leave_run c s frame low l pc }

@@ -29,12 +29,15 @@ use Rattle.cpu12_isa.specs.Regions.{is_hidden}
 use Rattle.codegen.specs.Interruptible.{is_idle, IsInterruptibleStep}
 use Rattle.eval_code.proofs.Algebra.{masked_tested, zero_tested, length-put, has_put, bytes_put_out, bytes_set_out, bytes_after_set, bytes_after_put}
 use Rattle.eval_code.proofs.Algebra.{high_set, high_put, execution_on, length_append, steps_append}
-use Rattle.codegen.proofs.runs.Stepping.{code_room, Ctx, Here, Live, Stands, Next, next, plain_next, Goes, goes_one, goes_on, interruptible_of, low_shown, high_shown}
+use Rattle.codegen.proofs.runs.Stepping.{next, plain_next, goes_one, goes_on, interruptible_of, low_shown, high_shown}
 use Rattle.codegen.proofs.runs.Stepping.{not_at, clr, beq_on}
-use Rattle.codegen.proofs.runs.Calling.{HasRoutine, IsCalled, Back, called}
+use Rattle.codegen.proofs.runs.Calling.{called}
+use Rattle.codegen.specs.Calls.{HasRoutine, IsCalled, Back}
+use Rattle.codegen.specs.Frames.{Home, Called, Left}
+use Rattle.codegen.specs.Settings.{code_room, Setting, Here, Live, Stands, Next}
 
 -- the code around EVAL
-pub record HasFrame (c : Ctx) : Type 0 where
+pub record HasFrame (c : Setting) : Type 0 where
   pub ready : c.layout.ready < c.layout.inputs
   pub samples : c.layout.samples ≡ c.layout.inputs
   pub shown : c.open_to c.layout.ready ≡ false
@@ -42,14 +45,6 @@ pub record HasFrame (c : Ctx) : Type 0 where
   pub to : c.layout.wait + 40 ≤ c.layout.code + code_room
   pub load : decode_at c.image c.layout.wait ≡ Ok (LdaaExtended c.layout.ready)
   pub rest : Stands c (c.layout.wait + 3) (Beq 0xFB ∷ JsrExtended c.layout.eval ∷ ClrExtended c.layout.ready ∷ Bra 0xF3 ∷ [])
-
--- what holds each time the machine waits
-pub record Home (c : Ctx) (b : Block) (w : Width) (before : ℕ → ℕ) (s : State) : Type 0 where
-  pub live : Live c s
-  pub pc_is : s.regs.pc ≡ c.layout.wait
-  pub sp_is : s.regs.sp ≡ 0x2000
-  pub outs : HasAnswers c.layout b w before s.mem
-  pub ready_is : get_or s.mem c.layout.ready 0 ≡ 0
 
 -- an answer's bytes stay within the outputs'
 pub answer_room : (w : Width) (o v : ℕ) → 1 ≤ o → o ≤ 4 → places w * (o - 1) + length (bytes_of w v) ≤ 8
@@ -84,7 +79,7 @@ jsr_uncovers open_to sp a b at e h =
       ]
     ]
 
-pub jsr_run : (c : Ctx) (s : State) (p to : ℕ) → Live c s → s.regs.pc ≡ p → Here c p (JsrExtended to) → s.regs.sp ≡ 0x2000
+pub jsr_run : (c : Setting) (s : State) (p to : ℕ) → Live c s → s.regs.pc ≡ p → Here c p (JsrExtended to) → s.regs.sp ≡ 0x2000
     → Next c s (after_plain c.flags (JsrExtended to) s) to
 jsr_run c s p to l ep h es =
     let low : plus s.regs.sp 65534 ≡ 0x1FFE = omega arith in
@@ -95,19 +90,10 @@ jsr_run c s p to l ep h es =
     let r1 : is_hidden open_to m (plus s.regs.sp 65535) ≡ false = high_shown open_to m (plus s.regs.sp 65535) (c.shut.stack (plus s.regs.sp 65535) (omega arith) (omega arith)) (omega arith) in
     plain_next c s p to (JsrExtended to) l (not_at c.layout s p ep h.off) ep h.from h.to h.decoded refl h.fits tt (r0, (r1, tt)) (λ at g. jsr_uncovers open_to s.regs.sp (plus s.regs.pc 3 / 2 ^ 8) (plus s.regs.pc 3 % 2 ^ 8) at es g) (omega arith, (omega arith, tt)) (inl low) refl refl
 
-bra_back : (c : Ctx) (s : State) (p : ℕ) → Live c s → s.regs.pc ≡ p → Here c p (Bra 0xF3) → 11 ≤ p → Next c s (after_plain c.flags (Bra 0xF3) s) (p - 11)
+bra_back : (c : Setting) (s : State) (p : ℕ) → Live c s → s.regs.pc ≡ p → Here c p (Bra 0xF3) → 11 ≤ p → Next c s (after_plain c.flags (Bra 0xF3) s) (p - 11)
 bra_back c s p l ep h le = next c s p (p - 11) (Bra 0xF3) l ep h refl (omega arith) tt tt tt refl refl (omega (arith, h.high))
 
--- up to EVAL
-pub record Called (c : Ctx) (s : State) : Type 0 where
-  pub t : State
-  pub goes : Goes c 3 0 s t
-  pub live : Live c t
-  pub pc_is : t.regs.pc ≡ c.layout.eval
-  pub sp_is : t.regs.sp ≡ 0x1FFE
-  pub mem_is : t.mem ≡ set (set s.mem 0x1FFE ((c.layout.wait + 8) / 2 ^ 8)) 0x1FFF ((c.layout.wait + 8) % 2 ^ 8)
-
-pub call_run : (c : Ctx) (s : State) → HasFrame c → c.layout.ready < 0x1800 → Live c s → s.regs.pc ≡ c.layout.wait → s.regs.sp ≡ 0x2000
+pub call_run : (c : Setting) (s : State) → HasFrame c → c.layout.ready < 0x1800 → Live c s → s.regs.pc ≡ c.layout.wait → s.regs.sp ≡ 0x2000
     → get_or s.mem c.layout.ready 0 ≡ 1 → Called c s
 call_run c s f low l ep es er =
     let p = c.layout.wait in
@@ -125,9 +111,14 @@ call_run c s f low l ep es er =
     let e0 : plus s.regs.sp 65534 ≡ 0x1FFE = omega arith in
     let e1 : plus s.regs.sp 65535 ≡ 0x1FFF = omega arith in
     let er : plus s2.regs.pc 3 ≡ p + 8 = omega (arith, n2.pc_is) in
+    let g =
+    goes_on c 1 0 2 0 s s1 s3 (goes_one c s s1 (p + 3) n1) (goes_on c 1 0 1 0 s1 s2 s3 (goes_one c s1 s2 (p + 3 + 2) n2) (goes_one c s2 s3 c.layout.eval n3)) in
     record {
       t = s3;
-      goes = goes_on c 1 0 2 0 s s1 s3 (goes_one c s s1 (p + 3) n1) (goes_on c 1 0 1 0 s1 s2 s3 (goes_one c s1 s2 (p + 3 + 2) n2) (goes_one c s2 s3 c.layout.eval n3));
+      ds = g.ds;
+      execution = g.way;
+      instructions = g.count;
+      steps = g.parts;
       live = n3.live;
       pc_is = refl;
       sp_is = e0;
@@ -135,26 +126,18 @@ call_run c s f low l ep es er =
           ∙ ap (λ r. set (set s.mem 0x1FFE (r / 2 ^ 8)) 0x1FFF (r % 2 ^ 8)) er;
     }
 
--- back to where the code waits
-pub record Left (c : Ctx) (s : State) : Type 0 where
-  pub t : State
-  pub goes : Goes c 2 0 s t
-  pub live : Live c t
-  pub pc_is : t.regs.pc ≡ c.layout.wait
-  pub sp_is : t.regs.sp ≡ s.regs.sp
-  pub mem_is : t.mem ≡ set s.mem c.layout.ready 0
-
-pub leave_run : (c : Ctx) (s : State) → HasFrame c → c.layout.ready < 0x1800 → Live c s → s.regs.pc ≡ c.layout.wait + 8 → Left c s
+pub leave_run : (c : Setting) (s : State) → HasFrame c → c.layout.ready < 0x1800 → Live c s → s.regs.pc ≡ c.layout.wait + 8 → Left c s
 leave_run c s f low l ep =
     let p = c.layout.wait in
     let s1 = after_plain c.flags (ClrExtended c.layout.ready) s in
     let s2 = after_plain c.flags (Bra 0xF3) s1 in
     let n1 = clr c s (p + 3 + 2 + 3) c.layout.ready l (ep ∙ omega arith) f.rest.1.1.0 low f.shown in
     let n2 = bra_back c s1 (p + 3 + 2 + 3 + 3) n1.live n1.pc_is f.rest.1.1.1.0 (omega arith) in
-    record { t = s2; goes = goes_on c 1 0 1 0 s s1 s2 (goes_one c s s1 _ n1) (goes_one c s1 s2 _ n2); live = n2.live; pc_is = n2.pc_is ∙ omega arith; sp_is = refl; mem_is = refl }
+    let g = goes_on c 1 0 1 0 s s1 s2 (goes_one c s s1 _ n1) (goes_one c s1 s2 _ n2) in
+    record { t = s2; ds = g.ds; execution = g.way; instructions = g.count; steps = g.parts; live = n2.live; pc_is = n2.pc_is ∙ omega arith; sp_is = refl; mem_is = refl }
 
 -- the state with a sample's bytes and READY
-pub given_live : (c : Ctx) (bytes : List ℕ) (s : State) → Live c s → All (λ v. v < 2 ^ 8) bytes → c.layout.samples + length bytes ≤ 0x1800
+pub given_live : (c : Setting) (bytes : List ℕ) (s : State) → Live c s → All (λ v. v < 2 ^ 8) bytes → c.layout.samples + length bytes ≤ 0x1800
     → c.layout.ready < 0x1800 → Live c (given c.layout bytes s)
 given_live c bytes s l fit le low =
     let m = put s.mem c.layout.samples bytes in
@@ -171,7 +154,7 @@ given_live c bytes s l fit le low =
     }
 
 -- one sample
-pub record Sampled (c : Ctx) (b : Block) (w : Width) (bytes : List ℕ) (before : ℕ → ℕ) (s : State) : Type 0 where
+pub record Sampled (c : Setting) (b : Block) (w : Width) (bytes : List ℕ) (before : ℕ → ℕ) (s : State) : Type 0 where
   pub t : State
   pub ds : List ℕ
   pub execution : Execution (IsInterruptibleStep c.open_to c.layout c.image c.flags) ds s t
@@ -180,7 +163,7 @@ pub record Sampled (c : Ctx) (b : Block) (w : Width) (bytes : List ℕ) (before 
   pub home : Home c b w (λ o. answer w b o bytes (before o)) t
 
 -- what a sample stands on
-pub record Samples (c : Ctx) (b : Block) (w : Width) : Type 0 where
+pub record Samples (c : Setting) (b : Block) (w : Width) : Type 0 where
   pub apart : IsApart c.layout
   pub valid : IsValid b
   pub limits : IsWithinLimits b
@@ -200,7 +183,7 @@ pushed_word m r lm =
     ap₂ (λ x y. x * 2 ^ 8 + y) a b ∙ omega arith
 
 -- from EVAL's return on
-left : (c : Ctx) (b : Block) (w : Width) (bytes : List ℕ) (before : ℕ → ℕ) (s0 : State) → Samples c b w
+left : (c : Setting) (b : Block) (w : Width) (bytes : List ℕ) (before : ℕ → ℕ) (s0 : State) → Samples c b w
     → (r : Called c s0) (e : Back c b w (c.layout.wait + 8) bytes before r.t) → Left c e.t → Sampled c b w bytes before s0
 left c b w bytes before s0 h r e f =
     let W = IsInterruptibleStep c.open_to c.layout c.image c.flags in
@@ -210,13 +193,13 @@ left c b w bytes before s0 h r e f =
     let a2 = h.apart.inputs in
     let a3 = h.apart.outputs in
     let a4 = h.apart.slots in
-    let ds = e.ds ++ f.goes.ds in
+    let ds = e.ds ++ f.ds in
     record {
       t = f.t;
-      ds = r.goes.ds ++ ds;
-      execution = execution_on W r.goes.ds ds s0 r.t f.t r.goes.way (execution_on W e.ds f.goes.ds r.t u f.t e.execution f.goes.way);
-      instructions = omega (arith, length_append r.goes.ds ds, length_append e.ds f.goes.ds, r.goes.count, e.instructions, f.goes.count);
-      steps = omega (arith, steps_append r.goes.ds ds, steps_append e.ds f.goes.ds, r.goes.parts, e.steps, f.goes.parts);
+      ds = r.ds ++ ds;
+      execution = execution_on W r.ds ds s0 r.t f.t r.execution (execution_on W e.ds f.ds r.t u f.t e.execution f.execution);
+      instructions = omega (arith, length_append r.ds ds, length_append e.ds f.ds, r.instructions, e.instructions, f.instructions);
+      steps = omega (arith, steps_append r.ds ds, steps_append e.ds f.ds, r.steps, e.steps, f.steps);
       home = record {
         live = f.live;
         pc_is = f.pc_is;
@@ -229,7 +212,7 @@ left c b w bytes before s0 h r e f =
     }
 
 -- from where EVAL is called on
-evaluated : (c : Ctx) (b : Block) (w : Width) (bytes : List ℕ) (before : ℕ → ℕ) (s0 : State) → Samples c b w → AreInputBytes b bytes → Live c s0
+evaluated : (c : Setting) (b : Block) (w : Width) (bytes : List ℕ) (before : ℕ → ℕ) (s0 : State) → Samples c b w → AreInputBytes b bytes → Live c s0
     → HasBytes s0.mem c.layout.inputs bytes → HasAnswers c.layout b w before s0.mem → Called c s0 → Sampled c b w bytes before s0
 evaluated c b w bytes before s0 h i l0 hi ho r =
     let few = h.valid.few_inputs in
@@ -258,7 +241,7 @@ evaluated c b w bytes before s0 h i l0 hi ho r =
     let e = called h.eval_answers c b w ret bytes before r.t h.apart h.valid h.limits h.routine i k in
     left c b w bytes before s0 h r e (leave_run c e.t h.frame (omega arith) e.live e.pc_is)
 
-pub sample_run : (c : Ctx) (b : Block) (w : Width) (bytes : List ℕ) (before : ℕ → ℕ) (s : State) → Samples c b w → AreInputBytes b bytes → Home c b w before s
+pub sample_run : (c : Setting) (b : Block) (w : Width) (bytes : List ℕ) (before : ℕ → ℕ) (s : State) → Samples c b w → AreInputBytes b bytes → Home c b w before s
     → Sampled c b w bytes before (given c.layout bytes s)
 sample_run c b w bytes before s h i home =
     let few = h.valid.few_inputs in

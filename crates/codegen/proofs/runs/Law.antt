@@ -13,27 +13,30 @@ use Rattle.eval_code.specs.Widths.{width_of}
 use Rattle.eval_code.specs.Layouts.{main_layout}
 use Rattle.codegen.specs.Code.{frame_code}
 use Rattle.eval_code.specs.Bounds.{instruction_bound}
-use Rattle.codegen.specs.Images.{vector_items, firmware_items}
-use Rattle.eval_code.specs.Items.{block_items, IsApart}
+use Rattle.codegen.specs.Images.{firmware_items}
+use Rattle.eval_code.specs.Items.{IsApart}
 use Rattle.eval_code.specs.Firing.{AreInputBytes}
 use Rattle.eval_code.specs.Evaluation.{HasBytes, Reads, Writes}
 use Rattle.eval_code.specs.Placed.{IsInOrder, BlockRises, BlockIsShort}
-use Rattle.codegen.specs.Answers.{IsArrivedBeside, AreAnsweredBeside, FirmwareAnswers, LeavesLayout, FirmwareAnswersBeside, ArrivesAlike, FirmwareArrivesAlike}
+use Rattle.codegen.specs.Answers.{IsArrivedBeside, AreAnsweredBeside, FirmwareAnswers, LeavesLayout, FreeBytesLeave, FirmwareAnswersBeside, ArrivesAlike, FirmwareArrivesAlike}
 use Rattle.eval_code.specs.Code.{code_bytes}
-use Rattle.eval_code.proofs.Algebra.{image_given, UsedCode, memory_fits}
+use Rattle.eval_code.proofs.Algebra.{UsedCode, used_bytes}
 use Rattle.codegen.specs.Laws.{LowerLaws}
-use Rattle.codegen.proofs.runs.Stepping.{IsShut, Ctx, interruptible_of}
+use Rattle.codegen.proofs.runs.Stepping.{interruptible_of}
 use Rattle.cpu12_isa.specs.Regions.{is_free}
 use Rattle.cpu12_isa.specs.Agreement.{Agree}
 use Rattle.std.proofs.lemmas.Bool.Decides.{nat_tests}
-use Rattle.codegen.proofs.runs.Founding.{IsStarted, IsFramed, start_code, start_stands, frame_bytes, has_frame, has_routine}
-use Rattle.codegen.proofs.runs.Placing.{rises_of, few_slots, whole_rises, whole_is_short, whole_stands, whole_fits}
-use Rattle.codegen.proofs.runs.Arriving.{Arrived, arrive, arrive_alike, zero_below}
-use Rattle.codegen.proofs.runs.Calling.{IsInCode}
-use Rattle.eval_code.specs.Data.{bytes_of_word}
+use Rattle.codegen.proofs.runs.Founding.{frame_bytes, has_frame}
+use Rattle.codegen.proofs.runs.Placing.{whole_rises, whole_is_short}
+use Rattle.codegen.proofs.runs.Arriving.{arrive, arrive_alike}
+use Rattle.codegen.proofs.runs.Standing.{has_firmware}
+use Rattle.codegen.specs.Standing.{HasFirmware}
 use Rattle.codegen.proofs.runs.Framing.{HasFrame, Samples, waits}
 use Rattle.codegen.proofs.runs.Sampling.{are_answered}
 use Rattle.cpu12_isa.specs.declared.instr.Instr.TheVariants.{Rts}
+use Rattle.codegen.specs.Calls.{IsInCode}
+use Rattle.codegen.specs.Frames.{IsStarted, IsFramed, start_code, Arrived}
+use Rattle.codegen.specs.Settings.{IsShut, Setting}
 
 pub main_apart : IsApart main_layout
 main_apart = search arith
@@ -76,7 +79,7 @@ free_written at (inl o) = not_free at (inl (omega (arith, o.1)))
 free_written at (inr (inl o)) = not_free at (inl (omega (arith, o.1)))
 free_written at (inr (inr o)) = absurd o
 
-pub free_leaves : LeavesLayout is_free main_layout
+pub free_leaves : FreeBytesLeave
 free_leaves = record {
   ready = refl;
   reads = free_read;
@@ -93,14 +96,14 @@ main_frame_used : UsedCode (frame_code main_layout)
 main_frame_used = (tt, omega arith, (tt, omega arith, (tt, omega arith, (tt, omega arith, (tt, omega arith, (tt, omega arith, (tt, omega arith, (tt, omega arith, (tt, tt, tt)))))))))
 
 -- what runs are under that are beside handlers to which these bytes are open
-abbrev over_main : LowerLaws → (open_to : ℕ → Bool) → LeavesLayout open_to main_layout → List ℕ → (flags : ℕ) → flags < 2 ^ 8 → Ctx
+abbrev over_main : LowerLaws → (open_to : ℕ → Bool) → LeavesLayout open_to main_layout → List ℕ → (flags : ℕ) → flags < 2 ^ 8 → Setting
 over_main laws open_to leaves image flags fits =
     record { stays_fit = laws.stays_fit; open_to = open_to; layout = main_layout; shut = main_shut open_to leaves; image = image; flags = flags; fits = fits }
 
 -- what they stand on, and the first arrival
-record Founded (c : Ctx) (b : Block) (w : Width) : Type 0 where
+record Founded (c : Setting) (b : Block) (w : Width) : Type 0 where
   samples : Samples c b w
-  vector : HasBytes c.image 0xFFFE (bytes_of_word c.layout.code)
+  firmware : HasFirmware c.layout b w (frame_code c.layout) c.image
   start : HasBytes c.image c.layout.code (code_bytes (start_code c.layout))
   arrived : Arrived c b w
 
@@ -120,32 +123,26 @@ founded : (laws : LowerLaws) → (open_to : ℕ → Bool) (leaves : LeavesLayout
     → IsValid b → IsWithinLimits b → Holds image (given_by (firmware_items main_layout b w)) → Founded (over_main laws open_to leaves (image_memory image) flags fits) b w
 founded laws open_to leaves b w image flags fits v limits h =
     let frame = frame_code main_layout in
-    let back = Rts ∷ [] in
-    let items = firmware_items main_layout b w in
     let mem = image_memory image in
-    let c : Ctx = over_main laws open_to leaves mem flags fits in
-    let rise = main_rises laws.rises b w v limits in
-    let g = image_given laws.holds_image image (given_by items) h in
-    let around = whole_stands laws.stands image main_layout b w frame back main_in_order v limits h rise in
-    let fb = frame_bytes mem main_layout around.front in
-    let vector = start_stands (rises_of laws) mem (block_items main_layout b w frame back) main_layout g rise in
-    let fit = whole_fits laws main_layout b w frame back main_apart v main_frame_used (tt, tt, tt) (omega arith) (omega arith) in
+    let c : Setting = over_main laws open_to leaves mem flags fits in
+    let firmware : HasFirmware main_layout b w frame mem =
+    has_firmware laws image main_layout b w frame main_in_order main_apart main_inside (omega arith) (used_bytes frame main_frame_used) (omega arith) (omega arith) v limits h in
+    let fb = frame_bytes mem main_layout firmware.stands.front in
     record {
       samples = record {
         apart = main_apart;
         valid = v;
         limits = limits;
         eval_answers = laws.eval_answers;
-        routine = has_routine main_layout b w frame mem (omega arith) main_inside (few_slots laws.layout_law b v) around;
+        routine = firmware.routine;
         frame = has_frame c leaves.ready main_framed main_apart fb;
       };
-      vector = vector;
+      firmware = firmware;
       start = fb.start;
-      arrived = arrive c b w main_framed.started main_apart v.few_outputs vector fb.start g.size (memory_fits items mem fit g.size g.bytes)
-          (λ q lt. zero_below (rises_of laws) mem main_layout b w frame back (vector_items main_layout) g rise q lt (omega arith));
+      arrived = arrive c b w frame main_framed.started main_apart v fb.start firmware;
     }
 
-arrived_at : (c : Ctx) (b : Block) (w : Width) → HasFrame c → (a : Arrived c b w) → IsArrivedBeside c.open_to c.layout c.image c.flags a.t
+arrived_at : (c : Setting) (b : Block) (w : Width) → HasFrame c → (a : Arrived c b w) → IsArrivedBeside c.open_to c.layout c.image c.flags a.t
 arrived_at c b w h a =
     let from = h.from in
     let to = h.to in
@@ -157,7 +154,7 @@ abbrev pub Answers : (ℕ → Bool) → Layout → Block → Width → ℕ → L
 Answers open_to l b w most image flags samples =
     (s : State) × (IsArrivedBeside open_to l image flags s × AreAnsweredBeside open_to l b w most image flags (λ o. 0) samples s)
 
-from_arrival : (c : Ctx) (b : Block) (w : Width) (samples : List (List ℕ)) → Founded c b w → All (AreInputBytes b) samples
+from_arrival : (c : Setting) (b : Block) (w : Width) (samples : List (List ℕ)) → Founded c b w → All (AreInputBytes b) samples
     → Answers c.open_to c.layout b w (instruction_bound w b) c.image c.flags samples
 from_arrival c b w samples h all =
     let a = h.arrived in
@@ -177,19 +174,19 @@ pub firmware_answers : FirmwareAnswersBeside → FirmwareAnswers
 firmware_answers beside b f v limits h = beside is_free b f (subst (λ (l : Layout). LeavesLayout is_free l) (sym h.layout) free_leaves) v limits h
 
 -- the arrival over a memory that agrees
-alike : (c : Ctx) (b : Block) (w : Width) (mem : List ℕ) → Founded c b w → IsStarted c.layout → ((at : ℕ) → 0xFFFE ≤ at → at < 2 ^ 16 → c.open_to at ≡ false)
+alike : (c : Setting) (b : Block) (w : Width) (mem : List ℕ) → Founded c b w → IsStarted c.layout → ((at : ℕ) → 0xFFFE ≤ at → at < 2 ^ 16 → c.open_to at ≡ false)
     → Agree c.open_to mem c.image → ArrivesAlike c.open_to c.layout c.image mem c.flags
 alike c b w mem h started reset agree =
     let a = h.arrived in
-    let r = arrive_alike c mem started h.samples.frame.shown reset h.vector h.start a.size agree in
+    let r = arrive_alike c mem started h.samples.frame.shown reset h.firmware.reset h.start h.firmware.size agree in
     record {
       image_state = a.t;
       state = r.state;
       image_arrived = arrived_at c b w h.samples.frame a;
       way = r.way;
-      regs = r.regs ∙ ap (λ (s : State). s.regs) (sym a.third_is);
-      temps = r.temps ∙ ap (λ (s : State). s.temps) (sym a.third_is);
-      bytes = subst (λ (s : State). Agree c.open_to r.state.mem s.mem) (sym a.third_is) r.bytes;
+      regs = r.regs ∙ ap (λ (s : State). s.regs) (sym a.first);
+      temps = r.temps ∙ ap (λ (s : State). s.temps) (sym a.first);
+      bytes = subst (λ (s : State). Agree c.open_to r.state.mem s.mem) (sym a.first) r.bytes;
       open_bytes = r.open_bytes;
     }
 

@@ -16,7 +16,7 @@ use Rattle.eval_code.specs.Items.{block_items, IsApart}
 use Rattle.eval_code.specs.Placed.{IsInOrder, StandsBetween, GiveBytes}
 use Rattle.eval_code.specs.Placed.{BlockRises, BlockIsShort, BlockStands}
 use Rattle.codegen.specs.Images.{vector_items}
-use Rattle.eval_code.proofs.Algebra.{Rises, UsedCode, used_bytes}
+use Rattle.eval_code.proofs.Algebra.{Rises}
 use Rattle.codegen.specs.Laws.{LowerLaws}
 
 -- the laws of items that go up
@@ -59,10 +59,10 @@ vectors_fit l i c =
     four (0xFFF2, l.interrupt / 2 ^ 8) (0xFFF3, l.interrupt % 2 ^ 8) (0xFFFE, l.code / 2 ^ 8) (0xFFFF, l.code % 2 ^ 8)
     (omega arith) (omega arith) (omega arith) (omega arith)
 
--- what they give are bytes, where the operands of the code around EVAL fit
-pub whole_fits : LowerLaws → (l : Layout) (b : Block) (w : Width) (before behind : List Instr) → IsApart l → IsValid b → UsedCode before → UsedCode behind
-    → l.interrupt < 65536 → l.code < 65536 → GiveBytes (given_by (block_items l b w before behind ++ vector_items l))
+-- what they give are bytes, where those of the code around EVAL are
+pub whole_fits : LowerLaws → (l : Layout) (b : Block) (w : Width) (before behind : List Instr) → IsApart l → IsValid b → All (λ v. v < 2 ^ 8) (code_bytes before)
+    → All (λ v. v < 2 ^ 8) (code_bytes behind) → l.interrupt < 65536 → l.code < 65536 → GiveBytes (given_by (block_items l b w before behind ++ vector_items l))
 whole_fits laws l b w before behind a v front back i c =
     let items = block_items l b w before behind in
-    let fit = laws.bytes l b w before behind a v (used_bytes before front) (used_bytes behind back) in
+    let fit = laws.bytes l b w before behind a v front back in
     subst GiveBytes (sym (laws.behind items _ 0xFFF2)) (All-append Fits (given_by items) (given_by (vector_items l)) fit (vectors_fit l i c))

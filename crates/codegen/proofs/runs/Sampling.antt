@@ -7,10 +7,12 @@ use Rattle.eval_code.specs.Widths.{answer}
 use Rattle.eval_code.specs.Firing.{AreInputBytes}
 use Rattle.eval_code.specs.Bounds.{instruction_bound}
 use Rattle.codegen.specs.Answers.{given, IsAnsweredBeside, AreAnsweredBeside}
-use Rattle.codegen.proofs.runs.Stepping.{Ctx, interruptible_of}
-use Rattle.codegen.proofs.runs.Framing.{Home, Samples, Sampled, sample_run, waits}
+use Rattle.codegen.proofs.runs.Stepping.{interruptible_of}
+use Rattle.codegen.proofs.runs.Framing.{Samples, Sampled, sample_run, waits}
+use Rattle.codegen.specs.Frames.{Home}
+use Rattle.codegen.specs.Settings.{Setting}
 
-answered : (c : Ctx) (b : Block) (w : Width) (bytes : List ℕ) (before : ℕ → ℕ) (s : State) → Samples c b w → (r : Sampled c b w bytes before (given c.layout bytes s)) → IsAnsweredBeside c.open_to c.layout b w (instruction_bound w b) c.image c.flags before bytes s r.t
+answered : (c : Setting) (b : Block) (w : Width) (bytes : List ℕ) (before : ℕ → ℕ) (s : State) → Samples c b w → (r : Sampled c b w bytes before (given c.layout bytes s)) → IsAnsweredBeside c.open_to c.layout b w (instruction_bound w b) c.image c.flags before bytes s r.t
 answered c b w bytes before s h r =
     let lo = h.frame.from in
     let hi = h.frame.to in
@@ -25,7 +27,7 @@ answered c b w bytes before s h r =
       steps = r.steps;
     }
 
-pub are_answered : (c : Ctx) (b : Block) (w : Width) (samples : List (List ℕ)) (before : ℕ → ℕ) (s : State) → Samples c b w → Home c b w before s → All (AreInputBytes b) samples → AreAnsweredBeside c.open_to c.layout b w (instruction_bound w b) c.image c.flags before samples s
+pub are_answered : (c : Setting) (b : Block) (w : Width) (samples : List (List ℕ)) (before : ℕ → ℕ) (s : State) → Samples c b w → Home c b w before s → All (AreInputBytes b) samples → AreAnsweredBeside c.open_to c.layout b w (instruction_bound w b) c.image c.flags before samples s
 are_answered c b w [] before s h home all = tt
 are_answered c b w (bytes ∷ samples) before s h home all =
     let r = sample_run c b w bytes before s h (all 0 bytes (omega arith)) home in

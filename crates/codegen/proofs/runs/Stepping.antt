@@ -7,74 +7,24 @@ use Rattle.cpu12_isa.specs.declared.instr.Instr.{Instr}
 use Rattle.cpu12_isa.specs.Act.{read_by}
 use Rattle.cpu12_isa.specs.Agreement.{AllShown, Uncovers}
 use Rattle.cpu12_isa.specs.Code.{encode_of, decode_at, six_from, FitsOperands}
-use Rattle.cpu12_isa.specs.Fits.{FitsRegs, AreBytes, StaysFit}
 use Rattle.cpu12_isa.specs.Flags.{has}
 use Rattle.cpu12_isa.specs.Meaning.{act_of, effect, is_plain}
 use Rattle.cpu12_isa.specs.Memory.{plus}
 use Rattle.cpu12_isa.proofs.Algebra.{length_writes}
-use Rattle.cpu12_parts.specs.declared.temps.Temps.TheVariants.{Free}
 use Rattle.cpu12_parts.specs.State.{State}
 use Rattle.cpu12_parts.specs.Laws.{addresses}
+use Rattle.cpu12_parts.specs.Touching.{Each}
 use Rattle.cpu12_parts.specs.Whole.{after_plain}
 use Rattle.eval_code.specs.declared.layout.Layout.{Layout}
 use Rattle.cpu12_isa.specs.Regions.{is_hidden}
 use Rattle.eval_code.specs.Masks.{interrupt_masks}
-use Rattle.eval_code.specs.Evaluation.{Reads, Writes, HasBytes}
+use Rattle.eval_code.specs.Evaluation.{HasBytes}
 use Rattle.codegen.specs.Interruptible.{is_idle, IsSteady, IsInterruptible, IsShownPlain, IsInterruptibleStep}
 use Rattle.cpu12_isa.specs.declared.instr.Instr.TheVariants.{ClrExtended, Beq}
 use Rattle.eval_code.specs.Code.{code_bytes}
-use Rattle.eval_code.proofs.Algebra.{SameHigh, WriteBelow, below_more, high_writes, bytes_writes, bytes_front, bytes_back, sizes, decode_same}
+use Rattle.eval_code.proofs.Algebra.{WriteBelow, below_more, high_writes, bytes_writes, bytes_front, bytes_back, sizes, decode_same}
+use Rattle.codegen.specs.Settings.{code_room, IsShut, Setting, Here, Stands, Lives, Live, Next, InstructionGoesOn}
 use Rattle.eval_code.proofs.Algebra.{UsedCode, decode_here, masked_four, Bounded, bounded_one, bounded_on}
-
--- how many bytes the code of a form has at most, with those that are fetched behind it
-abbrev pub code_room : ℕ
-code_room = 0x1000
-
--- what is open to handlers is neither owned by EVAL, nor the stack, nor code
-pub record IsShut (open_to : ℕ → Bool) (l : Layout) : Type 0 where
-  pub reads : (at : ℕ) → Reads l at → open_to at ≡ false
-  pub writes : (at : ℕ) → Writes l at → open_to at ≡ false
-  pub stack : (at : ℕ) → 0x1FE0 ≤ at → at < 0x2000 → open_to at ≡ false
-  pub code : (at : ℕ) → l.code ≤ at → at < l.code + code_room → open_to at ≡ false
-  pub low : 0x2000 ≤ l.code
-  pub high : l.code + code_room < 65536
-
--- what a run is under: the bytes that are open to handlers, the layout, the image's memory and the open flags
-pub record Ctx : Type 0 where
-  pub stays_fit : StaysFit
-  pub open_to : ℕ → Bool
-  pub layout : Layout
-  pub shut : IsShut open_to layout
-  pub image : List ℕ
-  pub flags : ℕ
-  pub fits : flags < 2 ^ 8
-
--- an instruction stands in the image, and not where the code waits
-pub record Here (c : Ctx) (p : ℕ) (i : Instr) : Type 0 where
-  pub from : c.layout.code ≤ p
-  pub to : p + 6 ≤ c.layout.code + code_room
-  pub high : p + 6 < 65536
-  pub off : p ≢ c.layout.wait
-  pub fits : FitsOperands i
-  pub decoded : decode_at c.image p ≡ Ok i
-
--- instructions one after another
-abbrev pub Stands : Ctx → ℕ → List Instr → Type 0
-Stands c p [] = Unit {0}
-Stands c p (i ∷ is) = Here c p i × Stands c (p + length (encode_of i)) is
-
--- what each state of the run keeps, with I set or not
-pub record Lives (image : List ℕ) (masked : Bool) (s : State) : Type 0 where
-  pub temps : s.temps ≡ Free
-  pub size : length s.mem ≡ 65536
-  pub bytes : AreBytes s.mem
-  pub fits : FitsRegs s.regs
-  pub stack : (s.regs.sp ≡ 0x1FFE) ⊎ (s.regs.sp ≡ 0x2000)
-  pub mask : has s.regs.ccr 4 ≡ masked
-  pub same : SameHigh image s.mem
-
-abbrev pub Live : Ctx → State → Type 0
-Live c = Lives c.image false
 
 pub sp_high : (s : State) → (s.regs.sp ≡ 0x1FFE) ⊎ (s.regs.sp ≡ 0x2000) → s.regs.sp ≤ 0x2000
 sp_high s h = ⊎_elim (λ l. omega arith) (λ r. omega arith) h
@@ -99,7 +49,7 @@ code_shown open_to l sp pc shut a b c =
     let at : (k : ℕ) → k ≤ 5 → is_hidden open_to sp (plus pc k) ≡ false = λ k le. high_shown open_to sp (plus pc k) (shut.code (plus pc k) (omega arith) (omega arith)) (omega arith) in
     (high_shown open_to sp pc (shut.code pc (omega arith) (omega arith)) (omega arith), (at 1 (omega arith), (at 2 (omega arith), (at 3 (omega arith), (at 4 (omega arith), (at 5 (omega arith), tt))))))
 
-pub steady_of : (c : Ctx) (masked : Bool) (s : State) → Lives c.image masked s → c.layout.code ≤ s.regs.pc → s.regs.pc + 6 ≤ c.layout.code + code_room → IsSteady c.open_to masked c.image s
+pub steady_of : (c : Setting) (masked : Bool) (s : State) → Lives c.image masked s → c.layout.code ≤ s.regs.pc → s.regs.pc + 6 ≤ c.layout.code + code_room → IsSteady c.open_to masked c.image s
 steady_of c masked s l lo hi = record {
   temps = l.temps;
   size = l.size;
@@ -111,7 +61,7 @@ steady_of c masked s l lo hi = record {
   code = code_shown c.open_to c.layout s.regs.sp s.regs.pc c.shut (sp_high s l.stack) lo hi;
 }
 
-pub interruptible_of : (c : Ctx) (s : State) → Live c s → c.layout.code ≤ s.regs.pc → s.regs.pc + 6 ≤ c.layout.code + code_room → IsInterruptible c.open_to c.image s
+pub interruptible_of : (c : Setting) (s : State) → Live c s → c.layout.code ≤ s.regs.pc → s.regs.pc + 6 ≤ c.layout.code + code_room → IsInterruptible c.open_to c.image s
 interruptible_of c = steady_of c false
 
 writes_shown : (open_to : ℕ → Bool) (sp : ℕ) (ws : List (ℕ × ℕ)) → WriteBelow 0x1800 ws → AllShown open_to (addresses ws)
@@ -120,13 +70,13 @@ writes_shown open_to sp [] h shut = tt
 writes_shown open_to sp (w ∷ ws) h shut = (low_shown open_to sp w.0 shut.0 h.0, writes_shown open_to sp ws h.1 shut.1)
 
 -- a plain instruction leads to an address, with I set or not
-pub record Went (c : Ctx) (later : Bool) (i : Instr) (s t : State) (q : ℕ) : Type 0 where
+pub record Went (c : Setting) (later : Bool) (i : Instr) (s t : State) (q : ℕ) : Type 0 where
   pub shown : IsShownPlain c.open_to c.flags i s t
   pub lives : Lives c.image later t
   pub pc_is : t.regs.pc ≡ q
 
 -- one that stands in the image and leaves the stack as the code has it
-pub plain_went : (c : Ctx) (masked later : Bool) (s : State) (p q : ℕ) (i : Instr) → Lives c.image masked s → s.regs.pc ≡ p → c.layout.code ≤ p → p + 6 ≤ c.layout.code + code_room
+pub plain_went : (c : Setting) (masked later : Bool) (s : State) (p q : ℕ) (i : Instr) → Lives c.image masked s → s.regs.pc ≡ p → c.layout.code ≤ p → p + 6 ≤ c.layout.code + code_room
     → decode_at c.image p ≡ Ok i → is_plain i ≡ true → FitsOperands i
     → AllShown (is_hidden c.open_to s.regs.sp) (read_by (act_of c.flags i s.regs) s.mem)
     → AllShown (is_hidden c.open_to (min s.regs.sp (effect c.flags i s.regs s.mem).regs.sp)) (addresses (effect c.flags i s.regs s.mem).writes)
@@ -156,14 +106,8 @@ plain_went c masked later s p q i l ep lo hi de pl fo reads writes uncovers belo
       pc_is = pc;
     }
 
--- one instruction on
-pub record Next (c : Ctx) (s t : State) (q : ℕ) : Type 0 where
-  pub step : IsInterruptibleStep c.open_to c.layout c.image c.flags 0 s t
-  pub live : Live c t
-  pub pc_is : t.regs.pc ≡ q
-
 -- the same where I stays 0, and the code does not wait
-pub plain_next : (c : Ctx) (s : State) (p q : ℕ) (i : Instr) → Live c s → is_idle c.layout s ≡ false → s.regs.pc ≡ p → c.layout.code ≤ p → p + 6 ≤ c.layout.code + code_room
+pub plain_next : (c : Setting) (s : State) (p q : ℕ) (i : Instr) → Live c s → is_idle c.layout s ≡ false → s.regs.pc ≡ p → c.layout.code ≤ p → p + 6 ≤ c.layout.code + code_room
     → decode_at c.image p ≡ Ok i → is_plain i ≡ true → FitsOperands i
     → AllShown (is_hidden c.open_to s.regs.sp) (read_by (act_of c.flags i s.regs) s.mem)
     → AllShown (is_hidden c.open_to (min s.regs.sp (effect c.flags i s.regs s.mem).regs.sp)) (addresses (effect c.flags i s.regs s.mem).writes)
@@ -185,7 +129,7 @@ pub not_at : (l : Layout) (s : State) (p : ℕ) → s.regs.pc ≡ p → p ≢ l.
 not_at l s p e h = let a : (s.regs.pc == l.wait) ≡ false = grind (arith, nat_tests) in rw a
 
 -- one that leaves SP, and writes below FREE alone
-pub next : (c : Ctx) (s : State) (p q : ℕ) (i : Instr) → Live c s → s.regs.pc ≡ p → Here c p i → is_plain i ≡ true → FitsOperands i
+pub next : (c : Setting) (s : State) (p q : ℕ) (i : Instr) → Live c s → s.regs.pc ≡ p → Here c p i → is_plain i ≡ true → FitsOperands i
     → AllShown (is_hidden c.open_to s.regs.sp) (read_by (act_of c.flags i s.regs) s.mem)
     → WriteBelow 0x1800 (effect c.flags i s.regs s.mem).writes
     → AllShown c.open_to (addresses (effect c.flags i s.regs s.mem).writes)
@@ -197,28 +141,37 @@ next c s p q i l ep h pl fo reads below shut esp masks pc =
     let e = effect c.flags i s.regs s.mem in
     plain_next c s p q i l (not_at c.layout s p ep h.off) ep h.from h.to h.decoded pl fo reads (writes_shown c.open_to (min s.regs.sp e.regs.sp) e.writes below shut) (λ at g. inl (ap (λ k. is_hidden c.open_to k at) (sym esp) ∙ g)) (below_more 0x1800 0x2000 e.writes (omega arith) below) (⊎_elim (λ a. inl (esp ∙ a)) (λ b. inr (esp ∙ b)) l.stack) masks pc
 
+-- the same by the addresses of what is written
+below_by : (n : ℕ) (ws : List (ℕ × ℕ)) → Each (λ at. at < n) (addresses ws) → WriteBelow n ws
+below_by n [] h = tt
+below_by n (w ∷ ws) h = (h.0, below_by n ws h.1)
+
+pub instruction_goes_on : InstructionGoesOn
+instruction_goes_on c s p q i l ep h pl reads below shut esp masks pc =
+    next c s p q i l ep h pl h.fits reads (below_by 0x1800 (effect c.flags i s.regs s.mem).writes below) shut esp masks pc
+
 -- executions of at most n instructions, with at most k parts beyond their first
-abbrev pub Goes : Ctx → ℕ → ℕ → State → State → Type 0
+abbrev pub Goes : Setting → ℕ → ℕ → State → State → Type 0
 Goes c = Bounded (IsInterruptibleStep c.open_to c.layout c.image c.flags)
 
-pub goes_on : (c : Ctx) (n k m j : ℕ) (s t u : State) → Goes c n k s t → Goes c m j t u → Goes c (n + m) (k + j) s u
+pub goes_on : (c : Setting) (n k m j : ℕ) (s t u : State) → Goes c n k s t → Goes c m j t u → Goes c (n + m) (k + j) s u
 goes_on c = bounded_on (IsInterruptibleStep c.open_to c.layout c.image c.flags)
 
-pub goes_one : (c : Ctx) (s t : State) (q : ℕ) → Next c s t q → Goes c 1 0 s t
+pub goes_one : (c : Setting) (s t : State) (q : ℕ) → Next c s t q → Goes c 1 0 s t
 goes_one c s t q h = bounded_one (IsInterruptibleStep c.open_to c.layout c.image c.flags) 0 s t h.step
 
-pub clr : (c : Ctx) (s : State) (p at : ℕ) → Live c s → s.regs.pc ≡ p → Here c p (ClrExtended at) → at < 0x1800 → c.open_to at ≡ false
+pub clr : (c : Setting) (s : State) (p at : ℕ) → Live c s → s.regs.pc ≡ p → Here c p (ClrExtended at) → at < 0x1800 → c.open_to at ≡ false
     → Next c s (after_plain c.flags (ClrExtended at) s) (p + 3)
 clr c s p at l ep h lt shut =
     next c s p (p + 3) (ClrExtended at) l ep h refl (omega arith) tt (lt, tt) (shut, tt) refl (masked_four s.regs.ccr false true false false) (omega (arith, h.high))
 
-pub beq_on : (c : Ctx) (s : State) (p to : ℕ) → Live c s → s.regs.pc ≡ p → Here c p (Beq to) → to < 2 ^ 8 → has s.regs.ccr 2 ≡ false
+pub beq_on : (c : Setting) (s : State) (p to : ℕ) → Live c s → s.regs.pc ≡ p → Here c p (Beq to) → to < 2 ^ 8 → has s.regs.ccr 2 ≡ false
     → Next c s (after_plain c.flags (Beq to) s) (p + 2)
 beq_on c s p to l ep h lt z =
     next c s p (p + 2) (Beq to) l ep h refl lt tt tt tt refl refl (ap (λ b. if b then plus (plus s.regs.pc 2) (if nat_lt to 128 then to else to + 65280) else plus s.regs.pc 2) z ∙ omega (arith, h.high))
 
 -- code that stands in the image above where it waits
-pub stands_of : (c : Ctx) (p : ℕ) (is : List Instr) → UsedCode is → HasBytes c.image p (code_bytes is) → c.layout.code ≤ p → c.layout.wait < p
+pub stands_of : (c : Setting) (p : ℕ) (is : List Instr) → UsedCode is → HasBytes c.image p (code_bytes is) → c.layout.code ≤ p → c.layout.wait < p
     → p + sizes is + 6 ≤ c.layout.code + code_room → Stands c p is
 stands_of c p [] u h lo w hi = tt
 stands_of c p (i ∷ is) u h lo w hi = (

@@ -11,8 +11,9 @@ use Rattle.cpu12_parts.specs.Executions.{Execution}
 use Rattle.codegen.specs.Mailboxes.{is_postable, mailbox_layout, copy_code, call_code}
 use Rattle.codegen.specs.Turns.{IsAt, IsMaskedStep, IsCopied}
 use Rattle.eval_code.proofs.Algebra.{masked_four, masked_on, unmasked, execution_on, length_append}
-use Rattle.codegen.proofs.runs.Stepping.{Here, Lives, Stands, Went, low_shown, plain_went, steady_of}
+use Rattle.codegen.proofs.runs.Stepping.{Went, low_shown, plain_went, steady_of}
 use Rattle.codegen.proofs.turns.Posting.{Post, HasTurn, free_ctx, post_ctx, lives_of, at_of}
+use Rattle.codegen.specs.Settings.{Here, Lives, Stands}
 
 abbrev Masked : Post → ℕ → State → State → Type 0
 Masked p = IsMaskedStep (mailbox_layout p.n) p.image p.flags

@@ -15,11 +15,12 @@ use Rattle.codegen.specs.Mailboxes.{mailbox_layout, copy_code, call_code, mailbo
 use Rattle.eval_code.specs.Code.{code_bytes}
 use Rattle.eval_code.proofs.Algebra.{length-code, code_size, code_size-append, sizes, sizes_append, UsedCode, used_append, decode_here, bytes_front}
 use Rattle.eval_code.proofs.Algebra.{bytes_back, sizes_is}
-use Rattle.codegen.proofs.runs.Stepping.{Ctx, Here, Stands, stands_of}
-use Rattle.codegen.proofs.runs.Calling.{IsInCode}
+use Rattle.codegen.proofs.runs.Stepping.{stands_of}
 use Rattle.codegen.proofs.runs.Placing.{whole_rises, whole_is_short}
-use Rattle.codegen.proofs.runs.Founding.{IsStarted, start_code}
 use Rattle.codegen.proofs.turns.Posting.{Post, HasTurn, free_ctx, post_ctx}
+use Rattle.codegen.specs.Calls.{IsInCode}
+use Rattle.codegen.specs.Frames.{IsStarted, start_code}
+use Rattle.codegen.specs.Settings.{Setting, Here, Stands}
 
 -- one copy more
 pub copy_more : (from to n : ℕ) → copy_code from to (suc n) ≡ copy_code from to n ++ MovbExtended (from + n) (to + n) ∷ []
@@ -132,7 +133,7 @@ has_turn p h =
     }
 
 -- the call and the way back
-stands_back : (c : Ctx) (p : ℕ) (xs ys : List Instr) → Stands c p (xs ++ ys) → Stands c (p + sizes xs) ys
+stands_back : (c : Setting) (p : ℕ) (xs ys : List Instr) → Stands c p (xs ++ ys) → Stands c (p + sizes xs) ys
 stands_back c p [] ys h = subst (λ (q : ℕ). Stands c q ys) (omega arith) h
 stands_back c p (x ∷ xs) ys h =
     subst (λ (q : ℕ). Stands c q ys) (omega arith) (stands_back c (p + length (encode_of x)) xs ys h.1)

@@ -1,30 +1,26 @@
 -- The mailbox firmware of a block takes its turns.
-use Rattle.std.proofs.Common.{ℕ, ◌^◌, ◌<◌, ◌≤◌, List, [], ◌∷◌, length, refl, sym, subst, arith}
+use Rattle.std.proofs.Common.{ℕ, ◌^◌, ◌<◌, ◌≤◌, List, length, refl, sym, subst, arith}
 use Rattle.fuzzy_meaning.specs.declared.block.Block.{Block}
 use Rattle.fuzzy_meaning.specs.Blocks.{IsValid}
 use Rattle.rule_layout.specs.Layouts.{IsWithinLimits}
-use Rattle.cpu12_isa.specs.declared.instr.Instr.TheVariants.{Rts}
 use Rattle.cpu12_asm.specs.Bytes.{Holds}
 use Rattle.cpu12_asm.specs.Items.{given_by}
 use Rattle.cpu12_emul.specs.Image.{image_memory}
 use Rattle.eval_code.specs.declared.layout.Layout.{Layout}
 use Rattle.eval_code.specs.declared.width.Width.{Width}
 use Rattle.eval_code.specs.Widths.{width_of}
-use Rattle.codegen.specs.Images.{vector_items}
-use Rattle.eval_code.specs.Items.{block_items}
-use Rattle.eval_code.specs.Placed.{StandsBetween}
 use Rattle.codegen.specs.Mailboxes.{mailbox_layout, mailbox_code, mailbox_items, mailbox_bound}
 use Rattle.codegen.specs.Turns.{TakesTurns, MailboxTakesPosts}
-use Rattle.eval_code.proofs.Algebra.{image_given, memory_fits}
+use Rattle.eval_code.proofs.Algebra.{used_bytes}
 use Rattle.codegen.specs.Laws.{LowerLaws}
-use Rattle.codegen.proofs.runs.Founding.{start_stands, has_routine}
-use Rattle.codegen.proofs.runs.Placing.{rises_of, few_slots, whole_stands, whole_fits}
-use Rattle.codegen.proofs.runs.Arriving.{Arrived, arrive, zero_below}
-use Rattle.codegen.proofs.turns.Posting.{Post, HasTurn, post_ctx, at_of}
+use Rattle.codegen.proofs.runs.Arriving.{arrive}
+use Rattle.codegen.proofs.runs.Standing.{has_firmware}
+use Rattle.codegen.specs.Standing.{HasFirmware}
+use Rattle.codegen.proofs.turns.Posting.{Post, post_ctx, at_of}
 use Rattle.codegen.proofs.turns.Looking.{look_run, choose_run}
 use Rattle.codegen.proofs.turns.Copying.{copies_run}
 use Rattle.codegen.proofs.turns.Turning.{Turns, turn_run}
-use Rattle.codegen.proofs.turns.Founding.{mailbox_in_order, mailbox_apart, mailbox_started, mailbox_inside, mailbox_rises, used_mailbox, start_bytes, has_turn, has_call}
+use Rattle.codegen.proofs.turns.Founding.{mailbox_in_order, mailbox_apart, mailbox_started, mailbox_inside, used_mailbox, start_bytes, has_turn, has_call}
 
 -- what its runs are under
 abbrev post_of : LowerLaws → (b : Block) → length b.inputs ≤ 8 → List ℕ → (flags : ℕ) → flags < 2 ^ 8 → Post
@@ -32,19 +28,18 @@ post_of laws b few image flags fits = record { stays_fit = laws.stays_fit; n = l
 
 -- from what stands in memory
 with_code : (laws : LowerLaws) → (b : Block) (w : Width) (image : List ℕ) (flags : ℕ) (fits : flags < 2 ^ 8) → (v : IsValid b) → IsWithinLimits b
-    → (let l = mailbox_layout (length b.inputs) in StandsBetween l b w (mailbox_code l (length b.inputs)) (Rts ∷ []) image)
-    → (HasTurn (post_of laws b v.few_inputs image flags fits) → Arrived (post_ctx (post_of laws b v.few_inputs image flags fits)) b w)
+    → (let l = mailbox_layout (length b.inputs) in HasFirmware l b w (mailbox_code l (length b.inputs)) image)
     → TakesTurns (mailbox_layout (length b.inputs)) b w (mailbox_bound w b) image flags
-with_code laws b w image flags fits v limits around arrive_by =
+with_code laws b w image flags fits v limits firmware =
     let n = length b.inputs in
     let few = v.few_inputs in
     let l = mailbox_layout n in
     let p = post_of laws b few image flags fits in
-    let turn = has_turn p around.front in
+    let front = firmware.stands.front in
+    let turn = has_turn p front in
     let call = has_call p turn in
-    let routine = has_routine l b w (mailbox_code l n) image (omega arith) (mailbox_inside n few) (few_slots laws.layout_law b v) around in
-    let turns : Turns p b w = record { apart = mailbox_apart n few; inputs = refl; valid = v; limits = limits; eval_answers = laws.eval_answers; routine = routine; call = call.call; back = call.back } in
-    let arrived = arrive_by turn in
+    let turns : Turns p b w = record { apart = mailbox_apart n few; inputs = refl; valid = v; limits = limits; eval_answers = laws.eval_answers; routine = firmware.routine; call = call.call; back = call.back } in
+    let arrived = arrive (post_ctx p) b w (mailbox_code l n) (mailbox_started n) (mailbox_apart n few) v (start_bytes p front) firmware in
     let home = arrived.home in
     record {
       arrives = (arrived.t, record { way = arrived.way; at = at_of p 0xC008 arrived.t home.live home.pc_is (omega arith) (omega arith) home.sp_is; cleared = home.ready_is; outputs = home.outs });
@@ -62,17 +57,8 @@ with_items laws b w image flags fits v limits h =
     let few = v.few_inputs in
     let l = mailbox_layout n in
     let before = mailbox_code l n in
-    let back = Rts ∷ [] in
-    let items = mailbox_items l b w in
-    let mem = image_memory image in
-    let p = post_of laws b few mem flags fits in
-    let rise = mailbox_rises laws.rises b w v limits in
-    let g = image_given laws.holds_image image (given_by items) h in
-    let around = whole_stands laws.stands image l b w before back (mailbox_in_order n few) v limits h rise in
-    let vector = start_stands (rises_of laws) mem (block_items l b w before back) l g rise in
-    let fit = whole_fits laws l b w before back (mailbox_apart n few) v (used_mailbox n few) (tt, tt, tt) (omega arith) (omega arith) in
-    with_code laws b w mem flags fits v limits around
-    (λ turn. arrive (post_ctx p) b w (mailbox_started n) (mailbox_apart n few) v.few_outputs vector (start_bytes p around.front) g.size (memory_fits items mem fit g.size g.bytes) (λ q lt. zero_below (rises_of laws) mem l b w before back (vector_items l) g rise q lt (omega arith)))
+    with_code laws b w (image_memory image) flags fits v limits
+    (has_firmware laws image l b w before (mailbox_in_order n few) (mailbox_apart n few) (mailbox_inside n few) (omega arith) (used_bytes before (used_mailbox n few)) (omega arith) (omega arith) v limits h)
 
 pub mailbox_takes_posts : LowerLaws → MailboxTakesPosts
 mailbox_takes_posts laws b f v limits h flags fits =

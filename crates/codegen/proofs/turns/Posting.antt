@@ -11,7 +11,8 @@ use Rattle.codegen.specs.Interruptible.{IsSteady}
 use Rattle.codegen.specs.Mailboxes.{is_postable, mailbox_layout, copy_code, call_code}
 use Rattle.codegen.specs.Turns.{IsAt}
 use Rattle.codegen.proofs.runs.Law.{free_leaves}
-use Rattle.codegen.proofs.runs.Stepping.{IsShut, Ctx, Lives, Stands, steady_of}
+use Rattle.codegen.proofs.runs.Stepping.{steady_of}
+use Rattle.codegen.specs.Settings.{IsShut, Setting, Lives, Stands}
 
 -- the number of inputs, the image's memory and the open flags
 pub record Post : Type 0 where
@@ -63,10 +64,10 @@ postable_shut n = record {
 }
 
 -- up to the copy's end the free bytes are open, from there on the mailbox too
-abbrev pub free_ctx : Post → Ctx
+abbrev pub free_ctx : Post → Setting
 free_ctx p = record { stays_fit = p.stays_fit; open_to = is_free; layout = mailbox_layout p.n; shut = free_shut p.n; image = p.image; flags = p.flags; fits = p.fits }
 
-abbrev pub post_ctx : Post → Ctx
+abbrev pub post_ctx : Post → Setting
 post_ctx p = record { stays_fit = p.stays_fit; open_to = is_postable; layout = mailbox_layout p.n; shut = postable_shut p.n; image = p.image; flags = p.flags; fits = p.fits }
 
 -- the code of a turn stands

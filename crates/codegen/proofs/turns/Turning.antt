@@ -20,10 +20,12 @@ use Rattle.codegen.specs.Interruptible.{IsInterruptibleStep}
 use Rattle.codegen.specs.Mailboxes.{is_postable, mailbox_layout, mailbox_bound}
 use Rattle.codegen.specs.Turns.{IsAt, IsTurned}
 use Rattle.eval_code.proofs.Algebra.{execution_on, length_append, steps_append, bytes_set_out}
-use Rattle.codegen.proofs.runs.Stepping.{Here, Live, Next, next, interruptible_of}
-use Rattle.codegen.proofs.runs.Calling.{HasRoutine, IsCalled, Back, called}
+use Rattle.codegen.proofs.runs.Stepping.{next, interruptible_of}
+use Rattle.codegen.proofs.runs.Calling.{called}
 use Rattle.codegen.proofs.runs.Framing.{answer_room, pushed_word, jsr_run}
 use Rattle.codegen.proofs.turns.Posting.{Post, post_ctx, lives_of, at_of}
+use Rattle.codegen.specs.Calls.{HasRoutine, IsCalled, Back}
+use Rattle.codegen.specs.Settings.{Here, Live, Next}
 
 -- what a turn stands on
 pub record Turns (p : Post) (b : Block) (w : Width) : Type 0 where

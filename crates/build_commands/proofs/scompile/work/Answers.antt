@@ -1,5 +1,5 @@
 use Rattle.std.proofs.Common.{rules}
-use Rattle.codegen.specs.Watched.{watched_bound}
+use Rattle.watched_code.specs.Watched.{watched_bound}
 use Rattle.build_commands.specs.Firmwares.{GivesWatched}
 use Rattle.build_commands.specs.Scompile.{ScompileMakes}
 use Rattle.build_commands.proofs.WrittenLemmas.{firmware_makes}

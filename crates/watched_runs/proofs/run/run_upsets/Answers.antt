@@ -2,7 +2,7 @@ use Rattle.std.proofs.Common.{◌∙◌, List, map, ap, sym, subst}
 use Rattle.run_law.specs.Forms.{RowSeen, rows_from}
 use Rattle.interrupt_plan.specs.declared.Request.{Request}
 use Rattle.interrupt_plan.specs.declared.upsets.Upset.{Upset}
-use Rattle.codegen.specs.Watched.{Watched}
+use Rattle.watched_code.specs.Watched.{Watched}
 use Rattle.fz_run.specs.Forms.{place_of}
 use Rattle.run_forms.specs.Slices.{IsInOrder}
 use Rattle.run_forms.specs.Rows.{shown}

@@ -1,7 +1,7 @@
 use Rattle.std.proofs.Common.{◌∙◌, ℕ, ◌<◌, ap, sym, subst}
 use Rattle.std.specs.Prelude.{Option}
 use Rattle.cpu12_emul.specs.Image.{image_memory}
-use Rattle.codegen.specs.Watched.{Change, restored}
+use Rattle.watched_code.specs.Watched.{Change, restored}
 use Rattle.watched_runs.specs.Samples.{change_of}
 use Rattle.watched_runs.proofs.Samples.{change_there, count_given}
 use Rattle.watched_runs.proofs.form.WithUpsetsRunFormRequestUnitWatchedRow.leave.Goals as goal

@@ -1,6 +1,0 @@
-use Rattle.std.proofs.Common.{◌≡◌, ◌*◌, ◌≤◌, take}
-use Rattle.codegen.specs.WatchedCode.{code_length}
-use Rattle.codegen.proofs.check.code_length.Given as goal
-
-abbrev pub invariant-loop-instruction : goal.invariant-loop-instruction
-invariant-loop-instruction l = (l.bytes ≡ code_length (take l.instruction-index l.code)) × (l.bytes ≤ 6 * l.instruction-index)

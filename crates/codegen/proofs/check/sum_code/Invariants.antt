@@ -1,7 +1,0 @@
-use Rattle.std.proofs.Common.{◌≡◌, ◌∷◌, take}
-use Rattle.cpu12_isa.specs.declared.instr.Instr.TheVariants.{LdabImmediate}
-use Rattle.codegen.specs.WatchedCode.{segments_code}
-use Rattle.codegen.proofs.check.sum_code.Given as goal
-
-abbrev pub invariant-loop-segment : goal.invariant-loop-segment
-invariant-loop-segment l = l.code.items ≡ LdabImmediate 0 ∷ segments_code (take l.segment-index l.segments)

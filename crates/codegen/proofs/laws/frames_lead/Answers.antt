@@ -1,0 +1,6 @@
+use Rattle.codegen.proofs.runs.Arriving.{arrive}
+use Rattle.codegen.proofs.runs.Founding.{frame_calls_and_leaves}
+use Rattle.codegen.proofs.laws.frames_lead.Goals as goal
+
+pub returns : goal.returns
+returns c = record { arrives = arrive; turns = frame_calls_and_leaves }

@@ -1,6 +1,0 @@
-use Rattle.std.proofs.Common.{◌≡◌, ◌+◌, ◌%◌, ◌^◌, take}
-use Rattle.std.specs.Prelude.{sum}
-use Rattle.codegen.proofs.segments.add_bytes.Given as goal
-
-abbrev pub invariant-loop-byte : goal.invariant-loop-byte
-invariant-loop-byte l = l.total ≡ (l.start + sum (take l.byte-index l.bytes)) % 2 ^ 8

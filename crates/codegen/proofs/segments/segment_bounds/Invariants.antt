@@ -1,6 +1,0 @@
-use Rattle.std.proofs.Common.{◌≡◌, ◌*◌, ◌≤◌, take, sum_by}
-use Rattle.codegen.specs.Watched.{segment_bound}
-use Rattle.codegen.proofs.segments.segment_bounds.Given as goal
-
-abbrev pub invariant-loop-segment : goal.invariant-loop-segment
-invariant-loop-segment l = (l.bound ≡ sum_by segment_bound (take l.segment-index l.segments)) × (l.bound ≤ 29953 * l.segment-index)

@@ -1,0 +1,2 @@
+pub mod watching
+pub mod AlikeLemmas

@@ -1,0 +1,15 @@
+use Rattle.std.proofs.Common.{arith}
+use Rattle.watched_code.proofs.watching.Emitting.{is_segment}
+use Rattle.watched_code.proofs.check.sum_code.Goals as goal
+
+pub overflow_cast-len : goal.overflow_cast-len
+overflow_cast-len c =
+    let one = is_segment c.args.segments.now c.loop-segment.segment-index c.segment-item.result c.loop-segment-test.true c.segment-item.is c.requires in
+    let top = one.2 in
+    omega (arith, c.len.ensures)
+
+pub overflow_add-segment : goal.overflow_add-segment
+overflow_add-segment c =
+    let one = is_segment c.args.segments.now c.loop-segment.segment-index c.segment-item.result c.loop-segment-test.true c.segment-item.is c.requires in
+    let top = one.2 in
+    omega (arith, c.len.ensures)

@@ -1,0 +1,7 @@
+use Rattle.std.proofs.Common.{◌≡◌, ◌∷◌, take}
+use Rattle.cpu12_isa.specs.declared.instr.Instr.TheVariants.{LdabImmediate}
+use Rattle.watched_code.specs.WatchedCode.{segments_code}
+use Rattle.watched_code.proofs.check.sum_code.Given as goal
+
+abbrev pub invariant-loop-segment : goal.invariant-loop-segment
+invariant-loop-segment l = l.code.items ≡ LdabImmediate 0 ∷ segments_code (take l.segment-index l.segments)

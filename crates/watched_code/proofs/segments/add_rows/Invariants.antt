@@ -1,0 +1,5 @@
+use Rattle.std.proofs.Common.{◌≡◌, ◌++◌, take, flat_map}
+use Rattle.watched_code.proofs.segments.add_rows.Given as goal
+
+abbrev pub invariant-loop-row : goal.invariant-loop-row
+invariant-loop-row l = l.bytes.items ≡ l.fn.bytes.items ++ flat_map (λ row. row) (take l.row-index l.rows)

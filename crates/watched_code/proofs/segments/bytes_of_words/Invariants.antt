@@ -1,0 +1,6 @@
+use Rattle.std.proofs.Common.{◌≡◌, take, flat_map}
+use Rattle.eval_code.specs.Data.{bytes_of_word}
+use Rattle.watched_code.proofs.segments.bytes_of_words.Given as goal
+
+abbrev pub invariant-loop-word : goal.invariant-loop-word
+invariant-loop-word l = l.bytes.items ≡ flat_map bytes_of_word (take l.word-index l.words)

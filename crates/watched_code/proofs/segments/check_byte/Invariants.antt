@@ -1,0 +1,7 @@
+use Rattle.std.proofs.Common.{◌≡◌, ◌%◌, ◌^◌, take}
+use Rattle.std.specs.Prelude.{sum}
+use Rattle.watched_code.specs.WatchedCode.{segment_bytes}
+use Rattle.watched_code.proofs.segments.check_byte.Given as goal
+
+abbrev pub invariant-loop-segment : goal.invariant-loop-segment
+invariant-loop-segment l = l.total ≡ sum (segment_bytes (take l.segment-index l.segments)) % 2 ^ 8

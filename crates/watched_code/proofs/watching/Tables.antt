@@ -1,0 +1,67 @@
+-- The segments of a block's image: where they lie, and that they stand.
+use Rattle.std.proofs.Common.{◌≡◌, ℕ, zero, suc, ◌+◌, ◌≤◌, List, [], ◌∷◌, ◌++◌, length, sum_by, refl, ap₂, arith}
+use Rattle.std.proofs.lemmas.List.Sums.{sum_by-cons}
+use Rattle.fuzzy_meaning.specs.declared.block.Block.{Block}
+use Rattle.rule_layout.specs.declared.flat.Form.{Form}
+use Rattle.rule_layout.specs.declared.flat.Form.TheVariants as form
+use Rattle.rule_layout.specs.Layouts.{form_of, weights_of}
+use Rattle.watched_code.specs.declared.segments.Segment.{Segment}
+use Rattle.eval_code.specs.Layouts.{main_layout}
+use Rattle.eval_code.specs.Data.{table_bytes, singleton_bytes, weight_bytes_by, weight_bytes, rule_bytes}
+use Rattle.eval_code.specs.Evaluation.{HasBytes}
+use Rattle.eval_code.specs.Placed.{HasParts}
+use Rattle.watched_code.specs.Watched.{segment_bound}
+use Rattle.watched_code.specs.WatchedCode.{segment, weight_segments, segments_of}
+use Rattle.eval_code.proofs.Algebra.{SameHigh}
+use Rattle.watched_code.proofs.watching.Adding.{AreSegments, sum_from, sum_in, count_in}
+use Rattle.watched_code.proofs.watching.Segments.{Apart, Stand}
+
+-- the segments behind the singletons
+later_segments : (f : Form) (ws rs : List ℕ) → 1 ≤ length ws → length ws ≤ 512 → 1 ≤ length rs → length rs ≤ 9984
+    → AreSegments (weight_segments 0xD300 f ws ++ segment 0xD800 rs ∷ [])
+later_segments form.Rev ws rs a b c d = ((omega arith, c, omega arith), tt)
+later_segments form.Revw ws rs a b c d = ((omega arith, a, omega arith), ((omega arith, c, omega arith), tt))
+
+later_apart : (f : Form) (from : ℕ) (ws rs : List ℕ) → from ≤ 0xD300 → length ws ≤ 512 → Apart from (weight_segments 0xD300 f ws ++ segment 0xD800 rs ∷ [])
+later_apart form.Rev from ws rs le b = (omega arith, tt)
+later_apart form.Revw from ws rs le b = (omega arith, (omega arith, tt))
+
+later_stand : (m : List ℕ) (f : Form) (ws rs : List ℕ) → HasBytes m 0xD300 (weight_bytes_by f ws) → HasBytes m 0xD800 rs
+    → Stand m (weight_segments 0xD300 f ws ++ segment 0xD800 rs ∷ [])
+later_stand m form.Rev ws rs h k = (k, tt)
+later_stand m form.Revw ws rs h k = (h, (k, tt))
+
+later_few : (f : Form) (ws rs : List ℕ) → length (weight_segments 0xD300 f ws ++ segment 0xD800 rs ∷ []) ≤ 2
+later_few form.Rev ws rs = omega arith
+later_few form.Revw ws rs = omega arith
+
+module _ (b : Block) (h : HasParts main_layout b) where
+  pub are_segments : AreSegments (segments_of main_layout b)
+  are_segments =
+      let t = h.tables in
+      let s = h.singletons in
+      ((omega arith, t.0, omega arith), ((omega arith, s.0, omega arith), later_segments (form_of b) (weights_of b) (rule_bytes 0x1100 b) h.weights.0 h.weights.1 h.rules.0 h.rules.1))
+
+  pub are_apart : Apart 0x2000 (segments_of main_layout b)
+  are_apart = let t = h.tables in let s = h.singletons in (omega arith, (omega arith, later_apart (form_of b) (0xD200 + length (singleton_bytes b)) (weights_of b) (rule_bytes 0x1100 b) (omega arith) h.weights.1))
+
+pub are_few : (b : Block) → length (segments_of main_layout b) ≤ 4
+are_few b = let n = later_few (form_of b) (weights_of b) (rule_bytes 0x1100 b) in omega arith
+
+pub stand : (m : List ℕ) (b : Block) → HasBytes m 0xD000 (table_bytes b) → HasBytes m 0xD200 (singleton_bytes b) → HasBytes m 0xD300 (weight_bytes b) → HasBytes m 0xD800 (rule_bytes 0x1100 b)
+    → Stand m (segments_of main_layout b)
+stand m b t s w r = (t, (s, later_stand m (form_of b) (weights_of b) (rule_bytes 0x1100 b) w r))
+
+-- what they take
+pub counted : (gs : List Segment) → count_in gs ≡ sum_by segment_bound gs
+counted [] = refl
+counted (g ∷ gs) = let rest = counted gs in let more = sum_by-cons segment_bound g gs in omega arith
+
+-- memories that agree from $2000 on have one sum
+sum_from_high : (m n : List ℕ) (at k : ℕ) → SameHigh m n → 0x2000 ≤ at → sum_from n at k ≡ sum_from m at k
+sum_from_high m n at zero h le = refl
+sum_from_high m n at (suc k) h le = ap₂ (λ (x y : ℕ). x + y) (h at le) (sum_from_high m n (at + 1) k h (omega arith))
+
+pub sum_high : (m n : List ℕ) (gs : List Segment) → SameHigh m n → AreSegments gs → sum_in n gs ≡ sum_in m gs
+sum_high m n [] h are = refl
+sum_high m n (g ∷ gs) h are = ap₂ (λ (x y : ℕ). x + y) (sum_from_high m n g.at (length g.bytes) h are.0.0) (sum_high m n gs h are.1)

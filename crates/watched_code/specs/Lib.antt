@@ -1,0 +1,4 @@
+pub mod Checksums
+pub mod WatchedCode
+pub mod Watched
+pub mod Alike

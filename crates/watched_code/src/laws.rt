@@ -1,0 +1,46 @@
+//! Laws of firmware with watched tables.
+ghost use Rattle.watched_code.specs.Alike.{WatchedFirmwaresAreOne};
+ghost use Rattle.watched_code.specs.Checksums.{OneChangeIsSeen, TwoChangesMayPass, UnchangedSumIsZero};
+ghost use Rattle.watched_code.specs.Watched.{WatchedAnswers};
+
+use byte_scaling::nearest_is_byte;
+use codegen::laws::{
+    called_eval_returns, frames_lead, free_bytes_leave, image_has_firmware, instructions_go_on,
+    items_are_one,
+};
+use cpu12_isa::laws::stays_fit;
+use eval_code::laws::blocks_are_placed;
+use rule_layout::layouts_are_one;
+
+/// With its check byte the sum of bytes is 0. Where one byte is changed to another it is not; where
+/// two are it may be.
+pub fn one_change_is_seen()
+    ensures unchanged { UnchangedSumIsZero }
+    ensures one { OneChangeIsSeen }
+    ensures two { TwoChangesMayPass }
+{}
+
+/// The firmware of a block with watched tables answers every list of samples, whatever the open flags
+/// are, within its bounds: by the block's answers over bytes and FAULT 0, but by the outputs' defaults
+/// and FAULT 1 while a byte of its tables holds another value.
+pub fn watched_answers()
+    ensures { WatchedAnswers }
+{
+    nearest_is_byte();
+    stays_fit();
+    blocks_are_placed();
+    instructions_go_on();
+    called_eval_returns();
+    frames_lead();
+    image_has_firmware();
+    free_bytes_leave();
+}
+
+/// Blocks that are the same, wherever their conditions lie in memory, have one image with watched
+/// tables.
+pub fn watched_firmwares_are_one()
+    ensures { WatchedFirmwaresAreOne }
+{
+    layouts_are_one();
+    items_are_one();
+}
