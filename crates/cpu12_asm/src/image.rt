@@ -119,8 +119,9 @@ impl ByteMap {
 
     /// Writes each byte to its address of a memory, whose other bytes stay.
     pub fn write_to<M: Mem>(&self, m: &mut M)
-        ensures { (at : ℕ) → at < 2 ^ 16
+        ensures bytes { (at : ℕ) → at < 2 ^ 16
             → slice_index (M.bytes m.new) at ≡ unwrap_or (byte_at self.now at) (slice_index (M.bytes m.old) at) }
+        ensures noted { M.noted m.new ≡ M.noted m.old }
     {
         for (at, byte) in &self.bytes {
             m.write(*at, *byte);

@@ -1,5 +1,5 @@
 -- One step of the machine: a plain instruction, or one part of REV, REVW or WAV.
-use Rattle.std.specs.Prelude.{ℕ, Bool, true, false, Result, Ok, Err, List, slice_index}
+use Rattle.std.specs.Prelude.{ℕ, Bool, true, false, Result, Ok, Err, Option, List, slice_index}
 use Rattle.cpu12_isa.specs.Memory.{word_of}
 use Rattle.cpu12_isa.specs.declared.instr.Regs.{Regs}
 use Rattle.cpu12_isa.specs.declared.instr.Instr.{Instr}
@@ -23,10 +23,12 @@ is_part Plain = false
 is_part Part = true
 is_part LastPart = false
 
--- the machine: its state, and the byte from which open flags are taken
+-- the machine: its state, the byte from which open flags are taken, and for each address the byte that it is compared
+-- with, where it is watched
 pub record Whole : Type 0 where
   pub state : State
   pub flags : ℕ
+  pub noted : List (Option ℕ)
 
 -- the state that reset gives with a memory
 abbrev pub reset_with : List ℕ → State

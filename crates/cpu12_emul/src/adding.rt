@@ -21,6 +21,7 @@ const TURN: u32 = 3;
 fn turned<M: Mem>(m: &mut M, regs: Regs, flags: u8, end: u16) -> Regs
     ensures regs { result ≡ turned flags end (M.bytes m.old) regs }
     ensures mem { M.bytes m.new ≡ M.bytes m.old }
+    ensures noted { M.noted m.new ≡ M.noted m.old }
 {
     let mut r = regs;
     exec(&Instr::AddbPostIncrementX, &mut r, m, flags);
@@ -35,6 +36,7 @@ fn turns<M: Mem>(m: &mut M, regs: Regs, flags: u8, end: u16, most: u32) -> (Regs
     ensures turns { TurnsTo flags end (M.bytes m.old) result.1 regs result.0 }
     ensures most { result.1 ≤ most }
     ensures mem { M.bytes m.new ≡ M.bytes m.old }
+    ensures noted { M.noted m.new ≡ M.noted m.old }
 {
     let mut r = regs;
     let mut done = 0;
@@ -79,6 +81,7 @@ impl<M: Mem> Machine<M> {
         ensures steps { PlainlyTo (λ s. s.mem ≡ self.old.state.mem) self.old.flags result self.old.state self.new.state }
         ensures most { result ≤ most }
         ensures flags { self.new.flags ≡ self.old.flags }
+        ensures noted { self.new.noted ≡ self.old.noted }
     {
         // Looked for by this byte first, since it is asked before each step.
         if self.mem.read(self.regs.pc) != ADDB_INDEXED {

@@ -33,6 +33,7 @@ impl<M: Mem> Machine<M> {
         ensures state { self.new.state ≡ taken writes.now self.old.state }
         ensures frame { frame_seen result ≡ frame_of self.old.state }
         ensures flags { self.new.flags ≡ self.old.flags }
+        ensures noted { self.new.noted ≡ self.old.noted }
     {
         let frame = self.push();
         write_each(&mut self.mem, writes);
@@ -47,6 +48,7 @@ impl<M: Mem> Machine<M> {
         ensures state { self.new.state ≡ entered writes.now self.old.state }
         ensures frame { frame_seen result ≡ frame_of self.old.state }
         ensures flags { self.new.flags ≡ self.old.flags }
+        ensures noted { self.new.noted ≡ self.old.noted }
     {
         let frame = self.push();
         write_each(&mut self.mem, writes);
@@ -59,6 +61,7 @@ impl<M: Mem> Machine<M> {
         ensures state { self.new.state ≡ pushed (suspended wav self.old.state) }
         ensures frame { frame_seen result ≡ frame_of self.old.state }
         ensures flags { self.new.flags ≡ self.old.flags }
+        ensures noted { self.new.noted ≡ self.old.noted }
     {
         let size = size_of(&self.temps);
         Wav.suspend(&mut self.regs, &mut self.mem, &mut self.temps);
@@ -102,7 +105,8 @@ fn bytes_from<M: Mem>(m: &M, at: u16, n: usize) -> ArrayVec<u8, 15>
 
 /// Does writes in their order.
 fn write_each<M: Mem>(m: &mut M, writes: &[Write])
-    ensures { M.bytes m.new ≡ write_all (pairs_of writes.now) (M.bytes m.old) }
+    ensures mem { M.bytes m.new ≡ write_all (pairs_of writes.now) (M.bytes m.old) }
+    ensures noted { M.noted m.new ≡ M.noted m.old }
 {
     for w in writes {
         m.write(w.at, w.value);

@@ -4,7 +4,8 @@
 //! A step is one plain instruction or one part of REV, REVW or WAV, and does exactly what its
 //! definition says, a trap leaving the machine as it was. An interrupt pushes its frame, with WAV's sums
 //! below it where they run, does the handler's writes and pulls the frame; no step and no interrupt
-//! takes memory.
+//! takes memory. A machine over a [`cpu12_isa::watching::WatchedMem`] tells whether watched bytes have
+//! changed.
 #![tactic(auto)]
 
 mod adding;
@@ -16,3 +17,4 @@ pub mod load;
 pub mod machine;
 mod ruling;
 pub mod run;
+pub mod watching;

@@ -1,5 +1,6 @@
 // A machine from an image.
 ghost use Rattle.std.specs.Prelude.{ℕ, ◌≡◌, IfOk};
+ghost use Rattle.cpu12_isa.specs.Watching.{nothing_noted};
 ghost use Rattle.cpu12_emul.specs.Image.{image_memory};
 ghost use Rattle.cpu12_emul.specs.Step.{reset_with};
 
@@ -13,7 +14,11 @@ impl<M: Mem> Machine<M> {
     /// A machine that comes from reset with the image in memory, and 0 where it has no byte: registers
     /// 0, CCR `$D0`, PC from `$FFFE`.
     pub fn new(alloc: Global, image: &Image, flags: u8) -> Result<Machine<M>, Memory>
-        ensures { IfOk result (λ m. m ≡ record { state = reset_with (image_memory image.now.bytes); flags = flags }) }
+        ensures { IfOk result (λ m. m ≡ record {
+            state = reset_with (image_memory image.now.bytes);
+            flags = flags;
+            noted = nothing_noted;
+        }) }
     {
         let mut mem = M::fresh(alloc)?;
         image.bytes.write_to(&mut mem);

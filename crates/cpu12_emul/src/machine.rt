@@ -33,7 +33,7 @@ impl<M: Mem> Model for Machine<M> {
 
     ghost Value = { Whole };
 
-    ghost view = { λ a. record { state = record { regs = a.regs; temps = a.temps; mem = M.bytes a.mem }; flags = a.flags } };
+    ghost view = { λ a. record { state = record { regs = a.regs; temps = a.temps; mem = M.bytes a.mem }; flags = a.flags; noted = M.noted a.mem } };
 }
 
 /// The kind of a step by a part.
@@ -49,7 +49,7 @@ fn kind_of(end: PartEnd) -> Stepped
 impl<M: Mem> Machine<M> {
     /// A machine that comes from reset with this memory: registers 0, CCR `$D0`, PC from `$FFFE`.
     pub fn reset(mem: M, flags: u8) -> Machine<M>
-        ensures { result ≡ record { state = reset_with (M.bytes mem); flags = flags } }
+        ensures { result ≡ record { state = reset_with (M.bytes mem); flags = flags; noted = M.noted mem } }
     {
         let pc = word_of(mem.read(RESET_VECTOR), mem.read(RESET_VECTOR + 1));
         let regs = Regs {
@@ -87,13 +87,15 @@ impl<M: Mem> Machine<M> {
     pub fn poke(&mut self, at: u16, value: u8)
         ensures state { self.new.state ≡ record (self.old.state) { mem = slice_set self.old.state.mem at value } }
         ensures flags { self.new.flags ≡ self.old.flags }
+        ensures noted { self.new.noted ≡ self.old.noted }
     {
         self.mem.write(at, value);
     }
 
     /// The memory alone.
     pub fn into_mem(self) -> M
-        ensures { M.bytes result ≡ self.state.mem }
+        ensures bytes { M.bytes result ≡ self.state.mem }
+        ensures noted { M.noted result ≡ self.noted }
     {
         let Machine {
             regs: _,
@@ -115,6 +117,7 @@ impl<M: Mem> Machine<M> {
         ensures kind { result
             ≡ kind_of (outcome (R.act k.now self.old.flags self.old.state.regs self.old.state.temps) self.old.state.mem).end }
         ensures flags { self.new.flags ≡ self.old.flags }
+        ensures noted { self.new.noted ≡ self.old.noted }
     {
         let end = k.part(&mut self.regs, &mut self.mem, &mut self.temps, self.flags);
         kind_of(end)
@@ -127,6 +130,7 @@ impl<M: Mem> Machine<M> {
         ensures next { applied (outcome (instruction_act self.old.flags self.old.state.regs self.old.state.temps (Ok i.now)) self.old.state.mem) self.old.state.mem
             ≡ Ok (record { state = self.new.state; kind = result }) }
         ensures flags { self.new.flags ≡ self.old.flags }
+        ensures noted { self.new.noted ≡ self.old.noted }
     {
         match *i {
             Instr::Rev => self.part(&Rev),
@@ -154,6 +158,7 @@ impl<M: Mem> Machine<M> {
             × (self.new ≡ self.old)) }
         ensures trap { IfErr result (λ t. decode_at self.old.state.mem self.old.state.regs.pc ≡ Err t.byte) }
         ensures flags { self.new.flags ≡ self.old.flags }
+        ensures noted { self.new.noted ≡ self.old.noted }
     {
         match instruction_at(&self.mem, self.regs.pc) {
             Ok(i) => Ok(self.instruction(&i)),
@@ -174,6 +179,7 @@ impl<M: Mem> Machine<M> {
         ensures trap { IfErr result (λ t. decode_at self.old.state.mem self.old.state.regs.pc ≡ Err t.byte) }
         ensures running { IfErr result (λ _. IsOff self.old.state.temps) }
         ensures flags { self.new.flags ≡ self.old.flags }
+        ensures noted { self.new.noted ≡ self.old.noted }
     {
         if let Temps::Running(_, _) = self.temps {
             return Ok(self.part(&Wav));

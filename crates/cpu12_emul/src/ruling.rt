@@ -93,6 +93,7 @@ fn rev_parts<M: Mem>(m: &mut M, regs: Regs, temps: Temps, flags: u8, most: u32) 
     ensures parts { Ruled 0x3A flags (state_of regs temps (M.bytes m.old))
         (state_of result.0 temps (M.bytes m.new)) result.1 }
     ensures most { result.1 ≤ most }
+    ensures noted { M.noted m.new ≡ M.noted m.old }
 {
     rev_stays();
     rev_steady();
@@ -117,6 +118,7 @@ fn revw_parts<M: Mem>(m: &mut M, regs: Regs, temps: Temps, flags: u8, most: u32)
     ensures parts { Ruled 0x3B flags (state_of regs temps (M.bytes m.old))
         (state_of result.0 temps (M.bytes m.new)) result.1 }
     ensures most { result.1 ≤ most }
+    ensures noted { M.noted m.new ≡ M.noted m.old }
 {
     revw_stays();
     revw_steady();
@@ -140,6 +142,7 @@ impl<M: Mem> Machine<M> {
             self.old.flags result self.old.state self.new.state }
         ensures most { result ≤ most }
         ensures flags { self.new.flags ≡ self.old.flags }
+        ensures noted { self.new.noted ≡ self.old.noted }
     {
         if let Temps::Running(_, _) = self.temps {
             return 0;

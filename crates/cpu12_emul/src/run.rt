@@ -20,6 +20,7 @@ impl<M: Mem> Machine<M> {
     pub fn run(&mut self, budget: u32) -> RunEnd
         ensures ends { EndsRun self.old.flags budget self.old.state result self.new.state }
         ensures flags { self.new.flags ≡ self.old.flags }
+        ensures noted { self.new.noted ≡ self.old.noted }
     {
         let mut steps = 0;
         while !self.is_at_rest() {

@@ -1,6 +1,7 @@
 pub mod Memory
 pub mod Pages
 pub mod PageMemory
+pub mod Watching
 pub mod Act
 pub mod Flags
 pub mod Registers

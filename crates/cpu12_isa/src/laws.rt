@@ -4,6 +4,7 @@ ghost use Rattle.cpu12_isa.specs.Code.{DecodedHasOpcode};
 ghost use Rattle.cpu12_isa.specs.Fits.{StaysFit, BytesStay, DecodedFits};
 ghost use Rattle.cpu12_isa.specs.Agreement.{ReadsAlone, WritesAgree, WritesStay};
 ghost use Rattle.cpu12_isa.specs.Interrupts.{FrameComesBack, HidesMoreAbove, ShowsFromSp, HidesPushed};
+ghost use Rattle.cpu12_isa.specs.Watching.{NothingIsWatched};
 
 /// What an instruction does depends on the bytes that it reads alone.
 pub fn reads_alone()
@@ -28,6 +29,11 @@ pub fn stays_fit()
 /// A memory of bytes stays one.
 pub fn bytes_stay()
     ensures { BytesStay }
+{}
+
+/// A memory that notes nothing watches no address.
+pub fn nothing_is_watched()
+    ensures { NothingIsWatched }
 {}
 
 /// What is decoded has operands that fit.

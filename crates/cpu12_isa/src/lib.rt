@@ -22,3 +22,4 @@ pub mod mnemonic;
 pub mod pages;
 pub mod regs;
 pub mod stack;
+pub mod watching;

@@ -1,6 +1,7 @@
 // Memory, and words in it.
-ghost use Rattle.std.specs.Prelude.{ℕ, ◌≡◌, List, length, slice_index, slice_set, IfOk};
+ghost use Rattle.std.specs.Prelude.{ℕ, ◌≡◌, List, Option, length, slice_index, slice_set, IfOk};
 ghost use Rattle.cpu12_isa.specs.Memory.{zeros, word_of, high_of, low_of};
+ghost use Rattle.cpu12_isa.specs.Watching.{nothing_noted, length_nothing_noted};
 
 use fz_list::Memory;
 use std::alloc::{AllocError, Global};
@@ -13,9 +14,14 @@ pub trait Mem: Sized {
     /// The 65536 bytes.
     ghost bytes: { Self → List ℕ };
 
-    /// A memory of zeros.
+    /// For each of the 65536 addresses the byte that it is compared with, where it is watched. No write
+    /// changes it.
+    ghost noted: { Self → List (Option ℕ) };
+
+    /// A memory of zeros, with no address watched.
     fn fresh(alloc: Global) -> Result<Self, Memory>
-        ensures { IfOk result (λ m. bytes m ≡ zeros 65536) };
+        ensures bytes { IfOk result (λ m. bytes m ≡ zeros 65536) }
+        ensures noted { IfOk result (λ m. noted m ≡ nothing_noted) };
 
     /// The byte at an address.
     fn read(&self, at: u16) -> u8
@@ -23,9 +29,12 @@ pub trait Mem: Sized {
 
     /// Sets the byte at an address.
     fn write(&mut self, at: u16, value: u8)
-        ensures { bytes self.new ≡ slice_set (bytes self.old) at value };
+        ensures bytes { bytes self.new ≡ slice_set (bytes self.old) at value }
+        ensures noted { noted self.new ≡ noted self.old };
 
     ghost size: { (m : Self) → length (bytes m) ≡ 65536 };
+
+    ghost noted_size: { (m : Self) → length (noted m) ≡ 65536 };
 }
 
 /// A memory with all its bytes in one vector, for tests and small tools.
@@ -46,7 +55,11 @@ pub(crate) fn zeroed(alloc: Global, n: usize) -> Result<Vec<u8>, AllocError>
 impl Mem for FlatMem {
     ghost bytes = { λ m. m.cells.items };
 
+    ghost noted = { λ m. nothing_noted };
+
     ghost size = { λ m. m.full };
+
+    ghost noted_size = { λ m. length_nothing_noted };
 
     #[tactic(auto, using(crate::proofs::Zeros::length_zeros))]
     fn fresh(alloc: Global) -> Result<Self, Memory> {

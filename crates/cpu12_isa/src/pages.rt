@@ -2,6 +2,7 @@
 ghost use Rattle.std.specs.Prelude.{ℕ, ◌≡◌, ◌≢◌, ◌==◌, ◌/◌, ◌<◌, true, false, if◌then◌else◌, count_by, length, replicate, slice_index, slice_set, IfOk};
 ghost use Rattle.cpu12_isa.specs.Pages.{ArePages, bytes_in, given_in};
 ghost use Rattle.cpu12_isa.specs.Memory.{zeros};
+ghost use Rattle.cpu12_isa.specs.Watching.{nothing_noted, length_nothing_noted};
 
 use crate::mem::{Mem, zeroed};
 use fz_list::Memory;
@@ -94,7 +95,11 @@ impl PageMem {
 impl Mem for PageMem {
     ghost bytes = { λ m. bytes_in m.table m.pool.items 65536 };
 
+    ghost noted = { λ m. nothing_noted };
+
     ghost size = { λ m. m.full };
+
+    ghost noted_size = { λ m. length_nothing_noted };
 
     fn fresh(alloc: Global) -> Result<Self, Memory> {
         PageMem::new(alloc)

@@ -54,6 +54,7 @@ pub trait Resumable {
         ensures regs { r.new ≡ (outcome (act self.now flags r.old t.old) (M.bytes m.old)).regs }
         ensures mem { M.bytes m.new ≡ write_all (outcome (act self.now flags r.old t.old)
             (M.bytes m.old)).writes (M.bytes m.old) }
+        ensures noted { M.noted m.new ≡ M.noted m.old }
         ensures temps { t.new ≡ (outcome (act self.now flags r.old t.old) (M.bytes m.old)).temps }
         ensures end { result ≡ (outcome (act self.now flags r.old t.old) (M.bytes m.old)).end };
 
@@ -62,6 +63,7 @@ pub trait Resumable {
         ensures regs { r.new ≡ (outcome (push self.now r.old t.old) (M.bytes m.old)).regs }
         ensures mem { M.bytes m.new ≡ write_all (outcome (push self.now r.old t.old)
             (M.bytes m.old)).writes (M.bytes m.old) }
+        ensures noted { M.noted m.new ≡ M.noted m.old }
         ensures temps { t.new ≡ (outcome (push self.now r.old t.old) (M.bytes m.old)).temps };
 
     /// Takes from the stack again what was kept between parts.
@@ -69,6 +71,7 @@ pub trait Resumable {
         ensures regs { r.new ≡ (outcome (pull self.now r.old t.old) (M.bytes m.old)).regs }
         ensures mem { M.bytes m.new ≡ write_all (outcome (pull self.now r.old t.old)
             (M.bytes m.old)).writes (M.bytes m.old) }
+        ensures noted { M.noted m.new ≡ M.noted m.old }
         ensures temps { t.new ≡ (outcome (pull self.now r.old t.old) (M.bytes m.old)).temps };
 
     /// What `suspend` puts away `resume` gets back: all is as it was, but for the six bytes below SP.

@@ -12,9 +12,10 @@ loop-at-preserved g c =
     let above : IsAscending (b ∷ c.next.new.self) = subst (λ (l : List (ℕ × ℕ)). IsAscending l) parts c.loop-at.invariant.ascending in
     record {
       same = λ q.
-          ap (λ (m : List ℕ). unwrap_or (byte_at c.next.new.self q) (get_or m q 0)) c.write.ensures
+          ap (λ (m : List ℕ). unwrap_or (byte_at c.next.new.self q) (get_or m q 0)) c.write.ensures.bytes
           ∙ byte-written b c.next.new.self (g.M.Mem.bytes c.loop-at.m) q above (omega (arith, g.met.M.Mem.size c.loop-at.m))
           ∙ ap (λ (l : List (ℕ × ℕ)). unwrap_or (byte_at l q) (get_or (g.M.Mem.bytes c.loop-at.m) q 0)) (sym parts)
           ∙ c.loop-at.invariant.same q;
       ascending = IsAscending-rest b c.next.new.self above;
+      noted = c.write.ensures.noted ∙ c.loop-at.invariant.noted;
     }
