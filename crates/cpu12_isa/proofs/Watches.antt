@@ -1,7 +1,7 @@
 -- What is noted again, and what has changed since.
-use Rattle.std.proofs.Common.{◌≡◌, ◌≤◌, ◌<◌, ◌+◌, ◌==◌, ◌||◌, ℕ, suc, zero, Bool, true, false, not, List, [], ◌∷◌, ◌++◌, length, get_or, set, Option, Some, None, option_map, refl, ap, sym, ◌∙◌, subst, arith, inl, inr, get_or-set_other, get_or-set_same}
-use Rattle.std.proofs.lemmas.Bool.{cases_eq, cases_lt, ne_eqb, eq-eqb, eqb-true, or_left, or_right, or_cases, both_ways, false_from_ne_true, false≢true, not-false}
-use Rattle.std.proofs.lemmas.List.{get_or-replicate, get_or_past, length-replicate, length-set}
+use Rattle.std.proofs.Common.{◌≡◌, ◌≤◌, ◌<◌, ◌==◌, ℕ, suc, zero, Bool, true, false, not, List, [], ◌∷◌, length, get_or, set, Option, Some, None, option_map, refl, ap, sym, ◌∙◌, subst, arith, inl, inr, get_or-set_other, get_or-set_same}
+use Rattle.std.proofs.lemmas.Bool.{cases_lt, eq-eqb, eqb-true, or_left, or_right, or_cases, false_from_ne_true, false≢true, not-false}
+use Rattle.std.proofs.lemmas.List.{get_or-replicate, get_or_past}
 use Rattle.cpu12_isa.specs.Watching.{unwatched, length_unwatched, noted_again, is_changed, any_changed, is_listed, AreListed, NothingIsWatched}
 
 -- whether the byte at an address is another than the noted one
@@ -76,11 +76,6 @@ changed_before ns mem x at n l h c =
 pub changed_once_noted : (ns : List (Option ℕ)) (mem : List ℕ) (x at : ℕ) → x < length ns → changed_at (noted_at ns mem x) mem at ≡ true → (at ≡ x → ⊥) × (changed_at ns mem at ≡ true)
 changed_once_noted ns mem x at l c = changed_before ns mem x at _ l (fresh (get_or ns x None) (get_or mem x 0)) c
 
--- of lists of addresses
-pub listed_put : (written : List ℕ) (ns : List (Option ℕ)) (mem : List ℕ) (x : ℕ) (n : Option ℕ) → x < length ns → (is_changed n (get_or mem x 0) ≡ true → ⊥)
-    → AreListed written ns mem → AreListed written (set ns x n) mem
-listed_put written ns mem x n l h all at c = all at ((changed_before ns mem x at n l h c).1)
-
 -- the first of a list is passed where its byte has not changed
 pub listed_next : (x : ℕ) (rest : List ℕ) (ns : List (Option ℕ)) (mem : List ℕ) → (changed_at ns mem x ≡ true → ⊥) → AreListed (x ∷ rest) ns mem → AreListed rest ns mem
 listed_next x rest ns mem h all at c = elim (or_cases (x == at) (is_listed rest at) (all at c)) [
@@ -95,29 +90,6 @@ listed_noted x rest ns mem l all at c =
       | inl e ↦ absurd (before.0 (sym (eqb-true x at e)))
       | inr e ↦ e
     ]
-
-pub listed_more : (written : List ℕ) (x at : ℕ) → is_listed written at ≡ true → is_listed (written ++ x ∷ []) at ≡ true
-listed_more [] x at e = absurd (false≢true e)
-listed_more (w ∷ ws) x at e = elim (or_cases (w == at) (is_listed ws at) e) [
-  | inl h ↦ or_left (w == at) (is_listed (ws ++ x ∷ []) at) h
-  | inr h ↦ or_right (w == at) (is_listed (ws ++ x ∷ []) at) (listed_more ws x at h)
-]
-
-pub listed_last : (written : List ℕ) (x : ℕ) → is_listed (written ++ x ∷ []) x ≡ true
-listed_last [] x = or_left (x == x) false (eq-eqb x x refl)
-listed_last (w ∷ ws) x = or_right (w == x) (is_listed (ws ++ x ∷ []) x) (listed_last ws x)
-
--- a written byte is listed, or has not changed
-pub listed_written : (written old : List ℕ) (ns : List (Option ℕ)) (mem : List ℕ) (x v : ℕ) → x < length mem
-    → ((at : ℕ) → is_listed old at ≡ true → is_listed written at ≡ true) → AreListed old ns mem
-    → (is_changed (get_or ns x None) v ≡ true → is_listed written x ≡ true) → AreListed written ns (set mem x v)
-listed_written written old ns mem x v l more all put at c = elim (cases_eq at x) [
-  | inl e ↦
-      let here : is_changed (get_or ns x None) (get_or (set mem x v) x 0) ≡ true = subst (λ (k : ℕ). changed_at ns (set mem x v) k ≡ true) e c in
-      let is : is_changed (get_or ns x None) v ≡ true = ap (λ (b : ℕ). is_changed (get_or ns x None) b) (sym (get_or-set_same mem x v 0 l)) ∙ here in
-      subst (λ (k : ℕ). is_listed written k ≡ true) (sym e) (put is)
-  | inr ne ↦ more at (all at (ap (λ (b : ℕ). is_changed (get_or ns at None) b) (sym (get_or-set_other mem x at v 0 ne)) ∙ c))
-]
 
 -- some byte has changed, or none
 pub any_from : (ns : List (Option ℕ)) (mem : List ℕ) (at : ℕ) → at < length mem → changed_at ns mem at ≡ true → any_changed ns mem ≡ true

@@ -60,8 +60,8 @@ fn any_of_all<M: Mem>(table: &[Option<u8>], m: &M) -> bool
     requires { length table.now ≡ 65536 }
     ensures { result ≡ any_changed table.now (M.bytes m.now) }
 {
-    for at in 0..=0xFFFFu16 {
-        if is_changed(table[at as usize], m.read(at)) {
+    for at in 0..0x1_0000u32 {
+        if is_changed(table[at as usize], m.read(at as u16)) {
             return true;
         }
     }
@@ -95,8 +95,21 @@ fn note_all<M: Mem>(table: &mut [Option<u8>], m: &M)
     requires { length table.old ≡ 65536 }
     ensures { table.new ≡ noted_again table.old (M.bytes m.now) }
 {
-    for at in 0..=0xFFFFu16 {
-        note_at(table, m, at);
+    for at in 0..0x1_0000u32 {
+        note_at(table, m, at as u16);
+    }
+}
+
+/// Notes the bytes at listed addresses again, and all where the list is full.
+fn note_again<M: Mem>(table: &mut [Option<u8>], m: &M, written: &ArrayVec<u16, 64>)
+    requires size { length table.old ≡ 65536 }
+    requires listed { array_vec_len written.now < 64 → AreListed written.now.items table.old (M.bytes m.now) }
+    ensures { table.new ≡ noted_again table.old (M.bytes m.now) }
+{
+    if written.is_full() {
+        note_all(table, m);
+    } else {
+        note_listed(table, m, written.as_slice());
     }
 }
 
@@ -181,11 +194,7 @@ impl<M: Mem> WatchedMem<M> {
         ensures noted { ⟦<WatchedMem<M> as Mem>⟧.noted self.new
             ≡ noted_again (⟦<WatchedMem<M> as Mem>⟧.noted self.old) (⟦<WatchedMem<M> as Mem>⟧.bytes self.old) }
     {
-        if self.written.is_full() {
-            note_all(&mut self.table, &self.inner);
-        } else {
-            note_listed(&mut self.table, &self.inner, self.written.as_slice());
-        }
+        note_again(&mut self.table, &self.inner, &self.written);
         self.written.clear();
     }
 
