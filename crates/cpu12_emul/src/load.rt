@@ -15,9 +15,9 @@ impl<M: Mem> Machine<M> {
     /// 0, CCR `$D0`, PC from `$FFFE`.
     pub fn new(alloc: Global, image: &Image, flags: u8) -> Result<Machine<M>, Memory>
         ensures { IfOk result (λ m. m ≡ record {
-            state = reset_with (image_memory image.now.bytes);
-            flags = flags;
-            noted = nothing_noted;
+          state = reset_with (image_memory image.now.bytes);
+          flags = flags;
+          noted = nothing_noted;
         }) }
     {
         let mut mem = M::fresh(alloc)?;

@@ -16,4 +16,5 @@ loop-done-preserved g c =
       turns = subst (λ (r : Regs). TurnsTo a.flags a.end mem (l.done + 1) a.regs r) (sym next) (TurnsTo-more a.flags a.end mem l.done a.regs l.r l.invariant.turns back);
       within = omega arith;
       mem = c.turned-next.ensures.mem ∙ l.invariant.mem;
+      noted = c.turned-next.ensures.noted ∙ l.invariant.noted;
     }

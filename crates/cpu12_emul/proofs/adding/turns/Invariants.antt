@@ -7,6 +7,7 @@ invariant-loop-done g l = record {
   turns : TurnsTo l.flags l.end (g.M.Mem.bytes l.fn.m) l.done l.fn.regs l.r;
   within : l.done ≤ l.most;
   mem : g.M.Mem.bytes l.m ≡ g.M.Mem.bytes l.fn.m;
+  noted : g.M.Mem.noted l.m ≡ g.M.Mem.noted l.fn.m;
 }
 
 abbrev pub decreases-loop-done : goal.decreases-loop-done

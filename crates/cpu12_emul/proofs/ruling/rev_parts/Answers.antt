@@ -1,4 +1,4 @@
-use Rattle.std.proofs.Common.{◌+◌, arith}
+use Rattle.std.proofs.Common.{◌∙◌, ◌+◌, arith}
 use Rattle.cpu12_parts.specs.Laws.{state_of}
 use Rattle.cpu12_parts.specs.State.{State}
 use Rattle.cpu12_emul.specs.Ruling.{Ruled}
@@ -21,4 +21,5 @@ loop-done-preserved g c =
     record {
       ruled = Ruled-then 0x3A a.flags s u v (l.done + 1) c.antecedents-more.result.1 c.requires.off ruled (c.antecedents-more.ensures.parts a.temps);
       within = omega arith;
+      noted = c.part.ensures.noted ∙ l.invariant.noted;
     }

@@ -1,4 +1,4 @@
-use Rattle.std.proofs.Common.{◌+◌, arith}
+use Rattle.std.proofs.Common.{◌∙◌, ◌+◌, arith}
 use Rattle.cpu12_parts.specs.Laws.{state_of}
 use Rattle.cpu12_parts.specs.State.{State}
 use Rattle.cpu12_emul.specs.Ruling.{Ruled}
@@ -17,4 +17,4 @@ loop-done-preserved g c =
     let ruled : Ruled 0x3B a.flags s u (l.done + 1) =
     Ruled-then 0x3B a.flags s t u l.done 1 c.requires.off l.invariant.ruled
     (Ruled-part a.flags t u.regs u.mem law on c.part.ensures.regs c.part.ensures.mem) in
-    record { ruled = ruled; within = omega arith }
+    record { ruled = ruled; within = omega arith; noted = c.part.ensures.noted ∙ l.invariant.noted }

@@ -14,5 +14,6 @@ loop-budget-preserved g c =
     record {
       to = StepsTo-more s.flags c.loop-budget.steps s.state before.state next c.loop-budget.invariant.to free step;
       flags = c.step.ensures.flags ∙ c.loop-budget.invariant.flags;
+      noted = c.step.ensures.noted ∙ c.loop-budget.invariant.noted;
       within = omega arith;
     }

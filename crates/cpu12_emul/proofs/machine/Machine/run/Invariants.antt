@@ -6,6 +6,7 @@ abbrev pub invariant-loop-budget : goal.invariant-loop-budget
 invariant-loop-budget g l = record {
   to : StepsTo l.fn.self.flags l.steps l.fn.self.state l.self.state;
   flags : l.self.flags ≡ l.fn.self.flags;
+  noted : l.self.noted ≡ l.fn.self.noted;
   within : l.steps ≤ l.budget;
 }
 
