@@ -1,5 +1,7 @@
 pub mod Forms
 pub mod Rows
+pub mod Sessions
+pub mod Facts
 pub mod Following
 pub mod SoundAlone
 pub mod Answering

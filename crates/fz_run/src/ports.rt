@@ -29,6 +29,7 @@ pub fn is_busy_here<M: Mem>(layout: &Layout, m: &Machine<M>) -> bool
 /// Gives a sample: writes its bytes from the first input on, and 1 to READY.
 pub fn give<M: Mem>(layout: &Layout, m: &mut Machine<M>, bytes: &[u8])
     ensures state { m.new.state ≡ given layout.now bytes.now m.old.state }
+    ensures noted { m.new.noted ≡ m.old.noted }
     ensures flags { m.new.flags ≡ m.old.flags }
 {
     let mut at = layout.samples;

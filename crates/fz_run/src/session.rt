@@ -1,5 +1,6 @@
 //! A run that stops at each boundary.
-ghost use Rattle.std.specs.Prelude.{ℕ, ◌≡◌, ◌≤◌, ◌∷◌, [], true, false, min, map, slice_index, IfOk};
+ghost use Rattle.std.specs.Prelude.{ℕ, ◌≡◌, ◌≤◌, ◌∷◌, [], true, false, Some, None, min, map, slice_index, slice_set, IfOk};
+ghost use Rattle.cpu12_isa.specs.Watching.{any_changed, noted_again, nothing_noted};
 ghost use Rattle.interrupt_plan.specs.Plans.{IsGood};
 ghost use Rattle.fz_run.specs.Rows.{row_seen, input_bytes, first_state, firmware_rows};
 ghost use Rattle.run_forms.specs.Outlooks.{from_here, at_position, of_run};
@@ -10,6 +11,7 @@ use codegen::Firmware;
 use cpu12_emul::machine::Machine;
 use cpu12_isa::instr::Regs;
 use cpu12_isa::mem::Mem;
+use cpu12_isa::watching::WatchedMem;
 use fz_list::Memory;
 use interrupt_plan::{Plan, Request};
 use run_forms::laws::rows_are_shown;
@@ -20,7 +22,8 @@ use trace_io::Sample;
 
 /// A run of a firmware over a trace under a plan, which stands at one of its positions: the pairs of a
 /// sample, counted from 1, and a boundary in it, in order. The state at one is that after what is
-/// taken there. A run over no sample has the one position 0 of sample 0.
+/// taken there. A run over no sample has the one position 0 of sample 0. Over a memory that notes bytes
+/// ([`WatchedMem`]) it tells whether watched bytes have changed.
 #[derive(Drop)]
 pub struct Session<'a, M: Mem> {
     machine: Machine<M>,
@@ -30,15 +33,17 @@ pub struct Session<'a, M: Mem> {
 }
 
 impl<'a, M: Mem> Model for Session<'a, M> {
-    ghost use Rattle.std.specs.Prelude.{ℕ, List};
-    ghost use Rattle.run_law.specs.Forms.{RowSeen};
+    ghost use Rattle.run_forms.specs.Outlooks.{outlook_at, IsUnderWay};
     ghost use Rattle.fz_run.specs.Rows.{writes_harness};
-    ghost use Rattle.run_forms.specs.Outlooks.{Outlook, outlook_at, IsUnderWay};
+    ghost use Rattle.fz_run.specs.Sessions.{SessionSeen};
 
-    ghost Value = { Outlook (RowSeen (List ℕ)) };
+    ghost Value = { SessionSeen };
 
-    ghost view = { λ a. outlook_at a.machine.flags (writes_harness a.form.firmware.now a.form.samples.now)
-        a.plan.now a.progress a.machine.state };
+    ghost view = { λ a. record {
+      outlook = outlook_at a.machine.flags (writes_harness a.form.firmware.now a.form.samples.now)
+          a.plan.now a.progress a.machine.state;
+      noted = a.machine.noted;
+    } };
 
     ghost invariant = { λ a. IsUnderWay (writes_harness a.form.firmware.now a.form.samples.now) a.plan.now a.progress };
 }
@@ -55,8 +60,9 @@ impl<'a, M: Mem> Session<'a, M> {
     ) -> Result<Session<'a, M>, Memory>
         requires outputs { firmware.now.outputs ≤ 4 }
         requires plan { IsGood plan.now }
-        ensures { IfOk result (λ s. from_here s ≡ of_run (first_state firmware.now flags)
+        ensures outlook { IfOk result (λ s. from_here s.outlook ≡ of_run (first_state firmware.now flags)
             (firmware_rows firmware.now (map input_bytes samples.now) plan.now flags)) }
+        ensures noted { IfOk result (λ s. s.noted ≡ nothing_noted) }
     {
         rows_are_shown::<Request, (), Row, WithWrites>();
         let form = WithWrites { firmware, samples };
@@ -76,8 +82,10 @@ impl<'a, M: Mem> Session<'a, M> {
 
     /// Goes on to the next position. Answers false, and changes nothing, exactly at the last.
     pub fn advance(&mut self) -> bool
-        ensures goes { result ≡ true → self.old ≡ at_position self.old.here (from_here self.new) }
-        ensures ends { result ≡ false → (self.old.later ≡ []) × (self.new ≡ self.old) }
+        ensures goes { result ≡ true → self.old.outlook
+            ≡ at_position self.old.outlook.here (from_here self.new.outlook) }
+        ensures ends { result ≡ false → (self.old.outlook.later ≡ []) × (self.new ≡ self.old) }
+        ensures noted { self.new.noted ≡ self.old.noted }
     {
         advance(
             &mut self.machine,
@@ -89,22 +97,22 @@ impl<'a, M: Mem> Session<'a, M> {
 
     /// The registers.
     pub fn regs(&self) -> Regs
-        ensures { result ≡ self.now.here.state.regs }
+        ensures { result ≡ self.now.outlook.here.state.regs }
     {
         self.machine.regs()
     }
 
     /// The byte at an address.
     pub fn byte(&self, address: u16) -> u8
-        ensures { result ≡ slice_index self.now.here.state.mem address }
+        ensures { result ≡ slice_index self.now.outlook.here.state.mem address }
     {
         self.machine.peek(address)
     }
 
     /// The position: the sample, of those past 4294967295 that number, and the boundary.
     pub fn at(&self) -> (u32, u32)
-        ensures sample { result.0 ≡ min self.now.here.sample 4294967295 }
-        ensures moment { result.1 ≡ self.now.here.moment }
+        ensures sample { result.0 ≡ min self.now.outlook.here.sample 4294967295 }
+        ensures moment { result.1 ≡ self.now.outlook.here.moment }
     {
         let sample = u32::try_from(self.progress.number).unwrap_or(u32::MAX);
         (sample, self.progress.stand.tally.moment)
@@ -112,8 +120,8 @@ impl<'a, M: Mem> Session<'a, M> {
 
     /// Goes on to the last position, and answers all rows of the run and the memory of its last state.
     pub fn finish(self) -> (Vec<Row>, M)
-        ensures rows { map row_seen result.0.items ≡ self.entry.rows }
-        ensures memory { M.bytes result.1 ≡ self.entry.state.mem }
+        ensures rows { map row_seen result.0.items ≡ self.entry.outlook.rows }
+        ensures memory { M.bytes result.1 ≡ self.entry.outlook.state.mem }
     {
         let Session {
             mut machine,
@@ -124,5 +132,41 @@ impl<'a, M: Mem> Session<'a, M> {
         drive(&mut machine, &form, plan.as_slice(), &mut progress);
         let rows = into_rows(&mut machine, &form, progress);
         (rows, machine.into_mem())
+    }
+}
+
+impl<'a, M: Mem> Session<'a, WatchedMem<M>> {
+    /// Watches an address: notes the byte that is there.
+    pub fn watch(&mut self, at: u16)
+        ensures outlook { self.new.outlook ≡ self.old.outlook }
+        ensures noted { self.new.noted
+            ≡ slice_set self.old.noted at (Some (slice_index self.old.outlook.here.state.mem at)) }
+    {
+        self.machine.watch(at);
+    }
+
+    /// Watches an address no more.
+    pub fn unwatch(&mut self, at: u16)
+        ensures outlook { self.new.outlook ≡ self.old.outlook }
+        ensures noted { self.new.noted ≡ slice_set self.old.noted at None }
+    {
+        self.machine.unwatch(at);
+    }
+
+    /// Notes the bytes at all watched addresses again.
+    #[inline(always)]
+    pub fn note(&mut self)
+        ensures outlook { self.new.outlook ≡ self.old.outlook }
+        ensures noted { self.new.noted ≡ noted_again self.old.noted self.old.outlook.here.state.mem }
+    {
+        self.machine.note();
+    }
+
+    /// Whether the byte at a watched address is another than the noted one.
+    #[inline(always)]
+    pub fn has_changed(&self) -> bool
+        ensures { result ≡ any_changed self.now.noted self.now.outlook.here.state.mem }
+    {
+        self.machine.has_changed()
     }
 }

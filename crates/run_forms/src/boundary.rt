@@ -50,6 +50,7 @@ pub(crate) fn come<M: Mem, A, U, R, F: RunForm<A, U, R>>(
     ensures counts { (st.new.tally.instrs ≤ st.new.tally.moment) × (st.new.tally.resumed ≤ st.new.tally.moment + 1) }
     ensures on { st.new.over ≡ false → (st.new.tally.arrived ≡ false)
         × (st.new.tally.moment + st.new.left + 1 < 2 ^ 32) }
+    ensures noted { m.new.noted ≡ m.old.noted }
     ensures flags { m.new.flags ≡ m.old.flags }
 {
     if form.ends(m) {
@@ -88,6 +89,7 @@ pub(crate) fn step_on<M: Mem, U>(m: &mut Machine<M>, st: &mut Stand<U>) -> bool
           };
         } }
     ensures counts { result ≡ true → st.new.tally.instrs ≤ st.new.tally.moment }
+    ensures noted { m.new.noted ≡ m.old.noted }
     ensures flags { m.new.flags ≡ m.old.flags }
 {
     match m.step() {
@@ -119,6 +121,7 @@ pub(crate) fn pass<M: Mem, A, U, R, F: RunForm<A, U, R>>(
     ensures same { result ≡ false → (st.new ≡ st.old) × (m.new ≡ m.old) }
     ensures moment { result ≡ true → st.new.tally.moment ≡ st.old.tally.moment + 1 }
     ensures steady { IsSteady requests.now st.new }
+    ensures noted { m.new.noted ≡ m.old.noted }
     ensures flags { m.new.flags ≡ m.old.flags }
 {
     if st.over {

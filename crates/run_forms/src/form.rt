@@ -14,7 +14,7 @@ use cpu12_isa::mem::Mem;
 
 /// A form of firmware with its samples and the handler of its requests: requests are of type `A`, what
 /// a handler tells is of type `U`, and runs have rows of type `R`. No call changes the byte from which
-/// open flags are taken.
+/// open flags are taken, nor what the memory notes.
 pub trait RunForm<A, U, R> {
     /// What the firmware is given.
     ghost Given: { Type 0 };
@@ -37,6 +37,7 @@ pub trait RunForm<A, U, R> {
         requires { k < length (harness self.now).samples }
         ensures state { (x : Given) → slice_get (harness self.now).samples k ≡ Some x
             → m.new.state ≡ (harness self.now).parts.give x m.old.state }
+        ensures noted { m.new.noted ≡ m.old.noted }
         ensures flags { m.new.flags ≡ m.old.flags };
 
     /// Takes sample `k` away, which ends here.
@@ -44,6 +45,7 @@ pub trait RunForm<A, U, R> {
         requires { k < length (harness self.now).samples }
         ensures state { (x : Given) → slice_get (harness self.now).samples k ≡ Some x
             → m.new.state ≡ (harness self.now).parts.leave x m.old.state }
+        ensures noted { m.new.noted ≡ m.old.noted }
         ensures flags { m.new.flags ≡ m.old.flags };
 
     /// Whether a sample is over.
@@ -75,6 +77,7 @@ pub trait RunForm<A, U, R> {
         ensures frame { frame_seen result.0 ≡ frame_of m.old.state }
         ensures told { (harness self.now).told result.1
             ≡ (harness self.now).parts.tells m.old.flags request.now (suspended wav m.old.state) }
+        ensures noted { m.new.noted ≡ m.old.noted }
         ensures flags { m.new.flags ≡ m.old.flags };
 
     /// The row of sample `k`, which ends here, and of which this was counted.

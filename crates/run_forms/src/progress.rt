@@ -93,6 +93,7 @@ fn end_sample<M: Mem, A, U: Drop, R, F: RunForm<A, U, R>>(
         (sample_at number (F.harness form.now).samples) m.old.state }
     ensures len { vec_len rows.new ≡ number }
     ensures room { vec_capacity rows.old ≤ vec_capacity rows.new }
+    ensures noted { m.new.noted ≡ m.old.noted }
     ensures flags { m.new.flags ≡ m.old.flags }
 {
     if number == 0 {
@@ -118,6 +119,7 @@ fn give_next<M: Mem, A, U: Drop, R, F: RunForm<A, U, R>>(
         (drop p.old.number (F.harness form.now).samples)
         (rows_here (F.harness form.now) p.old m.old.state) (state_here (F.harness form.now) p.old m.old.state) }
     ensures way { IsUnderWay (F.harness form.now) plan.now p.new }
+    ensures noted { m.new.noted ≡ m.old.noted }
     ensures flags { m.new.flags ≡ m.old.flags }
 {
     let Some(room) = p.rooms.pop_front() else {
@@ -153,6 +155,7 @@ pub fn advance<M: Mem, A, U: Drop, R, F: RunForm<A, U, R>>(
         } }
     ensures same { result ≡ false → (p.new ≡ p.old) × (m.new ≡ m.old) }
     ensures way { IsUnderWay (F.harness form.now) plan.now p.new }
+    ensures noted { m.new.noted ≡ m.old.noted }
     ensures flags { m.new.flags ≡ m.old.flags }
 {
     if pass(m, form, &plan[p.first..p.behind], &mut p.stand) {
@@ -217,6 +220,7 @@ pub(crate) fn begin<M: Mem, A, U: Drop, R, F: RunForm<A, U, R>>(
         ≡ shown_run (F.harness form.now).shows m.old.state
         (harness_rows m.old.flags (F.harness form.now) p.old.most plan.now m.old.state) }
     ensures way { IsUnderWay (F.harness form.now) plan.now p.new }
+    ensures noted { m.new.noted ≡ m.old.noted }
     ensures flags { m.new.flags ≡ m.old.flags }
 {
     advance(m, form, plan, p);

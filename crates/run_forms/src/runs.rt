@@ -1,5 +1,6 @@
 //! The run of any form over its samples under a plan.
 ghost use Rattle.std.specs.Prelude.{ℕ, ◌≡◌, ◌≤◌, ◌+◌, [], length, map, vec_capacity, IfOk};
+ghost use Rattle.cpu12_isa.specs.Watching.{nothing_noted};
 ghost use Rattle.run_forms.specs.Rows.{arrival, arrived_at, harness_rows, shown};
 ghost use Rattle.run_forms.specs.Slices.{HaveRoom, IsInOrder, requests_first};
 ghost use Rattle.run_forms.specs.Outlooks.{from_here, shown_run, outlook_at, IsUnderWay};
@@ -64,6 +65,7 @@ pub fn begun<M: Mem, A, U: Drop, R: Drop, F: RunForm<A, U, R>>(
         (harness_rows flags (F.harness form.now) start.now.most plan.now
         (arrived_at flags start.now.wait start.now.most start.now.image.now.bytes))) }
     ensures way { IfOk result (λ r. IsUnderWay (F.harness form.now) plan.now r.1) }
+    ensures noted { IfOk result (λ r. r.0.noted ≡ nothing_noted) }
     ensures flags { IfOk result (λ r. r.0.flags ≡ flags) }
 {
     let count = form.count();
@@ -81,6 +83,7 @@ pub fn begun<M: Mem, A, U: Drop, R: Drop, F: RunForm<A, U, R>>(
 /// Does steps until PC is at LOOP, at most `budget` and as long as one is defined.
 fn arrive<M: Mem>(m: &mut Machine<M>, loop_at: u16, budget: u32)
     ensures state { m.new.state ≡ arrival m.old.flags loop_at budget m.old.state }
+    ensures noted { m.new.noted ≡ m.old.noted }
     ensures flags { m.new.flags ≡ m.old.flags }
 {
     let mut left = budget;

@@ -113,6 +113,7 @@ fn take_next<M: Mem, A, U, R, F: RunForm<A, U, R>>(
     ensures told_len { vec_len t.new.told ≡ vec_len t.old.told + 1 }
     ensures told_capacity { vec_capacity t.old.told ≤ vec_capacity t.new.told }
     ensures rest { t.new ≡ record t.old { next = t.new.next; frames = t.new.frames; told = t.new.told } }
+    ensures noted { m.new.noted ≡ m.old.noted }
     ensures flags { m.new.flags ≡ m.old.flags }
 {
     let (frame, told) = form.take(m, &requests[t.next]);
@@ -145,6 +146,7 @@ pub(crate) fn take_due<M: Mem, A, U, R, F: RunForm<A, U, R>>(
     ensures told { vec_len t.new.told + (length requests.now - t.new.next) ≤ vec_capacity t.new.told }
     ensures few { vec_len t.new.told + (length requests.now - t.new.next) ≤ 10000 }
     ensures rest { t.new ≡ record t.old { next = t.new.next; frames = t.new.frames; told = t.new.told } }
+    ensures noted { m.new.noted ≡ m.old.noted }
     ensures flags { m.new.flags ≡ m.old.flags }
 {
     while is_due(m, form, requests, t) {

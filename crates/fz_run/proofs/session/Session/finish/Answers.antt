@@ -1,9 +1,9 @@
-use Rattle.std.proofs.Common.{◌∙◌, ℕ, List, ap, arith}
+use Rattle.std.proofs.Common.{◌∙◌, List, ap, arith}
 use Rattle.cpu12_parts.specs.State.{State}
-use Rattle.run_law.specs.Forms.{RowSeen}
 use Rattle.interrupt_plan.specs.declared.Request.{Request}
 use Rattle.fz_run.specs.Rows.{writes_harness}
-use Rattle.run_forms.specs.Outlooks.{Outlook, outlook_at}
+use Rattle.fz_run.specs.Sessions.{SessionSeen}
+use Rattle.run_forms.specs.Outlooks.{outlook_at}
 use Rattle.fz_run.proofs.session.Session.finish.Goals as goal
 
 pub returns-clause-rows : goal.returns-clause-rows
@@ -13,7 +13,7 @@ returns-clause-rows g c =
     c.into_rows-rows.ensures.rows
     ∙ c.drive.ensures.rows
     ∙ ap (λ (l : List Request). (outlook_at i.machine.flags h l i.progress i.machine.state).rows) c.as_slice.ensures
-    ∙ ap (λ (o : Outlook (RowSeen (List ℕ))). o.rows) c.self.view_is
+    ∙ ap (λ (o : SessionSeen). o.outlook.rows) c.self.view_is
 
 pub returns-clause-memory : goal.returns-clause-memory
 returns-clause-memory g c =
@@ -22,7 +22,7 @@ returns-clause-memory g c =
     c.into_mem.ensures
     ∙ ap (λ (s : State). s.mem) (c.into_rows-rows.ensures.state ∙ c.drive.ensures.state)
     ∙ ap (λ (l : List Request). (outlook_at i.machine.flags h l i.progress i.machine.state).state.mem) c.as_slice.ensures
-    ∙ ap (λ (o : Outlook (RowSeen (List ℕ))). o.state.mem) c.self.view_is
+    ∙ ap (λ (o : SessionSeen). o.outlook.state.mem) c.self.view_is
 
 pub into_rows-rows-requires-clause-few : goal.into_rows-rows-requires-clause-few
 into_rows-rows-requires-clause-few g c =

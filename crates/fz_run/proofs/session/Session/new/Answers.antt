@@ -14,8 +14,8 @@ pub begun-requires : goal.begun-requires
 begun-requires g c =
     record { order = subst (IsInOrder place_of) (sym c.as_slice.ensures) (plans_are_in_order c.args.plan.now c.requires.plan) }
 
-pub returns : goal.returns
-returns g c =
+pub returns-clause-outlook : goal.returns-clause-outlook
+returns-clause-outlook g c =
     let a = c.args in
     let f = a.firmware.now in
     let h = writes_harness f a.samples.now in

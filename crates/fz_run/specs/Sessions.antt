@@ -1,0 +1,9 @@
+-- What a session shows: where its run stands, and for each address the byte that it is compared with, where it is
+-- watched.
+use Rattle.std.specs.Prelude.{ℕ, List, Option}
+use Rattle.run_law.specs.Forms.{RowSeen}
+use Rattle.run_forms.specs.Outlooks.{Outlook}
+
+pub record SessionSeen : Type 0 where
+  pub outlook : Outlook (RowSeen (List ℕ))
+  pub noted : List (Option ℕ)
