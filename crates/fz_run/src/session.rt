@@ -1,5 +1,6 @@
 //! A run that stops at each boundary.
-ghost use Rattle.std.specs.Prelude.{ℕ, ◌≡◌, ◌≤◌, ◌∷◌, [], true, false, Some, None, min, map, slice_index, slice_set, IfOk};
+ghost use Rattle.std.specs.Prelude.{ℕ, ◌≡◌, ◌≤◌, ◌∷◌, [], true, false, Some, None, IfOk};
+ghost use Rattle.std.specs.Prelude.{min, map, slice_index, slice_set};
 ghost use Rattle.cpu12_isa.specs.Watching.{any_changed, noted_again, nothing_noted};
 ghost use Rattle.interrupt_plan.specs.Plans.{IsGood};
 ghost use Rattle.fz_run.specs.Rows.{row_seen, input_bytes, first_state, firmware_rows};

@@ -10,4 +10,5 @@ invariant-loop-byte g l = record {
   regs : l.m.state.regs ≡ l.fn.m.state.regs;
   temps : l.m.state.temps ≡ l.fn.m.state.temps;
   flags : l.m.flags ≡ l.fn.m.flags;
+  noted : l.m.noted ≡ l.fn.m.noted;
 }

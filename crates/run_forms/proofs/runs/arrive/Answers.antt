@@ -25,6 +25,7 @@ loop-left-preserved g c =
           ∙ sym (arrives_later l.m.flags c.args.loop_at l.left l.m.state next (λ e. c.if-regs-loop_at.false (ap (λ r. r.pc) c.regs.ensures ∙ e)) c.loop-left-test.true c.in-Ok.ensures.next)
           ∙ l.invariant.way;
       flags = c.step.ensures.flags ∙ l.invariant.flags;
+      noted = c.step.ensures.noted ∙ l.invariant.noted;
     }
 
 pub returns-clause-state : goal.returns-clause-state

@@ -7,6 +7,7 @@ abbrev pub invariant-loop-left : goal.invariant-loop-left
 invariant-loop-left g l = record {
   way : arrival l.m.flags l.loop_at l.left l.m.state ≡ arrival l.fn.m.flags l.loop_at l.budget l.fn.m.state;
   flags : l.m.flags ≡ l.fn.m.flags;
+  noted : l.m.noted ≡ l.fn.m.noted;
 }
 
 abbrev pub decreases-loop-left : goal.decreases-loop-left

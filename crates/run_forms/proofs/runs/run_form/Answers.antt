@@ -18,7 +18,7 @@ returns-clause-memory g c =
     let a = c.args in
     let h = g.F.RunForm.harness a.form.now in
     let r = c.in_ok-machine in
-    c.into_mem.ensures
+    c.into_mem.ensures.bytes
     ∙ ap (λ (s : State). s.mem) (c.into_rows-rows.ensures.state ∙ c.drive.ensures.state)
     ∙ ap (λ (k : ℕ). (outlook_at k h a.plan.now r.progress r.machine.state).state.mem) r.ensures.flags
     ∙ ap (λ (x : Ahead g.F.RunForm.Shown). x.state.mem) r.ensures.first

@@ -16,6 +16,7 @@ invariant-loop-m g l = record {
   few : vec_len l.t.told + (length l.requests - l.t.next) ≤ 10000;
   rest : l.t ≡ record (l.fn.t) { next = l.t.next; frames = l.t.frames; told = l.t.told };
   flags : l.m.flags ≡ l.fn.m.flags;
+  noted : l.m.noted ≡ l.fn.m.noted;
 }
 
 abbrev pub decreases-loop-m : goal.decreases-loop-m

@@ -19,7 +19,7 @@ pub returns-clause-memory : goal.returns-clause-memory
 returns-clause-memory g c =
     let i = c.self.inside in
     let h = writes_harness i.form.firmware.now i.form.samples.now in
-    c.into_mem.ensures
+    c.into_mem.ensures.bytes
     ∙ ap (λ (s : State). s.mem) (c.into_rows-rows.ensures.state ∙ c.drive.ensures.state)
     ∙ ap (λ (l : List Request). (outlook_at i.machine.flags h l i.progress i.machine.state).state.mem) c.as_slice.ensures
     ∙ ap (λ (o : SessionSeen). o.outlook.state.mem) c.self.view_is
