@@ -12,6 +12,7 @@ const RTI: u8 = 0x0B;
 pub(crate) fn until_rti<M: Mem>(m: &mut Machine<M>, most: u16) -> u16
     ensures state { m.new.state ≡ (until_rti m.old.flags most m.old.state).state }
     ensures steps { result ≡ (until_rti m.old.flags most m.old.state).steps }
+    ensures noted { m.new.noted ≡ m.old.noted }
     ensures flags { m.new.flags ≡ m.old.flags }
 {
     let mut left = most;

@@ -89,6 +89,7 @@ impl Counts {
         ensures len { array_vec_len self.new.frames ≡ array_vec_len self.old.frames + 1 }
         ensures steps { (self.new.steps ≡ self.old.steps) × (self.new.instrs ≡ self.old.instrs) }
         ensures resumed { self.new.resumed + one_if self.new.inside ≤ self.new.steps }
+        ensures noted { m.new.noted ≡ m.old.noted }
         ensures flags { m.new.flags ≡ m.old.flags }
     {
         let frame = m.interrupt(&[]);
@@ -116,6 +117,7 @@ impl Counts {
         ensures instrs { self.new.instrs ≤ self.new.steps }
         ensures resumed { self.new.resumed + one_if self.new.inside ≤ self.new.steps }
         ensures frames { self.new.frames ≡ self.old.frames }
+        ensures noted { m.new.noted ≡ m.old.noted }
         ensures flags { m.new.flags ≡ m.old.flags }
     {
         match m.step() {
@@ -154,6 +156,7 @@ impl Counts {
         ensures least { self.old.steps ≤ self.new.steps }
         ensures most { self.new.steps ≤ most }
         ensures rest { self.new ≡ record self.old { steps = self.new.steps } }
+        ensures noted { m.new.noted ≡ m.old.noted }
         ensures flags { m.new.flags ≡ m.old.flags }
     {
         if self.inside {

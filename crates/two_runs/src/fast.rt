@@ -22,6 +22,7 @@ pub(crate) fn enter<M: Mem>(m: &mut Machine<M>, bytes: &[u8]) -> Frame
     requires few { length bytes.now ≤ 8 }
     ensures state { m.new.state ≡ entered bytes.now (suspended wav m.old.state) }
     ensures frame { frame_seen result ≡ frame_of m.old.state }
+    ensures noted { m.new.noted ≡ m.old.noted }
     ensures flags { m.new.flags ≡ m.old.flags }
 {
     let mut writes = [Write { at: 0, value: 0 }; 8];
@@ -42,6 +43,7 @@ pub(crate) fn run_inside<M: Mem>(m: &mut Machine<M>, most: u32, moments: &[u32])
     requires { length moments.now ≤ 8 }
     ensures counted { (outputs : ℕ) → counted_at result m.new.state
         ≡ counted (fast_run m.old.flags outputs most moments.now m.old.state) }
+    ensures noted { m.new.noted ≡ m.old.noted }
     ensures flags { m.new.flags ≡ m.old.flags }
 {
     let entered = m.regs().sp;

@@ -65,6 +65,7 @@ fn run_fast<M: Mem>(
     ensures frame { frame_seen result.0 ≡ frame_of m.old.state }
     ensures row { Some (fast_seen result.1) ≡ told_by m.old.flags two.now.fast.outputs
         (fast_most two.now.fast.step_bound) number moments.now (Some bytes.now) (suspended wav m.old.state) }
+    ensures noted { m.new.noted ≡ m.old.noted }
     ensures flags { m.new.flags ≡ m.old.flags }
 {
     let frame = enter(m, bytes);
@@ -95,6 +96,7 @@ pub(crate) fn serve<M: Mem>(
     ensures frame { frame_seen result.0 ≡ frame_of m.old.state }
     ensures told { fast_told result.1 ≡ told m.old.flags two.now.fast.outputs (fast_most two.now.fast.step_bound)
         (outer_of (map input_bytes fast.now) level.now) (suspended wav m.old.state) }
+    ensures noted { m.new.noted ≡ m.old.noted }
     ensures flags { m.new.flags ≡ m.old.flags }
 {
     match sample_of(fast, level.fast) {

@@ -44,6 +44,7 @@ pub(crate) fn upset_of(upsets: &[Upset], number: usize) -> Option<Upset>
 pub(crate) fn change<M: Mem>(m: &mut Machine<M>, upset: Option<Upset>)
     ensures state { m.new.state
         ≡ record (m.old.state) { mem = changed (change_in upset) m.old.state.mem } }
+    ensures noted { m.new.noted ≡ m.old.noted }
     ensures flags { m.new.flags ≡ m.old.flags }
 {
     if let Some(upset) = upset {
@@ -54,6 +55,7 @@ pub(crate) fn change<M: Mem>(m: &mut Machine<M>, upset: Option<Upset>)
 /// Puts the image's byte back where an upset changed it, if there is one.
 pub(crate) fn restore<M: Mem>(m: &mut Machine<M>, image: &Image, upset: Option<Upset>)
     ensures state { m.new.state ≡ restored (image_memory image.now.bytes) (change_in upset) m.old.state }
+    ensures noted { m.new.noted ≡ m.old.noted }
     ensures flags { m.new.flags ≡ m.old.flags }
 {
     holds_image();

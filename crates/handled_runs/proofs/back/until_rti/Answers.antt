@@ -35,6 +35,7 @@ loop-left-preserved g c =
       state = ap (λ (r : Returned). r.state) rest ∙ sym (ap (λ (r : Returned). r.state) later) ∙ l.invariant.state;
       steps = omega (arith, count, same, l.invariant.steps, l.invariant.few, c.loop-left-test.true);
       few = omega (arith, l.invariant.few);
+      noted = c.step.ensures.noted ∙ l.invariant.noted;
       flags = c.step.ensures.flags ∙ l.invariant.flags;
     }
 

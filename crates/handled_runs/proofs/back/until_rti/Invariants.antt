@@ -8,6 +8,7 @@ invariant-loop-left g l = record {
   state : (until_rti l.m.flags l.left l.m.state).state ≡ (until_rti l.fn.m.flags l.most l.fn.m.state).state;
   steps : l.most - l.left + (until_rti l.m.flags l.left l.m.state).steps ≡ (until_rti l.fn.m.flags l.most l.fn.m.state).steps;
   few : l.left ≤ l.most;
+  noted : l.m.noted ≡ l.fn.m.noted;
   flags : l.m.flags ≡ l.fn.m.flags;
 }
 

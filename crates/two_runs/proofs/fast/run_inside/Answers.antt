@@ -23,6 +23,7 @@ loop-counts-init g c =
       instrs = omega (arith, none.0, none.1);
       resumed = omega (arith, none.0, none.2, outside);
       most = omega (arith, none.0);
+      noted = refl;
       flags = refl;
     }
 
@@ -74,5 +75,6 @@ loop-counts-preserved g c =
       instrs = (let few = c.step.ensures.instrs in omega (arith, few, more, same));
       resumed = (let few = c.step.ensures.resumed in omega (arith, few, more, taken, inside));
       most = p.ensures.most;
+      noted = p.ensures.noted ∙ c.step.ensures.noted ∙ l.invariant.noted;
       flags = p.ensures.flags ∙ c.step.ensures.flags ∙ l.invariant.flags;
     }

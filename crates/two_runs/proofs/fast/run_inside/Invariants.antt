@@ -14,6 +14,7 @@ invariant-loop-counts g l = record {
   instrs : l.counts.instrs ≤ l.counts.steps;
   resumed : l.counts.resumed + one_if l.counts.inside ≤ l.counts.steps;
   most : l.counts.steps ≤ l.most;
+  noted : l.m.noted ≡ l.fn.m.noted;
   flags : l.m.flags ≡ l.fn.m.flags;
 }
 
