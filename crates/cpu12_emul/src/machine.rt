@@ -1,5 +1,5 @@
 // The machine.
-ghost use Rattle.std.specs.Prelude.{ℕ, ◌≡◌, ◌⊎◌, MatchResult, IfErr, Ok, Err, slice_index, slice_set};
+ghost use Rattle.std.specs.Prelude.{ℕ, ◌≡◌, ◌⊎◌, MatchResult, IfErr, Ok, Err, length, slice_index, slice_set};
 ghost use Rattle.cpu12_isa.specs.Act.{outcome, write_all};
 ghost use Rattle.cpu12_isa.specs.Code.{decode_at};
 ghost use Rattle.cpu12_parts.specs.Laws.{IsOff};
@@ -81,6 +81,14 @@ impl<M: Mem> Machine<M> {
         ensures { result ≡ slice_index self.now.state.mem at }
     {
         self.mem.read(at)
+    }
+
+    /// Memory has 65536 bytes.
+    #[inline(always)]
+    pub fn has_all_bytes(&self)
+        ensures { length self.now.state.mem ≡ 65536 }
+    {
+        let _mem = &self.mem;
     }
 
     /// Sets the byte at an address.

@@ -1,6 +1,6 @@
 //! A run that stops at each boundary.
 ghost use Rattle.std.specs.Prelude.{ℕ, ◌≡◌, ◌≤◌, ◌∷◌, [], true, false, Some, None, IfOk};
-ghost use Rattle.std.specs.Prelude.{min, map, slice_index, slice_set};
+ghost use Rattle.std.specs.Prelude.{length, min, map, slice_index, slice_set};
 ghost use Rattle.cpu12_isa.specs.Watching.{any_changed, noted_again, nothing_noted};
 ghost use Rattle.interrupt_plan.specs.Plans.{IsGood};
 ghost use Rattle.fz_run.specs.Rows.{row_seen, input_bytes, first_state, firmware_rows};
@@ -108,6 +108,14 @@ impl<'a, M: Mem> Session<'a, M> {
         ensures { result ≡ slice_index self.now.outlook.here.state.mem address }
     {
         self.machine.peek(address)
+    }
+
+    /// Memory has 65536 bytes.
+    #[inline(always)]
+    pub fn has_all_bytes(&self)
+        ensures { length self.now.outlook.here.state.mem ≡ 65536 }
+    {
+        self.machine.has_all_bytes()
     }
 
     /// The position: the sample, of those past 4294967295 that number, and the boundary.
