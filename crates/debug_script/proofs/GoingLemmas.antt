@@ -1,19 +1,16 @@
 -- A session by its next position.
-use Rattle.std.proofs.Common.{◌≡◌, ℕ, zero, suc, ◌+◌, ◌-◌, ◌<◌, ◌≤◌, ◌==◌, ◌||◌, Bool, true, false, not, List, [], ◌∷◌, ◌++◌, drop, length, refl, sym, ap, ap₂, ◌∙◌, arith}
+use Rattle.std.proofs.Common.{◌≡◌, ℕ, zero, suc, ◌+◌, ◌-◌, ◌<◌, ◌≤◌, true, false, List, [], ◌∷◌, ◌++◌, drop, length, refl, sym, ap, ap₂, ◌∙◌, arith}
 use Rattle.std.proofs.Common.{append_assoc}
-use Rattle.std.specs.Prelude.{map, slice_index}
-use Rattle.std.specs.BTreeSet.{contains_by}
-use Rattle.std.specs.List.{list_any}
-use Rattle.std.specs.Ordering.{nat_cmp}
-use Rattle.std.proofs.lemmas.Bool.Decides.{nat_tests}
+use Rattle.std.specs.Prelude.{slice_index}
 use Rattle.cpu12_isa.specs.Memory.{bytes_at, from, plus}
 use Rattle.cpu12_parts.specs.State.{State}
-use Rattle.run_law.specs.Forms.{Form, rows_from}
+use Rattle.run_law.specs.Forms.{Form, RowSeen, rows_from}
 use Rattle.run_forms.specs.Outlooks.{Outlook, at_position, from_here}
 use Rattle.run_forms.specs.Positions.{Position, all_numbered, numbered, positions, positions_or}
-use Rattle.debug_script.specs.Going.{AreTold, Leads, is_other, place_of, with_byte}
+use Rattle.debug_script.specs.Going.{AreTold, Leads, place_of}
 use Rattle.debug_script.specs.Places.{distance, on}
-use Rattle.debug_script.specs.Showing.{differs, marks_after, place_after, shown_from, shown_of, stops}
+use Rattle.debug_script.specs.Showing.{marks_after, no_marks, place_after, shown, shown_from, shown_of, stops}
+use Rattle.fz_run.specs.Sessions.{SessionSeen}
 use Rattle.debug_script.specs.declared.marks.Marks.{Marks}
 use Rattle.debug_script.specs.declared.order.Order.{Order}
 use Rattle.debug_script.specs.declared.order.Order.TheVariants as order
@@ -22,78 +19,54 @@ use Rattle.debug_script.proofs.PlaceLemmas.{go_more, go_stops, on_last, on_more}
 
 -- ---- one position on
 
-pub place_more : {T : Type 0} (old new : Outlook T) → old ≡ at_position old.here (from_here new) → place_of old ≡ old.here ∷ place_of new
-place_more {T = T} old new e = ap (λ (o : Outlook T). o.here ∷ o.later) e
+-- a session that went on to the next position
+abbrev pub GoesOn : SessionSeen → SessionSeen → Type 0
+GoesOn old new = old.outlook ≡ at_position old.outlook.here (from_here new.outlook)
 
-pub stays : {T : Type 0} (o : Outlook T) → Leads o o
-stays o = record { rows = refl; state = refl }
+-- so it did also, where its bytes are noted there
+pub goes_on : (old there new : SessionSeen) → GoesOn old there → new.outlook ≡ there.outlook → GoesOn old new
+goes_on old there new e same = e ∙ ap (λ (o : Outlook (RowSeen (List ℕ))). at_position old.outlook.here (from_here o)) (sym same)
 
-pub leads_more : {T : Type 0} (first old new : Outlook T) → old ≡ at_position old.here (from_here new) → Leads first old
-    → Leads first new
-leads_more {T = T} first old new e l = record {
-  rows = sym (ap (λ (o : Outlook T). o.rows) e) ∙ l.rows;
-  state = sym (ap (λ (o : Outlook T). o.state) e) ∙ l.state;
+pub place_more : (old new : SessionSeen) → GoesOn old new → place_of old ≡ old.outlook.here ∷ place_of new
+place_more old new e = ap (λ (o : Outlook (RowSeen (List ℕ))). o.here ∷ o.later) e
+
+pub stays : (s : SessionSeen) → Leads s s
+stays s = record { rows = refl; state = refl }
+
+pub leads_more : (first old new : SessionSeen) → GoesOn old new → Leads first old → Leads first new
+leads_more first old new e l = record {
+  rows = sym (ap (λ (o : Outlook (RowSeen (List ℕ))). o.rows) e) ∙ l.rows;
+  state = sym (ap (λ (o : Outlook (RowSeen (List ℕ))). o.state) e) ∙ l.state;
 }
 
-pub step_more : {T : Type 0} (old new : Outlook T) (left : ℕ) → old ≡ at_position old.here (from_here new) → 0 < left
+pub step_more : (old new : SessionSeen) (left : ℕ) → GoesOn old new → 0 < left
     → on left (place_of old) ≡ on (left - 1) (place_of new)
 step_more old new left e some =
     let n : left ≡ left - 1 + 1 = omega arith in
-    ap₂ (λ (k : ℕ) (ps : List Position). on k ps) n (place_more old new e) ∙ on_more (left - 1) old.here new.here new.later
+    ap₂ (λ (k : ℕ) (ps : List Position). on k ps) n (place_more old new e)
+    ∙ on_more (left - 1) old.outlook.here new.outlook.here new.outlook.later
 
 -- at the last position
-pub last_place : {T : Type 0} (o : Outlook T) (n : ℕ) → o.later ≡ [] → on n (place_of o) ≡ place_of o
-last_place o n e =
-    ap (λ (ps : List Position). on n (o.here ∷ ps)) e ∙ on_last n o.here ∙ ap (λ (ps : List Position). o.here ∷ ps) (sym e)
-
--- ---- watched bytes
-
-any_there : (s t : State) (ats : List ℕ) → list_any (is_other t) (map (with_byte s) ats)
-    ≡ list_any (λ at. not (slice_index s.mem at == slice_index t.mem at)) ats
-any_there s t [] = refl
-any_there s t (at ∷ ats) = ap (λ (b : Bool). not (slice_index s.mem at == slice_index t.mem at) || b) (any_there s t ats)
-
-pub stops_there : (marks : Marks) (p q : Position) (bytes : List (ℕ × ℕ)) → bytes ≡ map (with_byte p.state) marks.watches.keys
-    → (contains_by (nat_cmp q.state.regs.pc) marks.breaks || list_any (is_other q.state) bytes) ≡ stops marks p q
-stops_there marks p q bytes e =
-    ap (λ (b : Bool). contains_by (nat_cmp q.state.regs.pc) marks.breaks || b)
-    (ap (list_any (is_other q.state)) e ∙ any_there p.state q.state marks.watches.keys)
-
-neither : (a b : Bool) → (a || b) ≡ false → (a ≡ false) × (b ≡ false)
-neither true b e = absurd (grind (arith, nat_tests))
-neither false b e = (refl, e)
-
-same_number : (x y : ℕ) → not (x == y) ≡ false → x ≡ y
-same_number x y e = grind (arith, nat_tests)
-
-same_there : (s t : State) (ats : List ℕ) → list_any (λ at. not (slice_index s.mem at == slice_index t.mem at)) ats ≡ false
-    → map (with_byte s) ats ≡ map (with_byte t) ats
-same_there s t [] e = refl
-same_there s t (at ∷ ats) e =
-    let n = neither (not (slice_index s.mem at == slice_index t.mem at)) (list_any (λ k. not (slice_index s.mem k == slice_index t.mem k)) ats) e in
-    ap₂ (λ (b : ℕ) (bs : List (ℕ × ℕ)). (at, b) ∷ bs) (same_number _ _ n.0) (same_there s t ats n.1)
-
-pub bytes_stay : (marks : Marks) (p q : Position) (bytes : List (ℕ × ℕ)) → bytes ≡ map (with_byte p.state) marks.watches.keys
-    → stops marks p q ≡ false → bytes ≡ map (with_byte q.state) marks.watches.keys
-bytes_stay marks p q bytes e off =
-    let n = neither (contains_by (nat_cmp q.state.regs.pc) marks.breaks) (list_any (differs p q) marks.watches.keys) off in
-    e ∙ same_there p.state q.state marks.watches.keys n.1
+pub last_place : (s : SessionSeen) (n : ℕ) → s.outlook.later ≡ [] → on n (place_of s) ≡ place_of s
+last_place s n e =
+    ap (λ (ps : List Position). on n (s.outlook.here ∷ ps)) e ∙ on_last n s.outlook.here
+    ∙ ap (λ (ps : List Position). s.outlook.here ∷ ps) (sym e)
 
 -- ---- how far `go` leads
 
-pub stopped_place : {T : Type 0} (marks : Marks) (old new : Outlook T) → old ≡ at_position old.here (from_here new)
-    → stops marks old.here new.here ≡ true
+pub stopped_place : (marks : Marks) (old new : SessionSeen) → GoesOn old new
+    → stops marks old.outlook.here new.outlook.here ≡ true
     → on (distance (stops marks) (place_of old)) (place_of old) ≡ place_of new
 stopped_place marks old new e is =
     ap (λ (ps : List Position). on (distance (stops marks) ps) ps) (place_more old new e)
-    ∙ go_stops (stops marks) old.here new.here new.later is
+    ∙ go_stops (stops marks) old.outlook.here new.outlook.here new.outlook.later is
 
-pub further_place : {T : Type 0} (marks : Marks) (old new : Outlook T) → old ≡ at_position old.here (from_here new)
-    → stops marks old.here new.here ≡ false
+pub further_place : (marks : Marks) (old new : SessionSeen) → GoesOn old new
+    → stops marks old.outlook.here new.outlook.here ≡ false
     → on (distance (stops marks) (place_of old)) (place_of old) ≡ on (distance (stops marks) (place_of new)) (place_of new)
 further_place marks old new e is =
     ap (λ (ps : List Position). on (distance (stops marks) ps) ps) (place_more old new e)
-    ∙ go_more (stops marks) old.here new.here new.later is
+    ∙ go_more (stops marks) old.outlook.here new.outlook.here new.outlook.later is
 
 -- ---- bytes one after the other
 
@@ -152,6 +125,11 @@ told_positions f most asks xs s l =
     some (p ∷ ps) t = t
 
 -- ---- one order more
+
+pub starts_shown : (marks : Marks) (script : List Order) (place : List Position) (all : List Shown) → marks ≡ no_marks → all ≡ []
+    → all ++ shown_from marks script place ≡ shown script place
+starts_shown marks script place all none nothing =
+    ap₂ (λ (k : Marks) (l : List Shown). l ++ shown_from k script place) none nothing
 
 pub order_more : (marks next : Marks) (o : Order) (script orders : List Order) (place there : List Position)
     (before now all : List Shown)

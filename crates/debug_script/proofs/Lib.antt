@@ -1,3 +1,4 @@
 pub mod ScriptLemmas
 pub mod PlaceLemmas
 pub mod GoingLemmas
+pub mod NotingLemmas

@@ -1,14 +1,15 @@
 //! A session that obeys a script.
 ghost use Rattle.std.specs.Prelude.{◌≡◌, ◌≤◌, ◌||◌, ◌++◌, length, map, IfOk, OnOk};
 ghost use Rattle.std.specs.BTreeSet.{contains_by};
-ghost use Rattle.std.specs.List.{list_any};
 ghost use Rattle.std.specs.Ordering.{nat_cmp};
 ghost use Rattle.cpu12_isa.specs.Memory.{bytes_at, from};
+ghost use Rattle.cpu12_isa.specs.Watching.{any_changed, nothing_noted};
 ghost use Rattle.interrupt_plan.specs.Plans.{IsGood};
 ghost use Rattle.fz_run.specs.Answering.{AnswersItsBlock};
 ghost use Rattle.run_forms.specs.Positions.{positions};
 ghost use Rattle.fz_run.specs.Rows.{first_state, firmware_rows, input_bytes, row_seen};
-ghost use Rattle.debug_script.specs.Going.{AreTold, Leads, is_other, place_of, with_byte};
+ghost use Rattle.debug_script.specs.Going.{AreTold, Leads, place_of};
+ghost use Rattle.debug_script.specs.Noting.{KeepsNotes, NotesBytes};
 ghost use Rattle.debug_script.specs.Places.{distance, on};
 ghost use Rattle.debug_script.specs.Showing.{marks_after, place_after, shown, shown_of, stop_at, stops};
 
@@ -16,8 +17,10 @@ use crate::marks::Marks;
 use crate::order::Order;
 use crate::shown::Shown;
 use codegen::Firmware;
+use cpu12_isa::laws::nothing_is_watched;
 use cpu12_isa::mem::Mem;
 use cpu12_isa::pages::PageMem;
+use cpu12_isa::watching::WatchedMem;
 use fz_list::{List, Memory};
 use fz_run::laws::answers_under_plans;
 use fz_run::{Row, Session};
@@ -26,69 +29,53 @@ use std::alloc::{AllocError, Global};
 use trace_io::Sample;
 
 /// So many positions on, or to the last.
-fn step<M: Mem>(session: &mut Session<'_, M>, count: u32)
+fn step<M: Mem>(session: &mut Session<'_, WatchedMem<M>>, count: u32)
     ensures place { place_of session.new ≡ on count (place_of session.old) }
     ensures leads { Leads session.old session.new }
+    ensures notes { KeepsNotes session.old session.new }
 {
     let mut left = count;
     while left > 0 {
         if !session.advance() {
             return;
         }
+        session.has_all_bytes();
+        session.note();
         left -= 1;
     }
 }
 
-/// Watched addresses with the bytes that stand there.
-fn bytes_there<M: Mem>(
-    alloc: Global,
-    session: &Session<'_, M>,
-    marks: &Marks,
-) -> Result<Vec<(u16, u8)>, AllocError>
-    ensures { IfOk result (λ bytes. bytes.items ≡ map (with_byte session.now.here.state) marks.now.watches.keys) }
+/// Whether the run stops where it stands, coming from the position whose bytes are noted.
+#[inline(always)]
+fn is_stopped<M: Mem>(session: &Session<'_, WatchedMem<M>>, marks: &Marks) -> bool
+    ensures { result ≡ (contains_by (nat_cmp session.now.outlook.here.state.regs.pc) marks.now.breaks
+        || any_changed session.now.noted session.now.outlook.here.state.mem) }
 {
-    marks
-        .watches
-        .iter()
-        .map(|at| (*at, session.byte(*at)))
-        .collect(alloc)
+    marks.breaks.contains(session.regs().pc) || session.has_changed()
 }
 
-/// Whether one of these bytes is another now.
-fn has_changed<M: Mem>(session: &Session<'_, M>, bytes: &[(u16, u8)]) -> bool
-    ensures { result ≡ list_any (is_other session.now.here.state) bytes.now }
+/// On to the first position that stops the run, or to the last.
+fn go<M: Mem>(session: &mut Session<'_, WatchedMem<M>>, marks: &Marks)
+    requires { NotesBytes marks.now.watches session.old }
+    ensures place { place_of session.new
+        ≡ on (distance (stops marks.now) (place_of session.old)) (place_of session.old) }
+    ensures leads { Leads session.old session.new }
+    ensures notes { NotesBytes marks.now.watches session.new }
 {
-    bytes.iter().any(|(at, byte)| *byte != session.byte(*at))
-}
-
-/// Whether the run stops where it stands, coming from a position with these bytes.
-fn is_stopped<M: Mem>(session: &Session<'_, M>, marks: &Marks, bytes: &[(u16, u8)]) -> bool
-    ensures { result ≡ (contains_by (nat_cmp session.now.here.state.regs.pc) marks.now.breaks
-        || list_any (is_other session.now.here.state) bytes.now) }
-{
-    marks.breaks.contains(&session.regs().pc) || has_changed(session, bytes)
-}
-
-/// On to the first position that stops the run, or to the last. Until then no watched byte changes,
-/// so each is kept once.
-fn go<M: Mem>(alloc: Global, session: &mut Session<'_, M>, marks: &Marks) -> Result<(), AllocError>
-    ensures place { OnOk result (place_of session.new
-        ≡ on (distance (stops marks.now) (place_of session.old)) (place_of session.old)) }
-    ensures leads { OnOk result (Leads session.old session.new) }
-{
-    let bytes = bytes_there(alloc, session, marks)?;
     while session.advance() {
-        if is_stopped(session, marks, &bytes) {
-            return Ok(());
+        session.has_all_bytes();
+        let stops = is_stopped(session, marks);
+        session.note();
+        if stops {
+            return;
         }
     }
-    Ok(())
 }
 
 /// Where a session stands.
-fn stop<M: Mem>(session: &Session<'_, M>) -> Shown
-    requires { session.now.here.sample ≤ 4294967295 }
-    ensures { result ≡ stop_at session.now.here }
+fn stop<M: Mem>(session: &Session<'_, WatchedMem<M>>) -> Shown
+    requires { session.now.outlook.here.sample ≤ 4294967295 }
+    ensures { result ≡ stop_at session.now.outlook.here }
 {
     let (sample, moment) = session.at();
     Shown::Stop(sample, moment, session.regs().pc)
@@ -97,11 +84,11 @@ fn stop<M: Mem>(session: &Session<'_, M>) -> Shown
 /// So many bytes from an address on.
 fn bytes_from<M: Mem>(
     alloc: Global,
-    session: &Session<'_, M>,
+    session: &Session<'_, WatchedMem<M>>,
     at: u16,
     count: u32,
 ) -> Result<Vec<u8>, AllocError>
-    ensures { IfOk result (λ bytes. bytes.items ≡ bytes_at session.now.here.state.mem (from at count)) }
+    ensures { IfOk result (λ bytes. bytes.items ≡ bytes_at session.now.outlook.here.state.mem (from at count)) }
 {
     let mut bytes = Vec::new(alloc);
     let mut next = at;
@@ -117,13 +104,15 @@ fn obey<M: Mem>(
     alloc: Global,
     order: Order,
     marks: &mut Marks,
-    session: &mut Session<'_, M>,
+    session: &mut Session<'_, WatchedMem<M>>,
     shown: &mut Vec<Shown>,
 ) -> Result<(), AllocError>
-    requires { AreTold (place_of session.old) }
+    requires told { AreTold (place_of session.old) }
+    requires notes { NotesBytes marks.old.watches session.old }
     ensures place { OnOk result (place_of session.new ≡ place_after order marks.old (place_of session.old)) }
     ensures leads { OnOk result (Leads session.old session.new) }
     ensures marks { OnOk result (marks.new ≡ marks_after order marks.old) }
+    ensures notes { OnOk result (NotesBytes marks.new.watches session.new) }
     ensures shown { OnOk result (shown.new.items ≡ shown.old.items ++ shown_of order (place_of session.new)) }
 {
     match order {
@@ -132,8 +121,12 @@ fn obey<M: Mem>(
             marks.take_break(at);
             Ok(())
         }
-        Order::Watch(at) => marks.set_watch(at),
+        Order::Watch(at) => {
+            session.watch(at);
+            marks.set_watch(at)
+        }
         Order::Unwatch(at) => {
+            session.unwatch(at);
             marks.take_watch(at);
             Ok(())
         }
@@ -143,7 +136,7 @@ fn obey<M: Mem>(
             Ok(())
         }
         Order::Go => {
-            go(alloc, session, marks)?;
+            go(session, marks);
             shown.push(stop(session))?;
             Ok(())
         }
@@ -163,13 +156,15 @@ fn obey<M: Mem>(
 fn obey_all<M: Mem>(
     alloc: Global,
     script: &[Order],
-    session: &mut Session<'_, M>,
+    session: &mut Session<'_, WatchedMem<M>>,
 ) -> Result<Vec<Shown>, AllocError>
-    requires { AreTold (place_of session.old) }
+    requires told { AreTold (place_of session.old) }
+    requires notes { session.old.noted ≡ nothing_noted }
     ensures shown { IfOk result (λ all. all.items ≡ shown script.now (place_of session.old)) }
     ensures leads { OnOk result (Leads session.old session.new) }
 {
-    let mut marks = Marks::new(alloc);
+    nothing_is_watched();
+    let mut marks = Marks::new(alloc)?;
     let mut all = Vec::new(alloc);
     for order in script {
         obey(alloc, *order, &mut marks, session, &mut all)?;
@@ -199,7 +194,9 @@ pub fn debug(
         AnswersItsBlock firmware.now flags (map input_bytes samples.now) plan.now (map row_seen r.1.items)) }
 {
     answers_under_plans();
-    let mut session: Session<PageMem> = Session::new(alloc, firmware, samples, plan, flags)?;
+    let mut session: Session<WatchedMem<PageMem>> = Session::new(
+        alloc, firmware, samples, plan, flags,
+    )?;
     let Ok(all) = obey_all(alloc, script, &mut session) else {
         return Err(Memory);
     };

@@ -5,6 +5,7 @@
 //! or the number of its first line that is of no form.
 #![tactic(auto)]
 
+mod breaks;
 mod debugger;
 mod marks;
 mod order;

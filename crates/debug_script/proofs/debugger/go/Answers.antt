@@ -1,31 +1,49 @@
 use Rattle.std.proofs.Common.{◌≡◌, ◌∙◌, true, false, refl, sym}
-use Rattle.run_forms.specs.Outlooks.{at_position, from_here}
 use Rattle.debug_script.specs.Showing.{stops}
-use Rattle.debug_script.proofs.GoingLemmas.{bytes_stay, further_place, leads_more, stopped_place, stops_there}
+use Rattle.debug_script.proofs.GoingLemmas.{GoesOn, further_place, goes_on, leads_more, stopped_place}
+use Rattle.debug_script.proofs.NotingLemmas.{notes_there, stops_at_next}
 use Rattle.debug_script.proofs.debugger.go.Goals as goal
 
-pub returns-then-is_stopped-clause-place : goal.returns-then-is_stopped-clause-place
-returns-then-is_stopped-clause-place g c =
+pub returns-then-stops-clause-place : goal.returns-then-stops-clause-place
+returns-then-stops-clause-place g c =
     let marks = c.args.marks.now in
     let old = c.loop-session.session in
-    let new = c.advance.new.self in
-    let e : old ≡ at_position old.here (from_here new) = c.loop-session-test.ensures.goes refl in
-    let is : stops marks old.here new.here ≡ true =
-    sym (stops_there marks old.here new.here c.deref.result.now (c.deref.ensures.value ∙ c.loop-session.invariant.bytes))
-    ∙ sym c.is_stopped.ensures ∙ c.if-is_stopped.true in
+    let there = c.advance.new.self in
+    let new = c.note.new.self in
+    let e : GoesOn old new = goes_on old there new (c.loop-session-test.ensures.goes refl) c.note.ensures.outlook in
+    let is : stops marks old.outlook.here new.outlook.here ≡ true =
+    sym (stops_at_next marks old there new c.loop-session-test.ensures.noted c.has_all_bytes.ensures c.note.ensures.outlook
+    c.loop-session.invariant.notes)
+    ∙ sym c.is_stopped-stops.ensures ∙ c.if-stops.true in
     sym (stopped_place marks old new e is) ∙ c.loop-session.invariant.place
+
+pub returns-then-stops-clause-leads : goal.returns-then-stops-clause-leads
+returns-then-stops-clause-leads g c =
+    let old = c.loop-session.session in
+    let new = c.note.new.self in
+    let e : GoesOn old new = goes_on old c.advance.new.self new (c.loop-session-test.ensures.goes refl) c.note.ensures.outlook in
+    leads_more c.args.session.now old new e c.loop-session.invariant.leads
+
+pub returns-then-stops-clause-notes : goal.returns-then-stops-clause-notes
+returns-then-stops-clause-notes g c =
+    notes_there c.args.marks.now.watches c.loop-session.session c.advance.new.self c.note.new.self
+    c.loop-session-test.ensures.noted c.has_all_bytes.ensures c.note.ensures.outlook c.note.ensures.noted
+    c.loop-session.invariant.notes
 
 pub loop-session-preserved : goal.loop-session-preserved
 loop-session-preserved g c =
     let marks = c.args.marks.now in
     let old = c.loop-session.session in
-    let new = c.advance.new.self in
-    let e : old ≡ at_position old.here (from_here new) = c.loop-session-test.ensures.goes refl in
-    let off : stops marks old.here new.here ≡ false =
-    sym (stops_there marks old.here new.here c.deref.result.now (c.deref.ensures.value ∙ c.loop-session.invariant.bytes))
-    ∙ sym c.is_stopped.ensures ∙ c.if-is_stopped.false in
+    let there = c.advance.new.self in
+    let new = c.note.new.self in
+    let e : GoesOn old new = goes_on old there new (c.loop-session-test.ensures.goes refl) c.note.ensures.outlook in
+    let off : stops marks old.outlook.here new.outlook.here ≡ false =
+    sym (stops_at_next marks old there new c.loop-session-test.ensures.noted c.has_all_bytes.ensures c.note.ensures.outlook
+    c.loop-session.invariant.notes)
+    ∙ sym c.is_stopped-stops.ensures ∙ c.if-stops.false in
     record {
       place = sym (further_place marks old new e off) ∙ c.loop-session.invariant.place;
       leads = leads_more c.args.session.now old new e c.loop-session.invariant.leads;
-      bytes = bytes_stay marks old.here new.here c.in_ok-bytes.bytes.items c.loop-session.invariant.bytes off;
+      notes = notes_there marks.watches old there new c.loop-session-test.ensures.noted c.has_all_bytes.ensures
+          c.note.ensures.outlook c.note.ensures.noted c.loop-session.invariant.notes;
     }

@@ -1,5 +1,6 @@
-use Rattle.std.proofs.Common.{◌≡◌, length, map}
-use Rattle.debug_script.specs.Going.{Leads, place_of, with_byte}
+use Rattle.std.proofs.Common.{◌≡◌, length}
+use Rattle.debug_script.specs.Going.{Leads, place_of}
+use Rattle.debug_script.specs.Noting.{NotesBytes}
 use Rattle.debug_script.specs.Places.{distance, on}
 use Rattle.debug_script.specs.Showing.{stops}
 use Rattle.debug_script.proofs.debugger.go.Given as goal
@@ -9,8 +10,8 @@ invariant-loop-session g l = record {
   place : on (distance (stops l.marks) (place_of l.session)) (place_of l.session)
       ≡ on (distance (stops l.marks) (place_of l.fn.session)) (place_of l.fn.session);
   leads : Leads l.fn.session l.session;
-  bytes : l.bytes.items ≡ map (with_byte l.session.here.state) l.marks.watches.keys;
+  notes : NotesBytes l.marks.watches l.session;
 }
 
 abbrev pub decreases-loop-session : goal.decreases-loop-session
-decreases-loop-session g l = length l.session.later
+decreases-loop-session g l = length l.session.outlook.later

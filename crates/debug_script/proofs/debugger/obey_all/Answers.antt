@@ -2,8 +2,20 @@ use Rattle.std.proofs.Common.{◌∙◌, ◌+◌, drop, sym, subst}
 use Rattle.std.proofs.lemmas.List.{drop_more}
 use Rattle.debug_script.specs.Going.{AreTold, place_of}
 use Rattle.debug_script.specs.Showing.{shown}
-use Rattle.debug_script.proofs.GoingLemmas.{order_more, told_after}
+use Rattle.debug_script.proofs.GoingLemmas.{order_more, starts_shown, stays, told_after}
+use Rattle.debug_script.proofs.NotingLemmas.{notes_nothing}
 use Rattle.debug_script.proofs.debugger.obey_all.Goals as goal
+
+pub loop-order-init : goal.loop-order-init
+loop-order-init g c =
+    let session = c.args.session.now in
+    let marks = c.in_ok-marks.marks in
+    record {
+      shown = starts_shown marks c.args.script.now (place_of session) c.new-all.result.items c.in_ok-marks.ensures c.new-all.ensures.items;
+      leads = stays session;
+      told = c.requires.told;
+      notes = notes_nothing marks session c.in_ok-marks.ensures c.requires.notes c.nothing_is_watched.ensures;
+    }
 
 pub loop-order-preserved : goal.loop-order-preserved
 loop-order-preserved g c =
@@ -21,4 +33,5 @@ loop-order-preserved g c =
         state = c.in_ok-obey.ensures.leads.state ∙ l.invariant.leads.state;
       };
       told = subst AreTold (sym c.in_ok-obey.ensures.place) (told_after _ l.marks place l.invariant.told);
+      notes = c.in_ok-obey.ensures.notes;
     }

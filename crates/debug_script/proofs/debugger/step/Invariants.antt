@@ -1,5 +1,6 @@
 use Rattle.std.proofs.Common.{◌≡◌}
 use Rattle.debug_script.specs.Going.{Leads, place_of}
+use Rattle.debug_script.specs.Noting.{KeepsNotes}
 use Rattle.debug_script.specs.Places.{on}
 use Rattle.debug_script.proofs.debugger.step.Given as goal
 
@@ -7,6 +8,7 @@ abbrev pub invariant-loop-left : goal.invariant-loop-left
 invariant-loop-left g l = record {
   place : on l.left (place_of l.session) ≡ on l.count (place_of l.fn.session);
   leads : Leads l.fn.session l.session;
+  notes : KeepsNotes l.fn.session l.session;
 }
 
 abbrev pub decreases-loop-left : goal.decreases-loop-left
