@@ -56,7 +56,8 @@ steps_by b most = most - 1 - length b.outputs + element_count b + output_term_co
 abbrev pub step_bound : Width → Block → ℕ
 step_bound w b = steps_by b (instruction_bound w b)
 
--- A sample's instructions are 13 at least and 2000 at most, and the steps of so many are at most 10044 more.
+-- The bound on a sample's instructions is 13 at least and 2000 at most; that on the steps of so many instructions is at
+-- most 5 less and at most 10044 more.
 abbrev pub BoundsAreFew : Type 0
 BoundsAreFew =
     (b : Block) (w : Width) (most : ℕ) → IsValid b → IsWithinLimits b

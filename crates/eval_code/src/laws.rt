@@ -30,8 +30,8 @@ pub fn eval_answers()
     rules_give_masses();
 }
 
-/// A sample takes 13 instructions at least and 2000 at most, and so many instructions at most 10044
-/// steps more.
+/// The bound on a sample's instructions is 13 at least and 2000 at most; that on the steps of so many
+/// instructions is at most 5 less and at most 10044 more.
 pub fn bounds_are_few()
     ensures { BoundsAreFew }
 {
