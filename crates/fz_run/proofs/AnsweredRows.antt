@@ -31,7 +31,8 @@ use Rattle.run_law.specs.Forms.{RowSeen, rows_from}
 use Rattle.run_law.specs.Uninterrupted.{uninterrupted, counted}
 use Rattle.run_law.specs.Following.{Completes, AllComplete, AllWithin}
 use Rattle.run_law.proofs.Algebra.{before_at, before_weaker}
-use Rattle.fz_run.specs.Forms.{given, answer_size, answers_at, answers_in, with_writes}
+use Rattle.firmware_ports.specs.Ports.{given, answer_size, answers_at, answers_in}
+use Rattle.fz_run.specs.Forms.{with_writes}
 use Rattle.run_forms.specs.Rows.{arrival}
 use Rattle.fz_run.specs.Rows.{requests_of, first_state, firmware_rows}
 use Rattle.run_forms.specs.Arrival.{ArrivesPlainly}

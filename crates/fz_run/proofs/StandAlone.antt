@@ -9,7 +9,8 @@ use Rattle.run_law.specs.Following.{AllComplete, expected_rows}
 use Rattle.run_law.proofs.Algebra.{before_at}
 use Rattle.interrupt_plan.specs.declared.Request.{Request}
 use Rattle.codegen.specs.declared.firmware.Firmware.{Firmware}
-use Rattle.fz_run.specs.Forms.{given, answers_in, with_writes}
+use Rattle.firmware_ports.specs.Ports.{given, answers_in}
+use Rattle.fz_run.specs.Forms.{with_writes}
 use Rattle.fz_run.specs.Rows.{requests_of}
 use Rattle.instruction_steps.specs.Facts.{FactsAlone}
 use Rattle.fz_run.specs.SoundAlone.{free_opens}

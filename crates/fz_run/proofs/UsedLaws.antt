@@ -3,7 +3,7 @@ use Rattle.codegen.specs.Answers.{FirmwareAnswers}
 use Rattle.codegen.specs.Uninterrupted.{AnsweredAreUninterrupted}
 use Rattle.run_forms.specs.Arrival.{ArrivesPlainly}
 use Rattle.fz_run.specs.Following.{RunsFollowAlone}
-use Rattle.fz_run.specs.Given.{GivenIsPut}
+use Rattle.firmware_ports.specs.Ports.{GivenIsPut}
 use Rattle.instruction_steps.specs.Instructions.{InstructionsAreSteps}
 
 pub record WayLaws : Type 0 where

@@ -9,7 +9,8 @@ use Rattle.run_law.specs.Following.{AllComplete, AllWithin, RowsSimulate, last_u
 use Rattle.interrupt_plan.specs.declared.Request.{Request}
 use Rattle.interrupt_plan.specs.Plans.{IsGoodRequest, IsGood}
 use Rattle.codegen.specs.declared.firmware.Firmware.{Firmware}
-use Rattle.fz_run.specs.Forms.{given, answer_size, answers_in, with_writes}
+use Rattle.firmware_ports.specs.Ports.{given, answer_size, answers_in}
+use Rattle.fz_run.specs.Forms.{with_writes}
 use Rattle.fz_run.specs.Rows.{requests_of}
 use Rattle.instruction_steps.specs.Facts.{FactsBeside, FactsAlone, WaitsAlone}
 

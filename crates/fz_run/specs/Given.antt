@@ -1,19 +1,11 @@
--- How a sample and its requests are given.
-use Rattle.std.specs.Prelude.{◌≡◌, ℕ, ◌+◌, ◌≤◌, List, length}
-use Rattle.cpu12_parts.specs.State.{State}
+-- How the requests of a sample are given.
+use Rattle.std.specs.Prelude.{ℕ, List}
 use Rattle.interrupt_plan.specs.declared.Request.{Request}
 use Rattle.interrupt_plan.specs.Plans.{IsGoodRequest, IsGood}
-use Rattle.eval_code.specs.declared.layout.Layout.{Layout}
-use Rattle.codegen.specs.Answers as answers
 use Rattle.run_law.specs.Soundness.{AllGood, Ascend}
-use Rattle.fz_run.specs.Forms.{given, place_of}
+use Rattle.fz_run.specs.Forms.{place_of}
 use Rattle.fz_run.specs.Rows.{requests_of}
 use Rattle.run_forms.specs.Slices.{IsInOrder}
-
--- Bytes that end in memory are given as whole instructions are.
-abbrev pub GivenIsPut : Type 0
-GivenIsPut = (l : Layout) (bytes : List ℕ) (s : State) → l.samples + length bytes ≤ 65535
-    → given l bytes s ≡ answers.given l bytes s
 
 -- The requests of a sample of a good plan are good, and their moments ascend.
 abbrev pub RequestsAreGood : Type 0

@@ -7,7 +7,7 @@ use Rattle.cpu12_emul.specs.Simulation.{Simulates}
 use Rattle.run_law.specs.Uninterrupted.{stepped}
 use Rattle.eval_code.specs.declared.layout.Layout.{Layout}
 use Rattle.codegen.specs.declared.firmware.Firmware.{Firmware}
-use Rattle.fz_run.specs.Forms.{given}
+use Rattle.firmware_ports.specs.Ports.{given}
 use Rattle.instruction_steps.specs.Facts.{FactsBeside}
 
 -- the open bytes are as they were

@@ -16,7 +16,8 @@ use Rattle.run_law.specs.Soundness.{Sound, WritesAreQuiet}
 use Rattle.interrupt_plan.specs.Plans.{IsGoodRequest}
 use Rattle.codegen.specs.declared.firmware.Firmware.{Firmware}
 use Rattle.codegen.specs.Interruptible.{is_idle}
-use Rattle.fz_run.specs.Forms.{given, answer_size, answer_at, answers_at, answers_in, with_writes}
+use Rattle.firmware_ports.specs.Ports.{given, answer_size, answer_at, answers_at, answers_in}
+use Rattle.fz_run.specs.Forms.{with_writes}
 use Rattle.instruction_steps.specs.Facts.{FactsBeside}
 use Rattle.fz_run.specs.Following.{IsLow, OpensFree, Nothing}
 

@@ -4,12 +4,12 @@ ghost use Rattle.run_law.specs.Forms.{RowSeen};
 ghost use Rattle.run_forms.specs.Rest.{counted_at, shown_by};
 ghost use Rattle.fz_run.specs.Rows.{writes_harness};
 
-use crate::ports::{answers, give, is_busy_here, is_idle};
 use crate::rows::{Row, row_of};
 use codegen::Firmware;
 use cpu12_emul::ends::Frame;
 use cpu12_emul::machine::Machine;
 use cpu12_isa::mem::Mem;
+use firmware_ports::{answers, give, is_busy_here, is_idle};
 use interrupt_plan::Request;
 use run_forms::{RunForm, Tally};
 use trace_io::Sample;

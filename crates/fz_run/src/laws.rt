@@ -1,7 +1,7 @@
 // Laws of runs.
 ghost use Rattle.fz_run.specs.Answering.{AnswersUnderPlans, FirmwareRunsBeside, FirstStatesAlike};
 ghost use Rattle.fz_run.specs.Following.{RunsFollowAlone, RunsFollowBeside};
-ghost use Rattle.fz_run.specs.Given.{GivenIsPut, PlansAreInOrder, RequestsAreGood};
+ghost use Rattle.fz_run.specs.Given.{PlansAreInOrder, RequestsAreGood};
 ghost use Rattle.fz_run.specs.OpenBytes.{GivenLeavesOpen, StepsLeaveOpen};
 
 use crate::alone::StandAlone;
@@ -11,6 +11,7 @@ use codegen::laws::{
 use cpu12_emul::laws::{step_agrees, wavr_goes_on};
 use cpu12_isa::laws::writes_stay;
 use cpu12_parts::laws::wav_suspends;
+use firmware_ports::given_is_put;
 use instruction_steps::laws::instructions_are_steps;
 use run_forms::laws::arrives_plainly;
 use run_law::laws::runs_follow;
@@ -50,11 +51,6 @@ pub fn answers_under_plans()
     answered_are_uninterrupted();
     runs_follow_alone();
 }
-
-/// A sample is given to a run as it is to whole instructions.
-pub fn given_is_put()
-    ensures { GivenIsPut }
-{}
 
 /// The requests of each sample of a good plan are good, and their moments ascend.
 pub fn requests_are_good()

@@ -18,7 +18,6 @@
 pub mod alone;
 pub mod form;
 pub mod laws;
-pub mod ports;
 mod rows;
 mod session;
 

@@ -6,13 +6,13 @@ ghost use Rattle.fz_run.specs.Rows.{row_seen, input_bytes, firmware_rows};
 ghost use Rattle.fz_run.specs.Answering.{AnswersItsBlock};
 
 use crate::laws::answers_under_plans;
-use crate::ports::copy_of;
 use crate::session::Session;
 use arrayvec::ArrayVec;
 use codegen::Firmware;
 use cpu12_emul::ends::Frame;
 use cpu12_isa::mem::Mem;
 use cpu12_isa::pages::PageMem;
+use firmware_ports::copy_of;
 use fz_list::{List, Memory};
 use interrupt_plan::Plan;
 use run_forms::Tally;

@@ -18,7 +18,8 @@ use Rattle.eval_code.specs.declared.layout.Layout.{Layout}
 use Rattle.codegen.specs.declared.firmware.Firmware.{Firmware}
 use Rattle.codegen.specs.Answers.{LeavesLayout}
 use Rattle.eval_code.specs.Firing.{AreInputBytes}
-use Rattle.fz_run.specs.Forms.{given, with_writes}
+use Rattle.firmware_ports.specs.Ports.{given}
+use Rattle.fz_run.specs.Forms.{with_writes}
 use Rattle.run_forms.specs.Showing.{RowsAreShown}
 use Rattle.run_forms.specs.Rows.{tellings}
 use Rattle.fz_run.specs.Rows.{requests_of, first_state}

@@ -7,7 +7,8 @@ use Rattle.interrupt_plan.specs.declared.Request.{Request}
 use Rattle.codegen.specs.declared.firmware.Firmware.{Firmware}
 use Rattle.trace_io.specs.declared.sample.Sample.{Sample}
 use Rattle.run_forms.specs.Forms.{FormParts, plan_form, Harness}
-use Rattle.fz_run.specs.Forms.{given, place_of, stand_alone}
+use Rattle.firmware_ports.specs.Ports.{given}
+use Rattle.fz_run.specs.Forms.{place_of, stand_alone}
 use Rattle.run_forms.specs.Rows.{arrived_at, shown}
 use Rattle.fz_run.specs.Rows.{requests_of, input_bytes}
 use Rattle.fz_run.specs.Rows as rows

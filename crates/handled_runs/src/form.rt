@@ -9,7 +9,7 @@ use codegen::Firmware;
 use cpu12_emul::ends::Frame;
 use cpu12_emul::machine::Machine;
 use cpu12_isa::mem::Mem;
-use fz_run::ports::{answers, give, is_busy_here, is_idle};
+use firmware_ports::{answers, give, is_busy_here, is_idle};
 use fz_run::row_of;
 use interrupt_plan::Request;
 use run_forms::{RunForm, Tally};

@@ -11,7 +11,7 @@ use Rattle.cpu12_emul.specs.Take.{frame_of, may_interrupt}
 use Rattle.run_law.specs.Forms.{Form, Taking, put_take, takes, taken, told, Ran, ended, then_rest, run_from, Rows, row_of, put_row, rows_from}
 use Rattle.eval_code.specs.declared.layout.Layout.{Layout}
 use Rattle.eval_code.specs.Firing.{AreInputBytes}
-use Rattle.fz_run.specs.Forms.{given}
+use Rattle.firmware_ports.specs.Ports.{given}
 use Rattle.two_runs.specs.Levels.{fitted}
 use Rattle.two_runs.proofs.Bytes.{AllBytes, all_none, all_more, placed_fits}
 

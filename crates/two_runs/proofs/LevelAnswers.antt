@@ -46,23 +46,32 @@ pub record AnswerLaws : Type 0 where
       (IsGoodLevel (length x.samples)) (FastStands x.fast x.two x.flags x.samples)
 
 pub answers_under_levels : AnswerLaws → AnswersUnderLevels
-answers_under_levels laws two flags slow_samples samples levels hf good slow fast vs ls vf lf is slow_inputs inputs = record {
-  arrived = followed.arrived;
-  rows_are = rows_are;
-  slow_answers = subst (λ (rows : List (RowSeen (List ℕ))). AnswerBlock slow two.slow flags slow_samples rows) (sym rows_are) under.answers;
-  taken = followed.taken ∙ same_taken flags two samples levels 1 runs.ns slow_samples first fitted_all runs.complete
-      ∙ ap (λ (rows : List (RowSeen (List ℕ))). taken_by 1 levels (map (λ (r : RowSeen (List ℕ)). r.steps) rows)) (sym rows_of);
-  fast_numbers = subst (λ (fs : List FastSeen). All (λ (f : FastSeen). (1 ≤ f.number) × (f.number ≤ length samples)) fs) (sym fast_are)
-      (all_told fast two flags samples (λ f. (1 ≤ f.number) × (f.number ≤ length samples)) (λ l f h. (h.from, h.to)) all.told told);
-  fast_answers = subst (λ (fs : List FastSeen). Answer fast two samples (λ o. 0) fs) (sym fast_are)
-      (all_answers fast two samples all.told [] own.answers).0;
-  fast_steps = subst (λ (fs : List FastSeen). All (λ (f : FastSeen). f.steps ≤ fast_most two.fast.step_bound) fs) (sym fast_are)
-      (subst (λ (n : ℕ). All (λ (f : FastSeen). f.steps ≤ fast_most n) (runs_in all.told)) (sym bound)
-      (all_told fast two flags samples (λ f. f.steps ≤ fast_most (step_bound Byte fast)) (few_steps fast two flags samples) all.told told));
-  told = told;
-  stack = subst (λ (rows : List (RowSeen (List ℕ))). All (λ (r : RowSeen (List ℕ)). AreOnStack r.frames) rows) (sym rows_of)
-      (on_stack flags two (plan_of levels) 1 runs.ns slow_samples first runs.complete);
-}
+answers_under_levels laws two flags slow_samples samples levels hf good slow fast vs ls vf lf is slow_inputs inputs =
+    record {
+      arrived = followed.arrived;
+      rows_are = rows_are;
+      slow_answers = subst (λ (rows : List (RowSeen (List ℕ))). AnswerBlock slow two.slow flags slow_samples rows)
+          (sym rows_are) under.answers;
+      taken = followed.taken ∙ same_taken flags two samples levels 1 runs.ns slow_samples first fitted_all runs.complete
+          ∙ ap (λ (rows : List (RowSeen (List ℕ))). taken_by 1 levels (map (λ (r : RowSeen (List ℕ)). r.steps) rows))
+          (sym rows_of);
+      fast_numbers = subst
+          (λ (fs : List FastSeen). All (λ (f : FastSeen). (1 ≤ f.number) × (f.number ≤ length samples)) fs)
+          (sym fast_are)
+          (all_told fast two flags samples (λ f. (1 ≤ f.number) × (f.number ≤ length samples))
+          (λ l f h. (h.from, h.to)) all.told told);
+      fast_answers = subst (λ (fs : List FastSeen). Answer fast two samples (λ o. 0) fs) (sym fast_are)
+          (all_answers fast two samples all.told [] own.answers).0;
+      fast_steps = subst (λ (fs : List FastSeen). All (λ (f : FastSeen). f.steps ≤ fast_most two.fast.step_bound) fs)
+          (sym fast_are)
+          (subst (λ (n : ℕ). All (λ (f : FastSeen). f.steps ≤ fast_most n) (runs_in all.told)) (sym bound)
+          (all_told fast two flags samples (λ f. f.steps ≤ fast_most (step_bound Byte fast))
+          (few_steps fast two flags samples) all.told told));
+      told = told;
+      stack = subst (λ (rows : List (RowSeen (List ℕ))). All (λ (r : RowSeen (List ℕ)). AreOnStack r.frames) rows)
+          (sym rows_of)
+          (on_stack flags two (plan_of levels) 1 runs.ns slow_samples first runs.complete);
+    }
   where
     x : Given
     x = record {

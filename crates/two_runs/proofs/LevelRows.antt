@@ -14,7 +14,8 @@ use Rattle.interrupt_plan.specs.declared.levels.Level.{Level}
 use Rattle.codegen.specs.declared.firmware.Firmware.{Firmware}
 use Rattle.two_level.specs.declared.two.Two.{Two}
 use Rattle.two_level.specs.Layouts.{is_open_to_fast}
-use Rattle.fz_run.specs.Forms.{given, answers_in, with_writes}
+use Rattle.firmware_ports.specs.Ports.{given, answers_in}
+use Rattle.fz_run.specs.Forms.{with_writes}
 use Rattle.fz_run.specs.Rows.{requests_of}
 use Rattle.instruction_steps.specs.Facts.{IsStackOfOneCall, FactsBeside}
 use Rattle.fz_run.specs.Following.{rows_of_samples}

@@ -13,7 +13,7 @@ use Rattle.eval_code.specs.declared.layout.Layout.{Layout}
 use Rattle.codegen.specs.Answers.{LeavesLayout}
 use Rattle.eval_code.specs.Layouts.{main_layout}
 use Rattle.two_level.specs.Layouts.{is_open_to_fast}
-use Rattle.fz_run.specs.Forms.{given, answer_size}
+use Rattle.firmware_ports.specs.Ports.{given, answer_size}
 use Rattle.instruction_steps.specs.Facts.{FactsBeside}
 use Rattle.fz_run.specs.Following.{IsLow}
 use Rattle.fz_run.specs.OpenBytes.{AreOpenAlike, StepLeavesOpen}

@@ -16,7 +16,7 @@ use Rattle.codegen.specs.Uninterrupted.{IsAnswerOf}
 use Rattle.two_level.specs.declared.two.Two.{Two}
 use Rattle.two_level.specs.Images.{fast_most}
 use Rattle.two_level.specs.Layouts.{fast_layout, is_open_to_fast}
-use Rattle.fz_run.specs.Forms.{given}
+use Rattle.firmware_ports.specs.Ports.{given}
 use Rattle.instruction_steps.specs.Facts.{FactsBeside}
 use Rattle.fz_run.specs.Rows.{bytes_of}
 use Rattle.two_runs.specs.Runs.{FastSeen}

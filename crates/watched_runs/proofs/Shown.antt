@@ -7,8 +7,8 @@ use Rattle.codegen.specs.declared.firmware.Firmware.{Firmware}
 use Rattle.eval_code.specs.declared.layout.Layout.{Layout}
 use Rattle.watched_code.specs.Watched.{Change, Watched, changed}
 use Rattle.watched_code.specs.WatchedCode.{fault_at}
-use Rattle.fz_run.specs.declared.sample.Tally.{Tally}
-use Rattle.fz_run.specs.Forms.{given, answers_in}
+use Rattle.run_forms.specs.declared.sample.Tally.{Tally}
+use Rattle.firmware_ports.specs.Ports.{given, answers_in}
 use Rattle.run_forms.specs.Rest.{counted_at, shown_by}
 use Rattle.run_forms.specs.Rows.{frames_seen, shown}
 use Rattle.watched_runs.specs.Forms.{given_changed, watched_parts}

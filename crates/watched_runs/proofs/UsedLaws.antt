@@ -7,7 +7,8 @@ use Rattle.codegen.specs.declared.firmware.Firmware.{Firmware}
 use Rattle.watched_code.specs.Watched.{WatchedAnswers}
 use Rattle.fz_run.specs.Arrival.{ArrivesPlainly}
 use Rattle.fz_run.specs.Following.{IsLow, Nothing}
-use Rattle.fz_run.specs.Given.{GivenIsPut, RequestsAreGood}
+use Rattle.firmware_ports.specs.Ports.{GivenIsPut}
+use Rattle.fz_run.specs.Given.{RequestsAreGood}
 use Rattle.instruction_steps.specs.Instructions.{InstructionsAreSteps}
 use Rattle.watched_runs.specs.Forms.{watched_form, FactsWatched}
 

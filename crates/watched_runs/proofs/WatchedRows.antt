@@ -27,7 +27,7 @@ use Rattle.run_law.specs.Forms.{rows_from}
 use Rattle.run_law.specs.Uninterrupted.{uninterrupted}
 use Rattle.run_law.specs.Following.{Completes, AllComplete, AllWithin, AllFollow, expected_row, expected_rows}
 use Rattle.run_law.proofs.Algebra.{before_at, before_weaker}
-use Rattle.fz_run.specs.Forms.{answer_size, answers_at, answers_in}
+use Rattle.firmware_ports.specs.Ports.{answer_size, answers_at, answers_in}
 use Rattle.fz_run.specs.Rows.{requests_of, first_state}
 use Rattle.instruction_steps.specs.Facts.{HasImageBytes, WaitsAlone}
 use Rattle.fz_run.specs.Following.{IsLow, Nothing}

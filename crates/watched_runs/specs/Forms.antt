@@ -11,8 +11,10 @@ use Rattle.eval_code.specs.declared.layout.Layout.{Layout}
 use Rattle.codegen.specs.Interruptible.{is_idle}
 use Rattle.watched_code.specs.Watched.{Watched, changed, restored}
 use Rattle.watched_code.specs.WatchedCode.{fault_at}
-use Rattle.fz_run.specs.Facts.{Facts, IsStackOfOneCall}
-use Rattle.fz_run.specs.Forms.{FormParts, given, answers_in, place_of, plan_form}
+use Rattle.instruction_steps.specs.Facts.{Facts, IsStackOfOneCall}
+use Rattle.run_forms.specs.Forms.{FormParts, plan_form}
+use Rattle.firmware_ports.specs.Ports.{given, answers_in}
+use Rattle.fz_run.specs.Forms.{place_of}
 
 -- a sample is given, and then the byte is changed
 abbrev pub given_changed : Layout → Watched → State → State

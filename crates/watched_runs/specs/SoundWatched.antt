@@ -12,7 +12,7 @@ use Rattle.codegen.specs.declared.firmware.Firmware.{Firmware}
 use Rattle.watched_code.specs.Watched.{Change, changed, restored}
 use Rattle.watched_code.specs.WatchedCode.{fault_at}
 use Rattle.fz_run.specs.Following.{IsLow, Nothing}
-use Rattle.fz_run.specs.Forms.{given}
+use Rattle.firmware_ports.specs.Ports.{given}
 use Rattle.fz_run.specs.SoundAlone as alone
 use Rattle.fz_run.specs.SoundAlone.{leaves_stack, free_opens, low_shown, all_open}
 use Rattle.watched_runs.specs.Forms.{watched_form, FactsWatched}

@@ -11,7 +11,7 @@ use codegen::Firmware;
 use cpu12_emul::ends::Frame;
 use cpu12_emul::machine::Machine;
 use cpu12_isa::mem::Mem;
-use fz_run::ports::{answers, give, is_busy_here, is_idle};
+use firmware_ports::{answers, give, is_busy_here, is_idle};
 use fz_run::{Row, row_of};
 use interrupt_plan::{Request, Upset};
 use run_forms::{RunForm, Tally};

@@ -2,7 +2,10 @@
 ghost use Rattle.watched_runs.specs.Answering.{AnswersUnderAllUpsets};
 
 use crate::watched::WatchedTables;
-use fz_run::laws::{arrives_plainly, given_is_put, instructions_are_steps, requests_are_good};
+use firmware_ports::given_is_put;
+use fz_run::laws::requests_are_good;
+use instruction_steps::laws::instructions_are_steps;
+use run_forms::laws::arrives_plainly;
 use run_law::laws::runs_follow;
 use watched_code::laws::watched_answers;
 

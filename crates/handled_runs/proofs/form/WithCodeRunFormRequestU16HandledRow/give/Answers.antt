@@ -1,6 +1,6 @@
 use Rattle.std.proofs.Common.{ℕ, ◌≡◌, ◌≤◌, ◌∙◌, List, length, ap, sym, arith}
 use Rattle.std.proofs.lemmas.List.{take_all}
-use Rattle.fz_run.specs.Forms.{given}
+use Rattle.firmware_ports.specs.Ports.{given}
 use Rattle.fz_run.specs.Rows.{input_bytes}
 use Rattle.handled_runs.proofs.SampleBytes.{got}
 use Rattle.handled_runs.proofs.form.WithCodeRunFormRequestU16HandledRow.give.Goals as goal

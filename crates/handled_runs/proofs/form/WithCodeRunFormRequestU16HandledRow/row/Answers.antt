@@ -5,7 +5,7 @@ use Rattle.run_law.specs.Forms.{RowSeen}
 use Rattle.run_forms.specs.Rest.{counted_at, row_by}
 use Rattle.fz_run.specs.Rows as rows
 use Rattle.fz_run.specs.Rows.{input_bytes}
-use Rattle.fz_run.specs.Forms.{answers_in}
+use Rattle.firmware_ports.specs.Ports.{answers_in}
 use Rattle.handled_runs.specs.Forms.{HandledSeen}
 use Rattle.handled_runs.proofs.SampleBytes.{got}
 use Rattle.handled_runs.proofs.form.WithCodeRunFormRequestU16HandledRow.row.Goals as goal

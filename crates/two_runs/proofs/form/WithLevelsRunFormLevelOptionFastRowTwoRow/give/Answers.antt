@@ -1,5 +1,5 @@
 use Rattle.std.proofs.Common.{◌≡◌, ◌∙◌, ℕ, List, ap, sym}
-use Rattle.fz_run.specs.Forms.{given}
+use Rattle.firmware_ports.specs.Ports.{given}
 use Rattle.fz_run.specs.Rows.{input_bytes}
 use Rattle.two_runs.proofs.SampleBytes.{got}
 use Rattle.two_runs.proofs.form.WithLevelsRunFormLevelOptionFastRowTwoRow.give.Goals as goal

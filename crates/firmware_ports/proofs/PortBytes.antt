@@ -6,8 +6,8 @@ use Rattle.cpu12_isa.specs.Act.{write_all}
 use Rattle.cpu12_isa.specs.Memory.{plus, placed}
 use Rattle.cpu12_parts.specs.State.{State}
 use Rattle.eval_code.specs.Evaluation as evaluation
-use Rattle.fz_run.specs.Forms.{answer_size, answer_at, answers_at}
-use Rattle.fz_run.specs.Given.{GivenIsPut}
+use Rattle.firmware_ports.specs.Ports.{answer_size, answer_at, answers_at}
+use Rattle.firmware_ports.specs.Ports.{GivenIsPut}
 
 pub write_last : (ws : List (ℕ × ℕ)) (at v : ℕ) (m : List ℕ) → write_all (ws ++ (at, v) ∷ []) m ≡ set (write_all ws m) at v
 write_last [] at v m = refl

@@ -1,9 +1,9 @@
-//! How a firmware is given samples, and where its answers are read.
+// How a firmware is given samples, and where its answers are read.
 ghost use Rattle.std.specs.Prelude.{ℕ, ◌≡◌, ◌≤◌, true, false, List, length};
 ghost use Rattle.arrayvec.specs.ArrayVec.{array_vec_len};
 ghost use Rattle.cpu12_parts.specs.State.{State};
 ghost use Rattle.codegen.specs.Interruptible.{is_idle};
-ghost use Rattle.fz_run.specs.Forms.{given, answer_size, answer_at, answers_in};
+ghost use Rattle.firmware_ports.specs.Ports.{given, answer_size, answer_at, answers_in};
 
 use arrayvec::ArrayVec;
 use codegen::Firmware;

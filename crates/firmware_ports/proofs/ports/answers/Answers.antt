@@ -1,8 +1,8 @@
 use Rattle.std.proofs.Common.{◌∙◌, ◌++◌, ◌∷◌, [], ◌-◌, arith, ap, ap₂, List, ℕ}
 use Rattle.cpu12_isa.specs.Memory.{plus}
-use Rattle.fz_run.specs.Forms.{answers_at}
-use Rattle.fz_run.proofs.PortBytes.{answer_more}
-use Rattle.fz_run.proofs.ports.answers.Goals as goal
+use Rattle.firmware_ports.specs.Ports.{answers_at}
+use Rattle.firmware_ports.proofs.PortBytes.{answer_more}
+use Rattle.firmware_ports.proofs.ports.answers.Goals as goal
 
 pub loop-left-preserved : goal.loop-left-preserved
 loop-left-preserved g c =

@@ -1,7 +1,7 @@
 use Rattle.std.proofs.Common.{◌≡◌, ◌+◌, ◌++◌}
 use Rattle.arrayvec.specs.ArrayVec.{array_vec_len}
-use Rattle.fz_run.specs.Forms.{answers_at}
-use Rattle.fz_run.proofs.ports.answers.Given as goal
+use Rattle.firmware_ports.specs.Ports.{answers_at}
+use Rattle.firmware_ports.proofs.ports.answers.Given as goal
 
 -- what is there and what is to come are all the answers
 abbrev pub invariant-loop-left : goal.invariant-loop-left

@@ -1,7 +1,7 @@
 use Rattle.std.proofs.Common.{◌≡◌, drop}
 use Rattle.cpu12_isa.specs.Act.{write_all}
 use Rattle.cpu12_isa.specs.Memory.{placed}
-use Rattle.fz_run.proofs.ports.give.Given as goal
+use Rattle.firmware_ports.proofs.ports.give.Given as goal
 
 -- the bytes that are left lead to the same memory as all
 abbrev pub invariant-loop-byte : goal.invariant-loop-byte

@@ -3,8 +3,8 @@ use Rattle.std.proofs.lemmas.List.{drop_all}
 use Rattle.std.proofs.Math.ListN.{set}
 use Rattle.cpu12_isa.specs.Act.{write_all}
 use Rattle.cpu12_isa.specs.Memory.{placed}
-use Rattle.fz_run.proofs.PortBytes.{write_last}
-use Rattle.fz_run.proofs.ports.give.Goals as goal
+use Rattle.firmware_ports.proofs.PortBytes.{write_last}
+use Rattle.firmware_ports.proofs.ports.give.Goals as goal
 
 pub returns-clause-state : goal.returns-clause-state
 returns-clause-state g c =
