@@ -4,7 +4,13 @@ use std::test::Fail;
 
 /// Each form once, from `$C000`.
 static EACH_FORM: &'static str =
-    " ORG $C000\n LDAA #$12\n LDAA $3456\n LDAB #$12\n LDAB $3456\n LDX #$3456\n LDY #$3456\n LDS #$3456\n STAA $3456\n STAB $3456\n CLR $3456\n COMA\n CPX #$3456\nL1 BEQ L1\nL2 BNE L2+2\n BCC L2\n BCS L2\n BRA L3\n JSR $3456\n RTS\nL3 ANDCC #$12\n ORCC #$12\n TFR X,D\n TFR Y,D\n EDIV\n FDIV\n RTI\n NOP\n INC $3456\n DEC $3456\n ADDA #$12\n ADDA $3456\n ADDB #$12\n ADDB $3456\n ADDB 1,X+\n ADCA #$12\n SUBA #$12\n SUBA $3456\n CMPA #$12\n CMPA $3456\n ANDA #$12\n ANDA $3456\n ORAA #$12\n ORAA $3456\n INX\n DEX\n INY\n DEY\n PSHA\n PULA\n MOVB #$12,$3456\n MOVB $3456,$789A\n MEM\n REV\n REVW\n WAV\n WAVR\n";
+    " ORG $C000\n LDAA #$12\n LDAA $3456\n LDAB #$12\n LDAB $3456\n LDX #$3456\n LDY #$3456\n \
+    LDS #$3456\n STAA $3456\n STAB $3456\n CLR $3456\n COMA\n CPX #$3456\nL1 BEQ L1\nL2 BNE L2+2\n \
+    BCC L2\n BCS L2\n BRA L3\n JSR $3456\n RTS\nL3 ANDCC #$12\n ORCC #$12\n TFR X,D\n TFR Y,D\n \
+    EDIV\n FDIV\n RTI\n NOP\n INC $3456\n DEC $3456\n ADDA #$12\n ADDA $3456\n ADDB #$12\n \
+    ADDB $3456\n ADDB 1,X+\n ADCA #$12\n SUBA #$12\n SUBA $3456\n CMPA #$12\n CMPA $3456\n \
+    ANDA #$12\n ANDA $3456\n ORAA #$12\n ORAA $3456\n INX\n DEX\n INY\n DEY\n PSHA\n PULA\n \
+    MOVB #$12,$3456\n MOVB $3456,$789A\n MEM\n REV\n REVW\n WAV\n WAVR\n";
 
 static EACH_FORM_BYTES: [u8; 124] = [
     0x86, 0x12, 0xB6, 0x34, 0x56, 0xC6, 0x12, 0xF6, 0x34, 0x56, 0xCE, 0x34, 0x56, 0xCD, 0x34, 0x56,
